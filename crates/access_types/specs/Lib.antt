@@ -1,0 +1,4 @@
+pub mod Kind
+pub mod Access
+pub mod Ticket
+pub mod ReportText

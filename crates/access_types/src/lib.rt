@@ -1,0 +1,13 @@
+//! Memory accesses as KCSAN sees them: who makes them, which bytes they cover and what they do, and the
+//! tickets that name them.
+#![tactic(auto)]
+
+pub mod access;
+pub mod kind;
+pub mod report;
+pub mod tickets;
+
+pub use access::{Access, AccessError, conflicts, overlaps};
+pub use kind::{Claim, Kind, KindError, Operation, words};
+pub use report::{Report, ValueChange};
+pub use tickets::{rep_of, site_of, task_of, ticket, tickets_differ, tickets_read_back};

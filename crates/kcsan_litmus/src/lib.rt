@@ -1,0 +1,4 @@
+//! KCSAN's runtime over C litmus programs.
+#![tactic(auto)]
+
+pub mod report;

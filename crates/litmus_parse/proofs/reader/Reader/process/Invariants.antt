@@ -1,0 +1,4 @@
+use Rattle.litmus_parse.proofs.reader.Reader.process.Given as goal
+
+abbrev pub decreases-loop-self : goal.decreases-loop-self
+decreases-loop-self l = l.self.cursor

@@ -1,0 +1,5 @@
+use Rattle.std.specs.Prelude.{◌≡◌, ◌≤◌, ◌⊎◌, ℕ}
+
+-- a byte that a litmus text may have: tab, LF, CR, or a blank to `~`
+abbrev pub IsTextByte : ℕ → Type 0
+IsTextByte b = (b ≡ 9) ⊎ (b ≡ 10) ⊎ (b ≡ 13) ⊎ ((32 ≤ b) × (b ≤ 126))

@@ -1,0 +1,172 @@
+//! The world: all tasks over one board, stepped one at a time as a schedule says.
+
+ghost use Rattle.std.specs.Prelude.{◌≡◌, true, ◌<◌, ◌≤◌, IfOk, IsTrue, vec_len};
+ghost use Rattle.litmus_step.specs.Work.{CanStep};
+ghost use Rattle.litmus_step.specs.World.{steps_left};
+
+use crate::board::Board;
+use crate::memory::sign_extended;
+use crate::outcome::{Counters, Finding};
+use crate::schedule::Schedule;
+use crate::task::{Event, TaskRun};
+use litmus_parse::{Place, Program, TASKS, TaskNumber};
+use std::alloc::{AllocError, Global};
+use thiserror::Error;
+
+/// What a task is after a step.
+#[derive(Clone, Copy, Debug, PartialEq, Eq)]
+pub enum Stepped {
+    Moved,
+    Ended,
+    Stuck,
+}
+
+/// Why a run has no end.
+#[derive(Clone, Copy, Debug, PartialEq, Eq, Error)]
+pub enum WorldError {
+    #[error("out of memory")]
+    OutOfMemory,
+    #[error("task {} is stuck", .task.get())]
+    Stuck { task: TaskNumber },
+    #[error("bad schedule")]
+    BadSchedule,
+}
+
+impl From<AllocError> for WorldError {
+    fn from(_: AllocError) -> WorldError {
+        WorldError::OutOfMemory
+    }
+}
+
+/// The tasks, the words that they share, and what KCSAN has counted and found so far.
+#[derive(Debug, Drop)]
+pub struct World {
+    program: Program,
+    board: Board,
+    tasks: [TaskRun; TASKS],
+    counters: Counters,
+    findings: Vec<Finding>,
+}
+
+impl World {
+    /// The world before its first step.
+    pub fn new(alloc: Global, program: Program) -> World {
+        let [first, second] = TaskNumber::all();
+        let board = Board::new(&program.initial);
+        World {
+            program,
+            board,
+            tasks: [TaskRun::new(first), TaskRun::new(second)],
+            counters: Counters::default(),
+            findings: Vec::new(alloc),
+        }
+    }
+
+    /// What was found so far, in order.
+    pub fn findings(&self) -> &[Finding] {
+        &self.findings
+    }
+
+    /// What was counted so far.
+    pub fn counters(&self) -> Counters {
+        self.counters
+    }
+
+    /// Makes one step of a task; none where it has ended or is stuck.
+    pub fn step(&mut self, task: TaskNumber) -> Result<Stepped, AllocError>
+        ensures moved { result ≡ Ok Stepped.Moved → steps_left self.new < steps_left self.old }
+        ensures bound { steps_left self.new ≤ steps_left self.old }
+    {
+        let mut run = self.tasks[task.get()];
+        let Some(step) = run.next(&self.program) else {
+            return Ok(state(&self.program, &run));
+        };
+        let answer = self.board.step(step);
+        let event = run.answer(&self.program, answer);
+        let stepped = state(&self.program, &run);
+        self.tasks[task.get()] = run;
+        self.take(&event)?;
+        Ok(stepped)
+    }
+
+    /// Counts what happened at a step, and keeps what was found.
+    fn take(&mut self, event: &Event) -> Result<(), AllocError>
+        ensures stays { (self.new.program ≡ self.old.program) × (self.new.tasks ≡ self.old.tasks) }
+    {
+        self.counters.count(event);
+        if let Some(finding) = Finding::of(event) {
+            self.findings.push(finding)?;
+        }
+        Ok(())
+    }
+
+    /// Makes the steps that the schedule says, and then one step of each task that has not ended, in
+    /// turn, until all have.
+    ///
+    /// `BadSchedule`: it names a task that isn't there; no step was made. `Stuck`: a task waited in
+    /// vain, and the run stopped there.
+    pub fn run(&mut self, schedule: &Schedule) -> Result<(), WorldError> {
+        if schedule.names_stranger() {
+            return Err(WorldError::BadSchedule);
+        }
+        for entry in schedule.entries() {
+            let Some(task) = entry.task_number() else {
+                unreachable!()
+            };
+            self.steps(task, entry.steps)?;
+        }
+        while self.round()? {}
+        Ok(())
+    }
+
+    /// Makes that many steps of a task, or those that it has left.
+    fn steps(&mut self, task: TaskNumber, count: u64) -> Result<(), WorldError> {
+        for _ in 0..count {
+            match self.step(task)? {
+                Stepped::Moved => {}
+                Stepped::Ended => break,
+                Stepped::Stuck => return Err(WorldError::Stuck { task }),
+            }
+        }
+        Ok(())
+    }
+
+    /// Makes one step of each task that has not ended. Whether one can go on.
+    fn round(&mut self) -> Result<bool, WorldError>
+        ensures progress { result ≡ Ok true → steps_left self.new < steps_left self.old }
+    {
+        let mut moved = false;
+        for task in TaskNumber::all() {
+            match self.step(task)? {
+                Stepped::Moved => moved = true,
+                Stepped::Ended => {}
+                Stepped::Stuck => return Err(WorldError::Stuck { task }),
+            }
+        }
+        Ok(moved)
+    }
+
+    /// The condition holds of what the registers and the variables hold now.
+    pub fn condition_holds(&self) -> bool {
+        let condition = self.program.condition;
+        let place = condition.place;
+        let held = match place {
+            Place::Register { task, register } => self.tasks[task.get()].register(register),
+            Place::Variable(variable) => sign_extended(self.board.cell(variable)),
+        };
+        held == condition.value
+    }
+}
+
+/// What a task is now.
+fn state(program: &Program, run: &TaskRun) -> Stepped
+    ensures { result ≡ Stepped.Moved → CanStep program.now run.now }
+{
+    if run.is_stuck() {
+        Stepped::Stuck
+    } else if run.has_ended(program) {
+        Stepped::Ended
+    } else {
+        Stepped::Moved
+    }
+}

@@ -1,0 +1,4 @@
+-- what a call does to a word in one step: what it answers, and what stands there after it
+pub record Line (Answer State : Type 0) : Type 0 where
+  pub answer : Answer
+  pub after : State

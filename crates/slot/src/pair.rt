@@ -1,0 +1,79 @@
+ghost use Rattle.std.specs.Prelude.{◌≡◌};
+ghost use Rattle.slot.specs.Pair.{Halves, clear_line, halves_line, name_line, tell_line, unnamed};
+
+use std::marker::Model;
+
+/// The pair word of a watchpoint's place: the tickets of the access that set the watchpoint up and of the
+/// one that hit it, 0 where nobody is named. Stored in one word of 64 bits, the setter's is the upper 32
+/// and the finder's the lower.
+#[derive(Clone, Copy, Debug, PartialEq, Eq, Default)]
+pub struct Pair {
+    setter: u32,
+    finder: u32,
+}
+
+impl Model for Pair {
+    ghost Value = { Halves };
+
+    ghost view = { λ pair. record { setter = pair.setter; finder = pair.finder } };
+
+    ghost inverse = { λ halves. record { setter = halves.setter; finder = halves.finder } };
+}
+
+impl Pair {
+    /// A pair that names nobody.
+    pub fn new() -> Pair
+        ensures { result ≡ unnamed }
+    {
+        Pair {
+            setter: 0,
+            finder: 0,
+        }
+    }
+
+    /// Names the setter: the bits of its ticket are set in the setter's half.
+    pub fn name(&mut self, ticket: u32)
+        ensures { self.new ≡ (name_line self.old ticket).after }
+    {
+        self.setter |= ticket;
+    }
+
+    /// Tells the setter who hit its watchpoint: the bits of the finder's ticket are set in its half.
+    pub fn tell(&mut self, ticket: u32)
+        ensures { self.new ≡ (tell_line self.old ticket).after }
+    {
+        self.finder |= ticket;
+    }
+
+    /// The setter's ticket and the finder's.
+    pub fn halves(&self) -> (u32, u32)
+        ensures setter { result.0 ≡ (halves_line self.now).answer.setter }
+        ensures finder { result.1 ≡ (halves_line self.now).answer.finder }
+    {
+        (self.setter, self.finder)
+    }
+
+    /// Forgets both tickets.
+    pub fn clear(&mut self)
+        ensures { self.new ≡ (clear_line self.old).after }
+    {
+        self.setter = 0;
+        self.finder = 0;
+    }
+}
+
+#[cfg(test)]
+mod tests {
+    use super::*;
+
+    #[test]
+    fn names_both_sides(rt: HostRuntime) {
+        let mut pair = Pair::new();
+        pair.name(1);
+        pair.tell(65537);
+        assert_eq!(rt; pair.halves(), (1, 65537));
+        pair.clear();
+        assert_eq!(rt; pair.halves(), (0, 0));
+        assert_eq!(rt; pair, Pair::default());
+    }
+}

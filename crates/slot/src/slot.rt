@@ -1,0 +1,149 @@
+ghost use Rattle.std.specs.Prelude.{◌≡◌, ◌<◌, ℕ};
+ghost use Rattle.slot.specs.Slot.{consume_line, insert_line, load_line, remove_line, try_consume_line};
+
+use std::marker::Model;
+
+/// The word of a place with no watchpoint.
+pub const EMPTY: u64 = 0;
+
+/// The word of a place whose watchpoint was hit.
+pub const CONSUMED: u64 = 1;
+
+/// A place for one watchpoint. It holds a watch word: `EMPTY`, `CONSUMED` or, above these, the word of
+/// what is watched.
+#[derive(Clone, Copy, Debug, PartialEq, Eq, Default)]
+pub struct Slot {
+    word: u64,
+}
+
+impl Model for Slot {
+    ghost Value = { ℕ };
+
+    ghost view = { λ slot. slot.word };
+
+    ghost inverse = { λ word. record { word = word } };
+}
+
+impl Slot {
+    /// A place with no watchpoint.
+    pub fn new() -> Slot
+        ensures { result ≡ EMPTY }
+    {
+        Slot { word: EMPTY }
+    }
+
+    /// The word that it holds.
+    pub fn load(&self) -> u64
+        ensures { result ≡ (load_line self.now).answer }
+    {
+        self.word
+    }
+
+    /// Sets up the watchpoint `word` if there is none, and answers whether it did.
+    pub fn insert(&mut self, word: u64) -> bool
+        requires { CONSUMED < word }
+        ensures answer { result ≡ (insert_line self.old word).answer }
+        ensures after { self.new ≡ (insert_line self.old word).after }
+    {
+        let is_empty = self.load() == EMPTY;
+        if is_empty {
+            *self = Slot { word };
+        }
+        is_empty
+    }
+
+    /// Marks the watchpoint `word` as hit if it still stands there, and answers whether it did. An access
+    /// that found a watchpoint claims it so, and only one access can.
+    pub fn try_consume(&mut self, word: u64) -> bool
+        requires { CONSUMED < word }
+        ensures answer { result ≡ (try_consume_line self.old word).answer }
+        ensures after { self.new ≡ (try_consume_line self.old word).after }
+    {
+        let is_here = self.load() == word;
+        if is_here {
+            *self = Slot { word: CONSUMED };
+        }
+        is_here
+    }
+
+    /// Marks whatever stands there as hit, and answers whether it was a watchpoint that nobody had hit.
+    /// The setter ends its watch so.
+    pub fn consume(&mut self) -> bool
+        ensures answer { result ≡ (consume_line self.old).answer }
+        ensures after { self.new ≡ (consume_line self.old).after }
+    {
+        let old = self.load();
+        *self = Slot { word: CONSUMED };
+        old != EMPTY && old != CONSUMED
+    }
+
+    /// Takes the watchpoint away.
+    pub fn remove(&mut self)
+        ensures { self.new ≡ (remove_line self.old).after }
+    {
+        *self = Slot::new();
+    }
+}
+
+#[cfg(test)]
+mod tests {
+    use super::*;
+
+    const READ: u64 = 0x0008_0000_0001_0000;
+
+    const WRITE: u64 = 0x8008_0000_0001_0000;
+
+    /// Places with the words 0, 1, `READ` and `WRITE`.
+    fn places() -> [Slot; 4] {
+        let mut consumed = Slot::new();
+        let _ = consumed.consume();
+        let mut read = Slot::new();
+        let _ = read.insert(READ);
+        let mut write = Slot::new();
+        let _ = write.insert(WRITE);
+        [Slot::new(), consumed, read, write]
+    }
+
+    #[test]
+    fn places_hold_their_words(rt: HostRuntime) {
+        for (place, word) in places().into_iter().zip([0, 1, READ, WRITE]) {
+            assert_eq!(rt; place.load(), word);
+        }
+        assert_eq!(rt; Slot::default(), Slot::new());
+    }
+
+    #[test]
+    fn insert_fills_an_empty_place_only(rt: HostRuntime) {
+        let wanted = [(true, READ), (false, 1), (false, READ), (false, WRITE)];
+        for (mut place, want) in places().into_iter().zip(wanted) {
+            let answer = place.insert(READ);
+            assert_eq!(rt; (answer, place.load()), want);
+        }
+    }
+
+    #[test]
+    fn try_consume_takes_its_word_only(rt: HostRuntime) {
+        let wanted = [(false, 0), (false, 1), (true, 1), (false, WRITE)];
+        for (mut place, want) in places().into_iter().zip(wanted) {
+            let answer = place.try_consume(READ);
+            assert_eq!(rt; (answer, place.load()), want);
+        }
+    }
+
+    #[test]
+    fn consume_tells_an_untouched_watchpoint(rt: HostRuntime) {
+        let wanted = [(false, 1), (false, 1), (true, 1), (true, 1)];
+        for (mut place, want) in places().into_iter().zip(wanted) {
+            let answer = place.consume();
+            assert_eq!(rt; (answer, place.load()), want);
+        }
+    }
+
+    #[test]
+    fn remove_empties_any_place(rt: HostRuntime) {
+        for mut place in places() {
+            place.remove();
+            assert_eq!(rt; place.load(), 0);
+        }
+    }
+}

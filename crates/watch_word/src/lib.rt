@@ -1,0 +1,15 @@
+//! Watch words: what KCSAN keeps of a watched access in one word, so that the place of a watchpoint can
+//! be read and changed in one step.
+//!
+//! From the top, a word has the write bit, 14 bits of size and the low bits of the address, 49 in a word
+//! of 64 bits and 17 in one of 32.
+#![tactic(auto)]
+
+pub mod layout;
+pub mod watch;
+
+pub use layout::Layout;
+pub use watch::{
+    MAX_ENCODABLE_SIZE, PAGE_SIZE, Watch, decode, decode_in, encode, encode_in, matches,
+    matches_in, watches_are_of_accesses, words_are_above_one, words_read_back,
+};
