@@ -1,8 +1,10 @@
 //! The world: all tasks over one board, stepped one at a time as a schedule says.
 
-ghost use Rattle.std.specs.Prelude.{◌≡◌, true, ◌<◌, ◌≤◌, IfOk, IsTrue, vec_len};
+ghost use Rattle.std.specs.Prelude.{◌≡◌, ◌≢◌, ◌↔◌, true, IsErrOf, ◌<◌, ◌≤◌, IfOk, IsTrue, vec_len};
 ghost use Rattle.litmus_step.specs.Work.{CanStep};
+ghost use Rattle.litmus_step.specs.Schedule.{entries_of, names_stranger};
 ghost use Rattle.litmus_step.specs.World.{steps_left};
+ghost use Rattle.litmus_step.specs.declared.world.WorldError.TheVariants.{OutOfMemory};
 
 use crate::board::Board;
 use crate::memory::sign_extended;
@@ -33,6 +35,8 @@ pub enum WorldError {
 }
 
 impl From<AllocError> for WorldError {
+    ghost from_gives = { λ _ e. e ≡ OutOfMemory };
+
     fn from(_: AllocError) -> WorldError {
         WorldError::OutOfMemory
     }
@@ -76,6 +80,7 @@ impl World {
     pub fn step(&mut self, task: TaskNumber) -> Result<Stepped, AllocError>
         ensures moved { result ≡ Ok Stepped.Moved → steps_left self.new < steps_left self.old }
         ensures bound { steps_left self.new ≤ steps_left self.old }
+        ensures same_program { self.new.program ≡ self.old.program }
     {
         let mut run = self.tasks[task.get()];
         let Some(step) = run.next(&self.program) else {
@@ -105,7 +110,11 @@ impl World {
     ///
     /// `BadSchedule`: it names a task that isn't there; no step was made. `Stuck`: a task waited in
     /// vain, and the run stopped there.
-    pub fn run(&mut self, schedule: &Schedule) -> Result<(), WorldError> {
+    pub fn run(&mut self, schedule: &Schedule) -> Result<(), WorldError>
+        ensures bad_schedule { IsErrOf result WorldError.BadSchedule ↔ IsTrue (names_stranger (entries_of schedule.now)) }
+        ensures unmoved { IsErrOf result WorldError.BadSchedule → self.new ≡ self.old }
+        ensures same_program { self.new.program ≡ self.old.program }
+    {
         if schedule.names_stranger() {
             return Err(WorldError::BadSchedule);
         }
@@ -120,7 +129,10 @@ impl World {
     }
 
     /// Makes that many steps of a task, or those that it has left.
-    fn steps(&mut self, task: TaskNumber, count: u64) -> Result<(), WorldError> {
+    fn steps(&mut self, task: TaskNumber, count: u64) -> Result<(), WorldError>
+        ensures made { result ≢ Err WorldError.BadSchedule }
+        ensures same_program { self.new.program ≡ self.old.program }
+    {
         for _ in 0..count {
             match self.step(task)? {
                 Stepped::Moved => {}
@@ -133,6 +145,8 @@ impl World {
 
     /// Makes one step of each task that has not ended. Whether one can go on.
     fn round(&mut self) -> Result<bool, WorldError>
+        ensures made { result ≢ Err WorldError.BadSchedule }
+        ensures same_program { self.new.program ≡ self.old.program }
         ensures progress { result ≡ Ok true → steps_left self.new < steps_left self.old }
     {
         let mut moved = false;
