@@ -1,1 +1,4 @@
 pub mod Transcript
+pub mod Sink
+pub mod Engine
+pub mod Command

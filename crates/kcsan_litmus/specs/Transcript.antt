@@ -1,4 +1,4 @@
-use Rattle.std.specs.Prelude.{◌++◌, ℕ, List, Bool, codes, if◌then◌else◌}
+use Rattle.std.specs.Prelude.{◌++◌, ℕ, List, Bool, true, false, codes}
 use Rattle.std.specs.Fmt.{decimal}
 use Rattle.std.specs.List.{flat_map}
 use Rattle.access_types.specs.ReportText.{line, two_sided_text, unknown_text}
@@ -18,9 +18,10 @@ counters_line c = line (
     ++ codes " two-sided " ++ decimal c.two_sided ++ codes " unknown " ++ decimal c.unknown ++ codes " encoding " ++ decimal c.encoding ++ codes " same " ++ decimal c.same
     ++ codes " masked " ++ decimal c.masked ++ codes " capacity " ++ decimal c.capacity ++ codes " unencodable " ++ decimal c.unencodable ++ codes " unbalanced " ++ decimal c.unbalanced)
 
--- the line on the condition: it held in this one run, or in none
+-- the line on the condition, of one run
 unfoldable pub condition_line : Bool → List ℕ
-condition_line held = line (codes "condition held in " ++ decimal (if held then 1 else 0) ++ codes " of 1 runs")
+condition_line true = line (codes "condition held in 1 of 1 runs")
+condition_line false = line (codes "condition held in 0 of 1 runs")
 
 -- the whole output of a stepped run: the reports in order, the counters, and whether the condition held
 abbrev pub transcript_text : List Finding → Counters → Bool → List ℕ

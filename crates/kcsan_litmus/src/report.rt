@@ -81,8 +81,11 @@ fn append_counters(text: &mut String, counters: Counters) -> Result<(), AllocErr
 fn append_condition(text: &mut String, held: bool) -> Result<(), AllocError>
     ensures { OnOk result (string_bytes text.new ≡ string_bytes text.old ++ condition_line held) }
 {
-    let count = u64::from(held);
-    writeln!(text, "condition held in {count} of 1 runs")
+    text.push_str(if held {
+        "condition held in 1 of 1 runs\n"
+    } else {
+        "condition held in 0 of 1 runs\n"
+    })
 }
 
 /// Appends what a report says of one access: what it does to which bytes and whose it is, and where it

@@ -1,4 +1,0 @@
-//! KCSAN's runtime over C litmus programs.
-#![tactic(auto)]
-
-pub mod report;
