@@ -1,8 +1,9 @@
 //! The engine: a litmus text, stepped under a schedule, and what is found written to a sink.
 
-ghost use Rattle.std.specs.Prelude.{◌≡◌, ◌≤◌, ◌<◌, ◌↔◌, Any, IfOk, IsErrOf, IsErr, length};
+ghost use Rattle.std.specs.Prelude.{◌≡◌, ◌≤◌, ◌<◌, ◌↔◌, Any, IfOk, IsErrOf, IsErr, IsTrue, length};
 ghost use Rattle.std.specs.String.{string_bytes};
 ghost use Rattle.litmus_parse.specs.Text.{IsTextByte};
+ghost use Rattle.litmus_step.specs.Schedule.{entries_of, names_stranger};
 ghost use Rattle.kcsan_litmus.specs.Engine.{IsOutput, parse_fault, world_fault, HoldsOutput, HoldsBeginningOfOutput};
 ghost use Rattle.kcsan_litmus.specs.Sink.{CountsFailure};
 ghost use Rattle.kcsan_litmus.specs.declared.engine.EngineError.TheVariants.{OutOfMemory};
@@ -101,6 +102,8 @@ pub fn step_file<K: Sink>(
 
     // Every other refusal comes before anything is written.
     ensures unwritten { IsErr result → (IsErrOf result EngineError.SinkFailed → ⊥) → sink.new ≡ sink.old }
+    ensures bad_schedule { IsErrOf result EngineError.BadSchedule → IsTrue (names_stranger (entries_of schedule.now)) }
+    ensures all_there { IfOk result (λ _. ¬ IsTrue (names_stranger (entries_of schedule.now))) }
     ensures file_limit { IsErrOf result (EngineError.Limit Limit.File) ↔ (FILE_BYTES < length text.now) }
     ensures not_ascii { IsErrOf result EngineError.NotAscii ↔
         ((length text.now ≤ FILE_BYTES) × Any (λ byte. ¬ IsTextByte byte) text.now) }
@@ -116,6 +119,8 @@ pub fn step_file<K: Sink>(
 fn run_file(alloc: Global, text: &[u8], schedule: &Schedule) -> Result<Output, EngineError>
     ensures output { IfOk result (λ output. IsOutput output.raced (string_bytes output.text)) }
     ensures unwritten { IsErrOf result EngineError.SinkFailed → ⊥ }
+    ensures bad_schedule { IsErrOf result EngineError.BadSchedule → IsTrue (names_stranger (entries_of schedule.now)) }
+    ensures all_there { IfOk result (λ _. ¬ IsTrue (names_stranger (entries_of schedule.now))) }
     ensures file_limit { IsErrOf result (EngineError.Limit Limit.File) ↔ (FILE_BYTES < length text.now) }
     ensures not_ascii { IsErrOf result EngineError.NotAscii ↔
         ((length text.now ≤ FILE_BYTES) × Any (λ byte. ¬ IsTextByte byte) text.now) }

@@ -1,7 +1,7 @@
 //! The tokens of a litmus text: words, names, numbers and signs, with blanks and comments between them.
 
-ghost use Rattle.std.specs.Prelude.{◌+◌, ◌<◌, ◌≤◌, length, IfSome, IfOk};
-ghost use Rattle.litmus_lex.specs.Tokens.{IsFrom, IsLexeme};
+ghost use Rattle.std.specs.Prelude.{◌≡◌, ◌+◌, ◌<◌, ◌≤◌, length, IfErr, IfOk, IfSome, slice_index};
+ghost use Rattle.litmus_lex.specs.Tokens.{IsBlank, IsFrom, IsLexeme, value_in};
 
 /// The parts of a text, which differ in their comments: `(* .. *)` is none in a process's body, and
 /// `/* .. */` and `// ..` are none in the head.
@@ -92,6 +92,9 @@ pub struct Lexeme<'a> {
     pub end: usize,
 }
 
+/// What begins the initialization block.
+pub const BRACE: u8 = b'{';
+
 /// What separates tokens: blank, tab, CR, LF.
 fn is_blank(byte: u8) -> bool {
     matches!(byte, b' ' | b'\t' | b'\r' | b'\n')
@@ -138,7 +141,8 @@ fn pair_end(text: &[u8], from: usize, pair: [u8; 2]) -> Option<usize>
 /// Where the blanks and comments from `from` on end. None: a comment doesn't end.
 pub fn gap_end(text: &[u8], from: usize, part: Part) -> Option<usize>
     requires { from ≤ length text.now }
-    ensures { IfSome result (IsFrom from text.now) }
+    ensures within { IfSome result (IsFrom from text.now) }
+    ensures stops { IfSome result (λ end. end < length text.now → ¬ IsBlank (slice_index text.now end)) }
 {
     let mut at = from;
     loop {
@@ -156,7 +160,8 @@ pub fn gap_end(text: &[u8], from: usize, part: Part) -> Option<usize>
 /// bytes 0x21..0x7E. Otherwise the place that offends.
 fn title_end(text: &[u8], from: usize) -> Result<usize, usize>
     requires { from ≤ length text.now }
-    ensures { IfOk result (IsFrom from text.now) }
+    ensures ok { IfOk result (IsFrom from text.now) }
+    ensures offends { IfErr result (IsFrom from text.now) }
 {
     let [b'C', ..] = &text[from..] else {
         return Err(from);
@@ -171,13 +176,14 @@ fn title_end(text: &[u8], from: usize) -> Result<usize, usize>
 /// Where the first `{` from `from` on is, outside comments and double quotes.
 fn brace(text: &[u8], from: usize) -> Option<usize>
     requires { from ≤ length text.now }
-    ensures { IfSome result (IsFrom from text.now) }
+    ensures within { IfSome result (λ at. at < length text.now) }
+    ensures brace { IfSome result (λ at. slice_index text.now at ≡ BRACE) }
 {
     let mut at = from;
     loop {
         at = match &text[at..] {
             [] => return None,
-            [b'{', ..] => return Some(at),
+            [BRACE, ..] => return Some(at),
             [b'"', ..] => {
                 let quote = run_end(text, at + 1, |byte| byte != b'"');
                 if quote == text.len() {
@@ -195,7 +201,9 @@ fn brace(text: &[u8], from: usize) -> Option<usize>
 ///
 /// The head is blanks and comments, `C`, blanks, the test's name, and all up to the first `{`.
 pub fn head_end(text: &[u8]) -> Result<usize, usize>
-    ensures { IfOk result (λ end. end ≤ length text.now) }
+    ensures within { IfOk result (λ end. end < length text.now) }
+    ensures brace { IfOk result (λ end. slice_index text.now end ≡ BRACE) }
+    ensures offends { IfErr result (λ place. place ≤ length text.now) }
 {
     let Some(start) = gap_end(text, 0, Part::Head) else {
         return Err(text.len());
@@ -267,6 +275,7 @@ fn number_at(text: &[u8], start: usize) -> Lexeme<'_>
 fn value_of(digits: &[u8], radix: u32) -> Option<u64>
     requires low { 2 ≤ radix }
     requires high { radix ≤ 36 }
+    ensures { IfSome result (λ value. value ≡ value_in radix digits.now) }
 {
     let mut value: u64 = 0;
     for digit in digits {
@@ -386,3 +395,70 @@ const FOREIGN: [&str; 8] = [
     "unsigned",
     "volatile",
 ];
+
+#[cfg(test)]
+mod tests {
+    use super::*;
+
+    #[test]
+    fn tokens_of_each_kind(rt: HostRuntime) {
+        let name = lexeme_at(b"x1_ ", 0);
+        assert!(rt; matches!(name.token, Token::Name(b"x1_")) && name.end == 3);
+        let word = lexeme_at(b"READ_ONCE(", 0);
+        assert!(rt; matches!(word.token, Token::Word(Word::ReadOnce)) && word.end == 9);
+        let sign = lexeme_at(b"+=1", 0);
+        assert!(rt; matches!(sign.token, Token::Sign(Sign::AddAssign)) && sign.end == 2);
+        let sign = lexeme_at(b"+ 1", 0);
+        assert!(rt; matches!(sign.token, Token::Sign(Sign::Infix)) && sign.end == 1);
+        let stray = lexeme_at(b"@", 0);
+        assert!(rt; matches!(stray.token, Token::Stray) && stray.end == 1);
+        let end = lexeme_at(b"", 0);
+        assert!(rt; matches!(end.token, Token::End) && end.end == 0);
+        let too_large = lexeme_at(b"18446744073709551616", 0);
+        assert!(rt; matches!(too_large.token, Token::TooLarge) && too_large.end == 20);
+    }
+
+    #[test]
+    fn numbers_are_decimal_or_hexadecimal(rt: HostRuntime) {
+        for (text, wanted, end) in [
+            ("042;", 42, 3),
+            ("0xfF,", 255, 4),
+            ("0x;", 0, 1),
+            ("18446744073709551615", u64::MAX, 20),
+        ] {
+            let number = lexeme_at(text.as_bytes(), 0);
+            let value = match number.token {
+                Token::Number(value) => Some(value),
+                _ => None,
+            };
+            assert_eq!(rt; (value, number.end), (Some(wanted), end), "at {text}");
+        }
+    }
+
+    #[test]
+    fn gaps_are_blanks_and_comments(rt: HostRuntime) {
+        for (text, part, end) in [
+            (" \t(* a *)\n x", Part::Between, Some(11)),
+            (" (* a *)", Part::Body, Some(1)),
+            (" // a\nx", Part::Head, Some(1)),
+            (" // a\nx", Part::Body, Some(6)),
+            ("/* a */x", Part::Body, Some(7)),
+            ("/* a", Part::Between, None),
+        ] {
+            assert_eq!(rt; gap_end(text.as_bytes(), 0, part), end, "at {text}");
+        }
+    }
+
+    #[test]
+    fn heads_end_at_a_brace(rt: HostRuntime) {
+        for (text, end) in [
+            ("C t\n{}", Ok(4)),
+            ("(* { *) C t \"{\" {", Ok(16)),
+            ("D t\n{}", Err(0)),
+            ("Ct\n{}", Err(1)),
+            ("C t", Err(3)),
+        ] {
+            assert_eq!(rt; head_end(text.as_bytes()), end, "at {text}");
+        }
+    }
+}

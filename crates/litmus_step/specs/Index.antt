@@ -2,6 +2,12 @@ use Rattle.std.specs.Prelude.{ℕ, Option, Some, None}
 use Rattle.litmus_step.specs.declared.step.Index.{Index}
 use Rattle.litmus_step.specs.declared.step.Index.TheVariants.{Slot16, Slot17, Slot18}
 
+-- where the words of an index stand
+abbrev pub position_of : Index → ℕ
+position_of Slot16 = 0
+position_of Slot17 = 1
+position_of Slot18 = 2
+
 -- a look-up reads 16, 17, 18
 abbrev pub look_after : Index → Option Index
 look_after Slot16 = Some Slot17

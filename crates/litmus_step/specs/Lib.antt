@@ -1,8 +1,13 @@
 pub mod Answer
 pub mod Index
+pub mod Words
 pub mod Step
+pub mod StepLine
 pub mod Phase
 pub mod Memory
+pub mod Outcome
+pub mod Verdict
+pub mod Machine
 pub mod Work
 pub mod World
 pub mod Schedule

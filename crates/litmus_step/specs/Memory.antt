@@ -1,12 +1,15 @@
-use Rattle.std.specs.Prelude.{◌+◌, ◌*◌, ℕ, None, Bool, true, false}
+use Rattle.std.specs.Prelude.{◌+◌, ◌-◌, ◌*◌, ◌%◌, ◌^◌, ℕ, Option, None, Bool, true, false, nat_lt, option_map, if◌then◌else◌}
 use Rattle.access_types.specs.Access as access
 use Rattle.access_types.specs.declared.kind.Kind.{Kind}
 use Rattle.access_types.specs.declared.kind.Kind.TheVariants.{Plain, Marked}
 use Rattle.access_types.specs.declared.kind.Operation.{Operation}
 use Rattle.access_types.specs.declared.kind.Operation.TheVariants as operations
+use Rattle.access_types.specs.Ticket.{site_in, task_in}
+use Rattle.litmus_parse.specs.declared.numbers.TheConstants.{TASKS}
+use Rattle.litmus_parse.specs.declared.program.Program.{Program}
 use Rattle.litmus_parse.specs.declared.program.Statement.{Statement}
 use Rattle.litmus_parse.specs.declared.program.Statement.TheVariants.{Read, Write}
-use Rattle.litmus_parse.specs.Program.{variable_of}
+use Rattle.litmus_parse.specs.Program.{statement_at, variable_of}
 use Rattle.litmus_step.specs.declared.memory.TheConstants.{SIZE}
 
 -- an operation, declared marked or not
@@ -34,3 +37,19 @@ access_of task site statement = record {
   kind = kind_of statement;
   mask = None;
 }
+
+-- the access of a task at a site, where a statement is
+abbrev pub access_at : Program → ℕ → ℕ → Option access.Access
+access_at program task site = option_map (access_of task site) (statement_at program task site)
+
+-- the access that a ticket names, if it is of a task that is there
+abbrev pub access_named : Program → ℕ → Option access.Access
+access_named program ticket = if nat_lt (task_in ticket) TASKS then access_at program (task_in ticket) (site_in ticket) else None
+
+-- the word with the low four bytes of a value in the place of its own
+abbrev pub with_low_half : ℕ → ℕ → ℕ
+with_low_half word value = word - word % 2 ^ 32 + value % 2 ^ 32
+
+-- the number of 64 bits with the sign and the value of the low 32
+abbrev pub sign_extended : ℕ → ℕ
+sign_extended word = let value = word % 2 ^ 32 in if nat_lt value (2 ^ 31) then value else value + (2 ^ 64 - 2 ^ 32)

@@ -1,4 +1,5 @@
-use Rattle.std.specs.Prelude.{◌+◌, ◌-◌, ◌*◌, ◌<◌, ◌≢◌, ℕ, length}
+use Rattle.std.specs.Prelude.{◌+◌, ◌-◌, ◌*◌, ◌<◌, ◌≢◌, ℕ, length, replicate}
+use Rattle.litmus_parse.specs.declared.numbers.TheConstants.{REGISTERS}
 use Rattle.litmus_parse.specs.declared.program.Program.{Program}
 use Rattle.litmus_parse.specs.declared.program.TheConstants.{STATEMENTS}
 use Rattle.litmus_step.specs.declared.task.Phase.{Phase}
@@ -7,6 +8,10 @@ use Rattle.litmus_step.specs.declared.task.TaskRun.{TaskRun}
 use Rattle.litmus_step.specs.declared.task.TheConstants.{TURNS}
 use Rattle.litmus_step.specs.Index.{inserts_left, looks_left}
 use Rattle.litmus_parse.specs.Program.{text_of}
+
+-- a task before its first step: at its first statement, with nothing but 0 in its registers
+abbrev pub run_at_first : ℕ → TaskRun
+run_at_first number = record { number = number; site = 0; phase = phases.Begin; registers = replicate REGISTERS 0 }
 
 -- the task has a statement to go on with
 pub record IsRunning (program : Program) (run : TaskRun) : Type 0 where

@@ -1,11 +1,15 @@
 //! The words that the tasks share: watch words and pair words of three indices, the cells of the
 //! variables, and the clock. A step is one operation on one word.
 
+ghost use Rattle.std.specs.Prelude.{◌≡◌, slice_index};
 ghost use Rattle.litmus_step.specs.Step.{Answers};
+ghost use Rattle.litmus_step.specs.StepLine.{cell_line, clock_line, exchange_line, step_line};
+ghost use Rattle.litmus_step.specs.Words.{words_at_first};
 
 use crate::step::{Answer, Step};
 use litmus_parse::{VARIABLES, Variable};
 use slot::{Pair, Slot};
+use std::marker::Model;
 
 /// The shared words.
 #[derive(Debug, Drop)]
@@ -16,12 +20,22 @@ pub struct Board {
     clock: u64,
 }
 
+impl Model for Board {
+    ghost use Rattle.litmus_step.specs.Words.{Words};
+
+    ghost Value = { Words };
+
+    ghost view = { λ b. record { watch_words = b.watch_words; pair_words = b.pair_words; cells = b.cells; clock = b.clock } };
+}
+
 impl Board {
-    /// No watchpoint is set up, the cells hold the initial values, and the clock stands at 0.
-    pub fn new(initial: &[u32; VARIABLES]) -> Board {
+    /// No watchpoint is set up, the cells hold these values, and the clock stands at 0.
+    pub fn new(values: &[u32; VARIABLES]) -> Board
+        ensures { result ≡ words_at_first values.now }
+    {
         let mut cells = [0; VARIABLES];
-        for (cell, value) in cells.iter_mut().zip(initial) {
-            *cell = u64::from(*value);
+        for (position, value) in values.iter().enumerate() {
+            cells[position] = u64::from(*value);
         }
         Board {
             watch_words: [Slot::new(); 3],
@@ -33,7 +47,9 @@ impl Board {
 
     /// Makes one step.
     pub fn step(&mut self, step: Step) -> Answer
-        ensures { Answers step result }
+        ensures kind { Answers step result }
+        ensures answer { result ≡ (step_line self.old step).answer }
+        ensures after { self.new ≡ (step_line self.old step).after }
     {
         match step {
             Step::Load(index) => Answer::Word(self.watch_words[index.position()].load()),
@@ -72,7 +88,9 @@ impl Board {
 
     /// Puts `new` into the cell if it holds `expected`; else answers what it holds.
     fn exchange(&mut self, variable: Variable, expected: u64, new: u64) -> Answer
-        ensures { Answers (Step.CellExchange variable expected new) result }
+        ensures kind { Answers (Step.CellExchange variable expected new) result }
+        ensures answer { result ≡ (cell_line (exchange_line expected new) self.old variable).answer }
+        ensures after { self.new ≡ (cell_line (exchange_line expected new) self.old variable).after }
     {
         let cell = &mut self.cells[variable.get()];
         if *cell != expected {
@@ -84,7 +102,9 @@ impl Board {
 
     /// Advances the clock, and answers where it stood.
     fn tick(&mut self) -> Answer
-        ensures { Answers Step.Clock result }
+        ensures kind { Answers Step.Clock result }
+        ensures answer { result ≡ (clock_line self.old).answer }
+        ensures after { self.new ≡ (clock_line self.old).after }
     {
         let stamp = self.clock;
         self.clock = stamp.wrapping_add(1);
@@ -92,7 +112,9 @@ impl Board {
     }
 
     /// What the cell of a variable holds.
-    pub fn cell(&self, variable: Variable) -> u64 {
+    pub fn cell(&self, variable: Variable) -> u64
+        ensures { result ≡ slice_index self.now.cells variable }
+    {
         self.cells[variable.get()]
     }
 }

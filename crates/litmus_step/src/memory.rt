@@ -1,8 +1,7 @@
 //! Where variables stand, which bytes of their cells they have, and the accesses of a program.
 
-ghost use Rattle.std.specs.Prelude.{◌≡◌, ◌+◌, ◌-◌, ◌%◌, ◌^◌, ◌<◌, option_map};
-ghost use Rattle.litmus_parse.specs.Program.{statement_at};
-ghost use Rattle.litmus_step.specs.Memory.{access_of, address, kind_of};
+ghost use Rattle.std.specs.Prelude.{◌≡◌, ◌%◌, ◌^◌, ◌<◌};
+ghost use Rattle.litmus_step.specs.Memory.{access_at, access_named, address, kind_of, sign_extended, with_low_half};
 
 use access_types::{Access, Kind, Operation, site_of, task_of};
 use litmus_parse::{Program, Statement, TaskNumber, Variable};
@@ -25,7 +24,9 @@ pub fn low_half(word: u64) -> u64
 }
 
 /// The value of an `int` in its cell, with its sign in the upper half.
-pub fn sign_extended(word: u64) -> u64 {
+pub fn sign_extended(word: u64) -> u64
+    ensures { result ≡ sign_extended word }
+{
     let value = low_half(word);
     if value < 1 << 31 {
         value
@@ -36,7 +37,7 @@ pub fn sign_extended(word: u64) -> u64 {
 
 /// The word with the low four bytes of a value in the place of its own.
 pub fn with_low_half(word: u64, value: u64) -> u64
-    ensures { result ≡ word - word % 2 ^ 32 + value % 2 ^ 32 }
+    ensures { result ≡ with_low_half word value }
 {
     word - low_half(word) + low_half(value)
 }
@@ -55,7 +56,7 @@ fn kind(statement: &Statement) -> Kind
 
 /// The access of a task at a site.
 pub fn access_at(program: &Program, task: TaskNumber, site: usize) -> Option<Access>
-    ensures { result ≡ option_map (access_of task site) (statement_at program.now task site) }
+    ensures { result ≡ access_at program.now task site }
 {
     let statement = program.statement(task, site)?;
     let address = address_of(statement.variable());
@@ -69,6 +70,7 @@ pub fn access_at(program: &Program, task: TaskNumber, site: usize) -> Option<Acc
 /// The access that a ticket names.
 pub fn access_named(program: &Program, ticket: u32) -> Option<Access>
     requires { 0 < ticket }
+    ensures { result ≡ access_named program.now ticket }
 {
     let task = TaskNumber::new(task_of(ticket) as usize)?;
     access_at(program, task, site_of(ticket) as usize)

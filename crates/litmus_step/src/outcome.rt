@@ -1,5 +1,8 @@
 //! What KCSAN counts and finds.
 
+ghost use Rattle.std.specs.Prelude.{◌≡◌};
+ghost use Rattle.litmus_step.specs.Outcome.{counted, finding_of, one_more};
+
 use crate::task::Event;
 use access_types::{Access, ValueChange};
 
@@ -21,7 +24,9 @@ pub enum Finding {
 
 impl Finding {
     /// What is found at a step.
-    pub fn of(event: &Event) -> Option<Finding> {
+    pub fn of(event: &Event) -> Option<Finding>
+        ensures { result ≡ finding_of event.now }
+    {
         match event {
             Event::TwoSided(setter, finder, seen) => Some(Finding::TwoSided {
                 setter: *setter,
@@ -68,7 +73,9 @@ pub struct Counters {
 
 impl Counters {
     /// Counts what happened at a step. A count rests at 2^64 - 1.
-    pub fn count(&mut self, event: &Event) {
+    pub fn count(&mut self, event: &Event)
+        ensures { self.new ≡ counted self.old event.now }
+    {
         match event {
             Event::Nothing => {}
             Event::Armed => count_one(&mut self.arms),
@@ -89,6 +96,8 @@ impl Counters {
 }
 
 /// One more, short of the largest count.
-fn count_one(count: &mut u64) {
+fn count_one(count: &mut u64)
+    ensures { count.new ≡ one_more count.old }
+{
     *count = count.saturating_add(1);
 }

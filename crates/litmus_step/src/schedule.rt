@@ -89,3 +89,40 @@ impl Schedule {
         self.entries.iter().any(|entry| entry.is_of_stranger())
     }
 }
+
+#[cfg(test)]
+mod tests {
+    use super::*;
+    use std::test::Fail;
+
+    #[test]
+    fn schedules_are_read(rt: HostRuntime) -> Result<(), Fail> {
+        let read = Schedule::parse(rt.alloc(), "0x7,1x9,05x007")?.ok_or("no schedule")?;
+        let wanted = [(0, 7), (1, 9), (5, 7)].map(|(task, steps)| Entry { task, steps });
+        assert_eq!(rt; read.entries(), wanted.as_slice());
+        assert!(rt; read.names_stranger());
+        let numbers = wanted.map(|entry| entry.task_number().map(|task| task.get()));
+        assert_eq!(rt; numbers, [Some(0), Some(1), None]);
+        let empty = Schedule::parse(rt.alloc(), "")?.ok_or("no schedule")?;
+        assert!(rt; empty.entries().is_empty());
+        assert!(rt; !empty.names_stranger());
+        Ok(())
+    }
+
+    #[test]
+    fn other_texts_are_no_schedules(rt: HostRuntime) -> Result<(), Fail> {
+        for text in [
+            "x",
+            "0x",
+            "x1",
+            "0x1,",
+            "+0x1",
+            "0x18446744073709551616",
+            "0x1 ",
+        ] {
+            let read = Schedule::parse(rt.alloc(), text)?;
+            assert!(rt; read.is_none(), "at {text}");
+        }
+        Ok(())
+    }
+}

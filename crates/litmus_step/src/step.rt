@@ -2,7 +2,7 @@
 
 ghost use Rattle.std.specs.Prelude.{◌≡◌, ◌<◌, IfSome};
 ghost use Rattle.litmus_step.specs.Answer.{IsFlag, IsHalves, IsWord};
-ghost use Rattle.litmus_step.specs.Index.{insert_after, inserts_left, look_after, looks_left};
+ghost use Rattle.litmus_step.specs.Index.{insert_after, inserts_left, look_after, looks_left, position_of};
 
 use crate::watch::WatchWord;
 use litmus_parse::Variable;
@@ -19,7 +19,8 @@ pub enum Index {
 impl Index {
     /// Where its words are on the board.
     pub fn position(self) -> usize
-        ensures { result < 3 }
+        ensures value { result ≡ position_of self }
+        ensures limit { result < 3 }
     {
         match self {
             Index::Slot16 => 0,

@@ -1,12 +1,14 @@
 //! One task: where it is in its text, and what it does next. The machine follows a check step by step:
 //! look whether a watchpoint of another task matches, else set one up, watch, and then touch memory.
 
-ghost use Rattle.std.specs.Prelude.{◌≡◌, ℕ, ◌+◌, ◌-◌, ◌<◌, ◌≤◌, ◌↔◌, ◌⊎◌, length, IsTrue, IsSome, IfSome, IfNone};
+ghost use Rattle.std.specs.Prelude.{◌≡◌, ℕ, ◌+◌, ◌-◌, ◌<◌, ◌≤◌, ◌↔◌, ◌⊎◌, length, IsTrue, IsSome, IfSome, IfNone, slice_index};
 ghost use Rattle.std.specs.Option.{SomeIff};
-ghost use Rattle.litmus_step.specs.Work.{IsRunning, rank, work_left};
+ghost use Rattle.litmus_step.specs.Work.{IsRunning, rank, run_at_first, work_left};
 ghost use Rattle.litmus_step.specs.declared.step.Answer.{Answer};
 ghost use Rattle.litmus_step.specs.Step.{Answers};
 ghost use Rattle.litmus_step.specs.Phase.{Fits};
+ghost use Rattle.litmus_step.specs.Machine.{Follows, HearsFinder, IsLooked, IsUnmatched, Leads, after_exchange, after_insertion, after_setter, after_try, after_watch, counting, next_step, phase_after_load, registers_after, site_after, to};
+ghost use Rattle.litmus_step.specs.Verdict.{IsVerdict, counts_as_marked};
 ghost use Rattle.litmus_parse.specs.Program.{text_of};
 
 use crate::memory::{access_at, access_named, low_half, sign_extended, with_low_half};
@@ -114,7 +116,7 @@ pub struct TaskRun {
 impl TaskRun {
     /// A task before its first step.
     pub fn new(number: TaskNumber) -> TaskRun
-        ensures { result.number ≡ number }
+        ensures { result ≡ run_at_first number }
     {
         TaskRun {
             number,
@@ -125,7 +127,9 @@ impl TaskRun {
     }
 
     /// What a register holds.
-    pub fn register(&self, register: Register) -> u64 {
+    pub fn register(&self, register: Register) -> u64
+        ensures { result ≡ slice_index self.now.registers register }
+    {
         self.registers[register.get()]
     }
 
@@ -145,6 +149,7 @@ impl TaskRun {
 
     /// The step that it makes next; none where it has ended or is stuck.
     pub fn next(&self, program: &Program) -> Option<Step>
+        ensures value { result ≡ next_step program.now self.now }
         ensures running { IsSome result → IsRunning program.now self.now }
         ensures resting { IfNone result ((self.now.phase ≡ Phase.Stuck) ⊎ (length (text_of program.now self.now.number) ≤ self.now.site)) }
         ensures answers { IfSome result (λ step. (answer : Answer) → Answers step answer → Fits self.now.phase answer) }
@@ -181,6 +186,7 @@ impl TaskRun {
         requires running { IsRunning program.now self.old }
         requires fits { Fits self.old.phase answer }
         ensures same_task { self.new.number ≡ self.old.number }
+        ensures follows { Follows program.now self.old answer self.new result }
         ensures progress { work_left program.now self.new < work_left program.now self.old }
     {
         let Some(statement) = program.statement(self.number, self.site) else {
@@ -206,6 +212,9 @@ impl TaskRun {
         requires sized { 0 < access.now.size }
         requires fits { Fits self.old.phase answer }
         ensures same_task { self.new.number ≡ self.old.number }
+        ensures site { self.new.site ≡ site_after self.old.phase self.old.site }
+        ensures registers { self.new.registers ≡ registers_after statement self.old.phase answer self.old.registers }
+        ensures leads { Leads program.now statement access.now self.old.phase answer result }
         ensures progress { work_left program.now (record self.new { phase = result.phase }) < work_left program.now self.old }
     {
         let phase = self.phase;
@@ -240,6 +249,8 @@ impl TaskRun {
     /// The cell of the variable was read: a read takes its value, and a write tries to change it.
     fn loaded(&mut self, statement: Statement, word: u64) -> Next
         ensures stays { (self.new.number ≡ self.old.number) × (self.new.site ≡ self.old.site) × (self.new.phase ≡ self.old.phase) }
+        ensures registers { self.new.registers ≡ registers_after statement Phase.Load (Answer.Word word) self.old.registers }
+        ensures leads { result ≡ to (phase_after_load statement word) }
         ensures later { rank result.phase < rank Phase.Load }
     {
         match statement {
@@ -259,7 +270,7 @@ impl TaskRun {
     fn ended(&mut self) -> Next
         requires { self.old.site < STATEMENTS }
         ensures moves { self.new ≡ record self.old { site = self.old.site + 1 } }
-        ensures begins { result.phase ≡ Phase.Begin }
+        ensures leads { result ≡ to Phase.Begin }
     {
         self.site += 1;
         Next::to(Phase::Begin)
@@ -269,7 +280,7 @@ impl TaskRun {
 impl Next {
     /// The phase, with nothing to count.
     fn to(phase: Phase) -> Next
-        ensures { result.phase ≡ phase }
+        ensures { result ≡ to phase }
     {
         Next {
             phase,
@@ -279,7 +290,7 @@ impl Next {
 
     /// The phase, with something to count.
     fn with(phase: Phase, event: Event) -> Next
-        ensures { result.phase ≡ phase }
+        ensures { result ≡ counting event phase }
     {
         Next { phase, event }
     }
@@ -288,7 +299,8 @@ impl Next {
 /// A watch word was read. A watchpoint matches if one of the two is a write and their ranges meet.
 fn looked(access: &Access, index: Index, word: u64) -> Next
     requires { 0 < access.now.size }
-    ensures { rank result.phase < rank (Phase.Look index) }
+    ensures leads { IsLooked access.now index word result }
+    ensures fewer { rank result.phase < rank (Phase.Look index) }
 {
     if let Some(watch) = decode(word) {
         if (watch.write || access.kind().write()) && matches(&watch, access.addr(), access.size()) {
@@ -304,7 +316,8 @@ fn looked(access: &Access, index: Index, word: u64) -> Next
 /// No watchpoint matched: an access that doesn't count as marked is watched itself.
 fn not_found(access: &Access) -> Next
     requires { 0 < access.now.size }
-    ensures { rank result.phase < rank (Phase.Look Index.Slot18) }
+    ensures leads { IsUnmatched access.now result }
+    ensures fewer { rank result.phase < rank (Phase.Look Index.Slot18) }
 {
     if counts_as_marked(access) {
         return Next::to(Phase::Load);
@@ -317,7 +330,8 @@ fn not_found(access: &Access) -> Next
 
 /// A watchpoint was tried: it is taken, or another access was first.
 fn tried(index: Index, word: WatchWord, taken: bool) -> Next
-    ensures { rank result.phase < rank (Phase.TryConsume index word) }
+    ensures leads { result ≡ after_try index taken }
+    ensures fewer { rank result.phase < rank (Phase.TryConsume index word) }
 {
     if taken {
         Next::to(Phase::HearSetter {
@@ -331,7 +345,8 @@ fn tried(index: Index, word: WatchWord, taken: bool) -> Next
 
 /// The finder read the setter's half of the pair.
 fn heard_setter(index: Index, turns: u64, setter: u32) -> Next
-    ensures { rank result.phase < rank (Phase.HearSetter index turns) }
+    ensures leads { result ≡ after_setter index turns setter }
+    ensures fewer { rank result.phase < rank (Phase.HearSetter index turns) }
 {
     if setter != 0 {
         return Next::to(Phase::Tell(index));
@@ -344,7 +359,8 @@ fn heard_setter(index: Index, turns: u64, setter: u32) -> Next
 
 /// A place was tried for a new watchpoint.
 fn inserted(index: Index, word: WatchWord, free: bool) -> Next
-    ensures { rank result.phase < rank (Phase.Insert index word) }
+    ensures leads { result ≡ after_insertion index word free }
+    ensures fewer { rank result.phase < rank (Phase.Insert index word) }
 {
     if free {
         return Next::with(Phase::Name(index), Event::Armed);
@@ -357,7 +373,8 @@ fn inserted(index: Index, word: WatchWord, free: bool) -> Next
 
 /// The watch ended, untouched or not.
 fn consumed(access: &Access, index: Index, change: ValueChange, untouched: bool) -> Next
-    ensures { rank result.phase < rank (Phase.Consume index change) }
+    ensures leads { result ≡ after_watch access.now index change untouched }
+    ensures fewer { rank result.phase < rank (Phase.Consume index change) }
 {
     if !untouched {
         return Next::with(
@@ -386,7 +403,8 @@ fn heard_finder(
     turns: u64,
     finder: u32,
 ) -> Next
-    ensures { rank result.phase < rank (Phase.HearFinder index change turns) }
+    ensures leads { HearsFinder program.now access.now index change turns finder result }
+    ensures fewer { rank result.phase < rank (Phase.HearFinder index change turns) }
 {
     if finder != 0 {
         let event = two_sided(access, access_named(program, finder), change);
@@ -405,7 +423,8 @@ fn heard_finder(
 /// The cell took the new word, or answered that it held another one than expected, from which the next
 /// try starts.
 fn exchanged(value: u64, turns: u64, answer: Answer) -> Next
-    ensures { rank result.phase < 2 + turns }
+    ensures leads { result ≡ after_exchange value turns answer }
+    ensures fewer { rank result.phase < 2 + turns }
 {
     let Answer::Word(seen) = answer else {
         return Next::to(Phase::End);
@@ -431,6 +450,7 @@ fn left_after_vain_try(turns: u64) -> Option<u64>
 /// piece, as plain writes are assumed to be: not compound, of at most 8 bytes, at a multiple of its size.
 pub fn counts_as_marked(access: &Access) -> bool
     requires { 0 < access.now.size }
+    ensures { result ≡ counts_as_marked access.now }
 {
     let kind = access.kind();
     let plain_atomic = kind.write() && !kind.is_assertion() && !kind.is_compound();
@@ -438,7 +458,9 @@ pub fn counts_as_marked(access: &Access) -> bool
 }
 
 /// The verdict on a watchpoint that an access hit.
-fn two_sided(setter: &Access, finder: Option<Access>, change: ValueChange) -> Event {
+fn two_sided(setter: &Access, finder: Option<Access>, change: ValueChange) -> Event
+    ensures { IsVerdict setter.now finder change result }
+{
     match finder {
         Some(finder) if overlaps(setter, &finder) => {
             if change.old == change.new {

@@ -1,9 +1,10 @@
 //! The world: all tasks over one board, stepped one at a time as a schedule says.
 
-ghost use Rattle.std.specs.Prelude.{◌≡◌, ◌≢◌, ◌↔◌, true, IsErrOf, ◌<◌, ◌≤◌, IfOk, IsTrue, vec_len};
+ghost use Rattle.std.specs.Prelude.{◌≡◌, ◌≢◌, ◌↔◌, ◌<◌, ◌≤◌, ◌++◌, true, IsErrOf, IfErr, IfOk, IsTrue, MatchOption, OnErr, OnOk, option_map, option_to_list, slice_get};
+ghost use Rattle.litmus_step.specs.Outcome.{counted, finding_of};
 ghost use Rattle.litmus_step.specs.Work.{CanStep};
 ghost use Rattle.litmus_step.specs.Schedule.{entries_of, names_stranger};
-ghost use Rattle.litmus_step.specs.World.{steps_left};
+ghost use Rattle.litmus_step.specs.World.{IsAtFirst, MakesStep, StandsStuck, state_of, step_of, steps_left, value_at};
 ghost use Rattle.litmus_step.specs.declared.world.WorldError.TheVariants.{OutOfMemory};
 
 use crate::board::Board;
@@ -54,7 +55,9 @@ pub struct World {
 
 impl World {
     /// The world before its first step.
-    pub fn new(alloc: Global, program: Program) -> World {
+    pub fn new(alloc: Global, program: Program) -> World
+        ensures { IsAtFirst program result }
+    {
         let [first, second] = TaskNumber::all();
         let board = Board::new(&program.initial);
         World {
@@ -67,17 +70,23 @@ impl World {
     }
 
     /// What was found so far, in order.
-    pub fn findings(&self) -> &[Finding] {
+    pub fn findings(&self) -> &[Finding]
+        ensures { result.now ≡ self.now.findings.items }
+    {
         &self.findings
     }
 
     /// What was counted so far.
-    pub fn counters(&self) -> Counters {
+    pub fn counters(&self) -> Counters
+        ensures { result ≡ self.now.counters }
+    {
         self.counters
     }
 
     /// Makes one step of a task; none where it has ended or is stuck.
     pub fn step(&mut self, task: TaskNumber) -> Result<Stepped, AllocError>
+        ensures makes { OnOk result (MatchOption (step_of self.old task) (self.new ≡ self.old) (MakesStep self.old self.new task)) }
+        ensures state { IfOk result (λ stepped. option_map (state_of self.new.program) (slice_get self.new.tasks task) ≡ Some stepped) }
         ensures moved { result ≡ Ok Stepped.Moved → steps_left self.new < steps_left self.old }
         ensures bound { steps_left self.new ≤ steps_left self.old }
         ensures same_program { self.new.program ≡ self.old.program }
@@ -96,7 +105,10 @@ impl World {
 
     /// Counts what happened at a step, and keeps what was found.
     fn take(&mut self, event: &Event) -> Result<(), AllocError>
-        ensures stays { (self.new.program ≡ self.old.program) × (self.new.tasks ≡ self.old.tasks) }
+        ensures stays { (self.new.program ≡ self.old.program) × (self.new.tasks ≡ self.old.tasks) × (self.new.board ≡ self.old.board) }
+        ensures counted { self.new.counters ≡ counted self.old.counters event.now }
+        ensures ok { OnOk result (self.new.findings.items ≡ self.old.findings.items ++ option_to_list (finding_of event.now)) }
+        ensures err { OnErr result (self.new.findings.items ≡ self.old.findings.items) }
     {
         self.counters.count(event);
         if let Some(finding) = Finding::of(event) {
@@ -113,6 +125,7 @@ impl World {
     pub fn run(&mut self, schedule: &Schedule) -> Result<(), WorldError>
         ensures bad_schedule { IsErrOf result WorldError.BadSchedule ↔ IsTrue (names_stranger (entries_of schedule.now)) }
         ensures unmoved { IsErrOf result WorldError.BadSchedule → self.new ≡ self.old }
+        ensures stuck { IfErr result (StandsStuck self.new) }
         ensures same_program { self.new.program ≡ self.old.program }
     {
         if schedule.names_stranger() {
@@ -130,6 +143,7 @@ impl World {
 
     /// Makes that many steps of a task, or those that it has left.
     fn steps(&mut self, task: TaskNumber, count: u64) -> Result<(), WorldError>
+        ensures stuck { IfErr result (StandsStuck self.new) }
         ensures made { result ≢ Err WorldError.BadSchedule }
         ensures same_program { self.new.program ≡ self.old.program }
     {
@@ -145,6 +159,7 @@ impl World {
 
     /// Makes one step of each task that has not ended. Whether one can go on.
     fn round(&mut self) -> Result<bool, WorldError>
+        ensures stuck { IfErr result (StandsStuck self.new) }
         ensures made { result ≢ Err WorldError.BadSchedule }
         ensures same_program { self.new.program ≡ self.old.program }
         ensures progress { result ≡ Ok true → steps_left self.new < steps_left self.old }
@@ -161,7 +176,9 @@ impl World {
     }
 
     /// The condition holds of what the registers and the variables hold now.
-    pub fn condition_holds(&self) -> bool {
+    pub fn condition_holds(&self) -> bool
+        ensures { IsTrue result ↔ (value_at self.now self.now.program.condition.place ≡ Some self.now.program.condition.value) }
+    {
         let condition = self.program.condition;
         let place = condition.place;
         let held = match place {
@@ -174,7 +191,8 @@ impl World {
 
 /// What a task is now.
 fn state(program: &Program, run: &TaskRun) -> Stepped
-    ensures { result ≡ Stepped.Moved → CanStep program.now run.now }
+    ensures value { result ≡ state_of program.now run.now }
+    ensures moved { result ≡ Stepped.Moved → CanStep program.now run.now }
 {
     if run.is_stuck() {
         Stepped::Stuck
@@ -184,3 +202,6 @@ fn state(program: &Program, run: &TaskRun) -> Stepped
         Stepped::Moved
     }
 }
+
+#[cfg(test)]
+mod tests;

@@ -1,0 +1,24 @@
+use Rattle.std.specs.Prelude.{◌≡◌, ◌≢◌, ◌↔◌, ◌&&◌, ◌||◌, ◌==◌, ◌%◌, Option, Some, Bool, IsSomeAnd, IfSome, nat_le, not}
+use Rattle.access_types.specs.Access.{Access, Overlap}
+use Rattle.access_types.specs.Kind.{is_compound, is_marked, writes}
+use Rattle.access_types.specs.declared.report.ValueChange.{ValueChange}
+use Rattle.litmus_step.specs.declared.task.Event.{Event}
+use Rattle.litmus_step.specs.declared.task.Event.TheVariants.{Encoding, SameValue, TwoSided}
+
+-- a write that the machine makes in one piece: not compound, of at most 8 bytes, at a multiple of its size
+abbrev pub is_atomic_write : Access → Bool
+is_atomic_write a = writes a.kind && not (is_compound a.kind) && nat_le a.size 8 && (a.addr % a.size == 0)
+
+-- it is declared marked, or is taken for marked
+abbrev pub counts_as_marked : Access → Bool
+counts_as_marked a = is_marked a.kind || is_atomic_write a
+
+-- the access that hit a watchpoint is known, and has a byte in common with the one that set it up
+abbrev pub Meets : Access → Option Access → Type 0
+Meets setter finder = IsSomeAnd finder (Overlap setter)
+
+-- the verdict on a watchpoint that an access hit: it is a race if the two have a byte in common and the bytes changed
+pub record IsVerdict (setter : Access) (finder : Option Access) (change : ValueChange) (verdict : Event) : Type 0 where
+  pub encoding : (verdict ≡ Encoding) ↔ ¬ Meets setter finder
+  pub same_value : (verdict ≡ SameValue) ↔ (Meets setter finder × (change.old ≡ change.new))
+  pub race : IfSome finder (λ other. Overlap setter other → change.old ≢ change.new → verdict ≡ TwoSided setter other (Some change))
