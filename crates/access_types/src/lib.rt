@@ -3,11 +3,13 @@
 #![tactic(auto)]
 
 pub mod access;
+pub mod history;
 pub mod kind;
 pub mod report;
 pub mod tickets;
 
 pub use access::{Access, AccessError, conflicts, overlaps};
+pub use history::{Bytes, Happening, Mark, Moment};
 pub use kind::{Claim, Kind, KindError, Operation, words};
 pub use report::{Report, ValueChange};
 pub use tickets::{rep_of, site_of, task_of, ticket, tickets_differ, tickets_read_back};

@@ -6,7 +6,7 @@ use Rattle.kcsan_litmus.specs.declared.command.ReadFault.TheVariants as fault
 use Rattle.kcsan_litmus.specs.declared.command.TheConstants.{NO_REPORT, REPORTED, USAGE, REFUSED, UNREADABLE, STUCK, OUT_OF_MEMORY, UNWRITABLE}
 use Rattle.kcsan_litmus.specs.declared.engine.EngineError.{EngineError}
 use Rattle.kcsan_litmus.specs.declared.engine.EngineError.TheVariants as engine
-use Rattle.kcsan_litmus.specs.Engine.{HoldsOutput}
+use Rattle.kcsan_litmus.specs.Engine.{HoldsSomeOutput}
 use Rattle.kcsan_litmus.specs.Sink.{CountsFailure, appended}
 
 -- the status for a file that could not be stepped
@@ -41,7 +41,7 @@ pub record IsSinkAsBefore (written_before written_after : Option (List ℕ)) (fa
 -- what each status says of standard output
 pub record EndsAs (status : ℕ) (written_before written_after : Option (List ℕ)) (failures_before failures_after : ℕ) : Type 0 where
   -- an output with a report
-  pub reported : status ≡ REPORTED → HoldsOutput true written_before written_after
+  pub reported : status ≡ REPORTED → HoldsSomeOutput true written_before written_after
   -- an output without one, or help
   pub unreported : status ≡ NO_REPORT → (text : List ℕ) × (written_after ≡ appended written_before text)
   -- nothing

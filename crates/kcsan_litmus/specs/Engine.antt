@@ -1,8 +1,12 @@
-use Rattle.std.specs.Prelude.{◌≡◌, ◌≤◌, ◌==◌, ℕ, List, Option, Bool, length, not, take}
+use Rattle.std.specs.Prelude.{◌≡◌, ◌≤◌, ◌==◌, ◌↔◌, ℕ, List, Option, Some, Bool, All, IsTrue, length, not, take}
 use Rattle.litmus_parse.specs.declared.reader.ParseError.{ParseError}
 use Rattle.litmus_parse.specs.declared.reader.ParseError.TheVariants as parse
-use Rattle.litmus_step.specs.declared.outcome.Counters.{Counters}
-use Rattle.litmus_step.specs.declared.outcome.Finding.{Finding}
+use Rattle.litmus_parse.specs.declared.program.Program.{Program}
+use Rattle.litmus_step.specs.Run.{RunsTo}
+use Rattle.litmus_step.specs.World.{IsAtFirst, value_at}
+use Rattle.litmus_step.specs.declared.schedule.Entry.{Entry}
+use Rattle.litmus_step.specs.declared.world.World.{World}
+use Rattle.litmus_step.specs.Outcome.{HasSharedByte}
 use Rattle.litmus_step.specs.declared.world.WorldError.{WorldError}
 use Rattle.litmus_step.specs.declared.world.WorldError.TheVariants as world
 use Rattle.kcsan_litmus.specs.declared.engine.EngineError.{EngineError}
@@ -24,25 +28,38 @@ world_fault world.OutOfMemory = engine.OutOfMemory
 world_fault (world.Stuck task) = engine.Stuck task
 world_fault world.BadSchedule = engine.BadSchedule
 
--- the text is that of some reports in order, counters and a condition; there was a race if there is a report
-pub record IsOutput (raced : Bool) (text : List ℕ) : Type 0 where
-  pub findings : List Finding
-  pub counters : Counters
+-- the condition of a world's program holds there
+abbrev pub HoldsAtEnd : World → Type 0
+HoldsAtEnd last = value_at last last.program.condition.place ≡ Some last.program.condition.value
+
+-- a run of some program in the order of the schedule, to its end, has this output: its reports in order, its counters and its condition. A report of two accesses names two with a byte in common. There was a race if there is a report
+pub record IsOutput (entries : List Entry) (raced : Bool) (text : List ℕ) : Type 0 where
+  pub program : Program
+  pub first : World
+  pub last : World
   pub held : Bool
-  pub spelled : text ≡ transcript_text findings counters held
-  pub raced_if_found : raced ≡ not (length findings == 0)
+  pub at_first : IsAtFirst program first
+  pub runs : RunsTo first entries last
+  pub held_is : IsTrue held ↔ HoldsAtEnd last
+  pub spelled : text ≡ transcript_text last.findings.items last.counters held
+  pub shared : All HasSharedByte last.findings.items
+  pub raced_if_found : raced ≡ not (length last.findings.items == 0)
 
 -- behind what was there stands an output
-pub record HoldsOutput (raced : Bool) (before after : Option (List ℕ)) : Type 0 where
+pub record HoldsOutput (entries : List Entry) (raced : Bool) (before after : Option (List ℕ)) : Type 0 where
   pub text : List ℕ
-  pub output : IsOutput raced text
+  pub output : IsOutput entries raced text
   pub holds : after ≡ appended before text
 
+-- behind what was there stands an output under some schedule
+abbrev pub HoldsSomeOutput : Bool → Option (List ℕ) → Option (List ℕ) → Type 0
+HoldsSomeOutput raced before after = (entries : List Entry) × HoldsOutput entries raced before after
+
 -- behind what was there stands a beginning of an output
-pub record HoldsBeginningOfOutput (before after : Option (List ℕ)) : Type 0 where
+pub record HoldsBeginningOfOutput (entries : List Entry) (before after : Option (List ℕ)) : Type 0 where
   pub raced : Bool
   pub text : List ℕ
-  pub output : IsOutput raced text
+  pub output : IsOutput entries raced text
   pub count : ℕ
   pub within : count ≤ length text
   pub holds : after ≡ appended before (take count text)

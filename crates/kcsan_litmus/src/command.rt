@@ -2,7 +2,7 @@
 
 ghost use Rattle.std.specs.Prelude.{◌≡◌, ◌≢◌, ◌≤◌, IfOk, IfErr, true, false};
 ghost use Rattle.kcsan_litmus.specs.Command.{engine_status_of, read_failure, status_of, EndsAs, IsSinkAsBefore};
-ghost use Rattle.kcsan_litmus.specs.Engine.{HoldsOutput};
+ghost use Rattle.kcsan_litmus.specs.Engine.{HoldsSomeOutput};
 ghost use Rattle.kcsan_litmus.specs.declared.command.Failure.TheVariants.{Engine, OutOfMemory};
 ghost use Rattle.kcsan_litmus.specs.Sink.{CountsFailure};
 
@@ -157,7 +157,7 @@ pub fn command<S: AsStr, D: Desk>(alloc: Global, words: &[S], desk: &mut D) -> u
 /// Does what is asked, and answers the status that the program ends with.
 fn carry_out<D: Desk>(alloc: Global, request: Request<'_>, desk: &mut D) -> u8
     ensures ends { EndsAs result (D.written desk.old) (D.written desk.new) (D.failures desk.old) (D.failures desk.new) }
-    ensures unreported { result ≡ NO_REPORT → HoldsOutput false (D.written desk.old) (D.written desk.new) }
+    ensures unreported { result ≡ NO_REPORT → HoldsSomeOutput false (D.written desk.old) (D.written desk.new) }
 {
     match step(alloc, request, desk) {
         Ok(true) => REPORTED,
@@ -177,7 +177,7 @@ fn fail<D: Desk>(failure: Failure, desk: &mut D) -> u8
 
 /// Steps a file, and writes what is found. Whether there was a report.
 fn step<D: Desk>(alloc: Global, request: Request<'_>, desk: &mut D) -> Result<bool, Failure>
-    ensures written { IfOk result (λ raced. HoldsOutput raced (D.written desk.old) (D.written desk.new)) }
+    ensures written { IfOk result (λ raced. HoldsSomeOutput raced (D.written desk.old) (D.written desk.new)) }
     ensures silent { IfErr result (λ failure. status_of failure ≢ UNWRITABLE → D.written desk.new ≡ D.written desk.old) }
     ensures failed { IfErr result (λ failure. status_of failure ≡ UNWRITABLE → CountsFailure (D.failures desk.old) (D.failures desk.new)) }
 {

@@ -94,11 +94,11 @@ pub fn step_file<K: Sink>(
     schedule: &Schedule,
     sink: &mut K,
 ) -> Result<bool, EngineError>
-    ensures written { IfOk result (λ raced. HoldsOutput raced (K.written sink.old) (K.written sink.new)) }
+    ensures written { IfOk result (λ raced. HoldsOutput (entries_of schedule.now) raced (K.written sink.old) (K.written sink.new)) }
 
     // The sink's count of failures rose in this call, or stood at its last value.
     ensures failed { IsErrOf result EngineError.SinkFailed → CountsFailure (K.failures sink.old) (K.failures sink.new) }
-    ensures beginning { IsErrOf result EngineError.SinkFailed → HoldsBeginningOfOutput (K.written sink.old) (K.written sink.new) }
+    ensures beginning { IsErrOf result EngineError.SinkFailed → HoldsBeginningOfOutput (entries_of schedule.now) (K.written sink.old) (K.written sink.new) }
 
     // Every other refusal comes before anything is written.
     ensures unwritten { IsErr result → (IsErrOf result EngineError.SinkFailed → ⊥) → sink.new ≡ sink.old }
@@ -117,7 +117,7 @@ pub fn step_file<K: Sink>(
 
 /// Steps the program of a litmus text under a schedule to its end.
 fn run_file(alloc: Global, text: &[u8], schedule: &Schedule) -> Result<Output, EngineError>
-    ensures output { IfOk result (λ output. IsOutput output.raced (string_bytes output.text)) }
+    ensures output { IfOk result (λ output. IsOutput (entries_of schedule.now) output.raced (string_bytes output.text)) }
     ensures unwritten { IsErrOf result EngineError.SinkFailed → ⊥ }
     ensures bad_schedule { IsErrOf result EngineError.BadSchedule → IsTrue (names_stranger (entries_of schedule.now)) }
     ensures all_there { IfOk result (λ _. ¬ IsTrue (names_stranger (entries_of schedule.now))) }

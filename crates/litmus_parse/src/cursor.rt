@@ -2,6 +2,7 @@
 
 ghost use Rattle.std.specs.Prelude.{◌≡◌, ◌≤◌, ◌<◌, ◌-◌, length, IsTrue, OnOk, IfOk, false};
 ghost use Rattle.litmus_lex.specs.Tokens.{is_end};
+ghost use Rattle.litmus_parse.specs.declared.cursor.Refusal.TheVariants.{OutOfMemory};
 
 use litmus_lex::{Lexeme, Part, Sign, Token, Word, gap_end, head_end, lexeme_at};
 use std::alloc::{AllocError, AllocFailed};
@@ -20,12 +21,16 @@ pub enum Refusal {
 }
 
 impl From<AllocError> for Refusal {
+    ghost from_gives = { λ _ refusal. refusal ≡ OutOfMemory };
+
     fn from(_error: AllocError) -> Refusal {
         Refusal::OutOfMemory
     }
 }
 
 impl<T: Drop> From<AllocFailed<T>> for Refusal {
+    ghost from_gives = { λ _ refusal. refusal ≡ OutOfMemory };
+
     fn from(_error: AllocFailed<T>) -> Refusal {
         Refusal::OutOfMemory
     }

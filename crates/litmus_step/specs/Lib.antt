@@ -11,3 +11,4 @@ pub mod Machine
 pub mod Work
 pub mod World
 pub mod Schedule
+pub mod Run

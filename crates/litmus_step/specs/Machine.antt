@@ -14,7 +14,7 @@ use Rattle.litmus_step.specs.Index.{insert_after, look_after}
 use Rattle.litmus_step.specs.Memory.{access_named, access_of, sign_extended, with_low_half}
 use Rattle.litmus_step.specs.Verdict.{IsVerdict, counts_as_marked}
 use Rattle.litmus_step.specs.declared.step.Answer.{Answer}
-use Rattle.litmus_step.specs.declared.step.Answer.TheVariants.{Word, Flag, Halves, Done}
+use Rattle.litmus_step.specs.declared.step.Answer.TheVariants.{Word, Flag, Halves}
 use Rattle.litmus_step.specs.declared.step.Index.{Index}
 use Rattle.litmus_step.specs.declared.step.Index.TheVariants.{Slot16, Slot17}
 use Rattle.litmus_step.specs.declared.step.Step.{Step}

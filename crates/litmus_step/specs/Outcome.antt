@@ -1,4 +1,5 @@
 use Rattle.std.specs.Prelude.{◌+◌, ◌-◌, ◌^◌, ℕ, Option, Some, None, min}
+use Rattle.access_types.specs.Access.{Overlap}
 use Rattle.litmus_step.specs.declared.outcome.Counters.{Counters}
 use Rattle.litmus_step.specs.declared.outcome.Finding.{Finding}
 use Rattle.litmus_step.specs.declared.outcome.Finding.TheVariants as findings
@@ -45,3 +46,8 @@ none_counted = record {
   unencodable = 0;
   unbalanced = 0;
 }
+
+-- a report of two accesses names two with a byte in common
+abbrev pub HasSharedByte : Finding → Type 0
+HasSharedByte (findings.TwoSided setter finder seen) = Overlap setter finder
+HasSharedByte (findings.Unknown setter change) = Unit {0}

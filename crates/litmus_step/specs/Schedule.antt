@@ -1,4 +1,4 @@
-use Rattle.std.specs.Prelude.{ℕ, List, Bool, nat_le}
+use Rattle.std.specs.Prelude.{List, Bool, nat_le}
 use Rattle.std.specs.List.{list_any}
 use Rattle.litmus_step.specs.declared.schedule.Entry.{Entry}
 use Rattle.litmus_step.specs.declared.schedule.Schedule.{Schedule}

@@ -17,6 +17,11 @@ counts_as_marked a = is_marked a.kind || is_atomic_write a
 abbrev pub Meets : Access → Option Access → Type 0
 Meets setter finder = IsSomeAnd finder (Overlap setter)
 
+-- an event that names two accesses names two with a byte in common
+abbrev pub Shares : Event → Type 0
+Shares (TwoSided setter finder seen) = Overlap setter finder
+Shares _ = Unit {0}
+
 -- the verdict on a watchpoint that an access hit: it is a race if the two have a byte in common and the bytes changed
 pub record IsVerdict (setter : Access) (finder : Option Access) (change : ValueChange) (verdict : Event) : Type 0 where
   pub encoding : (verdict ≡ Encoding) ↔ ¬ Meets setter finder

@@ -8,7 +8,7 @@ ghost use Rattle.litmus_step.specs.declared.step.Answer.{Answer};
 ghost use Rattle.litmus_step.specs.Step.{Answers};
 ghost use Rattle.litmus_step.specs.Phase.{Fits};
 ghost use Rattle.litmus_step.specs.Machine.{Follows, HearsFinder, IsLooked, IsUnmatched, Leads, after_exchange, after_insertion, after_setter, after_try, after_watch, counting, next_step, phase_after_load, registers_after, site_after, to};
-ghost use Rattle.litmus_step.specs.Verdict.{IsVerdict, counts_as_marked};
+ghost use Rattle.litmus_step.specs.Verdict.{IsVerdict, Shares, counts_as_marked};
 ghost use Rattle.litmus_parse.specs.Program.{text_of};
 
 use crate::memory::{access_at, access_named, low_half, sign_extended, with_low_half};
@@ -187,6 +187,7 @@ impl TaskRun {
         requires fits { Fits self.old.phase answer }
         ensures same_task { self.new.number ≡ self.old.number }
         ensures follows { Follows program.now self.old answer self.new result }
+        ensures shares { Shares result }
         ensures progress { work_left program.now self.new < work_left program.now self.old }
     {
         let Some(statement) = program.statement(self.number, self.site) else {
@@ -215,6 +216,7 @@ impl TaskRun {
         ensures site { self.new.site ≡ site_after self.old.phase self.old.site }
         ensures registers { self.new.registers ≡ registers_after statement self.old.phase answer self.old.registers }
         ensures leads { Leads program.now statement access.now self.old.phase answer result }
+        ensures shares { Shares result.event }
         ensures progress { work_left program.now (record self.new { phase = result.phase }) < work_left program.now self.old }
     {
         let phase = self.phase;
@@ -300,6 +302,7 @@ impl Next {
 fn looked(access: &Access, index: Index, word: u64) -> Next
     requires { 0 < access.now.size }
     ensures leads { IsLooked access.now index word result }
+    ensures shares { Shares result.event }
     ensures fewer { rank result.phase < rank (Phase.Look index) }
 {
     if let Some(watch) = decode(word) {
@@ -317,6 +320,7 @@ fn looked(access: &Access, index: Index, word: u64) -> Next
 fn not_found(access: &Access) -> Next
     requires { 0 < access.now.size }
     ensures leads { IsUnmatched access.now result }
+    ensures shares { Shares result.event }
     ensures fewer { rank result.phase < rank (Phase.Look Index.Slot18) }
 {
     if counts_as_marked(access) {
@@ -374,6 +378,7 @@ fn inserted(index: Index, word: WatchWord, free: bool) -> Next
 /// The watch ended, untouched or not.
 fn consumed(access: &Access, index: Index, change: ValueChange, untouched: bool) -> Next
     ensures leads { result ≡ after_watch access.now index change untouched }
+    ensures shares { Shares result.event }
     ensures fewer { rank result.phase < rank (Phase.Consume index change) }
 {
     if !untouched {
@@ -404,6 +409,7 @@ fn heard_finder(
     finder: u32,
 ) -> Next
     ensures leads { HearsFinder program.now access.now index change turns finder result }
+    ensures shares { Shares result.event }
     ensures fewer { rank result.phase < rank (Phase.HearFinder index change turns) }
 {
     if finder != 0 {
@@ -459,7 +465,8 @@ pub fn counts_as_marked(access: &Access) -> bool
 
 /// The verdict on a watchpoint that an access hit.
 fn two_sided(setter: &Access, finder: Option<Access>, change: ValueChange) -> Event
-    ensures { IsVerdict setter.now finder change result }
+    ensures verdict { IsVerdict setter.now finder change result }
+    ensures shares { Shares result }
 {
     match finder {
         Some(finder) if overlaps(setter, &finder) => {

@@ -1,9 +1,11 @@
 //! The world: all tasks over one board, stepped one at a time as a schedule says.
 
-ghost use Rattle.std.specs.Prelude.{◌≡◌, ◌≢◌, ◌↔◌, ◌<◌, ◌≤◌, ◌++◌, true, IsErrOf, IfErr, IfOk, IsTrue, MatchOption, OnErr, OnOk, option_map, option_to_list, slice_get};
-ghost use Rattle.litmus_step.specs.Outcome.{counted, finding_of};
+ghost use Rattle.std.specs.Prelude.{All, ◌≡◌, ◌≢◌, ◌↔◌, ◌<◌, ◌≤◌, ◌++◌, true, false, replicate, IsErrOf, IfErr, IfOk, IsTrue, MatchOption, OnErr, OnOk, option_map, option_to_list, slice_get};
+ghost use Rattle.litmus_step.specs.Outcome.{HasSharedByte, counted, finding_of};
+ghost use Rattle.litmus_step.specs.Verdict.{Shares};
 ghost use Rattle.litmus_step.specs.Work.{CanStep};
 ghost use Rattle.litmus_step.specs.Schedule.{entries_of, names_stranger};
+ghost use Rattle.litmus_step.specs.Run.{HaveEnded, RunsTo, Turns, in_turn};
 ghost use Rattle.litmus_step.specs.World.{IsAtFirst, MakesStep, StandsStuck, state_of, step_of, steps_left, value_at};
 ghost use Rattle.litmus_step.specs.declared.world.WorldError.TheVariants.{OutOfMemory};
 
@@ -89,6 +91,7 @@ impl World {
         ensures state { IfOk result (λ stepped. option_map (state_of self.new.program) (slice_get self.new.tasks task) ≡ Some stepped) }
         ensures moved { result ≡ Ok Stepped.Moved → steps_left self.new < steps_left self.old }
         ensures bound { steps_left self.new ≤ steps_left self.old }
+        ensures shares { All HasSharedByte self.old.findings.items → All HasSharedByte self.new.findings.items }
         ensures same_program { self.new.program ≡ self.old.program }
     {
         let mut run = self.tasks[task.get()];
@@ -105,6 +108,8 @@ impl World {
 
     /// Counts what happened at a step, and keeps what was found.
     fn take(&mut self, event: &Event) -> Result<(), AllocError>
+        requires { Shares event.now }
+        ensures shares { All HasSharedByte self.old.findings.items → All HasSharedByte self.new.findings.items }
         ensures stays { (self.new.program ≡ self.old.program) × (self.new.tasks ≡ self.old.tasks) × (self.new.board ≡ self.old.board) }
         ensures counted { self.new.counters ≡ counted self.old.counters event.now }
         ensures ok { OnOk result (self.new.findings.items ≡ self.old.findings.items ++ option_to_list (finding_of event.now)) }
@@ -125,6 +130,8 @@ impl World {
     pub fn run(&mut self, schedule: &Schedule) -> Result<(), WorldError>
         ensures bad_schedule { IsErrOf result WorldError.BadSchedule ↔ IsTrue (names_stranger (entries_of schedule.now)) }
         ensures unmoved { IsErrOf result WorldError.BadSchedule → self.new ≡ self.old }
+        ensures runs { OnOk result (RunsTo self.old (entries_of schedule.now) self.new) }
+        ensures shares { All HasSharedByte self.old.findings.items → All HasSharedByte self.new.findings.items }
         ensures stuck { IfErr result (StandsStuck self.new) }
         ensures same_program { self.new.program ≡ self.old.program }
     {
@@ -145,6 +152,8 @@ impl World {
     fn steps(&mut self, task: TaskNumber, count: u64) -> Result<(), WorldError>
         ensures stuck { IfErr result (StandsStuck self.new) }
         ensures made { result ≢ Err WorldError.BadSchedule }
+        ensures shares { All HasSharedByte self.old.findings.items → All HasSharedByte self.new.findings.items }
+        ensures turns { OnOk result (Turns self.old (replicate count task) self.new) }
         ensures same_program { self.new.program ≡ self.old.program }
     {
         for _ in 0..count {
@@ -161,6 +170,9 @@ impl World {
     fn round(&mut self) -> Result<bool, WorldError>
         ensures stuck { IfErr result (StandsStuck self.new) }
         ensures made { result ≢ Err WorldError.BadSchedule }
+        ensures shares { All HasSharedByte self.old.findings.items → All HasSharedByte self.new.findings.items }
+        ensures turns { OnOk result (Turns self.old (in_turn 1) self.new) }
+        ensures ended { result ≡ Ok false → HaveEnded self.new }
         ensures same_program { self.new.program ≡ self.old.program }
         ensures progress { result ≡ Ok true → steps_left self.new < steps_left self.old }
     {

@@ -1,4 +1,4 @@
-use Rattle.std.proofs.Common.{◌≡◌, ◌<◌, ◌≢◌, length, arith, below_more, get_or-set_other, get_or-set_same, length-set, rules, ◌∙◌, refl}
+use Rattle.std.proofs.Common.{◌≡◌, ◌≢◌, arith, below_more, get_or-set_other, rules}
 use Rattle.std.proofs.lemmas.Grind.{common_steps, same_number_lists}
 use Rattle.litmus_step.proofs.board.Board.new.Goals as goal
 

@@ -1,5 +1,5 @@
 use Rattle.std.proofs.Common.{◌≡◌}
-use Rattle.litmus_step.specs.Machine.{Follows, Leads, counting}
+use Rattle.litmus_step.specs.Machine.{Follows}
 use Rattle.litmus_step.specs.Memory.{access_of}
 use Rattle.litmus_step.proofs.task.TaskRun.answer.Goals as goal
 

@@ -1,0 +1,72 @@
+//! Histories: what the tasks of a run did, moment by moment. Definitions of races speak of them.
+
+ghost use Rattle.std.specs.Prelude.{◌≡◌, ◌≤◌, ℕ, Bool, Contains, take};
+ghost use Rattle.access_types.specs.Access as spec;
+ghost use Rattle.access_types.specs.History.{History, InProgress, Memory, content, ending, value_from};
+ghost use Rattle.access_types.specs.Race.{TrueRace};
+ghost use Rattle.access_types.specs.declared.history.Bytes.{Bytes};
+
+use crate::access::Access;
+
+/// A KCSAN call that a task makes between its accesses.
+#[derive(Clone, Copy, Debug, PartialEq, Eq)]
+pub enum Mark {
+    /// `kcsan_disable_current`.
+    Disable,
+    /// `kcsan_enable_current`.
+    Enable,
+    /// `kcsan_nestable_atomic_begin`.
+    NestOpen,
+    /// `kcsan_nestable_atomic_end`.
+    NestClose,
+    /// `kcsan_flat_atomic_begin`.
+    FlatBegin,
+    /// `kcsan_flat_atomic_end`.
+    FlatEnd,
+    /// `kcsan_atomic_next`.
+    Next(u64),
+}
+
+/// Bytes from an address on.
+#[derive(Clone, Copy, Debug, PartialEq, Eq)]
+pub struct Bytes {
+    pub addr: u64,
+    pub size: u64,
+}
+
+/// What happens at a moment. Values are little-endian.
+#[derive(Clone, Copy, Debug, PartialEq, Eq)]
+pub enum Happening {
+    Begin(Access),
+    End(Access),
+    Read(Bytes, u64),
+    Write(Bytes, u64),
+    Lock(u32),
+    Unlock(u32),
+    Mark(Mark),
+}
+
+/// A moment of one task.
+#[derive(Clone, Copy, Debug, PartialEq, Eq)]
+pub struct Moment {
+    pub task: u32,
+    pub happening: Happening,
+}
+
+/// Law: a true race is symmetric.
+pub fn races_are_symmetric()
+    ensures { (plain_writes_atomic : Bool) (history : History) (s f : spec.Access) → TrueRace plain_writes_atomic history s f → TrueRace plain_writes_atomic history f s }
+{}
+
+/// Law: the content after no moments is the initial content.
+pub fn content_begins_with_the_initial()
+    ensures { (initial : Memory) (history : History) (bytes : Bytes) → content initial history 0 bytes ≡ value_from initial bytes.addr bytes.size }
+{}
+
+/// Law: an access that has ended is not in progress at any later moment.
+pub fn ended_accesses_stay_ended()
+    ensures { (history : History) (a : spec.Access) (k later : ℕ) → Contains (take k history) (ending a) → k ≤ later → ¬ InProgress history a later }
+{}
+
+#[cfg(test)]
+mod tests;
