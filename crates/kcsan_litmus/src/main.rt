@@ -1,10 +1,10 @@
 //! `kcsan_litmus`: the runtime of KCSAN, the Linux kernel's concurrency sanitizer, over C litmus programs.
 #![tactic(auto)]
 
-mod command;
-mod engine;
-mod report;
-mod sink;
+pub mod command;
+pub mod engine;
+pub mod report;
+pub mod sink;
 mod system;
 
 use command::{OUT_OF_MEMORY, USAGE, command};
