@@ -1,17 +1,14 @@
-use Rattle.std.specs.Prelude.{◌≡◌, ◌≢◌, ◌↔◌, ◌&&◌, ◌||◌, ◌==◌, ◌%◌, Option, Some, Bool, IsSomeAnd, IfSome, nat_le, not}
+use Rattle.std.specs.Prelude.{◌≡◌, ◌≢◌, ◌↔◌, ◌||◌, Option, Some, Bool, true, IsSomeAnd, IfSome}
 use Rattle.access_types.specs.Access.{Access, Overlap}
-use Rattle.access_types.specs.Kind.{is_compound, is_marked, writes}
+use Rattle.access_types.specs.Kind.{is_marked}
+use Rattle.access_types.specs.Marked.{is_atomic_write}
 use Rattle.access_types.specs.declared.report.ValueChange.{ValueChange}
 use Rattle.litmus_step.specs.declared.task.Event.{Event}
 use Rattle.litmus_step.specs.declared.task.Event.TheVariants.{Encoding, SameValue, TwoSided}
 
--- a write that the machine makes in one piece: not compound, of at most 8 bytes, at a multiple of its size
-abbrev pub is_atomic_write : Access → Bool
-is_atomic_write a = writes a.kind && not (is_compound a.kind) && nat_le a.size 8 && (a.addr % a.size == 0)
-
--- it is declared marked, or is taken for marked
+-- it is declared marked, or is an atomic write, where plain writes are assumed atomic
 abbrev pub counts_as_marked : Access → Bool
-counts_as_marked a = is_marked a.kind || is_atomic_write a
+counts_as_marked a = is_marked a.kind || is_atomic_write true a
 
 -- the access that hit a watchpoint is known, and has a byte in common with the one that set it up
 abbrev pub Meets : Access → Option Access → Type 0
