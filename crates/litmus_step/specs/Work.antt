@@ -1,5 +1,5 @@
-use Rattle.std.specs.Prelude.{◌+◌, ◌-◌, ◌*◌, ◌<◌, ◌≢◌, ℕ, length, replicate}
-use Rattle.litmus_parse.specs.declared.numbers.TheConstants.{REGISTERS}
+use Rattle.std.specs.Prelude.{◌+◌, ◌-◌, ◌*◌, ◌<◌, ◌≢◌, ℕ, IfSome, length, replicate}
+use Rattle.litmus_parse.specs.declared.numbers.TheConstants.{REGISTERS, VARIABLES}
 use Rattle.litmus_parse.specs.declared.program.Program.{Program}
 use Rattle.litmus_parse.specs.declared.program.TheConstants.{STATEMENTS}
 use Rattle.litmus_step.specs.declared.task.Phase.{Phase}
@@ -7,16 +7,17 @@ use Rattle.litmus_step.specs.declared.task.Phase.TheVariants as phases
 use Rattle.litmus_step.specs.declared.task.TaskRun.{TaskRun}
 use Rattle.litmus_step.specs.declared.task.TheConstants.{TURNS}
 use Rattle.litmus_step.specs.Index.{inserts_left, looks_left}
-use Rattle.litmus_parse.specs.Program.{text_of}
+use Rattle.litmus_parse.specs.Program.{statement_at, text_of, variable_of}
 
 -- a task before its first step: at its first statement, with nothing but 0 in its registers
 abbrev pub run_at_first : ℕ → TaskRun
 run_at_first number = record { number = number; site = 0; phase = phases.Begin; registers = replicate REGISTERS 0 }
 
--- the task has a statement to go on with
+-- the task has a statement to go on with, of a variable that is there
 pub record IsRunning (program : Program) (run : TaskRun) : Type 0 where
   pub within : run.site < length (text_of program run.number)
   pub limit : run.site < STATEMENTS
+  pub there : IfSome (statement_at program run.number run.site) (λ statement. variable_of statement < VARIABLES)
 
 -- it is not stuck, and has a statement to go on with
 pub record CanStep (program : Program) (run : TaskRun) : Type 0 where

@@ -1,4 +1,5 @@
 use Rattle.std.specs.Prelude.{◌≡◌, ◌++◌, ℕ, Bool, [], ◌∷◌, Option, Some, length, nat_le, option_and_then, option_map, option_to_list, slice_get, slice_index, slice_set, sum_by, if◌then◌else◌}
+use Rattle.litmus_parse.specs.declared.numbers.TheConstants.{VARIABLES}
 use Rattle.litmus_parse.specs.declared.program.Place.{Place}
 use Rattle.litmus_parse.specs.declared.program.Place.TheVariants.{Register, Variable}
 use Rattle.litmus_parse.specs.declared.program.Program.{Program}
@@ -18,7 +19,7 @@ use Rattle.litmus_step.specs.Words.{words_at_first}
 use Rattle.litmus_step.specs.declared.world.World.{World}
 use Rattle.litmus_step.specs.declared.world.WorldError.{WorldError}
 use Rattle.litmus_step.specs.declared.world.WorldError.TheVariants as errors
-use Rattle.litmus_step.specs.Work.{run_at_first, work_left}
+use Rattle.litmus_step.specs.Work.{IsRunning, run_at_first, work_left}
 
 -- more than the steps that all tasks can still make
 abbrev pub steps_left : World → ℕ
@@ -27,6 +28,7 @@ steps_left world = sum_by (λ run. work_left world.program run) world.tasks
 -- no task has made a step, and nothing is counted or found
 pub record IsAtFirst (program : Program) (world : World) : Type 0 where
   pub program_is : world.program ≡ program
+  pub variables : length program.initial ≡ VARIABLES
   pub board : world.board ≡ words_at_first program.initial
   pub tasks : world.tasks ≡ run_at_first 0 ∷ run_at_first 1 ∷ []
   pub counters : world.counters ≡ none_counted
@@ -47,6 +49,7 @@ pub record MakesStep (old new : World) (task : ℕ) (step : Step) : Type 0 where
   pub after : TaskRun
   pub event : Event
   pub was : slice_get old.tasks task ≡ Some before
+  pub running : IsRunning old.program before
   pub follows : Follows old.program before (step_line old.board step).answer after event
   pub tasks : new.tasks ≡ slice_set old.tasks task after
   pub board : new.board ≡ (step_line old.board step).after
