@@ -1,4 +1,4 @@
-use Rattle.std.specs.Prelude.{◌≡◌, ◌+◌, ◌*◌, ◌/◌, ◌%◌, ◌^◌, ◌-◌, ◌&&◌, ℕ, List, [], ◌∷◌, ◌++◌, Contains, fold, nat_le, nat_lt, suc, zero, take, if◌then◌else◌}
+use Rattle.std.specs.Prelude.{◌≡◌, ◌≤◌, ◌+◌, ◌*◌, ◌/◌, ◌%◌, ◌^◌, ◌-◌, ◌&&◌, ◌==◌, ◌⊎◌, ℕ, List, [], ◌∷◌, ◌++◌, Contains, filter, fold, map, nat_le, nat_lt, suc, zero, take, if◌then◌else◌}
 use Rattle.access_types.specs.Access.{Access}
 use Rattle.access_types.specs.declared.history.Bytes.{Bytes}
 use Rattle.access_types.specs.declared.history.Happening.{Happening}
@@ -27,6 +27,10 @@ abbrev pub value_from : Memory → ℕ → ℕ → ℕ
 value_from memory address zero = 0
 value_from memory address (suc size) = memory address + 256 * value_from memory (address + 1) size
 
+-- no byte is one of both
+abbrev pub AreApart : Bytes → Bytes → Type 0
+AreApart first second = (first.addr + first.size ≤ second.addr) ⊎ (second.addr + second.size ≤ first.addr)
+
 -- a memory after a moment: a Write lays its value down
 abbrev pub after_happening : Memory → Happening → Memory
 after_happening memory (Begin access) = memory
@@ -48,6 +52,10 @@ initial_memory values = fold (λ before value. laid before value.0 value.1) (λ 
 -- the content of some bytes after k moments: the initial content with the Writes among the first k moments laid over it in order
 abbrev pub content : Memory → History → ℕ → Bytes → ℕ
 content initial history k bytes = value_from (after_moments initial (take k history)) bytes.addr bytes.size
+
+-- what a task did, in order
+abbrev pub happenings_of : ℕ → History → List Happening
+happenings_of task history = map (λ moment. moment.happening) (filter (λ moment. moment.task == task) history)
 
 -- the moment at which an access begins, and the one at which it ends
 abbrev pub beginning : Access → Moment

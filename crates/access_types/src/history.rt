@@ -1,8 +1,8 @@
 //! Histories: what the tasks of a run did, moment by moment. Definitions of races speak of them.
 
-ghost use Rattle.std.specs.Prelude.{◌≡◌, ◌≤◌, ℕ, Bool, Contains, take};
+ghost use Rattle.std.specs.Prelude.{◌≡◌, ◌≤◌, ◌%◌, ◌^◌, ℕ, Bool, Contains, take};
 ghost use Rattle.access_types.specs.Access as spec;
-ghost use Rattle.access_types.specs.History.{History, InProgress, Memory, content, ending, value_from};
+ghost use Rattle.access_types.specs.History.{AreApart, History, InProgress, Memory, content, ending, laid, value_from};
 ghost use Rattle.access_types.specs.Race.{TrueRace};
 ghost use Rattle.access_types.specs.declared.history.Bytes.{Bytes};
 
@@ -61,6 +61,16 @@ pub fn races_are_symmetric()
 /// Law: the content after no moments is the initial content.
 pub fn content_begins_with_the_initial()
     ensures { (initial : Memory) (history : History) (bytes : Bytes) → content initial history 0 bytes ≡ value_from initial bytes.addr bytes.size }
+{}
+
+/// Law: the bytes of a value that was laid down are read back, up to their size.
+pub fn laid_bytes_are_read_back()
+    ensures { (memory : Memory) (bytes : Bytes) (value : ℕ) → value_from (laid memory bytes value) bytes.addr bytes.size ≡ value % 256 ^ bytes.size }
+{}
+
+/// Law: a value that is laid down leaves other bytes as they are.
+pub fn other_bytes_stay()
+    ensures { (memory : Memory) (bytes other : Bytes) (value : ℕ) → AreApart bytes other → value_from (laid memory bytes value) other.addr other.size ≡ value_from memory other.addr other.size }
 {}
 
 /// Law: an access that has ended is not in progress at any later moment.

@@ -1,1 +1,4 @@
 pub mod RunLemmas
+pub mod TextLemmas
+pub mod MemoryLemmas
+pub mod HistoryLemmas

@@ -40,7 +40,7 @@ turns-rest world task zero rests = refl
 turns-rest world task (suc count) rests = (world, (rw rests refl, turns-rest world task count rests))
 
 -- a task ends where its text does
-state_in-ended : (phase : Phase) (at_end : Bool) → state_in phase at_end ≡ Ended → at_end ≡ true
+pub state_in-ended : (phase : Phase) (at_end : Bool) → state_in phase at_end ≡ Ended → at_end ≡ true
 state_in-ended phases.Stuck at_end e = cc
 state_in-ended phase true e = refl
 state_in-ended phase false e = cc
@@ -72,7 +72,8 @@ pub turns-push : (a b c : World) (task made : ℕ) → Turns a (replicate made t
 turns-push a b c task made turns turn =
     rw replicate_next (turns-append a b c (replicate made task) (task ∷ []) turns (turns-one b c task turn))
 
-slice_get-slice_set : {X : Type 0} (xs : List X) (i k : ℕ) (x : X) → k ≢ i → slice_get (slice_set xs i x) k ≡ slice_get xs k
+-- another place of a list stays when one is set
+pub slice_get-slice_set : {X : Type 0} (xs : List X) (i k : ℕ) (x : X) → k ≢ i → slice_get (slice_set xs i x) k ≡ slice_get xs k
 slice_get-slice_set [] i k x different = refl
 slice_get-slice_set (y ∷ xs) zero zero x different = absurd (different refl)
 slice_get-slice_set (y ∷ xs) zero (suc k) x different = refl

@@ -148,9 +148,9 @@ Leads program statement access End answer next = next ≡ to Begin
 Leads program statement access phase answer next = ⊥
 
 -- the registers after a step: a read puts the value of its variable into its register
-abbrev pub registers_after : Statement → Phase → Answer → List ℕ → List ℕ
-registers_after (Read variable register marked) Load (Word word) registers = slice_set registers register (sign_extended word)
-registers_after statement phase answer registers = registers
+abbrev pub registers_after : Phase → Statement → Answer → List ℕ → List ℕ
+registers_after Load (Read variable register marked) (Word word) registers = slice_set registers register (sign_extended word)
+registers_after phase statement answer registers = registers
 
 -- the site after a step: an access ends with its last step
 abbrev pub site_after : Phase → ℕ → ℕ
@@ -161,7 +161,7 @@ site_after phase site = site
 pub record FollowsAt (program : Program) (old : TaskRun) (answer : Answer) (new : TaskRun) (event : Event) (statement : Statement) : Type 0 where
   pub number : new.number ≡ old.number
   pub site : new.site ≡ site_after old.phase old.site
-  pub registers : new.registers ≡ registers_after statement old.phase answer old.registers
+  pub registers : new.registers ≡ registers_after old.phase statement answer old.registers
   pub leads : Leads program statement (access_of old.number old.site statement) old.phase answer (counting event new.phase)
 
 -- a task after the answer of its step, and what is counted at it

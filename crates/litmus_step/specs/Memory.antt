@@ -1,5 +1,7 @@
-use Rattle.std.specs.Prelude.{◌+◌, ◌-◌, ◌*◌, ◌%◌, ◌^◌, ℕ, Option, None, Bool, true, false, nat_lt, option_map, if◌then◌else◌}
+use Rattle.std.specs.Prelude.{◌+◌, ◌-◌, ◌*◌, ◌%◌, ◌^◌, ℕ, suc, List, [], ◌∷◌, Option, None, Bool, true, false, nat_lt, option_map, if◌then◌else◌}
 use Rattle.access_types.specs.Access as access
+use Rattle.access_types.specs.History.{Memory, initial_memory}
+use Rattle.access_types.specs.declared.history.Bytes.{Bytes}
 use Rattle.access_types.specs.declared.kind.Kind.{Kind}
 use Rattle.access_types.specs.declared.kind.Kind.TheVariants.{Plain, Marked}
 use Rattle.access_types.specs.declared.kind.Operation.{Operation}
@@ -25,6 +27,19 @@ kind_of (Write variable value marked) = kind_by marked operations.Write
 -- variables stand 64 bytes apart, from 0x10000 on
 abbrev pub address : ℕ → ℕ
 address variable = 0x10000 + 64 * variable
+
+-- the bytes of a variable
+abbrev pub bytes_at : ℕ → Bytes
+bytes_at variable = record { addr = address variable; size = SIZE }
+
+-- initial values and the bytes where they stand, from a variable on
+abbrev pub placed_from : ℕ → List ℕ → List (Bytes × ℕ)
+placed_from variable [] = []
+placed_from variable (value ∷ values) = (bytes_at variable, value) ∷ placed_from (suc variable) values
+
+-- what memory holds before the first moment of a program's run
+abbrev pub memory_at_first : Program → Memory
+memory_at_first program = initial_memory (placed_from 0 program.initial)
 
 -- the access of a statement of a task at a site, which runs once
 abbrev pub access_of : ℕ → ℕ → Statement → access.Access

@@ -51,6 +51,7 @@ pub record MakesStep (old new : World) (task : ℕ) (step : Step) : Type 0 where
   pub was : slice_get old.tasks task ≡ Some before
   pub running : IsRunning old.program before
   pub follows : Follows old.program before (step_line old.board step).answer after event
+  pub same_program : new.program ≡ old.program
   pub tasks : new.tasks ≡ slice_set old.tasks task after
   pub board : new.board ≡ (step_line old.board step).after
   pub counters : new.counters ≡ counted old.counters event

@@ -214,7 +214,7 @@ impl TaskRun {
         requires fits { Fits self.old.phase answer }
         ensures same_task { self.new.number ≡ self.old.number }
         ensures site { self.new.site ≡ site_after self.old.phase self.old.site }
-        ensures registers { self.new.registers ≡ registers_after statement self.old.phase answer self.old.registers }
+        ensures registers { self.new.registers ≡ registers_after self.old.phase statement answer self.old.registers }
         ensures leads { Leads program.now statement access.now self.old.phase answer result }
         ensures shares { Shares result.event }
         ensures progress { work_left program.now (record self.new { phase = result.phase }) < work_left program.now self.old }
@@ -251,7 +251,7 @@ impl TaskRun {
     /// The cell of the variable was read: a read takes its value, and a write tries to change it.
     fn loaded(&mut self, statement: Statement, word: u64) -> Next
         ensures stays { (self.new.number ≡ self.old.number) × (self.new.site ≡ self.old.site) × (self.new.phase ≡ self.old.phase) }
-        ensures registers { self.new.registers ≡ registers_after statement Phase.Load (Answer.Word word) self.old.registers }
+        ensures registers { self.new.registers ≡ registers_after Phase.Load statement (Answer.Word word) self.old.registers }
         ensures leads { result ≡ to (phase_after_load statement word) }
         ensures later { rank result.phase < rank Phase.Load }
     {

@@ -1,11 +1,14 @@
 //! The world: all tasks over one board, stepped one at a time as a schedule says.
 
-ghost use Rattle.std.specs.Prelude.{All, ◌≡◌, ◌≢◌, ◌↔◌, ◌<◌, ◌≤◌, ◌++◌, true, false, replicate, IsErrOf, IfErr, IfOk, IsTrue, MatchOption, OnErr, OnOk, option_map, option_to_list, slice_get};
+ghost use Rattle.std.specs.Prelude.{[], All, ◌≡◌, ◌≢◌, ◌↔◌, ◌<◌, ◌≤◌, ◌++◌, true, false, replicate, IsErrOf, IsSomeAnd, IfErr, IfOk, IsTrue, MatchOption, OnErr, OnOk, option_map, option_to_list, slice_get};
+ghost use Rattle.access_types.specs.History.{History};
+ghost use Rattle.litmus_step.specs.Happens.{moment_of};
+ghost use Rattle.litmus_step.specs.LeadsTo.{GoesOn, LeadsTo};
 ghost use Rattle.litmus_step.specs.Outcome.{HasSharedByte, counted, finding_of};
 ghost use Rattle.litmus_step.specs.Verdict.{Shares};
 ghost use Rattle.litmus_step.specs.Work.{CanStep};
 ghost use Rattle.litmus_step.specs.Schedule.{entries_of, names_stranger};
-ghost use Rattle.litmus_step.specs.Run.{HaveEnded, RunsTo, Turns, in_turn};
+ghost use Rattle.litmus_step.specs.Run.{HaveEnded, RunsTo, Turn, Turns, in_turn};
 ghost use Rattle.litmus_step.specs.World.{IsAtFirst, MakesStep, StandsStuck, state_of, step_of, steps_left, value_at};
 ghost use Rattle.litmus_step.specs.declared.world.WorldError.TheVariants.{OutOfMemory};
 
@@ -58,7 +61,10 @@ pub struct World {
 impl World {
     /// The world before its first step.
     pub fn new(alloc: Global, program: Program) -> World
-        ensures { IsAtFirst program result }
+        ensures at_first { IsAtFirst program result }
+
+        // No moment leads to it.
+        ensures history { LeadsTo [] result }
     {
         let [first, second] = TaskNumber::all();
         let board = Board::new(&program.initial);
@@ -87,23 +93,36 @@ impl World {
 
     /// Makes one step of a task; none where it has ended or is stuck.
     pub fn step(&mut self, task: TaskNumber) -> Result<Stepped, AllocError>
-        ensures makes { OnOk result (MatchOption (step_of self.old task) (self.new ≡ self.old) (MakesStep self.old self.new task)) }
+        ensures makes { OnOk result (Turn self.old task self.new) }
+        // Each history that leads to the old world leads, with the moment of this turn, to the new one.
+        ensures history { OnOk result ((history : History) → LeadsTo history self.old → LeadsTo (history ++ option_to_list (moment_of self.old task)) self.new) }
         ensures state { IfOk result (λ stepped. option_map (state_of self.new.program) (slice_get self.new.tasks task) ≡ Some stepped) }
         ensures moved { result ≡ Ok Stepped.Moved → steps_left self.new < steps_left self.old }
         ensures bound { steps_left self.new ≤ steps_left self.old }
         ensures shares { All HasSharedByte self.old.findings.items → All HasSharedByte self.new.findings.items }
         ensures same_program { self.new.program ≡ self.old.program }
     {
+        self.turn(task)?;
+        let run = self.tasks[task.get()];
+        Ok(state(&self.program, &run))
+    }
+
+    /// Makes a task's turn.
+    fn turn(&mut self, task: TaskNumber) -> Result<(), AllocError>
+        ensures turn { OnOk result (Turn self.old task self.new) }
+        ensures progress { IsSomeAnd (slice_get self.new.tasks task) (CanStep self.new.program) → steps_left self.new < steps_left self.old }
+        ensures bound { steps_left self.new ≤ steps_left self.old }
+        ensures shares { All HasSharedByte self.old.findings.items → All HasSharedByte self.new.findings.items }
+        ensures same_program { self.new.program ≡ self.old.program }
+    {
         let mut run = self.tasks[task.get()];
         let Some(step) = run.next(&self.program) else {
-            return Ok(state(&self.program, &run));
+            return Ok(());
         };
         let answer = self.board.step(step);
         let event = run.answer(&self.program, answer);
-        let stepped = state(&self.program, &run);
         self.tasks[task.get()] = run;
-        self.take(&event)?;
-        Ok(stepped)
+        self.take(&event)
     }
 
     /// Counts what happened at a step, and keeps what was found.
@@ -132,6 +151,7 @@ impl World {
         ensures unmoved { IsErrOf result WorldError.BadSchedule → self.new ≡ self.old }
         ensures runs { OnOk result (RunsTo self.old (entries_of schedule.now) self.new) }
         ensures shares { All HasSharedByte self.old.findings.items → All HasSharedByte self.new.findings.items }
+        ensures history { OnOk result ((history : History) → LeadsTo history self.old → GoesOn history self.old (entries_of schedule.now) self.new) }
         ensures stuck { IfErr result (StandsStuck self.new) }
         ensures same_program { self.new.program ≡ self.old.program }
     {

@@ -1,6 +1,7 @@
 use Rattle.std.proofs.Common.{◌∙◌, suc, ap, Ok, refl}
 use Rattle.litmus_step.specs.Run.{order_of}
 use Rattle.litmus_step.specs.Schedule.{entries_of}
+use Rattle.litmus_step.proofs.HistoryLemmas.{goes-on}
 use Rattle.litmus_step.proofs.RunLemmas.{turns-all, turns-entry, turns-none, turns-round}
 use Rattle.litmus_step.proofs.world.World.run.Goals as goal
 
@@ -44,3 +45,6 @@ returns-clause-runs c = record {
   turns = turns-round c.args.self.now c.loop.self c.round.new.self (order_of (entries_of c.args.schedule.now)) c.loop.invariant.rounds c.loop.invariant.turns c.in_ok-round.ensures.turns;
   ended = c.in_ok-round.ensures.ended (ap Ok c.if-branch.false);
 }
+
+pub returns-clause-history : goal.returns-clause-history
+returns-clause-history c = goes-on c.args.self.now c.round.new.self (entries_of c.args.schedule.now) (returns-clause-runs c)

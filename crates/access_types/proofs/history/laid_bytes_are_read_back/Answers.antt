@@ -1,0 +1,5 @@
+use Rattle.access_types.proofs.LaidBytes.{laid-read_back}
+use Rattle.access_types.proofs.history.laid_bytes_are_read_back.Goals as goal
+
+pub returns : goal.returns
+returns c = laid-read_back

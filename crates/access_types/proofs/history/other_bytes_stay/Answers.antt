@@ -1,0 +1,5 @@
+use Rattle.access_types.proofs.LaidBytes.{laid-apart}
+use Rattle.access_types.proofs.history.other_bytes_stay.Goals as goal
+
+pub returns : goal.returns
+returns c = laid-apart
