@@ -113,13 +113,13 @@ reads-append initial history moment reads last k =
           (if-some (slice_get history k) (λ m. HoldsContent initial history k m.happening) (λ m. HoldsContent initial longer k m.happening)
           (λ m holds. content-kept initial history longer k m.happening (take-append-le k history (moment ∷ []) (le_of_lt within)) holds) (reads k))
       | inr past ↦ elim (cases_eq k (length history)) [
-          | inl is ↦
-              (let whole : take (length history) longer ≡ history = take-append-le (length history) history (moment ∷ []) (le_refl (length history)) ∙ take_all (length history) history (le_refl (length history)) in
-              rw (is, slice_get-last history moment) (content-last initial history longer (length history) moment.happening whole last))
-          | inr differs ↦
-              (let beyond : length history < k = lt_of_le-ne past (λ same. differs (sym same)) in
-              let none : slice_get longer k ≡ None = slice_get_past longer k (rw (length-append history (moment ∷ [])) (omega arith)) in
-              rw none tt)
+        | inl is ↦
+            (let whole : take (length history) longer ≡ history = take-append-le (length history) history (moment ∷ []) (le_refl (length history)) ∙ take_all (length history) history (le_refl (length history)) in
+            rw (is, slice_get-last history moment) (content-last initial history longer (length history) moment.happening whole last))
+        | inr differs ↦
+            (let beyond : length history < k = lt_of_le-ne past (λ same. differs (sym same)) in
+            let none : slice_get longer k ≡ None = slice_get_past longer k (rw (length-append history (moment ∷ [])) (omega arith)) in
+            rw none tt)
       ]
     ]
 

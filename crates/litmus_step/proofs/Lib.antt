@@ -1,3 +1,4 @@
+pub mod RecordLemmas
 pub mod RunLemmas
 pub mod TextLemmas
 pub mod MemoryLemmas

@@ -12,6 +12,7 @@ pub mod Work
 pub mod World
 pub mod Schedule
 pub mod Run
+pub mod Records
 pub mod Meaning
 pub mod RunOfProgram
 pub mod Happens

@@ -1,10 +1,11 @@
 //! The words that the tasks share: watch words and pair words of three indices, the cells of the
 //! variables, and the clock. A step is one operation on one word.
 
-ghost use Rattle.std.specs.Prelude.{◌≡◌, slice_index};
+ghost use Rattle.std.specs.Prelude.{◌≡◌, ◌++◌, ◌∷◌, [], ℕ, List, slice_index};
 ghost use Rattle.litmus_step.specs.Step.{Answers};
 ghost use Rattle.litmus_step.specs.StepLine.{cell_line, clock_line, exchange_line, step_line};
-ghost use Rattle.litmus_step.specs.Words.{words_at_first};
+ghost use Rattle.litmus_step.specs.Records.{LegalTo, Record};
+ghost use Rattle.litmus_step.specs.Words.{Words, words_at_first};
 
 use crate::step::{Answer, Step};
 use litmus_parse::{VARIABLES, Variable};
@@ -118,3 +119,11 @@ impl Board {
         self.cells[variable.get()]
     }
 }
+
+/// Law: the empty list of steps leads to the words that a board opens with, and each legal list that
+/// leads to some words leads, with one more step on them, to the words after that step.
+pub fn legal_lists_grow()
+    ensures none { (opening : Words) → LegalTo opening [] opening }
+    ensures more { (opening words : Words) (records : List Record) (task : ℕ) (step : Step) → LegalTo opening records words →
+        LegalTo opening (records ++ (record { task = task; step = step; answer = (step_line words step).answer }) ∷ []) (step_line words step).after }
+{}
