@@ -12,3 +12,4 @@ pub mod Work
 pub mod World
 pub mod Schedule
 pub mod Run
+pub mod Role

@@ -2,6 +2,7 @@
 
 ghost use Rattle.std.specs.Prelude.{All, ◌≡◌, ◌≢◌, ◌↔◌, ◌<◌, ◌≤◌, ◌++◌, true, false, replicate, IsErrOf, IfErr, IfOk, IsTrue, MatchOption, OnErr, OnOk, option_map, option_to_list, slice_get};
 ghost use Rattle.litmus_step.specs.Outcome.{HasSharedByte, counted, finding_of};
+ghost use Rattle.litmus_step.specs.Role.{KeepsRoles};
 ghost use Rattle.litmus_step.specs.Verdict.{Shares};
 ghost use Rattle.litmus_step.specs.Work.{CanStep};
 ghost use Rattle.litmus_step.specs.Schedule.{entries_of, names_stranger};
@@ -58,7 +59,8 @@ pub struct World {
 impl World {
     /// The world before its first step.
     pub fn new(alloc: Global, program: Program) -> World
-        ensures { IsAtFirst program result }
+        ensures at_first { IsAtFirst program result }
+        ensures roles { KeepsRoles result }
     {
         let [first, second] = TaskNumber::all();
         let board = Board::new(&program.initial);
@@ -92,6 +94,7 @@ impl World {
         ensures moved { result ≡ Ok Stepped.Moved → steps_left self.new < steps_left self.old }
         ensures bound { steps_left self.new ≤ steps_left self.old }
         ensures shares { All HasSharedByte self.old.findings.items → All HasSharedByte self.new.findings.items }
+        ensures roles { KeepsRoles self.old → KeepsRoles self.new }
         ensures same_program { self.new.program ≡ self.old.program }
     {
         let mut run = self.tasks[task.get()];
@@ -132,6 +135,7 @@ impl World {
         ensures unmoved { IsErrOf result WorldError.BadSchedule → self.new ≡ self.old }
         ensures runs { OnOk result (RunsTo self.old (entries_of schedule.now) self.new) }
         ensures shares { All HasSharedByte self.old.findings.items → All HasSharedByte self.new.findings.items }
+        ensures roles { KeepsRoles self.old → KeepsRoles self.new }
         ensures stuck { IfErr result (StandsStuck self.new) }
         ensures same_program { self.new.program ≡ self.old.program }
     {
@@ -153,6 +157,7 @@ impl World {
         ensures stuck { IfErr result (StandsStuck self.new) }
         ensures made { result ≢ Err WorldError.BadSchedule }
         ensures shares { All HasSharedByte self.old.findings.items → All HasSharedByte self.new.findings.items }
+        ensures roles { KeepsRoles self.old → KeepsRoles self.new }
         ensures turns { OnOk result (Turns self.old (replicate count task) self.new) }
         ensures same_program { self.new.program ≡ self.old.program }
     {
@@ -171,6 +176,7 @@ impl World {
         ensures stuck { IfErr result (StandsStuck self.new) }
         ensures made { result ≢ Err WorldError.BadSchedule }
         ensures shares { All HasSharedByte self.old.findings.items → All HasSharedByte self.new.findings.items }
+        ensures roles { KeepsRoles self.old → KeepsRoles self.new }
         ensures turns { OnOk result (Turns self.old (in_turn 1) self.new) }
         ensures ended { result ≡ Ok false → HaveEnded self.new }
         ensures same_program { self.new.program ≡ self.old.program }
