@@ -3,6 +3,7 @@ use Rattle.litmus_parse.specs.declared.reader.ParseError.{ParseError}
 use Rattle.litmus_parse.specs.declared.reader.ParseError.TheVariants as parse
 use Rattle.litmus_parse.specs.declared.program.Program.{Program}
 use Rattle.litmus_step.specs.LeadsTo.{GoesOn}
+use Rattle.litmus_step.specs.Role.{NamesTwoTasks}
 use Rattle.litmus_step.specs.Run.{RunsTo}
 use Rattle.litmus_step.specs.World.{IsAtFirst, value_at}
 use Rattle.litmus_step.specs.declared.schedule.Entry.{Entry}
@@ -33,7 +34,7 @@ world_fault world.BadSchedule = engine.BadSchedule
 abbrev pub HoldsAtEnd : World → Type 0
 HoldsAtEnd last = value_at last last.program.condition.place ≡ Some last.program.condition.value
 
--- a run of some program in the order of the schedule, to its end, has this output: its reports in order, its counters and its condition. What happens at its turns is a run of the program in which all tasks do their whole texts. A report of two accesses names two with a byte in common. There was a race if there is a report
+-- a run of some program in the order of the schedule, to its end, has this output: its reports in order, its counters and its condition. What happens at its turns is a run of the program in which all tasks do their whole texts. A report of two accesses names two of different tasks with a byte in common. There was a race if there is a report
 pub record IsOutput (entries : List Entry) (raced : Bool) (text : List ℕ) : Type 0 where
   pub program : Program
   pub first : World
@@ -44,6 +45,7 @@ pub record IsOutput (entries : List Entry) (raced : Bool) (text : List ℕ) : Ty
   pub history : GoesOn [] first entries last
   pub held_is : IsTrue held ↔ HoldsAtEnd last
   pub spelled : text ≡ transcript_text last.findings.items last.counters held
+  pub two_tasks : All NamesTwoTasks last.findings.items
   pub shared : All HasSharedByte last.findings.items
   pub raced_if_found : raced ≡ not (length last.findings.items == 0)
 

@@ -3,3 +3,4 @@ pub mod RunLemmas
 pub mod TextLemmas
 pub mod MemoryLemmas
 pub mod HistoryLemmas
+pub mod RoleLemmas

@@ -17,3 +17,4 @@ pub mod Meaning
 pub mod RunOfProgram
 pub mod Happens
 pub mod LeadsTo
+pub mod Role

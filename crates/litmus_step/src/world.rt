@@ -5,6 +5,7 @@ ghost use Rattle.access_types.specs.History.{History};
 ghost use Rattle.litmus_step.specs.Happens.{moment_of};
 ghost use Rattle.litmus_step.specs.LeadsTo.{GoesOn, LeadsTo};
 ghost use Rattle.litmus_step.specs.Outcome.{HasSharedByte, counted, finding_of};
+ghost use Rattle.litmus_step.specs.Role.{KeepsRoles};
 ghost use Rattle.litmus_step.specs.Verdict.{Shares};
 ghost use Rattle.litmus_step.specs.Work.{CanStep};
 ghost use Rattle.litmus_step.specs.Schedule.{entries_of, names_stranger};
@@ -65,6 +66,7 @@ impl World {
 
         // No moment leads to it.
         ensures history { LeadsTo [] result }
+        ensures roles { KeepsRoles result }
     {
         let [first, second] = TaskNumber::all();
         let board = Board::new(&program.initial);
@@ -100,6 +102,7 @@ impl World {
         ensures moved { result ≡ Ok Stepped.Moved → steps_left self.new < steps_left self.old }
         ensures bound { steps_left self.new ≤ steps_left self.old }
         ensures shares { All HasSharedByte self.old.findings.items → All HasSharedByte self.new.findings.items }
+        ensures roles { KeepsRoles self.old → KeepsRoles self.new }
         ensures same_program { self.new.program ≡ self.old.program }
     {
         self.turn(task)?;
@@ -113,6 +116,7 @@ impl World {
         ensures progress { IsSomeAnd (slice_get self.new.tasks task) (CanStep self.new.program) → steps_left self.new < steps_left self.old }
         ensures bound { steps_left self.new ≤ steps_left self.old }
         ensures shares { All HasSharedByte self.old.findings.items → All HasSharedByte self.new.findings.items }
+        ensures roles { KeepsRoles self.old → KeepsRoles self.new }
         ensures same_program { self.new.program ≡ self.old.program }
     {
         let mut run = self.tasks[task.get()];
@@ -152,6 +156,7 @@ impl World {
         ensures runs { OnOk result (RunsTo self.old (entries_of schedule.now) self.new) }
         ensures shares { All HasSharedByte self.old.findings.items → All HasSharedByte self.new.findings.items }
         ensures history { OnOk result ((history : History) → LeadsTo history self.old → GoesOn history self.old (entries_of schedule.now) self.new) }
+        ensures roles { KeepsRoles self.old → KeepsRoles self.new }
         ensures stuck { IfErr result (StandsStuck self.new) }
         ensures same_program { self.new.program ≡ self.old.program }
     {
@@ -173,6 +178,7 @@ impl World {
         ensures stuck { IfErr result (StandsStuck self.new) }
         ensures made { result ≢ Err WorldError.BadSchedule }
         ensures shares { All HasSharedByte self.old.findings.items → All HasSharedByte self.new.findings.items }
+        ensures roles { KeepsRoles self.old → KeepsRoles self.new }
         ensures turns { OnOk result (Turns self.old (replicate count task) self.new) }
         ensures same_program { self.new.program ≡ self.old.program }
     {
@@ -191,6 +197,7 @@ impl World {
         ensures stuck { IfErr result (StandsStuck self.new) }
         ensures made { result ≢ Err WorldError.BadSchedule }
         ensures shares { All HasSharedByte self.old.findings.items → All HasSharedByte self.new.findings.items }
+        ensures roles { KeepsRoles self.old → KeepsRoles self.new }
         ensures turns { OnOk result (Turns self.old (in_turn 1) self.new) }
         ensures ended { result ≡ Ok false → HaveEnded self.new }
         ensures same_program { self.new.program ≡ self.old.program }

@@ -18,6 +18,7 @@ returns-clause-output c =
       history = c.in_ok-run.ensures.history [] c.new-world.ensures.history;
       held_is = c.condition_holds-held.ensures;
       spelled = rw (c.in_ok-text.ensures, c.findings-findings.ensures, c.counters.ensures) refl;
+      two_tasks = (c.in_ok-run.ensures.roles c.new-world.ensures.roles).findings;
       shared = c.in_ok-run.ensures.shares none_yet;
       raced_if_found = rw (c.is_empty-raced.ensures, c.findings-findings.ensures) refl;
     }

@@ -7,6 +7,7 @@ pub loop-task-init : goal.loop-task-init
 loop-task-init c = record {
   same_program = refl;
   shares = λ h. h;
+  roles = λ h. h;
   bound = omega arith;
   progress = λ e. absurd cc;
   turns = turns-none c.args.self.now;
@@ -22,6 +23,7 @@ loop-task-preserved c =
       | in-Moved w ↦ record {
         same_program = c.step.ensures.same_program ∙ c.loop-task.invariant.same_program;
         shares = λ h. c.step.ensures.shares (c.loop-task.invariant.shares h);
+        roles = λ h. c.step.ensures.roles (c.loop-task.invariant.roles h);
         bound = omega arith;
         progress = λ _. let fewer = c.in_ok-step.ensures.moved (ap Ok w.in-Moved.is) in omega arith;
         turns = turns;
@@ -30,6 +32,7 @@ loop-task-preserved c =
       | in-Ended w ↦ record {
         same_program = c.step.ensures.same_program ∙ c.loop-task.invariant.same_program;
         shares = λ h. c.step.ensures.shares (c.loop-task.invariant.shares h);
+        roles = λ h. c.step.ensures.roles (c.loop-task.invariant.roles h);
         bound = omega arith;
         progress = λ e. let fewer = c.loop-task.invariant.progress cc in omega arith;
         turns = turns;

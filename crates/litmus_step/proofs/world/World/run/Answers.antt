@@ -9,6 +9,7 @@ pub loop-entry-init : goal.loop-entry-init
 loop-entry-init c = record {
   same_program = refl;
   shares = λ h. h;
+  roles = λ h. h;
   turns = turns-none c.args.self.now;
 }
 
@@ -19,6 +20,7 @@ loop-entry-preserved c =
     record {
       same_program = c.steps.ensures.same_program ∙ c.loop-entry.invariant.same_program;
       shares = λ h. c.steps.ensures.shares (c.loop-entry.invariant.shares h);
+      roles = λ h. c.steps.ensures.roles (c.loop-entry.invariant.roles h);
       turns = rw (← c.entries-entry-items.ensures)
           (turns-entry c.args.self.now c.loop-entry.self c.steps.new.self c.entries-entry-items.result.now c.loop-entry.entry-index _ c.loop-entry-test.true before turns);
     }
@@ -27,6 +29,7 @@ pub loop-init : goal.loop-init
 loop-init c = record {
   same_program = c.loop-entry.invariant.same_program;
   shares = c.loop-entry.invariant.shares;
+  roles = c.loop-entry.invariant.roles;
   rounds = 0;
   turns = turns-all c.args.self.now c.loop-entry.self (entries_of c.args.schedule.now) c.loop-entry.entry-index (rw (← c.entries-entry-items.ensures) c.loop-entry-test.false) c.loop-entry.invariant.turns;
 }
@@ -35,6 +38,7 @@ pub loop-preserved : goal.loop-preserved
 loop-preserved c = record {
   same_program = c.round.ensures.same_program ∙ c.loop.invariant.same_program;
   shares = λ h. c.round.ensures.shares (c.loop.invariant.shares h);
+  roles = λ h. c.round.ensures.roles (c.loop.invariant.roles h);
   rounds = suc c.loop.invariant.rounds;
   turns = turns-round c.args.self.now c.loop.self c.round.new.self (order_of (entries_of c.args.schedule.now)) c.loop.invariant.rounds c.loop.invariant.turns c.in_ok-round.ensures.turns;
 }

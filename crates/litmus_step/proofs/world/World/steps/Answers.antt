@@ -8,6 +8,7 @@ pub loop-init : goal.loop-init
 loop-init c = record {
   same_program = refl;
   shares = λ h. h;
+  roles = λ h. h;
   turns = turns-none c.args.self.now;
 }
 
@@ -15,6 +16,7 @@ pub loop-preserved : goal.loop-preserved
 loop-preserved c = record {
   same_program = c.step.ensures.same_program ∙ c.loop.invariant.same_program;
   shares = λ h. c.step.ensures.shares (c.loop.invariant.shares h);
+  roles = λ h. c.step.ensures.roles (c.loop.invariant.roles h);
   turns = turns-push c.args.self.now c.loop.self c.step.new.self c.args.task c.loop.counter c.loop.invariant.turns c.in_ok-step.ensures.makes;
 }
 
