@@ -1,4 +1,4 @@
-use Rattle.std.proofs.Common.{◌≡◌, ◌≢◌, ◌≤◌, ◌++◌, ◌<◌, ◌+◌, ◌-◌, ◌==◌, ◌∙◌, ℕ, zero, suc, Bool, true, false, [], ◌∷◌, List, Option, Some, None, All, IfSome, IsSomeAnd, MatchOption, ap, append-nil, append_assoc, drop, filter, fold, eq-eqb, length, length-set, map, ne_eqb, not-suc-le-zero, option_and_then, option_map, option_to_list, refl, replicate, slice_get, slice_index, slice_set, subst, sym, take, le_of_lt, le_refl, inl, inr, nat_le, if◌then◌else◌, arith}
+use Rattle.std.proofs.Common.{◌≡◌, ◌≢◌, ◌++◌, ◌<◌, ◌==◌, ◌∙◌, ℕ, zero, suc, [], ◌∷◌, List, Option, Some, None, All, IfSome, IsSomeAnd, MatchOption, append-nil, append_assoc, filter, eq-eqb, length, length-set, ne_eqb, not-suc-le-zero, option_map, option_to_list, refl, slice_get, slice_set, sym, take, le_of_lt, le_refl, inl, inr, nat_le, arith}
 use Rattle.std.proofs.lemmas.Bool.{cases_eq, cases_lt, leb-true}
 use Rattle.std.proofs.Math.Arith.{lt_of_le-ne}
 use Rattle.std.proofs.lemmas.List.{length-append, take-append-le, take_all}
@@ -6,7 +6,7 @@ use Rattle.std.proofs.lemmas.List.Elements.{All-append, filter-append}
 use Rattle.std.proofs.lemmas.List.Sums.{fold-append}
 use Rattle.std.proofs.lemmas.List.{map-append}
 use Rattle.std.proofs.lemmas.Option.{slice_get_past, slice_get_within}
-use Rattle.access_types.specs.History.{History, Memory, after_happening, after_moments, content, happenings_of, initial_memory}
+use Rattle.access_types.specs.History.{History, Memory, after_happening, after_moments, happenings_of}
 use Rattle.access_types.specs.declared.history.Happening.{Happening}
 use Rattle.access_types.specs.declared.history.Happening.TheVariants as happenings
 use Rattle.access_types.specs.declared.history.Moment.{Moment}
@@ -14,18 +14,17 @@ use Rattle.litmus_parse.specs.Program.{statement_at, text_of, variable_of}
 use Rattle.litmus_parse.specs.declared.numbers.TheConstants.{TASKS, VARIABLES}
 use Rattle.litmus_parse.specs.declared.program.Program.{Program}
 use Rattle.litmus_parse.specs.declared.program.Statement.{Statement}
-use Rattle.litmus_step.specs.Happens.{Happens, happening_at, moment_at, moment_of}
-use Rattle.litmus_step.specs.LeadsTo.{GoesOn, HasDone, HasDoneAll, HoldsMemory, LeadsTo}
+use Rattle.litmus_step.specs.Happens.{Happens, happening_at, moment_of}
+use Rattle.litmus_step.specs.LeadsTo.{GoesOn, HasDone, LeadsTo}
 use Rattle.litmus_step.specs.Machine.{Follows, FollowsAt, step_in}
 use Rattle.litmus_step.specs.Memory.{access_of, memory_at_first}
-use Rattle.litmus_step.specs.Run.{HasEnded, RunsTo, Turn, Turns, in_turn, order_of}
-use Rattle.litmus_step.specs.RunOfProgram.{HoldsContent, IsBeginning, MeansTask, RunOfProgram}
+use Rattle.litmus_step.specs.Run.{RunsTo, Turn, Turns, in_turn, order_of}
+use Rattle.litmus_step.specs.RunOfProgram.{HoldsContent, IsBeginning, MeansTask}
 use Rattle.litmus_step.specs.StepLine.{step_line}
 use Rattle.litmus_step.specs.Work.{run_at_first}
 use Rattle.litmus_step.specs.Words.{words_at_first}
 use Rattle.litmus_step.specs.World.{MakesStep, state_of, step_of}
 use Rattle.litmus_step.specs.declared.schedule.Entry.{Entry}
-use Rattle.litmus_step.specs.declared.step.Answer.{Answer}
 use Rattle.litmus_step.specs.declared.step.Step.{Step}
 use Rattle.litmus_step.specs.declared.task.TaskRun.{TaskRun}
 use Rattle.litmus_step.specs.declared.world.Stepped.TheVariants.{Ended}

@@ -1,4 +1,4 @@
-use Rattle.std.proofs.Common.{◌≡◌, ◌≢◌, ◌≤◌, ◌<◌, ◌+◌, ◌-◌, ◌*◌, ◌%◌, ◌^◌, ◌==◌, ◌∙◌, ◌⊎◌, ℕ, zero, suc, Bool, true, false, List, [], ◌∷◌, IfSome, Option, Some, None, ap, fold, get_or-set_other, get_or-set_same, inl, inr, length, length-set, nat_eq, ne_of_lt, not-suc-le-zero, refl, slice_index, slice_set, subst, sym, if◌then◌else◌, arith}
+use Rattle.std.proofs.Common.{◌≡◌, ◌≢◌, ◌<◌, ◌+◌, ◌%◌, ◌^◌, ◌==◌, ◌∙◌, ℕ, zero, suc, Bool, true, false, List, [], ◌∷◌, IfSome, Option, Some, None, fold, get_or-set_other, get_or-set_same, inl, inr, length, length-set, ne_of_lt, not-suc-le-zero, refl, slice_index, slice_set, sym, if◌then◌else◌, arith}
 use Rattle.std.proofs.Math.Arith.{lt_of_le-ne}
 use Rattle.std.proofs.lemmas.Bool.{cases_eq, cases_lt}
 use Rattle.std.proofs.lemmas.List.{set-get_or}
@@ -6,7 +6,6 @@ use Rattle.access_types.proofs.LaidBytes.{laid-apart, laid-read_back}
 use Rattle.access_types.specs.Access.{Access}
 use Rattle.access_types.specs.Ticket.{ticket_number}
 use Rattle.access_types.specs.History.{AreApart, Memory, after_happening, initial_memory, laid, value_from}
-use Rattle.access_types.specs.declared.history.Bytes.{Bytes}
 use Rattle.access_types.specs.declared.history.Happening.{Happening}
 use Rattle.access_types.specs.declared.history.Happening.TheVariants as happenings
 use Rattle.litmus_parse.specs.declared.numbers.TheConstants.{VARIABLES}
@@ -19,8 +18,7 @@ use Rattle.litmus_step.specs.Memory.{access_of, address, bytes_at, placed_from, 
 use Rattle.litmus_step.specs.StepLine.{exchange_line, step_line}
 use Rattle.litmus_step.specs.Words.{Words}
 use Rattle.litmus_step.specs.declared.memory.TheConstants.{SIZE}
-use Rattle.litmus_step.specs.declared.step.Answer.{Answer}
-use Rattle.litmus_step.specs.declared.step.Answer.TheVariants.{Word, Flag, Halves, Done}
+use Rattle.litmus_step.specs.declared.step.Answer.TheVariants.{Word, Flag}
 use Rattle.litmus_step.specs.declared.step.Step.{Step}
 use Rattle.litmus_step.specs.declared.step.Step.TheVariants as steps
 use Rattle.litmus_step.specs.declared.task.Phase.{Phase}

@@ -1,49 +1,48 @@
 use Rattle.std.proofs.Common.{◌≡◌, ◌≢◌, ◌<◌, ◌+◌, ◌-◌, ◌%◌, ◌^◌, ◌==◌, ◌∙◌, ◌⊎◌, ◌++◌, inl, inr, sym, ℕ, zero, suc, ap, Bool, true, false, List, [], ◌∷◌, Option, None, Some, length, get_or, set, slice_index, slice_index_or, slice_get, slice_set, refl, subst, arith, get_or-set_same, get_or-set_other, if◌then◌else◌}
-use Rattle.std.proofs.lemmas.Bool.Decides.{leb_tells}
-use Rattle.litmus_step.specs.Outcome.{finding_of}
-use Rattle.std.proofs.lemmas.List.Elements.{All-append, All-nil}
-use Rattle.litmus_step.specs.World.{IsAtFirst}
-use Rattle.litmus_step.specs.declared.outcome.Finding.{Finding}
-use Rattle.litmus_step.specs.Work.{IsRunning, run_at_first}
-use Rattle.litmus_step.specs.declared.task.TaskRun.{TaskRun}
-use Rattle.litmus_step.specs.declared.world.World.{World}
 use Rattle.std.proofs.Math.ListN.{length-set}
-use Rattle.std.specs.Prelude.{All, IfSome, IsSomeAnd, option_and_then, option_to_list, IsTrue, MatchBool, not, ◌||◌, nat_lt, option_map}
-use Rattle.slot.specs.Pair.{Halves, unnamed}
-use Rattle.slot.specs.declared.slot.TheConstants.{EMPTY, CONSUMED}
 use Rattle.std.proofs.lemmas.Bool.{eqb-false, eqb-true}
+use Rattle.std.proofs.lemmas.Bool.Decides.{leb_tells}
+use Rattle.std.proofs.lemmas.List.Elements.{All-append, All-nil}
 use Rattle.std.specs.Int.Bits.{bit_or, or_zero_l}
+use Rattle.std.specs.Prelude.{All, IfSome, IsSomeAnd, option_and_then, option_to_list, IsTrue, MatchBool, not, ◌||◌, nat_lt, option_map}
 use Rattle.access_types.specs.Access.{Access, Overlap}
 use Rattle.access_types.specs.Ticket.{site_in, task_in, ticket_number}
-use Rattle.litmus_step.specs.Index.{position_of}
-use Rattle.litmus_step.specs.Words.{Words, words_at_first}
-use Rattle.litmus_step.specs.Role.{Holds, MayBe, HasWatchWord, HaveRoles, HaveRolesAt, IsToldBy, KeepsRoles, NamesTwoTasks, Role, only_at}
-use Rattle.litmus_step.specs.Role.Role.{Away, Watching, Hearing, Clearing, Removing, Telling}
-use Rattle.litmus_step.specs.Index.{insert_after, look_after}
-use Rattle.litmus_step.specs.Machine.{Follows, FollowsAt, Hits, IsLooked, IsUnmatched, Leads, LooksOn, after_exchange, after_insertion, after_try, after_watch, counting, insert_on, next_step, phase_after_load, step_in, to, wait_on}
-use Rattle.litmus_step.specs.Memory.{access_named, access_of}
-use Rattle.litmus_step.specs.StepLine.{step_line}
-use Rattle.litmus_step.specs.Verdict.{IsVerdict, counts_as_marked}
-use Rattle.litmus_step.specs.declared.step.Answer.{Answer}
-use Rattle.litmus_step.specs.declared.step.Answer.TheVariants as answers
-use Rattle.litmus_step.specs.declared.step.Step.{Step}
-use Rattle.litmus_step.specs.declared.step.Step.TheVariants as steps
-use Rattle.litmus_step.specs.declared.task.Event.{Event}
-use Rattle.litmus_step.specs.declared.task.Event.TheVariants as events
-use Rattle.litmus_step.specs.declared.task.Next.{Next}
-use Rattle.litmus_step.specs.declared.task.TheConstants.{TURNS}
+use Rattle.access_types.specs.declared.report.ValueChange.{ValueChange}
+use Rattle.slot.specs.Pair.{Halves, unnamed}
+use Rattle.slot.specs.declared.slot.TheConstants.{EMPTY, CONSUMED}
+use Rattle.watch_word.specs.Word.{Encodable, word_of}
+use Rattle.watch_word.specs.declared.layout.Layout.TheVariants.{W64}
 use Rattle.litmus_parse.specs.Program.{statement_at, variable_of}
 use Rattle.litmus_parse.specs.declared.numbers.TheConstants.{TASKS}
 use Rattle.litmus_parse.specs.declared.program.Program.{Program}
 use Rattle.litmus_parse.specs.declared.program.Statement.{Statement}
 use Rattle.litmus_parse.specs.declared.program.Statement.TheVariants as statements
-use Rattle.access_types.specs.declared.report.ValueChange.{ValueChange}
-use Rattle.watch_word.specs.Word.{Encodable, word_of}
-use Rattle.watch_word.specs.declared.layout.Layout.TheVariants.{W64}
+use Rattle.litmus_step.specs.Index.{insert_after, look_after, position_of}
+use Rattle.litmus_step.specs.Machine.{Follows, FollowsAt, Hits, IsLooked, IsUnmatched, Leads, LooksOn, after_exchange, after_insertion, after_try, after_watch, counting, insert_on, next_step, phase_after_load, step_in, to, wait_on}
+use Rattle.litmus_step.specs.Memory.{access_named, access_of}
+use Rattle.litmus_step.specs.Outcome.{finding_of}
+use Rattle.litmus_step.specs.Role.{Holds, MayBe, HasWatchWord, HaveRoles, HaveRolesAt, IsToldBy, KeepsRoles, NamesTwoTasks, Role, only_at}
+use Rattle.litmus_step.specs.Role.Role.{Away, Watching, Hearing, Clearing, Removing, Telling}
+use Rattle.litmus_step.specs.StepLine.{step_line}
+use Rattle.litmus_step.specs.Verdict.{IsVerdict, counts_as_marked}
+use Rattle.litmus_step.specs.Words.{Words, words_at_first}
+use Rattle.litmus_step.specs.Work.{IsRunning, run_at_first}
+use Rattle.litmus_step.specs.World.{IsAtFirst}
+use Rattle.litmus_step.specs.declared.outcome.Finding.{Finding}
+use Rattle.litmus_step.specs.declared.step.Answer.{Answer}
+use Rattle.litmus_step.specs.declared.step.Answer.TheVariants as answers
 use Rattle.litmus_step.specs.declared.step.Index.{Index}
 use Rattle.litmus_step.specs.declared.step.Index.TheVariants.{Slot16, Slot17, Slot18}
+use Rattle.litmus_step.specs.declared.step.Step.{Step}
+use Rattle.litmus_step.specs.declared.step.Step.TheVariants as steps
+use Rattle.litmus_step.specs.declared.task.Event.{Event}
+use Rattle.litmus_step.specs.declared.task.Event.TheVariants as events
+use Rattle.litmus_step.specs.declared.task.Next.{Next}
 use Rattle.litmus_step.specs.declared.task.Phase.{Phase}
 use Rattle.litmus_step.specs.declared.task.Phase.TheVariants as phases
+use Rattle.litmus_step.specs.declared.task.TaskRun.{TaskRun}
+use Rattle.litmus_step.specs.declared.task.TheConstants.{TURNS}
+use Rattle.litmus_step.specs.declared.world.World.{World}
 
 -- the watch word and the finder's half at an index
 abbrev word_at : Words → Index → ℕ
@@ -258,10 +257,6 @@ record Kept (after : Words) (m n : ℕ) (q : Phase) (next : Next) : Type 0 where
   word : HasWatchWord next.phase
   roles : (i : Index) → RolesAt after m n next.phase q i
   names : NamesTwo next.event
-
--- the roles before a step
-Before : Words → ℕ → ℕ → Phase → Phase → Type 0
-Before board m n p q = (i : Index) → RolesAt board m n p q i
 
 -- what is kept at the phase that a step leads to is kept at the step
 kept-at : (after : Words) (m n : ℕ) (q : Phase) (next other : Next) → next ≡ other → Kept after m n q other → Kept after m n q next

@@ -1,4 +1,4 @@
-use Rattle.std.proofs.Common.{◌≡◌, ◌≤◌, ◌++◌, ◌+◌, ◌<◌, ◌-◌, ◌%◌, ◌^◌, ◌∙◌, ℕ, suc, Bool, Option, IfSome, IsTrue, MatchBool, append_assoc, append-nil, drop, length, replicate, slice_get, nat_lt, true≢false, ◌==◌, true, false, List, [], ◌∷◌, Some, None, ap, option_to_list, refl, slice_set, subst, sym, if◌then◌else◌, arith}
+use Rattle.std.proofs.Common.{◌≡◌, ◌≤◌, ◌++◌, ◌+◌, ◌-◌, ◌%◌, ◌^◌, ◌∙◌, ℕ, Bool, Option, IfSome, IsTrue, MatchBool, append_assoc, append-nil, drop, length, replicate, slice_get, nat_lt, true≢false, ◌==◌, true, false, List, [], ◌∷◌, Some, None, ap, option_to_list, refl, slice_set, sym, if◌then◌else◌}
 use Rattle.std.proofs.Math.Nat.{mod-mod}
 use Rattle.std.proofs.lemmas.List.{drop_all, drop_more}
 use Rattle.std.proofs.lemmas.Option.{get_or_from_slice_get, slice_get_within}
@@ -12,7 +12,7 @@ use Rattle.litmus_parse.specs.declared.program.Statement.{Statement}
 use Rattle.litmus_parse.specs.declared.program.Statement.TheVariants.{Read, Write}
 use Rattle.litmus_step.specs.Happens.{happening_at}
 use Rattle.litmus_step.specs.LeadsTo.{HasDone, IsPhaseOf, LeftAt, LeftOf}
-use Rattle.litmus_step.specs.Machine.{FollowsAt, Hits, IsLooked, IsUnmatched, Leads, LooksOn, after_exchange, after_insertion, after_setter, after_try, after_watch, counting, insert_on, registers_after, site_after, to, wait_on, watch_end}
+use Rattle.litmus_step.specs.Machine.{FollowsAt, Hits, IsLooked, IsUnmatched, Leads, LooksOn, counting, insert_on, registers_after, site_after, to, wait_on, watch_end}
 use Rattle.litmus_step.specs.Index.{insert_after, look_after}
 use Rattle.litmus_step.specs.Meaning.{MeansText}
 use Rattle.litmus_step.specs.Memory.{access_named, access_of, sign_extended}
@@ -22,7 +22,7 @@ use Rattle.litmus_parse.specs.declared.numbers.TheConstants.{REGISTERS}
 use Rattle.litmus_step.specs.Verdict.{IsVerdict, counts_as_marked}
 use Rattle.watch_word.specs.Word.{Encodable}
 use Rattle.litmus_step.specs.declared.step.Answer.{Answer}
-use Rattle.litmus_step.specs.declared.step.Answer.TheVariants.{Word, Flag, Halves, Done}
+use Rattle.litmus_step.specs.declared.step.Answer.TheVariants.{Word, Flag, Halves}
 use Rattle.litmus_step.specs.declared.step.Index.{Index}
 use Rattle.litmus_step.specs.declared.task.Event.{Event}
 use Rattle.litmus_step.specs.declared.task.Event.TheVariants.{Armed, Lost, Taken}
@@ -155,6 +155,13 @@ unfolding MeansText
 left-begin task site [] registers rest after left = left
 left-begin task site (statement ∷ later) registers rest after left = left
 
+left-read : (task site variable register : ℕ) (marked : Bool) (later : List Statement) (registers : List ℕ) (rest : List Happening) (after : List ℕ) (word : ℕ) → LeftAt End task site (Read variable register marked) later (slice_set registers register (sign_extended word)) rest after → MeansText task site (Read variable register marked ∷ later) registers (happenings.Begin (access_of task site (Read variable register marked)) ∷ happenings.Read (bytes_of (access_of task site (Read variable register marked))) (word % 2 ^ 32) ∷ rest) after
+unfolding MeansText
+left-read task site variable register marked later registers rest after word ended =
+    let access = access_of task site (Read variable register marked) in
+    let whole : happenings.Begin access ∷ happenings.Read (bytes_of access) (word % 2 ^ 32) ∷ rest ≡ happenings.Begin access ∷ happenings.Read (bytes_of access) (word % 2 ^ 32) ∷ happenings.End access ∷ ended.0 = cc (ended.1.0) in
+    (happenings.Begin access ∷ happenings.Read (bytes_of access) (word % 2 ^ 32) ∷ happenings.End access ∷ [], (ended.0, (slice_set registers register (sign_extended word), (whole, (record { value = word % 2 ^ 32; happens = refl; registers = rw (sign_extended-again word) refl }, ended.1.1)))))
+
 left-written : (task site variable written : ℕ) (marked : Bool) (later : List Statement) (registers : List ℕ) (rest : List Happening) (after : List ℕ) (value : ℕ) → value ≡ written → LeftAt End task site (Write variable written marked) later registers rest after → MeansText task site (Write variable written marked ∷ later) registers (happenings.Begin (access_of task site (Write variable written marked)) ∷ happenings.Write (bytes_of (access_of task site (Write variable written marked))) (value % 2 ^ 32) ∷ rest) after
 unfolding MeansText
 left-written task site variable written marked later registers rest after value same ended =
@@ -167,8 +174,7 @@ left-goes : (program : Program) (phase : Phase) (task site : ℕ) (statement : S
 unfolding MeansText
 left-goes program Begin task site statement registers answer next fits leads later rest after left = rw leads at left
 left-goes program Load task site (Read variable register marked) registers (Word word) next fits leads later rest after left =
-    let ended = rw leads at left in
-    (_, (ended.0, (_, (ap (λ (r : List Happening). happenings.Begin (access_of task site (Read variable register marked)) ∷ happenings.Read (bytes_of (access_of task site (Read variable register marked))) (word % 2 ^ 32) ∷ r) ended.1.0, (record { value = word % 2 ^ 32; happens = refl; registers = rw (sign_extended-again word) refl }, ended.1.1)))))
+    left-read task site variable register marked later registers rest after word (rw leads at left)
 left-goes program Load task site (Write variable value marked) registers (Word word) next fits leads later rest after left = rw leads at left
 left-goes program Load task site statement registers answer next fits leads later rest after left = absurd leads
 left-goes program (Exchange expected value turns) task site (Read variable register marked) registers answer next fits leads later rest after left = absurd fits

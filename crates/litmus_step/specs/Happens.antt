@@ -7,7 +7,7 @@ use Rattle.access_types.specs.declared.history.Happening.TheVariants as happenin
 use Rattle.access_types.specs.declared.history.Moment.{Moment}
 use Rattle.litmus_parse.specs.Program.{statement_at}
 use Rattle.litmus_parse.specs.declared.program.Statement.{Statement}
-use Rattle.litmus_parse.specs.declared.program.Statement.TheVariants.{Read, Write}
+use Rattle.litmus_parse.specs.declared.program.Statement.TheVariants.{Read}
 use Rattle.litmus_step.specs.Memory.{access_of}
 use Rattle.litmus_step.specs.Run.{Turn}
 use Rattle.litmus_step.specs.StepLine.{step_line}

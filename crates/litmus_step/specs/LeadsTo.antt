@@ -1,6 +1,5 @@
 use Rattle.std.specs.Prelude.{◌≡◌, ◌++◌, ◌<◌, ◌%◌, ◌^◌, ◌+◌, ℕ, List, [], ◌∷◌, All, IfSome, IsSomeAnd, drop, length, slice_get, slice_index}
-use Rattle.access_types.specs.Access.{Access}
-use Rattle.access_types.specs.History.{History, after_moments, content, happenings_of, value_from}
+use Rattle.access_types.specs.History.{History, after_moments, happenings_of, value_from}
 use Rattle.access_types.specs.declared.history.Happening.{Happening}
 use Rattle.access_types.specs.declared.history.Happening.TheVariants as happenings
 use Rattle.access_types.specs.declared.history.Moment.{Moment}
@@ -11,7 +10,7 @@ use Rattle.litmus_parse.specs.declared.program.Statement.TheVariants.{Read, Writ
 use Rattle.litmus_parse.specs.Program.{statement_at, text_of}
 use Rattle.litmus_step.specs.Happens.{Happens}
 use Rattle.litmus_step.specs.Meaning.{MeansText}
-use Rattle.litmus_step.specs.Memory.{access_of, address, bytes_at, memory_at_first}
+use Rattle.litmus_step.specs.Memory.{access_of, address, memory_at_first}
 use Rattle.litmus_step.specs.Run.{in_turn, order_of}
 use Rattle.litmus_step.specs.RunOfProgram.{HoldsContent, MeansTask, RunOfProgram}
 use Rattle.litmus_step.specs.declared.memory.TheConstants.{SIZE}

@@ -13,13 +13,19 @@ use Rattle.litmus_step.specs.declared.task.Phase.TheVariants as phases
 use Rattle.litmus_step.specs.declared.task.TaskRun.{TaskRun}
 use Rattle.litmus_step.specs.declared.world.World.{World}
 
--- what a task is at an index: away, the setter of a watchpoint in a stage of its watch, or the finder of one that it has still to tell who it is
+-- what a task is at an index
 pub data Role : Type 0 where
+  -- it has no part in a watchpoint there
   Away : Role
+  -- the setter of a watchpoint, until its watch ends
   Watching : Role
+  -- the setter of one that was hit, until it has heard by whom
   Hearing : Role
+  -- the setter, until it has cleared the pair
   Clearing : Role
+  -- the setter, until it has removed the watchpoint
   Removing : Role
+  -- the finder that took a watchpoint, until it has told its setter
   Telling : Role
 
 -- the role at one index, and away from the others
@@ -42,7 +48,7 @@ role_in (phases.HearSetter place turns) index = only_at place Telling index
 role_in (phases.Tell place) index = only_at place Telling index
 role_in phase index = Away
 
--- a task in the phase may be this at the index: one that is stuck has stayed what it was, whatever that is
+-- a task in the phase may have the role at the index; one that is stuck has kept what it had, whatever that is
 abbrev pub MayBe : Phase → Index → Role → Type 0
 MayBe phases.Stuck index role = Unit {0}
 MayBe phase index role = role ≡ role_in phase index
@@ -63,7 +69,7 @@ IsUntold word finder = (word ≡ CONSUMED) × (finder ≡ 0)
 abbrev pub IsToldBy : ℕ → ℕ → ℕ → Type 0
 IsToldBy task word finder = (word ≡ CONSUMED) × (0 < finder) × (task_in finder ≡ task)
 
--- what the watch word and the finder's half of the pair are, by what two tasks of these numbers are at their index; what has no line never is
+-- what the watch word and the finder's half of the pair are, by the roles of two tasks, of numbers a and b, at their index; two roles with no line are never there together
 abbrev pub Holds : Role → Role → ℕ → ℕ → ℕ → ℕ → Type 0
 Holds Away Away a b word finder = IsFree word finder
 Holds Watching Away a b word finder = IsUntouched word finder ⊎ IsToldBy b word finder
@@ -80,7 +86,7 @@ Holds Removing Away a b word finder = IsUntold word finder
 Holds Away Removing a b word finder = IsUntold word finder
 Holds _ _ a b word finder = ⊥
 
--- two tasks have roles at the index, and its words are as they say
+-- two tasks have roles at the index, and its words are as the roles say
 pub record HaveRolesAt (board : Words) (first second : TaskRun) (index : Index) : Type 0 where
   pub first_role : Role
   pub second_role : Role
@@ -88,13 +94,13 @@ pub record HaveRolesAt (board : Words) (first second : TaskRun) (index : Index) 
   pub second_may : MayBe second.phase index second_role
   pub holds : Holds first_role second_role first.number second.number (slice_index board.watch_words (position_of index)) (slice_index_or board.pair_words (position_of index) unnamed).finder
 
--- the word that a task is about to insert or to take is that of a watchpoint
+-- the word that a task is about to insert or to take is neither that of an empty place nor that of a watchpoint that was hit
 abbrev pub HasWatchWord : Phase → Type 0
 HasWatchWord (phases.TryConsume index word) = CONSUMED < word
 HasWatchWord (phases.Insert index word) = CONSUMED < word
 HasWatchWord _ = Unit {0}
 
--- two tasks have roles at each index, and the words of watchpoints
+-- two tasks have roles at each of the three indices
 pub record HaveRoles (board : Words) (first second : TaskRun) : Type 0 where
   pub watch_words : length board.watch_words ≡ 3
   pub pair_words : length board.pair_words ≡ 3
@@ -107,7 +113,7 @@ abbrev pub NamesTwoTasks : Finding → Type 0
 NamesTwoTasks (findings.TwoSided setter finder seen) = setter.task ≢ finder.task
 NamesTwoTasks (findings.Unknown setter change) = Unit {0}
 
--- the two tasks are setter and finder as the words say, and so no report names one task twice
+-- the two tasks are setters and finders as the words say, and each report of two accesses names two of different tasks
 pub record KeepsRoles (world : World) : Type 0 where
   pub first : TaskRun
   pub second : TaskRun

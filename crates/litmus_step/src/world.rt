@@ -126,7 +126,8 @@ impl World {
         let answer = self.board.step(step);
         let event = run.answer(&self.program, answer);
         self.tasks[task.get()] = run;
-        self.take(&event)
+        self.take(&event)?;
+        Ok(())
     }
 
     /// Counts what happened at a step, and keeps what was found.
