@@ -5,3 +5,6 @@ pub mod ReportText
 pub mod History
 pub mod Marked
 pub mod Race
+pub mod Sites
+pub mod Stamped
+pub mod Arms
