@@ -44,7 +44,7 @@ found_first false access rest ticket named others = others
 pub stand_under_tickets-insert : (sites : AccessMap) (access : Access) → StandUnderTickets sites → StandUnderTickets (map.insert sites (ticket_number access) access)
 stand_under_tickets-insert sites access named ticket =
     subst (λ found. IfSome found (λ other. ticket_number other ≡ ticket)) (sym (get-insert nat_cmp_total sites (ticket_number access) access ticket))
-        (found_first _ access (map.get sites ticket) ticket (λ same. sym (eqb-true ticket _ (sym (unsigned_tied ticket _) ∙ same))) (named ticket))
+    (found_first _ access (map.get sites ticket) ticket (λ same. sym (eqb-true ticket _ (sym (unsigned_tied ticket _) ∙ same))) (named ticket))
 
 -- what holds of the access behind a reference that was found
 pub IfSome-option_copied : (P : Access → Type 0) (found : Option (Bor Access)) → IfSome (option_copied found) P → IfSome found (λ access. P access.now)

@@ -8,9 +8,3 @@ pub record Arm : Type 0 where
   pub index : ℕ
   pub word : ℕ
   pub outcome : ArmOutcome
-
--- a watchpoint that was hit: its finder's ticket, its index and its setter's ticket
-pub record Take : Type 0 where
-  pub finder : ℕ
-  pub index : ℕ
-  pub setter : ℕ

@@ -8,3 +8,4 @@ pub mod Race
 pub mod Sites
 pub mod Stamped
 pub mod Arms
+pub mod Takes

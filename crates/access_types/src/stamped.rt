@@ -26,8 +26,7 @@ impl Model for Stamped {
 }
 
 impl Stamped {
-    /// The access with its stamps of begin and end, whether it counted as marked and whether it was
-    /// silenced.
+    /// The access with its two stamps, whether it counted as marked and whether it was silenced.
     pub fn new(access: Access, begin: u64, end: u64, marked: bool, silenced: bool) -> Stamped
         ensures { result ≡ record { access = access; begin = begin; end = end; marked = marked; silenced = silenced } }
     {

@@ -1,6 +1,6 @@
 use Rattle.std.proofs.Common.{◌≡◌, ◌∙◌, ap, subst, sym}
 use Rattle.std.specs.FinMap as map
-use Rattle.access_types.specs.Sites.{AccessMap, StandUnderTickets, map_of}
+use Rattle.access_types.specs.Sites.{StandUnderTickets, map_of}
 use Rattle.access_types.specs.Ticket.{ticket_number}
 use Rattle.access_types.proofs.SitesLemmas.{from_entries-insert, stand_under_tickets-insert}
 use Rattle.access_types.proofs.sites.Sites.add.Goals as goal

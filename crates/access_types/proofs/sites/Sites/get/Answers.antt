@@ -1,6 +1,5 @@
 use Rattle.std.proofs.Common.{◌≡◌, ◌∙◌, ap, subst, sym, IfSome}
 use Rattle.std.specs.FinMap as map
-use Rattle.access_types.specs.Sites.{map_of}
 use Rattle.access_types.specs.Ticket.{ticket_number}
 use Rattle.access_types.proofs.SitesLemmas.{IfSome-option_copied, get-lookup}
 use Rattle.access_types.proofs.sites.Sites.get.Goals as goal
