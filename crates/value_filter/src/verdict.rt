@@ -9,11 +9,11 @@ use access_types::Access;
 /// What the values of an access's bytes, at the beginning and at the end of its watch, say of a change.
 #[derive(Clone, Copy, Debug, PartialEq, Eq)]
 pub enum Change {
-    /// They changed in a bit that counts.
+    /// They differ in a bit that counts.
     Seen,
-    /// They may have changed and changed back, or there are no values.
+    /// No change was seen, and there is no mask: the bytes may have been written all the same.
     Maybe,
-    /// As `Maybe`, for an access with a mask: changes of other bits are none that it is about.
+    /// No change was seen in the bits of the mask, and no others count: a change is ruled out.
     Ruled,
 }
 
@@ -68,6 +68,8 @@ pub fn verdicts_are_unique()
 
 #[cfg(test)]
 mod tests {
+    use super::Change::{Maybe, Ruled, Seen};
+    use super::Verdict::{Quiet, Report};
     use super::*;
     use crate::values::change;
     use access_types::{Claim, Kind, Operation};
@@ -80,14 +82,14 @@ mod tests {
     #[test]
     fn values_say_whether_they_changed(rt: HostRuntime) -> Result<(), Fail> {
         for (mask, values, wanted) in [
-            (Some(0xf), Some((0, 16)), Change::Ruled),
-            (Some(0xf), Some((0, 1)), Change::Seen),
-            (Some(0xf), None, Change::Ruled),
-            (None, Some((5, 5)), Change::Maybe),
-            (None, Some((0, 16)), Change::Seen),
-            (None, None, Change::Maybe),
-            (Some(0), Some((0, 16)), Change::Seen),
-            (Some(0), None, Change::Maybe),
+            (Some(0xf), Some((0, 16)), Ruled),
+            (Some(0xf), Some((0, 1)), Seen),
+            (Some(0xf), None, Ruled),
+            (None, Some((5, 5)), Maybe),
+            (None, Some((0, 16)), Seen),
+            (None, None, Maybe),
+            (Some(0), Some((0, 16)), Seen),
+            (Some(0), None, Maybe),
         ] {
             let access = Access::new(0, 0, 0x10000, 4, BITS, mask)?;
             assert_eq!(rt; change(&access, values), wanted, "{mask:?} {values:?}");
@@ -99,68 +101,19 @@ mod tests {
     fn verdicts_are_those_of_the_table(rt: HostRuntime) -> Result<(), Fail> {
         let same_value = Verdict::Drop(Reason::SameValue);
         let masked_bits = Verdict::Drop(Reason::MaskedBits);
-        // What is judged, then the verdict where the watchpoint was taken, with and without
-        // value-change-only, and where it wasn't.
-        for (kind, size, change, value_changes, all, untaken) in [
-            (
-                BITS,
-                4,
-                Change::Ruled,
-                masked_bits,
-                masked_bits,
-                Verdict::Quiet,
-            ),
-            (
-                BITS,
-                4,
-                Change::Seen,
-                Verdict::Report,
-                Verdict::Report,
-                Verdict::Report,
-            ),
-            (
-                BITS,
-                4,
-                Change::Maybe,
-                Verdict::Report,
-                Verdict::Report,
-                Verdict::Quiet,
-            ),
-            (
-                PLAIN,
-                4,
-                Change::Maybe,
-                same_value,
-                Verdict::Report,
-                Verdict::Quiet,
-            ),
-            (
-                PLAIN,
-                4,
-                Change::Seen,
-                Verdict::Report,
-                Verdict::Report,
-                Verdict::Report,
-            ),
-            (
-                PLAIN,
-                8,
-                Change::Maybe,
-                same_value,
-                Verdict::Report,
-                Verdict::Quiet,
-            ),
-            (
-                PLAIN,
-                9,
-                Change::Maybe,
-                Verdict::Report,
-                Verdict::Report,
-                Verdict::Quiet,
-            ),
+        // The verdicts: taken with value-change-only on, taken with it off, and not taken.
+        for (kind, size, change, [changes_only, all, untaken]) in [
+            (BITS, 4, Ruled, [masked_bits, masked_bits, Quiet]),
+            (BITS, 4, Seen, [Report, Report, Report]),
+            (BITS, 4, Maybe, [Report, Report, Quiet]),
+            (PLAIN, 4, Ruled, [masked_bits, masked_bits, Quiet]),
+            (PLAIN, 4, Seen, [Report, Report, Report]),
+            (PLAIN, 4, Maybe, [same_value, Report, Quiet]),
+            (PLAIN, 8, Maybe, [same_value, Report, Quiet]),
+            (PLAIN, 9, Maybe, [Report, Report, Quiet]),
         ] {
             let setter = Access::new(0, 0, 0x10000, size, kind, None)?;
-            assert_eq!(rt; judge(change, &setter, true, true), value_changes);
+            assert_eq!(rt; judge(change, &setter, true, true), changes_only);
             assert_eq!(rt; judge(change, &setter, true, false), all);
             assert_eq!(rt; judge(change, &setter, false, true), untaken);
             assert_eq!(rt; judge(change, &setter, false, false), untaken);
