@@ -5,3 +5,7 @@ pub mod ReportText
 pub mod History
 pub mod Marked
 pub mod Race
+pub mod Sites
+pub mod Stamped
+pub mod Arms
+pub mod Takes

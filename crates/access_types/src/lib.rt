@@ -3,13 +3,21 @@
 #![tactic(auto)]
 
 pub mod access;
+pub mod arms;
 pub mod history;
 pub mod kind;
 pub mod report;
+pub mod sites;
+pub mod stamped;
+pub mod takes;
 pub mod tickets;
 
 pub use access::{Access, AccessError, conflicts, overlaps};
+pub use arms::{Arm, ArmOutcome, HitResult};
 pub use history::{Bytes, Happening, Mark, Moment};
 pub use kind::{Claim, Kind, KindError, Operation, words};
 pub use report::{Report, ValueChange};
+pub use sites::Sites;
+pub use stamped::Stamped;
+pub use takes::Take;
 pub use tickets::{rep_of, site_of, task_of, ticket, tickets_differ, tickets_read_back};

@@ -1,0 +1,5 @@
+use Rattle.value_filter.proofs.BitLemmas.{bits_from_differ, differ_from_bits}
+use Rattle.value_filter.proofs.values.seen_changes_differ.Goals as goal
+
+pub returns : goal.returns
+returns c = λ mask old new. (differ_from_bits mask old new, bits_from_differ mask old new)

@@ -1,0 +1,40 @@
+//! Changes of the bytes of an access under its watch.
+
+ghost use Rattle.std.specs.Prelude.{◌≡◌, ◌↔◌, ℕ, IsNone, IsSome, IsTrue, Option};
+ghost use Rattle.access_types.specs.Race.{Differ};
+ghost use Rattle.value_filter.specs.Change.{BitDiffers, IsSeen};
+
+use crate::verdict::Change;
+use access_types::Access;
+
+/// What the old and the new value of an access's bytes say of a change, or what is said where none were
+/// loaded. The mask of an access has a bit, since `Access::new_rep` makes one without a bit none.
+pub fn change(access: &Access, values: Option<(u64, u64)>) -> Change
+    ensures seen { (result ≡ Change.Seen) ↔ IsSeen access.now values }
+    ensures ruled { (result ≡ Change.Ruled) ↔ (¬ IsSeen access.now values × IsSome access.now.mask) }
+    ensures maybe { (result ≡ Change.Maybe) ↔ (¬ IsSeen access.now values × IsNone access.now.mask) }
+{
+    let mask = access.mask();
+    match values {
+        Some((old, new)) if differ(mask, old, new) => Change::Seen,
+        _ if mask.is_some() => Change::Ruled,
+        _ => Change::Maybe,
+    }
+}
+
+/// The two values differ in a bit of the mask, or in any bit where there is none.
+fn differ(mask: Option<u64>, old: u64, new: u64) -> bool
+    ensures { IsTrue result ↔ BitDiffers mask old new }
+{
+    let changed = old ^ new;
+    match mask {
+        Some(mask) => changed & mask != 0,
+        None => changed != 0,
+    }
+}
+
+/// Law: two values have a bit that counts and differs exactly where they differ in the sense of
+/// `ChangedUnderWatch`.
+pub fn seen_changes_differ()
+    ensures { (mask : Option ℕ) (old new : ℕ) → BitDiffers mask old new ↔ Differ mask old new }
+{}

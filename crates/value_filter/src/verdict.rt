@@ -1,0 +1,123 @@
+//! The verdict on a watch that is over: whether there is a report.
+
+ghost use Rattle.std.specs.Prelude.{◌≡◌, ◌≢◌, Bool};
+ghost use Rattle.access_types.specs.Access as spec;
+ghost use Rattle.value_filter.specs.Verdict.{VerdictOf};
+
+use access_types::Access;
+
+/// What the values of an access's bytes, at the beginning and at the end of its watch, say of a change.
+#[derive(Clone, Copy, Debug, PartialEq, Eq)]
+pub enum Change {
+    /// They differ in a bit that counts.
+    Seen,
+    /// No change was seen, and there is no mask: the bytes may have been written all the same.
+    Maybe,
+    /// No change was seen in the bits of the mask, and no others count: a change is ruled out.
+    Ruled,
+}
+
+/// Why an access that hit a watchpoint isn't reported.
+#[derive(Clone, Copy, Debug, PartialEq, Eq)]
+pub enum Reason {
+    /// The two accesses share a watch word and no byte.
+    Encoding,
+    /// The value is the same as before, and only changes are reported.
+    SameValue,
+    /// No bit of the mask changed.
+    MaskedBits,
+}
+
+/// What becomes of a watch.
+#[derive(Clone, Copy, Debug, PartialEq, Eq)]
+pub enum Verdict {
+    /// A report: of two accesses where the watchpoint was hit, else of unknown origin.
+    Report,
+    /// The watchpoint was hit, and this isn't reported.
+    Drop(Reason),
+    /// The watchpoint wasn't hit, and no change was seen.
+    Quiet,
+}
+
+/// The verdict on the setter's watch. `taken` says that the watchpoint was hit, by an access that shares a
+/// byte with the setter: whether it does is for the caller to find out, and so the answer is never
+/// `Reason::Encoding`. With `value_change_only`, as by KCSAN's option of this name, a hit is reported only
+/// where a change was seen; but an access of more than 8 bytes is taken to have changed, and an assertion is
+/// about accesses and not about values.
+pub fn judge(change: Change, setter: &Access, taken: bool, value_change_only: bool) -> Verdict
+    ensures verdict { VerdictOf setter.now taken change value_change_only result }
+    ensures not_encoding { result ≢ Verdict.Drop Reason.Encoding }
+{
+    match (taken, change) {
+        (true, Change::Seen) => Verdict::Report,
+        (true, Change::Ruled) => Verdict::Drop(Reason::MaskedBits),
+        (true, Change::Maybe) if setter.size() > 8 || setter.kind().is_assertion() =>
+            Verdict::Report,
+        (true, Change::Maybe) if value_change_only => Verdict::Drop(Reason::SameValue),
+        (true, Change::Maybe) => Verdict::Report,
+        (false, Change::Seen) => Verdict::Report,
+        (false, _) => Verdict::Quiet,
+    }
+}
+
+/// Law: there is one verdict on each watch.
+pub fn verdicts_are_unique()
+    ensures { (setter : spec.Access) (taken : Bool) (change : Change) (value_change_only : Bool) (first second : Verdict) →
+        VerdictOf setter taken change value_change_only first → VerdictOf setter taken change value_change_only second → first ≡ second }
+{}
+
+#[cfg(test)]
+mod tests {
+    use super::Change::{Maybe, Ruled, Seen};
+    use super::Verdict::{Quiet, Report};
+    use super::*;
+    use crate::values::change;
+    use access_types::{Claim, Kind, Operation};
+    use std::test::Fail;
+
+    const PLAIN: Kind = Kind::Plain(Operation::Read);
+
+    const BITS: Kind = Kind::Assert(Claim::NoWrites);
+
+    #[test]
+    fn values_say_whether_they_changed(rt: HostRuntime) -> Result<(), Fail> {
+        for (mask, values, wanted) in [
+            (Some(0xf), Some((0, 16)), Ruled),
+            (Some(0xf), Some((0, 1)), Seen),
+            (Some(0xf), None, Ruled),
+            (None, Some((5, 5)), Maybe),
+            (None, Some((0, 16)), Seen),
+            (None, None, Maybe),
+            (Some(0), Some((0, 16)), Seen),
+            (Some(0), None, Maybe),
+        ] {
+            let access = Access::new(0, 0, 0x10000, 4, BITS, mask)?;
+            assert_eq!(rt; change(&access, values), wanted, "{mask:?} {values:?}");
+        }
+        Ok(())
+    }
+
+    #[test]
+    fn verdicts_are_those_of_the_table(rt: HostRuntime) -> Result<(), Fail> {
+        let same_value = Verdict::Drop(Reason::SameValue);
+        let masked_bits = Verdict::Drop(Reason::MaskedBits);
+        // The verdicts: taken with value-change-only on, taken with it off, and not taken.
+        for (kind, size, change, [changes_only, all, untaken]) in [
+            (BITS, 4, Ruled, [masked_bits, masked_bits, Quiet]),
+            (BITS, 4, Seen, [Report, Report, Report]),
+            (BITS, 4, Maybe, [Report, Report, Quiet]),
+            (PLAIN, 4, Ruled, [masked_bits, masked_bits, Quiet]),
+            (PLAIN, 4, Seen, [Report, Report, Report]),
+            (PLAIN, 4, Maybe, [same_value, Report, Quiet]),
+            (PLAIN, 8, Maybe, [same_value, Report, Quiet]),
+            (PLAIN, 9, Maybe, [Report, Report, Quiet]),
+        ] {
+            let setter = Access::new(0, 0, 0x10000, size, kind, None)?;
+            assert_eq!(rt; judge(change, &setter, true, true), changes_only);
+            assert_eq!(rt; judge(change, &setter, true, false), all);
+            assert_eq!(rt; judge(change, &setter, false, true), untaken);
+            assert_eq!(rt; judge(change, &setter, false, false), untaken);
+        }
+        Ok(())
+    }
+}
