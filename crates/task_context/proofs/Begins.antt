@@ -73,11 +73,13 @@ only_in_regions plain_writes_atomic a before disables nests flag plain memory ba
 
 pub counts_in_regions : (plain_writes_atomic : Bool) (a : Access) (before : History) (disables nests : ℕ) (flag result : Bool) → is_marked a.kind ≡ false → is_assertion a.kind ≡ false → is_atomic_write plain_writes_atomic a ≡ false → (IsTrue result ↔ ((0 < nests) ⊎ IsTrue flag)) → LeadsTo plain_writes_atomic a.task before (record { disable_count = disables; nest_count = nests; in_flat = flag; atomic_next = 0 }) → IsTrue result ↔ CountsAfter plain_writes_atomic a before
 counts_in_regions plain_writes_atomic a before disables nests flag result plain memory bare says h =
-    let real : ¬ IsTrue (is_assertion a.kind) = λ asserts. cc in
-    (λ yes. elim (says.0 yes) [
-       inl nested ↦ in_nest real (EndsRaised-surplus is_nest_open is_nest_close (marks_of a.task before) nests h.nested nested)
-     | inr flat ↦ in_flat real (h.flat.0 flat)
-     ], λ counts. says.1 (only_in_regions plain_writes_atomic a before disables nests flag plain memory bare h counts))
+    let real : ¬ IsTrue (is_assertion a.kind) = λ asserts. cc in (
+      λ yes. elim (says.0 yes) [
+        | inl nested ↦ in_nest real (EndsRaised-surplus is_nest_open is_nest_close (marks_of a.task before) nests h.nested nested)
+        | inr flat ↦ in_flat real (h.flat.0 flat)
+      ],
+      λ counts. says.1 (only_in_regions plain_writes_atomic a before disables nests flag plain memory bare h counts),
+    )
 
 -- the answer in a nested region, and outside one
 pub says_nested : (nests : ℕ) (flag result : Bool) → 0 < nests → result ≡ true → IsTrue result ↔ ((0 < nests) ⊎ IsTrue flag)

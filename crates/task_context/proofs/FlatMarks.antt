@@ -23,8 +23,8 @@ split_last (z ∷ []) [] later x m e = cc
 split_last (z ∷ (w ∷ earlier)) [] later x m e = cc
 split_last (z ∷ earlier) (y ∷ xs) later x m e =
     elim (split_last earlier xs later x m (cc)) [
-      inl end ↦ inl record { nothing = end.nothing; same = end.same; rest = let rest = end.rest in cc }
-    | inr before ↦ inr record { between = before.between; ends = before.ends; rest = let rest = before.rest in cc }
+      | inl end ↦ inl record { nothing = end.nothing; same = end.same; rest = let rest = end.rest in cc }
+      | inr before ↦ inr record { between = before.between; ends = before.ends; rest = let rest = before.rest in cc }
     ]
 
 no_split : (earlier : List Mark) (m : Mark) (later : List Mark) → ¬ ([] ≡ earlier ++ m ∷ later)
@@ -43,8 +43,8 @@ IsFlatOpen-begin xs = record { earlier = xs; later = []; split = refl; last = re
 pub flat-end : (xs : List Mark) → ¬ IsFlatOpen (xs ++ FlatEnd ∷ [])
 flat-end xs region =
     elim (split_last region.earlier xs region.later FlatBegin FlatEnd region.split) [
-      inl end ↦ let same = end.same in cc
-    | inr before ↦ let last = region.last in let more = count_by-last is_flat before.between FlatEnd in omega (arith, ap (count_by is_flat) before.ends)
+      | inl end ↦ let same = end.same in cc
+      | inr before ↦ let last = region.last in let more = count_by-last is_flat before.between FlatEnd in omega (arith, ap (count_by is_flat) before.ends)
     ]
 
 -- another mark leaves it
@@ -59,8 +59,8 @@ IsFlatOpen-other xs m other region = record {
 pub other-IsFlatOpen : (xs : List Mark) (m : Mark) → is_flat m ≡ false → IsFlatOpen (xs ++ m ∷ []) → IsFlatOpen xs
 other-IsFlatOpen xs m other region =
     elim (split_last region.earlier xs region.later FlatBegin m region.split) [
-      inl end ↦ let flat = ap is_flat end.same in cc
-    | inr before ↦ record {
+      | inl end ↦ let flat = ap is_flat end.same in cc
+      | inr before ↦ record {
         earlier = region.earlier;
         later = before.between;
         split = before.rest;

@@ -4,3 +4,6 @@ pub mod FlatMarks
 pub mod NextMarks
 pub mod Leads
 pub mod Begins
+pub mod OtherMoments
+pub mod OneContext
+pub mod OneBegin

@@ -81,3 +81,14 @@ IsWithinNext-left plain_writes_atomic task left xs (set n earlier later split la
     let same = one_last task n here.count earlier here.earlier later here.later (sym split ∙ here.split) last here.last in
     let fewer = here.fewer in
     omega (arith, same.counts, ap (count_by (λ (moment : Moment). begins_countable plain_writes_atomic task moment.happening)) same.moments)
+
+-- there is one number left
+pub IsLeft-one : (plain_writes_atomic : Bool) (task n m : ℕ) (xs : History) → IsLeft plain_writes_atomic task xs n → IsLeft plain_writes_atomic task xs m → n ≡ m
+IsLeft-one plain_writes_atomic task n m xs (unset never is) (unset nor also) = omega arith
+IsLeft-one plain_writes_atomic task n m xs (unset never is) (set count earlier later split last also) =
+    absurd (omega (arith, ap (nexts task) split, nexts-split task count earlier later))
+IsLeft-one plain_writes_atomic task n m xs (set count earlier later split last is) (unset never also) =
+    absurd (omega (arith, ap (nexts task) split, nexts-split task count earlier later))
+IsLeft-one plain_writes_atomic task n m xs (set count earlier later split last is) (set number before after parts final also) =
+    let same = one_last task count number earlier before later after (sym split ∙ parts) last final in
+    omega (arith, same.counts, ap (count_by (λ (moment : Moment). begins_countable plain_writes_atomic task moment.happening)) same.moments)

@@ -78,12 +78,12 @@ IsSurplus-raised raises lowers xs m n high low h =
     let before = h.reached in
     let largest = still_largest raises lowers xs m n (n + 1) (omega arith) h in
     elim (with_one_more raises lowers h.from xs m) [
-      inl grows ↦ record { from = h.from; reached = omega arith; largest = largest }
-    | inr ends ↦
-      let last = whole_part raises lowers (length xs) xs m (le_refl (length xs)) in
-      let nothing = ap (count_by raises) (drop_all (length xs) xs (le_refl (length xs))) in
-      let nothing_low = ap (count_by lowers) (drop_all (length xs) xs (le_refl (length xs))) in
-      record { from = length xs; reached = omega (arith, last.raised, last.lowered); largest = largest }
+      | inl grows ↦ record { from = h.from; reached = omega arith; largest = largest }
+      | inr ends ↦
+          let last = whole_part raises lowers (length xs) xs m (le_refl (length xs)) in
+          let nothing = ap (count_by raises) (drop_all (length xs) xs (le_refl (length xs))) in
+          let nothing_low = ap (count_by lowers) (drop_all (length xs) xs (le_refl (length xs))) in
+          record { from = length xs; reached = omega (arith, last.raised, last.lowered); largest = largest }
     ]
 
 -- a mark that lowers makes it smaller by one, and leaves none where there was none
@@ -102,8 +102,8 @@ IsSurplus-lowered raises lowers xs m (suc n) low high h =
     let before = h.reached in
     let largest = still_largest raises lowers xs m (suc n) n (omega arith) h in
     rw sub-one (elim (with_one_more raises lowers h.from xs m) [
-      inl grows ↦ record { from = h.from; reached = omega arith; largest = largest }
-    | inr ends ↦ absurd (omega arith)
+      | inl grows ↦ record { from = h.from; reached = omega arith; largest = largest }
+      | inr ends ↦ absurd (omega arith)
     ])
 
 -- some ending part is raised exactly where there is a surplus
@@ -112,3 +112,21 @@ EndsRaised-surplus raises lowers xs n h above = record { from = h.from; more = l
 
 pub surplus-EndsRaised : (raises lowers : Mark → Bool) (xs : List Mark) (n : ℕ) → IsSurplus raises lowers xs n → EndsRaised raises lowers xs → 0 < n
 surplus-EndsRaised raises lowers xs n h raised = let largest = h.largest raised.from in let more = raised.more in omega arith
+
+-- there is one surplus
+pub IsSurplus-one : (raises lowers : Mark → Bool) (xs : List Mark) (n m : ℕ) → IsSurplus raises lowers xs n → IsSurplus raises lowers xs m → n ≡ m
+IsSurplus-one raises lowers xs n m h k =
+    let first = h.reached in
+    let second = k.reached in
+    let bound = h.largest k.from in
+    let limit = k.largest h.from in
+    omega arith
+
+count_by-drop : (p : Mark → Bool) (from : ℕ) (xs : List Mark) → count_by p (drop from xs) ≤ count_by p xs
+count_by-drop p zero xs = le_refl (count_by p xs)
+count_by-drop p (suc from) [] = le_refl 0
+count_by-drop p (suc from) (x ∷ xs) = omega (arith, count_by-drop p from xs, sum_by-append (one p) (x ∷ []) xs)
+
+-- it is at most the number of marks that raise
+pub surplus-le : (raises lowers : Mark → Bool) (xs : List Mark) (n : ℕ) → IsSurplus raises lowers xs n → n ≤ count_by raises xs
+surplus-le raises lowers xs n h = let reached = h.reached in omega (arith, count_by-drop raises h.from xs)

@@ -19,11 +19,11 @@ pub record IsSurplus (raises lowers : Mark → Bool) (marks : List Mark) (surplu
 pub data IsLeft (plain_writes_atomic : Bool) (task : ℕ) (moments : History) (left : ℕ) : Type 0 where
   unset : count_by is_next (marks_of task moments) ≡ 0 → left ≡ 0 → IsLeft plain_writes_atomic task moments left
   set :
-    (count : ℕ) (earlier later : History) →
-    moments ≡ earlier ++ (record { task = task; happening = happenings.Mark (Next count) }) ∷ later →
-    count_by is_next (marks_of task later) ≡ 0 →
-    left ≡ count - count_by (λ (moment : Moment). begins_countable plain_writes_atomic task moment.happening) later →
-    IsLeft plain_writes_atomic task moments left
+      (count : ℕ) (earlier later : History) →
+      moments ≡ earlier ++ (record { task = task; happening = happenings.Mark (Next count) }) ∷ later →
+      count_by is_next (marks_of task later) ≡ 0 →
+      left ≡ count - count_by (λ (moment : Moment). begins_countable plain_writes_atomic task moment.happening) later →
+      IsLeft plain_writes_atomic task moments left
 
 -- what the task did so far leads to the context: with one setting for plain writes, and any moments of other tasks
 pub record LeadsTo (plain_writes_atomic : Bool) (task : ℕ) (moments : History) (context : Context) : Type 0 where
@@ -40,3 +40,18 @@ Follows plain_writes_atomic task old happening new =
 -- a mark follows in whatever task's history, under either setting
 abbrev pub MarkFollows : Context → Mark → Context → Type 0
 MarkFollows old mark new = (plain_writes_atomic : Bool) (task : ℕ) → Follows plain_writes_atomic task old (happenings.Mark mark) new
+
+-- what happens at a moment of some task concerns the context of the task: it is a mark of it, or begins an access of it
+abbrev pub Concerns : ℕ → ℕ → Happening → Type 0
+Concerns task owner (happenings.Begin access) = access.task ≡ task
+Concerns task owner (happenings.Mark mark) = owner ≡ task
+Concerns task owner (happenings.End access) = ⊥
+Concerns task owner (happenings.Read bytes value) = ⊥
+Concerns task owner (happenings.Write bytes value) = ⊥
+Concerns task owner (happenings.Lock lock) = ⊥
+Concerns task owner (happenings.Unlock lock) = ⊥
+
+-- what a list of calls says of the counts: neither is above the number of calls that raise it
+pub record IsWithinCalls (task : ℕ) (moments : History) (context : Context) : Type 0 where
+  pub disabled : context.disable_count ≤ count_by is_disable (marks_of task moments)
+  pub nested : context.nest_count ≤ count_by is_nest_open (marks_of task moments)

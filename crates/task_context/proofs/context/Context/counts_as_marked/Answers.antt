@@ -37,10 +37,10 @@ returns-clause-counts c =
     let bare : is_atomic_write c.args.plain_writes_atomic c.args.access.now ≡ false = cc in
     let none : c.self.inside.atomic_next ≡ 0 = omega arith in
     let says : IsTrue c.if-self-gt0-2.result ↔ ((0 < c.self.inside.nest_count) ⊎ IsTrue c.self.inside.in_flat) =
-      elim c.if-self-gt0-2.branch [
-        then-self-gt0-2 w ↦ says_nested _ _ _ (omega arith) (w.result-is ∙ lt-ltb 0 c.self.inside.nest_count (omega arith))
+    elim c.if-self-gt0-2.branch [
+      | then-self-gt0-2 w ↦ says_nested _ _ _ (omega arith) (w.result-is ∙ lt-ltb 0 c.self.inside.nest_count (omega arith))
       | else-self-gt0-2 w ↦ says_flat _ _ _ (omega arith) w.result-is
-      ] in
+    ] in
     rw (← c.self.view_is, none) (λ before. counts_in_regions c.args.plain_writes_atomic c.args.access.now before _ _ _ _ plain real bare says)
 
 pub returns-clause-follows : goal.returns-clause-follows
