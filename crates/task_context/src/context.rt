@@ -1,4 +1,4 @@
-ghost use Rattle.std.specs.Prelude.{◌≡◌, ◌+◌, ◌<◌, ◌^◌, ◌↔◌, ℕ, [], Bool, IsTrue, IsErrOf, OnErr};
+ghost use Rattle.std.specs.Prelude.{◌≡◌, ◌+◌, ◌<◌, ◌^◌, ◌↔◌, ℕ, [], Bool, IsFalse, IsTrue, IsErrOf, OnErr};
 ghost use Rattle.access_types.specs.History.{History};
 ghost use Rattle.access_types.specs.Marked as marked;
 ghost use Rattle.access_types.specs.Marked.{CountsAfter, EndsRaised, is_disable, is_enable, marks_of};
@@ -149,7 +149,7 @@ impl Context {
     /// Whether an access that begins now is heard: it is silenced while a `disable` isn't taken back.
     pub fn enabled(&self) -> bool
         ensures { (plain_writes_atomic : Bool) (task : ℕ) (before : History) → LeadsTo plain_writes_atomic task before self.now
-            → (IsTrue result ↔ ¬ EndsRaised is_disable is_enable (marks_of task before)) }
+            → (IsFalse result ↔ EndsRaised is_disable is_enable (marks_of task before)) }
     {
         self.disable_count == 0
     }
