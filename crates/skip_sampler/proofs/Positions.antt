@@ -1,7 +1,10 @@
-use Rattle.std.proofs.Common.{◌≡◌, ◌<◌, ◌≤◌, ◌+◌, ◌-◌, ◌∙◌, ℕ, zero, suc, List, Bool, true, false, refl, sym, ap, arith, below_more, add-one, add-zero, add-suc, le_refl, subst, inl, inr, if◌then◌else◌}
+use Rattle.std.proofs.Common.{◌≡◌, ◌<◌, ◌≤◌, ◌⊎◌, ◌*◌, ◌+◌, ◌-◌, ◌%◌, ◌∙◌, ℕ, zero, suc, List, Bool, true, false, refl, sym, ap, arith, below_more, add-one, add-zero, add-suc, le_refl, subst, inl, inr, if◌then◌else◌}
 use Rattle.std.proofs.lemmas.Bool.{cases_lt}
 use Rattle.rand_core.specs.Stream.{Stream, next_u64}
-use Rattle.skip_sampler.specs.Sampler.{LeadsTo, Sampler, SamplerPositions, after_words, gap, gap_by, is_drawn, position, stream_from, stream_of_seed}
+use Rattle.rand_core.specs.Steps.{stream_of}
+use Rattle.rand_xoshiro.specs.SplitMix64.{splitmix_seed}
+use Rattle.rand_xoshiro.specs.Xoshiro256.{of_seed, plus_plus}
+use Rattle.skip_sampler.specs.Sampler.{LeadsTo, Sampler, SamplerPositions, after_words, gap, gap_by, is_drawn, position, stream_from, stream_of_seed, word}
 
 -- one word more
 after_words-suc : (k : ℕ) (stream : Stream) → after_words (suc k) stream ≡ (next_u64 (after_words k stream)).1
@@ -88,3 +91,68 @@ leads-yes skip randomize seed askings old fresh state over gap_is rest_is h =
           ∙ ap (λ drawn. if drawn then (next_u64 (stream_from old.generator)).1 else stream_from old.generator) same
           ∙ one_rest (is_drawn skip randomize) seed h.answered (stream_from old.generator) h.drawn;
     }
+
+-- one asking answered no leads on
+leads-no : (skip : ℕ) (randomize : Bool) (seed askings count : ℕ) (old : Sampler) → old.counter ≡ suc count → LeadsTo skip randomize seed askings old → LeadsTo skip randomize seed (askings + 1) (record { skip = old.skip; randomize = old.randomize; counter = count; generator = old.generator })
+leads-no skip randomize seed askings count old counts h =
+    let next = h.next in
+    record {
+      skip_is = h.skip_is;
+      randomize_is = h.randomize_is;
+      answered = h.answered;
+      passed = λ k below. let passed = h.passed k below in omega arith;
+      next = omega arith;
+      drawn = h.drawn;
+    }
+
+-- the state after a word, where one is drawn
+stream_after_word : (drawn : Bool) (state : List ℕ) → stream_from (if drawn then (plus_plus state).1 else state) ≡ (if drawn then (next_u64 (stream_from state)).1 else stream_from state)
+unfolding stream_of next_u64
+stream_after_word true state = refl
+stream_after_word false state = refl
+
+one_more : (skip : ℕ) (randomize : Bool) (seed askings counter : ℕ) (old : Sampler) → old.counter ≡ counter → LeadsTo skip randomize seed askings old → (sampler : Sampler) × LeadsTo skip randomize seed (askings + 1) sampler
+one_more skip randomize seed askings zero old over h =
+    let state = if is_drawn old.skip old.randomize then (plus_plus old.generator).1 else old.generator in
+    (_, leads-yes skip randomize seed askings old (gap_by old.skip old.randomize (next_u64 (stream_from old.generator)).0) state over refl (stream_after_word (is_drawn old.skip old.randomize) old.generator) h)
+one_more skip randomize seed askings (suc count) old counts h = (_, leads-no skip randomize seed askings count old counts h)
+
+-- so many askings lead to some sampler
+pub some_sampler : (skip : ℕ) (randomize : Bool) (seed askings : ℕ) → (sampler : Sampler) × LeadsTo skip randomize seed askings sampler
+some_sampler skip randomize seed zero = (_, leads-new skip randomize seed (of_seed (splitmix_seed 32 seed)) refl)
+some_sampler skip randomize seed (suc askings) =
+    let before = some_sampler skip randomize seed askings in
+    rw (← add-one askings) (one_more skip randomize seed askings before.0.counter before.0 refl before.1)
+
+gap-le : (skip word : ℕ) (randomize : Bool) → gap_by skip randomize word ≤ skip
+gap-le skip word randomize = if_le (is_drawn skip randomize) where
+  if_le : (drawn : Bool) → (if drawn then skip - word % skip else skip) ≤ skip
+  if_le true = omega arith
+  if_le false = le_refl skip
+
+pub gap_most : (skip : ℕ) (randomize : Bool) (seed k : ℕ) → gap skip randomize seed k ≤ skip
+gap_most skip randomize seed k = gap-le skip (word seed k) randomize
+
+lt-gap : (skip word : ℕ) (drawn : Bool) → 0 < skip → 0 < (if drawn then skip - word % skip else skip)
+lt-gap skip word true above = omega arith
+lt-gap skip word false above = above
+
+pub gap_least : (skip : ℕ) (randomize : Bool) (seed k : ℕ) → 0 < skip → 0 < gap skip randomize seed k
+gap_least skip randomize seed k above = lt-gap skip (word seed k) (is_drawn skip randomize) above
+
+-- a gap that chance doesn't touch
+gap_fixed : (skip : ℕ) (randomize : Bool) (seed k : ℕ) → (randomize ≡ false) ⊎ (skip ≤ 1) → gap skip randomize seed k ≡ skip
+gap_fixed skip randomize seed k (inl off) = rw off refl
+gap_fixed zero randomize seed k (inr small) = let most = gap_most zero randomize seed k in omega arith
+gap_fixed (suc skip) randomize seed k (inr small) =
+    let most = gap_most (suc skip) randomize seed k in
+    let least = gap_least (suc skip) randomize seed k (omega arith) in
+    omega arith
+
+pub position-fixed : (skip : ℕ) (randomize : Bool) (seed k : ℕ) → (randomize ≡ false) ⊎ (skip ≤ 1) → position skip randomize seed k ≡ (k + 1) * (skip + 1)
+unfolding position
+position-fixed skip randomize seed zero fixed = omega arith
+position-fixed skip randomize seed (suc k) fixed =
+    let before = position-fixed skip randomize seed k fixed in
+    let same = gap_fixed skip randomize seed k fixed in
+    omega arith

@@ -10,6 +10,12 @@ use rand_core::{Rng, SeedableRng};
 use rand_xoshiro::Xoshiro256PlusPlus;
 use std::marker::Model;
 
+pub mod laws;
+
+pub use laws::{
+    askings_lead_to_samplers, gaps_are_within_skip, positions_of_seed_one, positions_without_chance,
+};
+
 /// Says of each access that asks whether it is watched. Of two that are watched, `skip` others are
 /// skipped in between, or, randomized, from 1 to `skip` others.
 #[derive(Debug, Drop)]
