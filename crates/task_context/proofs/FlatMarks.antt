@@ -1,9 +1,8 @@
-use Rattle.std.proofs.Common.{◌≡◌, ◌++◌, ◌⊎◌, ◌+◌, ◌∙◌, ℕ, List, [], ◌∷◌, Bool, true, false, cond, count_by, refl, ap, arith, inl, inr, subst, append_assoc}
-use Rattle.std.proofs.lemmas.List.{append-nil}
+use Rattle.std.proofs.Common.{◌≡◌, ◌++◌, ◌⊎◌, ◌∙◌, List, [], ◌∷◌, false, count_by, refl, ap, arith, inl, inr, append_assoc}
 use Rattle.access_types.specs.Marked.{IsFlatOpen, is_flat}
 use Rattle.access_types.specs.declared.history.Mark.{Mark}
 use Rattle.access_types.specs.declared.history.Mark.TheVariants.{FlatBegin, FlatEnd}
-use Rattle.task_context.proofs.Surpluses.{one, one-false, count_by-last}
+use Rattle.task_context.proofs.Surpluses.{one-false, count_by-last}
 
 -- a list that ends with m, split at x: x is the end, or it stands before the end
 record IsEnd (earlier xs later : List Mark) (x m : Mark) : Type 0 where

@@ -1,12 +1,11 @@
-use Rattle.std.proofs.Common.{◌≡◌, ◌+◌, ◌-◌, ◌++◌, ◌↔◌, ℕ, List, [], ◌∷◌, Bool, true, false, IsTrue, refl, subst, sym, ap, arith, count_by, ◌∙◌}
+use Rattle.std.proofs.Common.{◌≡◌, ◌+◌, ◌-◌, ◌++◌, ◌↔◌, ℕ, List, [], ◌∷◌, Bool, true, false, IsTrue, refl, ap, arith, count_by}
 use Rattle.access_types.specs.History.{History}
-use Rattle.access_types.specs.Marked.{EndsRaised, IsFlatOpen, begins_countable, is_disable, is_enable, is_flat, is_nest_close, is_nest_open, is_next, marks_of}
+use Rattle.access_types.specs.Marked.{IsFlatOpen, is_disable, is_enable, is_flat, is_nest_close, is_nest_open, is_next, marks_of}
 use Rattle.access_types.specs.declared.history.Happening.TheVariants as happenings
 use Rattle.access_types.specs.declared.history.Mark.{Mark}
 use Rattle.access_types.specs.declared.history.Mark.TheVariants.{Disable, Enable, NestOpen, NestClose, FlatBegin, FlatEnd, Next}
 use Rattle.access_types.specs.declared.history.Moment.{Moment}
-use Rattle.task_context.specs.Context.{Context}
-use Rattle.task_context.specs.History.{IsLeft, IsSurplus, LeadsTo, MarkFollows}
+use Rattle.task_context.specs.History.{IsLeft, LeadsTo, MarkFollows}
 use Rattle.task_context.proofs.FlatMarks.{IsFlatOpen-begin, IsFlatOpen-other, flat-end, flat-nil, other-IsFlatOpen}
 use Rattle.task_context.proofs.Moments.{marks_of-mark, marks_of-one, marks_of-quiet}
 use Rattle.task_context.proofs.NextMarks.{IsLeft-next, IsLeft-nil, IsLeft-other, begun}

@@ -1,7 +1,6 @@
-use Rattle.std.proofs.Common.{◌≡◌, ◌≢◌, ◌++◌, ◌==◌, ◌∙◌, ℕ, List, [], ◌∷◌, Bool, true, false, nat_eq, refl, ap}
+use Rattle.std.proofs.Common.{◌≡◌, ◌++◌, ◌==◌, ◌∙◌, ℕ, List, [], ◌∷◌, Bool, true, false, refl, ap}
 use Rattle.std.proofs.lemmas.Bool.{eq-eqb}
 use Rattle.std.proofs.lemmas.List.{append-nil}
-use Rattle.access_types.specs.Access.{Access}
 use Rattle.access_types.specs.History.{History}
 use Rattle.access_types.specs.Marked.{mark_before, marks_of}
 use Rattle.access_types.specs.declared.history.Happening.{Happening}

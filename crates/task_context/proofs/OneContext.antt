@@ -1,4 +1,4 @@
-use Rattle.std.proofs.Common.{◌≡◌, ◌≢◌, ◌⊎◌, ◌-◌, ◌++◌, ◌==◌, ◌↔◌, ℕ, List, [], ◌∷◌, Bool, true, false, IsTrue, refl, sym, subst, inl, inr, ap, arith, append_assoc}
+use Rattle.std.proofs.Common.{◌≡◌, ◌-◌, ◌++◌, ◌==◌, ◌↔◌, ℕ, [], ◌∷◌, Bool, true, false, IsTrue, refl, sym, subst, inl, inr, append_assoc}
 use Rattle.std.proofs.lemmas.Bool.{cases_eq}
 use Rattle.std.proofs.lemmas.List.{append-nil}
 use Rattle.access_types.specs.History.{History}
@@ -10,7 +10,7 @@ use Rattle.access_types.specs.declared.history.Mark.{Mark}
 use Rattle.access_types.specs.declared.history.Mark.TheVariants.{Disable, Enable, NestOpen, NestClose, FlatBegin, FlatEnd, Next}
 use Rattle.access_types.specs.declared.history.Moment.{Moment}
 use Rattle.task_context.specs.Context.{Context}
-use Rattle.task_context.specs.History.{Concerns, LeadsTo}
+use Rattle.task_context.specs.History.{LeadsTo}
 use Rattle.task_context.proofs.Leads.{disable_follows, enable_follows, flat_begin_follows, flat_end_follows, leads-nil, nest_close_follows, nest_open_follows, next_follows, quiet_follows}
 use Rattle.task_context.proofs.NextMarks.{IsLeft-one, begun}
 use Rattle.task_context.proofs.OtherMoments.{begin_no_mark, other_moment}

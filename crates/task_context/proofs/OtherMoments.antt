@@ -1,8 +1,8 @@
-use Rattle.std.proofs.Common.{◌≡◌, ◌≢◌, ◌-◌, ◌++◌, ◌==◌, ℕ, List, [], ◌∷◌, Bool, true, false, refl, ap, arith}
+use Rattle.std.proofs.Common.{◌≡◌, ◌-◌, ◌++◌, ◌==◌, ℕ, List, [], ◌∷◌, Bool, true, false, refl, ap, arith}
 use Rattle.std.proofs.lemmas.Bool.{ne_eqb}
 use Rattle.access_types.specs.Access.{Access}
 use Rattle.access_types.specs.History.{History}
-use Rattle.access_types.specs.Marked.{is_countable, mark_before, marks_of}
+use Rattle.access_types.specs.Marked.{mark_before, marks_of}
 use Rattle.access_types.specs.declared.history.Happening.{Happening}
 use Rattle.access_types.specs.declared.history.Happening.TheVariants.{Begin, End, Read, Write, Lock, Unlock}
 use Rattle.access_types.specs.declared.history.Happening.TheVariants as happenings

@@ -1,7 +1,6 @@
 use Rattle.std.specs.Prelude.{◌≡◌, ◌+◌, ◌-◌, ◌≤◌, ◌↔◌, ◌++◌, ℕ, List, [], ◌∷◌, Bool, IsTrue, count_by, drop}
-use Rattle.access_types.specs.Access.{Access}
 use Rattle.access_types.specs.History.{History}
-use Rattle.access_types.specs.Marked.{EndsRaised, IsFlatOpen, begins_countable, is_disable, is_enable, is_nest_close, is_nest_open, is_next, marks_of}
+use Rattle.access_types.specs.Marked.{IsFlatOpen, begins_countable, is_disable, is_enable, is_nest_close, is_nest_open, is_next, marks_of}
 use Rattle.access_types.specs.declared.history.Happening.{Happening}
 use Rattle.access_types.specs.declared.history.Happening.TheVariants as happenings
 use Rattle.access_types.specs.declared.history.Mark.{Mark}

@@ -222,11 +222,12 @@ mod tests {
         context.nest_begin();
         assert_eq!(rt; context.nest_end(), Ok(()));
         assert_eq!(rt; context.nest_end(), Err(ContextError::Unbalanced));
+        assert_eq!(rt; context, Context::new());
+        let mut context = Context::default();
         context.disable();
         assert_eq!(rt; context.enable(), Ok(()));
         assert_eq!(rt; context.enable(), Err(ContextError::Unbalanced));
         assert_eq!(rt; context, Context::new());
-        assert_eq!(rt; context, Context::default());
     }
 
     #[test]

@@ -1,4 +1,4 @@
-use Rattle.std.proofs.Common.{◌≡◌, ◌∙◌, ◌⊎◌, ◌↔◌, ◌<◌, IsTrue, true, false, inl, inr, arith}
+use Rattle.std.proofs.Common.{◌≡◌, ◌∙◌, ◌⊎◌, ◌↔◌, ◌<◌, IsTrue, true, false, arith}
 use Rattle.std.proofs.lemmas.Bool.{lt-ltb}
 use Rattle.access_types.specs.Kind.{is_assertion, is_marked}
 use Rattle.access_types.specs.Marked.{is_atomic_write}
