@@ -1,0 +1,5 @@
+use Rattle.skip_sampler.proofs.Positions.{position-fixed}
+use Rattle.skip_sampler.proofs.laws.positions_without_chance.Goals as goal
+
+pub returns : goal.returns
+returns c = position-fixed

@@ -1,0 +1,112 @@
+//! Which accesses of a task are watched: after a number of others that are skipped, as KCSAN samples.
+#![tactic(auto)]
+
+ghost use Rattle.std.specs.Prelude.{◌≡◌, ◌+◌, ◌↔◌, ℕ, Bool, IsTrue, if◌then◌else◌};
+ghost use Rattle.skip_sampler.specs.Sampler as spec;
+ghost use Rattle.skip_sampler.specs.Sampler.{LeadsTo, SamplerPositions, gap_by, is_drawn, stream_from};
+ghost use Rattle.rand_core.specs.Stream.{next_u64};
+
+use rand_core::{Rng, SeedableRng};
+use rand_xoshiro::Xoshiro256PlusPlus;
+use std::marker::Model;
+
+pub mod laws;
+
+pub use laws::{
+    askings_lead_to_samplers, gaps_are_within_skip, positions_of_seed_one, positions_without_chance,
+};
+
+/// Says of each access that asks whether it is watched. Of two that are watched, `skip` others are
+/// skipped in between, or, randomized, from 1 to `skip` others.
+#[derive(Debug, Drop)]
+pub struct Sampler {
+    skip: u64,
+    randomize: bool,
+    counter: u64,
+    generator: Xoshiro256PlusPlus,
+}
+
+impl Model for Sampler {
+    ghost Value = { spec.Sampler };
+
+    ghost view = { λ s. record { skip = s.skip; randomize = s.randomize; counter = s.counter; generator = s.generator } };
+}
+
+impl Sampler {
+    /// A sampler that skips the first `skip` accesses. The seed decides what a randomized sampler skips
+    /// between later ones.
+    pub fn new(skip: u64, randomize: bool, seed: u64) -> Sampler
+        ensures { LeadsTo skip randomize seed 0 result }
+    {
+        Sampler {
+            skip,
+            randomize,
+            counter: skip,
+            generator: Xoshiro256PlusPlus::seed_from_u64(seed),
+        }
+    }
+
+    /// Whether the access that asks now is watched.
+    pub fn should_watch(&mut self) -> bool
+        ensures watched { (skip : ℕ) (randomize : Bool) (seed askings : ℕ) → LeadsTo skip randomize seed askings self.old
+            → (IsTrue result ↔ SamplerPositions skip randomize seed (askings + 1)) }
+        ensures follows { (skip : ℕ) (randomize : Bool) (seed askings : ℕ) → LeadsTo skip randomize seed askings self.old
+            → LeadsTo skip randomize seed (askings + 1) self.new }
+    {
+        if self.counter > 0 {
+            self.counter -= 1;
+            return false;
+        }
+        self.counter = next_gap(self.skip, self.randomize, &mut self.generator);
+        true
+    }
+}
+
+/// How many accesses are skipped after one that is watched. The generator is asked only where this is
+/// drawn.
+fn next_gap(skip: u64, randomize: bool, generator: &mut Xoshiro256PlusPlus) -> u64
+    ensures gap { result ≡ gap_by skip randomize (next_u64 (stream_from generator.old)).0 }
+    ensures rest { stream_from generator.new
+        ≡ (if is_drawn skip randomize then (next_u64 (stream_from generator.old)).1 else stream_from generator.old) }
+{
+    if !randomize || skip == 0 {
+        return skip;
+    }
+    skip - generator.next_u64() % skip
+}
+
+#[cfg(test)]
+mod tests {
+    use super::*;
+    use std::process::Abort;
+
+    /// Of the first `askings`, exactly those in `wanted` are answered yes.
+    fn expect_watched(rt: &impl Abort, mut sampler: Sampler, askings: u64, wanted: &[u64]) {
+        for asking in 1..=askings {
+            let watched = sampler.should_watch();
+            assert_eq!(rt; watched, wanted.contains(&asking), "at {asking}");
+        }
+    }
+
+    #[test]
+    fn skips_so_many(rt: HostRuntime) {
+        for randomize in [false, true] {
+            expect_watched(&rt, Sampler::new(0, randomize, 1), 5, &[1, 2, 3, 4, 5]);
+            expect_watched(&rt, Sampler::new(1, randomize, 1), 7, &[2, 4, 6]);
+        }
+        expect_watched(&rt, Sampler::new(2, false, 1), 10, &[3, 6, 9]);
+    }
+
+    // With skip 10 and seed 1, computed from the published C of the two generators, apart from this code:
+    // SplitMix64 from 1 gives the four words of the state, and xoshiro256++ from there gives
+    // 0xcfc5d07f6f03c29b, 0xbf424132963fe08d, 0x19a37d5757aaf520, 0xbf08119f05cd56d6, 0x2f47184b86186fa4, ..
+    // whose remainders by 10 are 7, 5, 4, 0, 0, 5, 3, 5, 0, 2, 1, 7, 6, 1, 0, 3, 0, 9, 2.
+    // The first yes is at 11, and each later one 10 less the remainder, plus 1, after the one before.
+    #[test]
+    fn randomized_skips_are_those_of_the_generator(rt: HostRuntime) {
+        let wanted = [
+            11, 15, 21, 28, 39, 50, 56, 64, 70, 81, 90, 100, 104, 109, 119, 130, 138, 149, 151, 160,
+        ];
+        expect_watched(&rt, Sampler::new(10, true, 1), 160, &wanted);
+    }
+}

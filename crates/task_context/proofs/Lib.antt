@@ -1,0 +1,9 @@
+pub mod Surpluses
+pub mod Moments
+pub mod FlatMarks
+pub mod NextMarks
+pub mod Leads
+pub mod Begins
+pub mod OtherMoments
+pub mod OneContext
+pub mod OneBegin

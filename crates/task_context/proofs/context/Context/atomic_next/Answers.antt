@@ -1,0 +1,5 @@
+use Rattle.task_context.proofs.Leads.{next_follows}
+use Rattle.task_context.proofs.context.Context.atomic_next.Goals as goal
+
+pub returns : goal.returns
+returns c = record { follows = rw (← c.self.view_is) (next_follows _ _ _ _ _) }

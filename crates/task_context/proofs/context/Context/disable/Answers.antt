@@ -1,0 +1,5 @@
+use Rattle.task_context.proofs.Leads.{disable_follows}
+use Rattle.task_context.proofs.context.Context.disable.Goals as goal
+
+pub returns-clause-follows : goal.returns-clause-follows
+returns-clause-follows c = rw (← c.self.view_is) (disable_follows _ _ _ _)

@@ -1,0 +1,8 @@
+use Rattle.task_context.proofs.OneContext.{one_context, some_context}
+use Rattle.task_context.proofs.laws.histories_lead_to_one_context.Goals as goal
+
+pub returns-clause-some : goal.returns-clause-some
+returns-clause-some c = some_context
+
+pub returns-clause-one : goal.returns-clause-one
+returns-clause-one c = one_context

@@ -1,0 +1,5 @@
+use Rattle.task_context.proofs.OtherMoments.{other_moment}
+use Rattle.task_context.proofs.laws.other_moments_change_nothing.Goals as goal
+
+pub returns : goal.returns
+returns c = other_moment

@@ -1,0 +1,296 @@
+ghost use Rattle.std.specs.Prelude.{◌≡◌, ◌+◌, ◌<◌, ◌^◌, ◌↔◌, ℕ, [], Bool, IsFalse, IsTrue, IsErrOf, OnErr};
+ghost use Rattle.access_types.specs.History.{History};
+ghost use Rattle.access_types.specs.Marked as marked;
+ghost use Rattle.access_types.specs.Marked.{CountsAfter, EndsRaised, is_disable, is_enable, marks_of};
+ghost use Rattle.access_types.specs.declared.history.Happening.TheVariants.{Begin};
+ghost use Rattle.access_types.specs.declared.history.Mark.TheVariants.{Disable, Enable, FlatBegin, FlatEnd, NestClose, NestOpen, Next};
+ghost use Rattle.task_context.specs.Context as spec;
+ghost use Rattle.task_context.specs.Context.{idle};
+ghost use Rattle.task_context.specs.History.{Follows, LeadsTo, MarkFollows};
+
+use access_types::Access;
+use std::marker::Model;
+use thiserror::Error;
+
+/// What a task's KCSAN calls have led to: one context a task. Under one context all calls of
+/// `counts_as_marked` have the same setting for plain writes.
+#[derive(Clone, Copy, Debug, PartialEq, Eq, Default)]
+pub struct Context {
+    disable_count: u64,
+    nest_count: u64,
+    in_flat: bool,
+    atomic_next: u64,
+}
+
+/// Why a call is refused.
+#[derive(Clone, Copy, Debug, PartialEq, Eq, Error)]
+pub enum ContextError {
+    #[error("nothing is open that the call would close")]
+    Unbalanced,
+}
+
+impl Model for Context {
+    ghost Value = { spec.Context };
+
+    ghost view = { λ c. record { disable_count = c.disable_count; nest_count = c.nest_count; in_flat = c.in_flat; atomic_next = c.atomic_next } };
+
+    ghost inverse = { λ c. record { disable_count = c.disable_count; nest_count = c.nest_count; in_flat = c.in_flat; atomic_next = c.atomic_next } };
+}
+
+impl Context {
+    /// The context of a task that has done nothing yet.
+    pub fn new() -> Context
+        ensures value { result ≡ idle }
+        ensures begins { (plain_writes_atomic : Bool) (task : ℕ) → LeadsTo plain_writes_atomic task [] result }
+    {
+        Context {
+            disable_count: 0,
+            nest_count: 0,
+            in_flat: false,
+            atomic_next: 0,
+        }
+    }
+
+    /// `kcsan_disable_current`: the task's accesses are silenced until a balancing `enable`.
+    pub fn disable(&mut self)
+        requires { self.old.disable_count < 2 ^ 32 }
+        ensures count { self.new.disable_count ≡ self.old.disable_count + 1 }
+        ensures follows { MarkFollows self.old Disable self.new }
+    {
+        self.disable_count += 1;
+    }
+
+    /// `kcsan_enable_current`: takes one `disable` back.
+    ///
+    /// `Unbalanced`: there is none to take back. Nothing changes, and the refused call may stand in the
+    /// history all the same.
+    pub fn enable(&mut self) -> Result<(), ContextError>
+        ensures unbalanced { IsErrOf result ContextError.Unbalanced ↔ (self.old.disable_count ≡ 0) }
+        ensures unchanged { OnErr result (self.new ≡ self.old) }
+        ensures follows { MarkFollows self.old Enable self.new }
+    {
+        if self.disable_count == 0 {
+            return Err(ContextError::Unbalanced);
+        }
+        self.disable_count -= 1;
+        Ok(())
+    }
+
+    /// `kcsan_nestable_atomic_begin`: opens an atomic region, in which every access counts as marked.
+    pub fn nest_begin(&mut self)
+        requires { self.old.nest_count < 2 ^ 32 }
+        ensures count { self.new.nest_count ≡ self.old.nest_count + 1 }
+        ensures follows { MarkFollows self.old NestOpen self.new }
+    {
+        self.nest_count += 1;
+    }
+
+    /// `kcsan_nestable_atomic_end`: closes the region that `nest_begin` opened last.
+    ///
+    /// `Unbalanced`: none is open. Nothing changes, and the refused call may stand in the history all the
+    /// same.
+    pub fn nest_end(&mut self) -> Result<(), ContextError>
+        ensures unbalanced { IsErrOf result ContextError.Unbalanced ↔ (self.old.nest_count ≡ 0) }
+        ensures unchanged { OnErr result (self.new ≡ self.old) }
+        ensures follows { MarkFollows self.old NestClose self.new }
+    {
+        if self.nest_count == 0 {
+            return Err(ContextError::Unbalanced);
+        }
+        self.nest_count -= 1;
+        Ok(())
+    }
+
+    /// `kcsan_flat_atomic_begin`: opens the flat atomic region, also where it is open already.
+    pub fn flat_begin(&mut self)
+        ensures follows { MarkFollows self.old FlatBegin self.new }
+    {
+        self.in_flat = true;
+    }
+
+    /// `kcsan_flat_atomic_end`: closes the flat atomic region, however often it was opened.
+    pub fn flat_end(&mut self)
+        ensures follows { MarkFollows self.old FlatEnd self.new }
+    {
+        self.in_flat = false;
+    }
+
+    /// `kcsan_atomic_next`: the next `count` accesses count as marked, of those that could be plain. What
+    /// was left of an earlier call is forgotten.
+    pub fn atomic_next(&mut self, count: u64)
+        ensures follows { MarkFollows self.old (Next count) self.new }
+    {
+        self.atomic_next = count;
+    }
+
+    /// Whether the access, which begins now and is of this context's task, counts as marked. One that
+    /// `atomic_next` counts takes one of what is left.
+    pub fn counts_as_marked(&mut self, access: &Access, plain_writes_atomic: bool) -> bool
+        ensures counts { (before : History) → LeadsTo plain_writes_atomic access.now.task before self.old
+            → (IsTrue result ↔ CountsAfter plain_writes_atomic access.now before) }
+        ensures follows { Follows plain_writes_atomic access.now.task self.old (Begin access.now) self.new }
+    {
+        if access.kind().is_marked() {
+            return true;
+        }
+        if access.kind().is_assertion() {
+            return false;
+        }
+        if is_atomic_write(access, plain_writes_atomic) {
+            return true;
+        }
+        if self.atomic_next > 0 {
+            self.atomic_next -= 1;
+            return true;
+        }
+        self.nest_count > 0 || self.in_flat
+    }
+
+    /// Whether an access that begins now is heard: it is silenced while a `disable` isn't taken back.
+    pub fn enabled(&self) -> bool
+        ensures { (plain_writes_atomic : Bool) (task : ℕ) (before : History) → LeadsTo plain_writes_atomic task before self.now
+            → (IsFalse result ↔ EndsRaised is_disable is_enable (marks_of task before)) }
+    {
+        self.disable_count == 0
+    }
+}
+
+/// A plain write that the machine makes in one piece, where plain writes are assumed atomic: not compound,
+/// of at most 8 bytes, at a multiple of its size.
+fn is_atomic_write(access: &Access, plain_writes_atomic: bool) -> bool
+    ensures { result ≡ marked.is_atomic_write plain_writes_atomic access.now }
+{
+    let (kind, size) = (access.kind(), access.size());
+    let is_write = kind.write() && !kind.is_assertion() && !kind.is_compound();
+    plain_writes_atomic && is_write && size > 0 && size <= 8 && access.addr() % size == 0
+}
+
+#[cfg(test)]
+mod tests {
+    use super::*;
+    use access_types::{AccessError, Claim, Kind, Operation};
+    use std::test::Fail;
+
+    const READ: Kind = Kind::Plain(Operation::Read);
+
+    const WRITE: Kind = Kind::Plain(Operation::Write);
+
+    const COMPOUND: Kind = Kind::Plain(Operation::ReadWrite);
+
+    const MARKED: Kind = Kind::Marked(Operation::Read);
+
+    const CLAIM: Kind = Kind::Assert(Claim::NoAccesses);
+
+    /// An access of task 0 to so many bytes.
+    fn access(kind: Kind, addr: u64, size: u64) -> Result<Access, AccessError> {
+        Access::new(0, 0, addr, size, kind, None)
+    }
+
+    #[test]
+    fn next_counts_down(rt: HostRuntime) -> Result<(), Fail> {
+        for (plain_writes_atomic, wanted) in [
+            (true, [true, true, true, false]),
+            (false, [true, true, false, false]),
+        ] {
+            let mut context = Context::new();
+            context.atomic_next(2);
+            for (kind, want) in [READ, WRITE, READ, READ].into_iter().zip(wanted) {
+                let marked = context.counts_as_marked(
+                    &access(kind, 0x10000, 4)?,
+                    plain_writes_atomic,
+                );
+                assert_eq!(rt; marked, want, "at {kind:?}");
+            }
+        }
+        Ok(())
+    }
+
+    #[test]
+    fn a_later_next_forgets_an_earlier_one(rt: HostRuntime) -> Result<(), Fail> {
+        let mut context = Context::new();
+        context.atomic_next(3);
+        context.atomic_next(1);
+        let read = access(READ, 0x10000, 4)?;
+        assert!(rt; context.counts_as_marked(&read, true));
+        assert!(rt; !context.counts_as_marked(&read, true));
+        Ok(())
+    }
+
+    #[test]
+    fn the_third_call_is_unbalanced(rt: HostRuntime) {
+        let mut context = Context::new();
+        context.nest_begin();
+        assert_eq!(rt; context.nest_end(), Ok(()));
+        assert_eq!(rt; context.nest_end(), Err(ContextError::Unbalanced));
+        assert_eq!(rt; context, Context::new());
+        let mut context = Context::default();
+        context.disable();
+        assert_eq!(rt; context.enable(), Ok(()));
+        assert_eq!(rt; context.enable(), Err(ContextError::Unbalanced));
+        assert_eq!(rt; context, Context::new());
+    }
+
+    #[test]
+    fn a_task_is_heard_once_each_disable_is_taken_back(rt: HostRuntime) {
+        let mut context = Context::new();
+        assert!(rt; context.enabled());
+        context.disable();
+        context.disable();
+        assert!(rt; !context.enabled());
+        assert_eq!(rt; context.enable(), Ok(()));
+        assert!(rt; !context.enabled());
+        assert_eq!(rt; context.enable(), Ok(()));
+        assert!(rt; context.enabled());
+    }
+
+    #[test]
+    fn nested_regions_count_and_the_flat_one_does_not(rt: HostRuntime) -> Result<(), Fail> {
+        let read = access(READ, 0x10000, 4)?;
+        let mut context = Context::new();
+        context.nest_begin();
+        context.nest_begin();
+        assert_eq!(rt; context.nest_end(), Ok(()));
+        assert!(rt; context.counts_as_marked(&read, true));
+        assert_eq!(rt; context.nest_end(), Ok(()));
+        assert!(rt; !context.counts_as_marked(&read, true));
+        context.flat_begin();
+        context.flat_begin();
+        assert!(rt; context.counts_as_marked(&read, true));
+        context.flat_end();
+        assert!(rt; !context.counts_as_marked(&read, true));
+        Ok(())
+    }
+
+    #[test]
+    fn accesses_count_by_what_they_are(rt: HostRuntime) -> Result<(), Fail> {
+        for (kind, addr, size, assumed, strict) in [
+            (MARKED, 0x10001, 4, true, true),
+            (WRITE, 0x10000, 4, true, false),
+            (WRITE, 0x10008, 8, true, false),
+            (WRITE, 0x10004, 8, false, false),
+            (WRITE, 0x10000, 16, false, false),
+            (COMPOUND, 0x10000, 4, false, false),
+            (READ, 0x10000, 4, false, false),
+            (CLAIM, 0x10000, 4, false, false),
+        ] {
+            let access = access(kind, addr, size)?;
+            let mut context = Context::new();
+            let answers = (
+                context.counts_as_marked(&access, true),
+                context.counts_as_marked(&access, false),
+            );
+            assert_eq!(rt; answers, (assumed, strict), "at {access:?}");
+        }
+        Ok(())
+    }
+
+    #[test]
+    fn assertions_never_count(rt: HostRuntime) -> Result<(), Fail> {
+        let mut context = Context::new();
+        context.nest_begin();
+        context.flat_begin();
+        context.atomic_next(1);
+        assert!(rt; !context.counts_as_marked(&access(CLAIM, 0x10000, 4)?, true));
+        Ok(())
+    }
+}
