@@ -1,1 +1,2 @@
 pub mod LaidBytes
+pub mod PlainLemmas

@@ -3,6 +3,10 @@
 ghost use Rattle.std.specs.Prelude.{◌≡◌, ◌+◌, ◌≤◌, ◌^◌, ◌<◌, ◌↔◌, Contains, IsTrue, IfSome, length};
 ghost use Rattle.access_types.specs.History.{InProgress, after_moments, beginning, byte_of, content, ending};
 
+mod marks;
+mod race;
+mod rows;
+
 use crate::access::Access;
 use crate::history::{Bytes, Happening, Moment};
 use crate::kind::{Kind, Operation};
