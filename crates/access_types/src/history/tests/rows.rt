@@ -1,5 +1,7 @@
 //! Worked examples of accesses that count as marked, are silenced or race.
 
+ghost use Rattle.std.specs.Prelude.{◌<◌};
+
 use super::race::{counted_as_marked, silenced, true_race};
 use crate::access::Access;
 use crate::history::{Happening, Mark, Moment};
@@ -52,13 +54,9 @@ fn end(access: Access) -> Moment {
 
 /// Task 0 makes the marks, and then the access goes.
 fn after_marks(alloc: Global, marks: &[Mark], access: Access) -> Result<Vec<Moment>, AllocError> {
-    let mut history = Vec::new(alloc);
-    for made in marks {
-        history.push(mark(0, *made))?;
-    }
-    history.push(begin(access))?;
-    history.push(end(access))?;
-    Ok(history)
+    let goes = [begin(access), end(access)];
+    let moments = marks.iter().map(|made| mark(0, *made));
+    moments.chain(goes.iter().copied()).collect(alloc)
 }
 
 /// The second goes while the first is in progress.
