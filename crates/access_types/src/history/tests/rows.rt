@@ -390,3 +390,49 @@ fn the_last_turn_of_a_loop_races(rt: HostRuntime) -> Result<(), Fail> {
     expect_race(&rt, rt.alloc(), true, &history, (second, write), false)?;
     expect_race(&rt, rt.alloc(), true, &history, (third, write), true)
 }
+
+#[test]
+fn an_assertion_of_bits_marks_the_next_access(rt: HostRuntime) -> Result<(), Fail> {
+    let claim = Kind::Assert(Claim::NoWrites);
+    let bits = Access::new(0, 0, 0x10000, 4, claim, Some(0xf))?;
+    let write = access(1, 0, WRITE_ONCE).ok_or("a marked write")?;
+    let next = access(0, 1, READ).ok_or("a read")?;
+    let after = access(0, 2, READ).ok_or("a read")?;
+    let history = [
+        begin(bits),
+        begin(write),
+        end(write),
+        end(bits),
+        mark(0, Mark::Next(1)),
+        begin(next),
+        end(next),
+        begin(after),
+        end(after),
+    ];
+    expect_race(&rt, rt.alloc(), true, &history, (bits, write), true)?;
+    for (access, wanted) in [(bits, false), (write, true), (next, true), (after, false)] {
+        let answer = counted_as_marked(rt.alloc(), true, &history, &access)?;
+        assert_eq!(rt; answer, wanted, "{access:?}");
+    }
+    Ok(())
+}
+
+#[test]
+fn a_scoped_assertion_races_after_other_accesses(rt: HostRuntime) -> Result<(), Fail> {
+    let scoped = access(0, 0, Kind::AssertScoped(Claim::NoWrites)).ok_or("an assertion")?;
+    let first = Access::new(0, 1, 0x10040, 4, READ_ONCE, None)?;
+    let second = Access::new(0, 2, 0x10040, 4, READ_ONCE, None)?;
+    let write = access(1, 0, WRITE_ONCE).ok_or("a marked write")?;
+    let history = [
+        begin(scoped),
+        begin(first),
+        end(first),
+        begin(second),
+        begin(write),
+        end(write),
+        end(second),
+        end(scoped),
+    ];
+    expect_race(&rt, rt.alloc(), true, &history, (scoped, write), true)?;
+    expect_race(&rt, rt.alloc(), true, &history, (second, write), false)
+}
