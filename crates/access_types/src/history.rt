@@ -77,6 +77,3 @@ pub fn other_bytes_stay()
 pub fn ended_accesses_stay_ended()
     ensures { (history : History) (a : spec.Access) (k later : ℕ) → Contains (take k history) (ending a) → k ≤ later → ¬ InProgress history a later }
 {}
-
-#[cfg(test)]
-mod tests;

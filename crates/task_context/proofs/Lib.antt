@@ -7,3 +7,4 @@ pub mod Begins
 pub mod OtherMoments
 pub mod OneContext
 pub mod OneBegin
+pub mod PlainLemmas

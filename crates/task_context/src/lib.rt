@@ -3,6 +3,8 @@
 #![tactic(auto)]
 
 pub mod context;
+#[cfg(test)]
+mod definitions;
 pub mod laws;
 
 pub use context::{Context, ContextError};

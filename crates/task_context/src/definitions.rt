@@ -3,9 +3,11 @@
 ghost use Rattle.std.specs.Prelude.{◌≡◌, ◌+◌, ◌≤◌, ◌^◌, ◌<◌, ◌↔◌, Contains, IsTrue, IfSome, length};
 ghost use Rattle.access_types.specs.History.{InProgress, after_moments, beginning, byte_of, content, ending};
 
-use crate::access::Access;
-use crate::history::{Bytes, Happening, Moment};
-use crate::kind::{Kind, Operation};
+mod marks;
+mod race;
+mod rows;
+
+use access_types::{Access, Bytes, Happening, Kind, Moment, Operation};
 use std::test::Fail;
 
 /// The access has begun after k moments and not ended.

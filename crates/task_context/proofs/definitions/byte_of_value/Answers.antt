@@ -1,6 +1,6 @@
 use Rattle.std.proofs.Common.{◌≡◌, ◌+◌, ◌*◌, ◌/◌, ◌^◌, ◌∙◌, ℕ, add-one, ap, refl, sym}
 use Rattle.std.proofs.Math.Nat.{div-div-eq-div-mul, pow-suc}
-use Rattle.access_types.proofs.history.tests.byte_of_value.Goals as goal
+use Rattle.task_context.proofs.definitions.byte_of_value.Goals as goal
 
 -- one place more is one division more
 one_more_place : (value place rest : ℕ) → rest ≡ value / 256 ^ place → rest / 256 ≡ value / 256 ^ (place + 1)

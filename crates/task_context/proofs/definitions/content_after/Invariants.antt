@@ -1,6 +1,6 @@
 use Rattle.std.proofs.Common.{◌≡◌, ◌+◌, ◌-◌, ◌≤◌, take}
 use Rattle.access_types.specs.History.{after_moments, value_from}
-use Rattle.access_types.proofs.history.tests.content_after.Given as goal
+use Rattle.task_context.proofs.definitions.content_after.Given as goal
 
 -- the bytes from `place` on are read
 abbrev pub invariant-loop-place : goal.invariant-loop-place
