@@ -1,6 +1,6 @@
-use Rattle.std.proofs.Common.{◌≡◌, ◌+◌, ◌-◌, ◌*◌, ◌/◌, ◌%◌, ◌^◌, ◌<◌, ◌≤◌, ◌∙◌, ◌⊎◌, ℕ, zero, suc, ap, inl, inr, refl, subst, sym, arith}
+use Rattle.std.proofs.Common.{◌≡◌, ◌+◌, ◌-◌, ◌*◌, ◌/◌, ◌%◌, ◌^◌, ◌<◌, ◌≤◌, ◌⊎◌, ℕ, zero, suc, inl, inr, refl, sym, arith}
 use Rattle.std.proofs.Math.Arith.{mod-mul}
-use Rattle.std.proofs.Math.Nat.{div-div-eq-div-mul, div-one, mod-one, pow-suc}
+use Rattle.std.proofs.Math.Nat.{div-div-eq-div-mul, mod-one, pow-suc}
 use Rattle.access_types.specs.History.{AreApart, Memory, byte_of, laid, value_from}
 use Rattle.access_types.specs.declared.history.Bytes.{Bytes}
 

@@ -1,4 +1,4 @@
-use Rattle.std.specs.Prelude.{◌≡◌, ◌≤◌, ◌+◌, ◌*◌, ◌/◌, ◌%◌, ◌^◌, ◌-◌, ◌&&◌, ◌==◌, ◌⊎◌, ℕ, List, [], ◌∷◌, ◌++◌, Contains, filter, fold, map, nat_le, nat_lt, suc, zero, take, if◌then◌else◌}
+use Rattle.std.specs.Prelude.{◌≤◌, ◌+◌, ◌*◌, ◌/◌, ◌%◌, ◌^◌, ◌-◌, ◌&&◌, ◌==◌, ◌⊎◌, ℕ, List, Contains, filter, fold, map, nat_le, nat_lt, suc, zero, take, if◌then◌else◌}
 use Rattle.access_types.specs.Access.{Access}
 use Rattle.access_types.specs.declared.history.Bytes.{Bytes}
 use Rattle.access_types.specs.declared.history.Happening.{Happening}

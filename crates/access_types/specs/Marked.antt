@@ -1,4 +1,4 @@
-use Rattle.std.specs.Prelude.{◌≡◌, ◌<◌, ◌&&◌, ◌==◌, ◌%◌, ◌⊎◌, ℕ, List, [], ◌∷◌, ◌++◌, Bool, true, false, IsTrue, count_by, drop, nat_le, nat_lt, not}
+use Rattle.std.specs.Prelude.{◌≡◌, ◌<◌, ◌&&◌, ◌==◌, ◌%◌, ℕ, List, [], ◌∷◌, ◌++◌, Bool, true, false, IsTrue, count_by, drop, nat_le, nat_lt, not}
 use Rattle.access_types.specs.Access.{Access}
 use Rattle.access_types.specs.Kind.{is_assertion, is_compound, is_marked, writes}
 use Rattle.access_types.specs.History.{History, beginning}
@@ -6,7 +6,6 @@ use Rattle.access_types.specs.declared.history.Mark.{Mark}
 use Rattle.access_types.specs.declared.history.Mark.TheVariants.{Disable, Enable, NestOpen, NestClose, FlatBegin, FlatEnd, Next}
 use Rattle.access_types.specs.declared.history.Happening.{Happening}
 use Rattle.access_types.specs.declared.history.Happening.TheVariants as happenings
-use Rattle.access_types.specs.declared.history.Moment.{Moment}
 
 -- a plain write that the machine makes in one piece, where plain writes are assumed atomic: not compound, of at most 8 bytes, at a multiple of its size
 abbrev pub is_atomic_write : Bool → Access → Bool

@@ -1,4 +1,4 @@
-use Rattle.std.specs.Prelude.{◌≡◌, ◌≢◌, ◌<◌, ◌≤◌, ℕ, List, Bool, Option, Some, None, All, bit_and, bit_xor, drop, length, take}
+use Rattle.std.specs.Prelude.{◌≡◌, ◌≢◌, ◌<◌, ◌≤◌, ℕ, Bool, Option, Some, None, All, bit_and, bit_xor, drop, length, take}
 use Rattle.access_types.specs.Access.{Access, Breaks, Overlap}
 use Rattle.access_types.specs.History.{History, InProgress, Memory, content}
 use Rattle.access_types.specs.Marked.{CountedAsMarked, Silenced}

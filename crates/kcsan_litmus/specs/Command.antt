@@ -1,4 +1,4 @@
-use Rattle.std.specs.Prelude.{◌≡◌, ◌≤◌, ◌⊎◌, ℕ, List, Option, true, false}
+use Rattle.std.specs.Prelude.{◌≡◌, ◌≤◌, ◌⊎◌, ℕ, List, Option, true}
 use Rattle.kcsan_litmus.specs.declared.command.Failure.{Failure}
 use Rattle.kcsan_litmus.specs.declared.command.Failure.TheVariants as failure
 use Rattle.kcsan_litmus.specs.declared.command.ReadFault.{ReadFault}

@@ -1,12 +1,11 @@
-use Rattle.std.proofs.Common.{◌≡◌, ◌<◌, ◌≤◌, ◌+◌, ◌-◌, ◌++◌, ◌∙◌, ◌⊎◌, ℕ, List, [], ◌∷◌, Bool, true, false, ap, count_by, drop, get_or, inl, inr, length, length-append, length-drop, refl, subst, sym, take, arith}
+use Rattle.std.proofs.Common.{◌≡◌, ◌<◌, ◌≤◌, ◌+◌, ◌-◌, ◌++◌, ◌∙◌, ℕ, List, [], ◌∷◌, Bool, true, ap, count_by, drop, get_or, inl, inr, length, length-append, length-drop, refl, sym, take, arith}
 use Rattle.std.proofs.Math.ListN.{drop_of_length-le}
 use Rattle.std.proofs.Math.Seq.{drop-append_seam, take-append_seam}
 use Rattle.std.proofs.lemmas.Bool.{cases_lt}
 use Rattle.std.proofs.lemmas.List.{take-append-drop, take_all, take_more}
 use Rattle.access_types.specs.Access.{Access}
-use Rattle.access_types.specs.History.{History, InProgress, beginning, ending}
-use Rattle.access_types.specs.Marked.{BeginsAfter, CountedAsMarked, CountsAfter, EndsRaised, IsFlatOpen, IsWithinNext, Silenced, begins_countable, is_atomic_write, is_disable, is_enable, is_flat, is_next, mark_before, marks_of}
-use Rattle.access_types.specs.Kind.{is_assertion, is_marked}
+use Rattle.access_types.specs.History.{History, InProgress, beginning}
+use Rattle.access_types.specs.Marked.{CountedAsMarked, CountsAfter, EndsRaised, IsFlatOpen, IsWithinNext, Silenced, begins_countable, is_disable, is_enable, is_flat, is_next, mark_before, marks_of}
 use Rattle.access_types.specs.declared.history.Happening.{Happening}
 use Rattle.access_types.specs.declared.history.Happening.TheVariants as happenings
 use Rattle.access_types.specs.declared.history.Mark.{Mark}

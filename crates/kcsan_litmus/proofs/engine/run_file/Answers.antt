@@ -1,7 +1,6 @@
-use Rattle.std.proofs.Common.{◌≡◌, All, [], arith, refl}
+use Rattle.std.proofs.Common.{All, [], arith, refl}
 use Rattle.std.proofs.lemmas.Grind.{common_steps}
 use Rattle.litmus_step.specs.Outcome.{HasSharedByte}
-use Rattle.litmus_step.specs.declared.outcome.Finding.{Finding}
 use Rattle.kcsan_litmus.proofs.engine.run_file.Goals as goal
 
 -- the run that was made is the one that the output is of

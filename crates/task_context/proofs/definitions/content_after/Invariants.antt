@@ -1,4 +1,4 @@
-use Rattle.std.proofs.Common.{◌≡◌, ◌+◌, ◌-◌, ◌≤◌, take}
+use Rattle.std.proofs.Common.{◌≡◌, ◌+◌, ◌-◌, take}
 use Rattle.access_types.specs.History.{after_moments, value_from}
 use Rattle.task_context.proofs.definitions.content_after.Given as goal
 

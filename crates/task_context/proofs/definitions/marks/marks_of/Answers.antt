@@ -1,4 +1,4 @@
-use Rattle.std.proofs.Common.{◌≡◌, ◌++◌, ◌∙◌, ap, append-nil, sym}
+use Rattle.std.proofs.Common.{◌++◌, ◌∙◌, ap, append-nil, sym}
 use Rattle.task_context.proofs.PlainLemmas.{marks_of-push}
 use Rattle.task_context.proofs.definitions.marks.marks_of.Goals as goal
 use Rattle.task_context.proofs.definitions.marks.marks_of.Goals.{in-Some+in_ok-push, in_default}

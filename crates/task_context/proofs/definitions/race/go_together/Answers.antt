@@ -1,4 +1,4 @@
-use Rattle.std.proofs.Common.{below_more, refl, arith}
+use Rattle.std.proofs.Common.{below_more, arith}
 use Rattle.task_context.proofs.PlainLemmas.{not_together}
 use Rattle.task_context.proofs.definitions.race.go_together.Goals as goal
 
