@@ -57,10 +57,11 @@ content initial history k bytes = value_from (after_moments initial (take k hist
 abbrev pub happenings_of : ℕ → History → List Happening
 happenings_of task history = map (λ moment. moment.happening) (filter (λ moment. moment.task == task) history)
 
--- the moment at which an access begins, and the one at which it ends
+-- the moment at which an access begins
 abbrev pub beginning : Access → Moment
 beginning a = record { task = a.task; happening = Begin a }
 
+-- the moment at which it ends
 abbrev pub ending : Access → Moment
 ending a = record { task = a.task; happening = End a }
 

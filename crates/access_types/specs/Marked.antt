@@ -25,27 +25,33 @@ abbrev pub marks_of : ℕ → History → List Mark
 marks_of task [] = []
 marks_of task (moment ∷ moments) = mark_before (moment.task == task) moment.happening (marks_of task moments)
 
+-- the mark turns reporting off for its task
 abbrev pub is_disable : Mark → Bool
 is_disable Disable = true
 is_disable _ = false
 
+-- the mark turns it on again
 abbrev pub is_enable : Mark → Bool
 is_enable Enable = true
 is_enable _ = false
 
+-- the mark begins a nestable atomic region
 abbrev pub is_nest_open : Mark → Bool
 is_nest_open NestOpen = true
 is_nest_open _ = false
 
+-- the mark ends one
 abbrev pub is_nest_close : Mark → Bool
 is_nest_close NestClose = true
 is_nest_close _ = false
 
+-- the mark begins or ends the flat atomic region
 abbrev pub is_flat : Mark → Bool
 is_flat FlatBegin = true
 is_flat FlatEnd = true
 is_flat _ = false
 
+-- the mark says how many of the next accesses count as marked
 abbrev pub is_next : Mark → Bool
 is_next (Next count) = true
 is_next _ = false

@@ -3,8 +3,7 @@
 ghost use Rattle.std.specs.Prelude.{◌≡◌, ◌+◌, ◌≤◌, ◌^◌, ◌<◌, ◌↔◌, Contains, IsTrue, IfSome, length};
 ghost use Rattle.access_types.specs.History.{InProgress, after_moments, beginning, byte_of, content, ending};
 
-mod marks;
-mod race;
+mod plain;
 mod rows;
 
 use access_types::{Access, Bytes, Happening, Kind, Moment, Operation};
@@ -16,15 +15,27 @@ fn in_progress(history: &[Moment], access: &Access, k: usize) -> bool
     ensures { IsTrue result ↔ InProgress history.now access.now k }
 {
     let past = &history[..k];
-    let begin = Moment {
+    happened(past, &begin(*access)) && !happened(past, &end(*access))
+}
+
+/// The begin of an access.
+fn begin(access: Access) -> Moment
+    ensures { result ≡ beginning access }
+{
+    Moment {
         task: access.task(),
-        happening: Happening::Begin(*access),
-    };
-    let end = Moment {
+        happening: Happening::Begin(access),
+    }
+}
+
+/// The end of an access.
+fn end(access: Access) -> Moment
+    ensures { result ≡ ending access }
+{
+    Moment {
         task: access.task(),
-        happening: Happening::End(*access),
-    };
-    happened(past, &begin) && !happened(past, &end)
+        happening: Happening::End(access),
+    }
 }
 
 /// The moment is among those.

@@ -1,5 +1,5 @@
 use Rattle.std.proofs.Common.{◌∙◌, sym}
-use Rattle.task_context.proofs.definitions.race.true_race.Goals as goal
+use Rattle.task_context.proofs.definitions.plain.true_race.Goals as goal
 
 pub returns : goal.returns
 returns c = (

@@ -1,6 +1,6 @@
 use Rattle.std.proofs.Common.{below_more, refl, arith}
 use Rattle.task_context.proofs.PlainLemmas.{is_silenced, not_silenced}
-use Rattle.task_context.proofs.definitions.race.silenced.Goals as goal
+use Rattle.task_context.proofs.definitions.plain.silenced.Goals as goal
 
 pub loop-place-preserved : goal.loop-place-preserved
 loop-place-preserved c = below_more _ _ c.loop-place.invariant (λ here. cc (c.in_ok-is_silenced_at.ensures.1 here))

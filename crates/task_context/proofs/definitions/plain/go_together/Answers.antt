@@ -1,6 +1,6 @@
 use Rattle.std.proofs.Common.{below_more, arith}
 use Rattle.task_context.proofs.PlainLemmas.{not_together}
-use Rattle.task_context.proofs.definitions.race.go_together.Goals as goal
+use Rattle.task_context.proofs.definitions.plain.go_together.Goals as goal
 
 pub loop-k-preserved : goal.loop-k-preserved
 loop-k-preserved c = below_more _ _ c.loop-k.invariant (λ both. cc (c.both_in_progress.ensures.1 both))

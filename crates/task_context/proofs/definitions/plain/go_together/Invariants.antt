@@ -1,6 +1,6 @@
 use Rattle.std.proofs.Common.{◌<◌, ℕ}
 use Rattle.access_types.specs.History.{InProgress}
-use Rattle.task_context.proofs.definitions.race.go_together.Given as goal
+use Rattle.task_context.proofs.definitions.plain.go_together.Given as goal
 
 -- at no earlier moment are both in progress
 abbrev pub invariant-loop-k : goal.invariant-loop-k

@@ -1,6 +1,6 @@
 use Rattle.std.proofs.Common.{◌<◌, ◌≤◌, ℕ, count_by, drop}
 use Rattle.access_types.specs.Marked.{is_nest_close, is_nest_open}
-use Rattle.task_context.proofs.definitions.marks.is_in_nest.Given as goal
+use Rattle.task_context.proofs.definitions.plain.is_in_nest.Given as goal
 
 -- no part from an earlier place on has more opens
 abbrev pub invariant-loop-from : goal.invariant-loop-from

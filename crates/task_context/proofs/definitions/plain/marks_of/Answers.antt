@@ -1,7 +1,7 @@
 use Rattle.std.proofs.Common.{◌++◌, ◌∙◌, ap, append-nil, sym}
 use Rattle.task_context.proofs.PlainLemmas.{marks_of-push}
-use Rattle.task_context.proofs.definitions.marks.marks_of.Goals as goal
-use Rattle.task_context.proofs.definitions.marks.marks_of.Goals.{in-Some+in_ok-push, in_default}
+use Rattle.task_context.proofs.definitions.plain.marks_of.Goals as goal
+use Rattle.task_context.proofs.definitions.plain.marks_of.Goals.{in-Some+in_ok-push, in_default}
 
 pub loop-moment-preserved : goal.loop-moment-preserved
 loop-moment-preserved c =

@@ -1,9 +1,9 @@
 use Rattle.std.proofs.Common.{below_more, refl, arith}
 use Rattle.task_context.proofs.PlainLemmas.{is_within_next, not_within_next, rest_of}
-use Rattle.task_context.proofs.definitions.marks.is_within_next.Goals as goal
+use Rattle.task_context.proofs.definitions.plain.is_within_next.Goals as goal
 
 pub returns-then-branch : goal.returns-then-branch
-returns-then-branch c = ((λ yes. is_within_next c.args.plain_writes_atomic c.args.task c.args.moments.now c.loop-place.place (rw rest_of at (c.in_ok-begins_last_next.ensures.0 c.if-branch.true))), (λ within. refl))
+returns-then-branch c = ((λ yes. is_within_next c.args.atomic c.args.task c.args.moments.now c.loop-place.place (rw rest_of at (c.in_ok-begins_last_next.ensures.0 c.if-branch.true))), (λ within. refl))
 
 pub loop-place-preserved : goal.loop-place-preserved
 loop-place-preserved c = below_more _ _ c.loop-place.invariant (λ here. cc (c.in_ok-begins_last_next.ensures.1 (rw rest_of here)))

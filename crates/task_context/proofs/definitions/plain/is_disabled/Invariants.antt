@@ -1,6 +1,6 @@
 use Rattle.std.proofs.Common.{◌<◌, ◌≤◌, ℕ, count_by, drop}
 use Rattle.access_types.specs.Marked.{is_disable, is_enable}
-use Rattle.task_context.proofs.definitions.marks.is_disabled.Given as goal
+use Rattle.task_context.proofs.definitions.plain.is_disabled.Given as goal
 
 -- no part from an earlier place on has more disables
 abbrev pub invariant-loop-from : goal.invariant-loop-from

@@ -1,6 +1,6 @@
 use Rattle.std.proofs.Common.{below_more, refl, arith}
 use Rattle.task_context.proofs.PlainLemmas.{is_counted, not_counted}
-use Rattle.task_context.proofs.definitions.race.counted_as_marked.Goals as goal
+use Rattle.task_context.proofs.definitions.plain.counted_as_marked.Goals as goal
 
 pub loop-place-preserved : goal.loop-place-preserved
 loop-place-preserved c = below_more _ _ c.loop-place.invariant (λ here. cc (c.in_ok-counts_at.ensures.1 here))
