@@ -1,1 +1,3 @@
 pub mod Updated
+pub mod Phases
+pub mod Moves
