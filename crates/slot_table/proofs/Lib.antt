@@ -1,3 +1,5 @@
 pub mod Updated
 pub mod Phases
 pub mod Moves
+pub mod Views
+pub mod Steps
