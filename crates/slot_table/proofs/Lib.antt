@@ -3,3 +3,4 @@ pub mod Phases
 pub mod Moves
 pub mod Views
 pub mod Steps
+pub mod Lists

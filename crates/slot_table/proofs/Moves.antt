@@ -10,7 +10,7 @@ use Rattle.slot_table.specs.Meetings.{Meeting}
 use Rattle.slot_table.proofs.Phases.{View, Phase, Fresh, Watching, FreshTaken, NamedTaken, NamedTold, HitTaken, HitTold, HitCleared, Quiet, QuietCleared, after_clear, after_consume, after_hear, after_insert, after_name, after_remove, after_take, after_tell, named_pair, told_pair, word_in, pair_in, setter_part, finder_part, finder_in, ticket_in, told_in, StillStands, Hears, Idle, Open, Fits}
 use Rattle.slot_table.proofs.Updated.{updated, updated_here, updated_other, updated_same}
 
-some_same : {X : Type 0} {a b : X} → Some a ≡ Some b → a ≡ b
+pub some_same : {X : Type 0} {a b : X} → Some a ≡ Some b → a ≡ b
 some_same e = cc
 
 taken_if : (b : Bool) (word : ℕ) (part : Part) → cond b (Some (Taken word)) None ≡ Some part → part ≡ Taken word
@@ -25,7 +25,7 @@ finder_part-is (HitTaken finder ticket) word task part e = taken_if (eqb finder 
 finder_part-is phase word task part e = cc
 
 -- a setter's part is another
-setter_part-is : (phase : Phase) (word taken : ℕ) → setter_part phase word ≢ Taken taken
+pub setter_part-is : (phase : Phase) (word taken : ℕ) → setter_part phase word ≢ Taken taken
 setter_part-is Fresh word taken = λ e. cc
 setter_part-is (Watching ticket) word taken = λ e. cc
 setter_part-is (FreshTaken finder) word taken = λ e. cc

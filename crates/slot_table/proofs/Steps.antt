@@ -62,7 +62,7 @@ idle_part index hand idle = rw idle refl
 apart_part : (index at : ℕ) (hand : Option InHand) (part : Part) → eqb at index ≡ false → hand ≡ Some (record { index = at; part = part }) → part_at index hand ≡ None
 apart_part index at hand part apart is = rw (is, apart) refl
 
-here_part : (index : ℕ) (hand : Option InHand) (part : Part) → hand ≡ Some (record { index = index; part = part }) → part_at index hand ≡ Some part
+pub here_part : (index : ℕ) (hand : Option InHand) (part : Part) → hand ≡ Some (record { index = index; part = part }) → part_at index hand ≡ Some part
 here_part index hand part is = rw (is, eq-eqb index index refl) refl
 
 -- an insertion

@@ -42,12 +42,13 @@ abbrev pub told_at : ℕ → List Record → Option ℕ
 told_at index [] = None
 told_at index (latest ∷ earlier) = told_after index latest.step latest.answer (told_at index earlier)
 
--- the record is no taking of an arming that was taken before
-abbrev pub TakesAnew : Step → Answer → List Record → Type 0
-TakesAnew (TryConsume index word) (answers.Flag true) earlier = ((setter : ℕ) × (last_arming index earlier ≡ Some (record { setter = setter; word = word }))) × (finder_at index earlier ≡ None)
-TakesAnew step answer earlier = Unit {0}
+-- a taking is of an arming that nobody took before, with its word; a tell is for one that was not told of before
+abbrev pub MeetsAnew : Step → Answer → List Record → Type 0
+MeetsAnew (TryConsume index word) (answers.Flag true) earlier = ((setter : ℕ) × (last_arming index earlier ≡ Some (record { setter = setter; word = word }))) × (finder_at index earlier ≡ None)
+MeetsAnew (Tell index ticket) answer earlier = told_at index earlier ≡ None
+MeetsAnew step answer earlier = Unit {0}
 
--- each taking has an arming, the last one at its index before it, with the word that it took, and no two takings have the same
-abbrev pub TakenOnce : List Record → Type 0
-TakenOnce [] = Unit {0}
-TakenOnce (latest ∷ earlier) = TakenOnce earlier × TakesAnew latest.step latest.answer earlier
+-- no two takings have the same arming, the last one at their index before them, and no two tells
+abbrev pub MeetOnce : List Record → Type 0
+MeetOnce [] = Unit {0}
+MeetOnce (latest ∷ earlier) = MeetOnce earlier × MeetsAnew latest.step latest.answer earlier

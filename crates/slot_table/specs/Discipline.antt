@@ -2,6 +2,7 @@ use Rattle.std.specs.Prelude.{◌≡◌, ◌==◌, ◌<◌, ◌⊎◌, ℕ, Bool
 use Rattle.access_types.specs.Ticket.{task_in}
 use Rattle.slot.specs.Pair.{Halves}
 use Rattle.slot.specs.declared.slot.TheConstants.{CONSUMED}
+use Rattle.slot_table.specs.Records.{records_of}
 use Rattle.slot_table.specs.declared.records.Record.{Record}
 use Rattle.slot_table.specs.declared.step.Answer.{Answer}
 use Rattle.slot_table.specs.declared.step.Answer.TheVariants as answers
@@ -127,3 +128,11 @@ Discipline task (latest ∷ earlier) = Discipline task earlier × Allows task ea
 -- nothing is in hand: each arming has its remove, and each taking its tell
 abbrev pub IsFinished : List Record → Type 0
 IsFinished own = in_hand own ≡ None
+
+-- each task of a list keeps the discipline
+abbrev pub AllKeepDiscipline : List Record → Type 0
+AllKeepDiscipline records = (task : ℕ) → Discipline task (records_of task records)
+
+-- no task of a list has a check unfinished
+abbrev pub AllAreFinished : List Record → Type 0
+AllAreFinished records = (task : ℕ) → IsFinished (records_of task records)
