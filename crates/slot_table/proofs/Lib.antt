@@ -4,3 +4,4 @@ pub mod Moves
 pub mod Views
 pub mod Steps
 pub mod Lists
+pub mod Bags
