@@ -5,7 +5,8 @@ use Rattle.std.proofs.lemmas.Bool.Decides.{eqb_tells}
 use Rattle.std.specs.Int.Bits.{bit_or, or_zero_l}
 use Rattle.slot.specs.Pair.{Halves, unnamed}
 use Rattle.slot_table.specs.Armings.{Arming}
-use Rattle.slot_table.specs.Discipline.{Part, Inserted, Named, Untouched, Hit, Cleared, Taken}
+use Rattle.slot_table.specs.declared.discipline.Part.{Part}
+use Rattle.slot_table.specs.declared.discipline.Part.TheVariants.{Inserted, Named, Untouched, Hit, Cleared, Taken}
 use Rattle.slot_table.specs.Meetings.{Meeting}
 use Rattle.slot_table.proofs.Phases.{View, Phase, Fresh, Watching, FreshTaken, NamedTaken, NamedTold, HitTaken, HitTold, HitCleared, Quiet, QuietCleared, after_clear, after_consume, after_hear, after_insert, after_name, after_remove, after_take, after_tell, named_pair, told_pair, word_in, pair_in, setter_part, finder_part, finder_in, ticket_in, told_in, StillStands, Hears, Idle, Open, Fits}
 use Rattle.slot_table.proofs.Updated.{updated, updated_here, updated_other, updated_same}

@@ -3,7 +3,8 @@ use Rattle.std.proofs.Common.{◌≡◌, ◌≢◌, ◌<◌, ◌⊎◌, ℕ, Boo
 use Rattle.std.specs.Int.Bits.{bit_or}
 use Rattle.slot.specs.Pair.{Halves, unnamed}
 use Rattle.slot_table.specs.Armings.{Arming}
-use Rattle.slot_table.specs.Discipline.{Part, Inserted, Named, Untouched, Hit, Cleared, Taken}
+use Rattle.slot_table.specs.declared.discipline.Part.{Part}
+use Rattle.slot_table.specs.declared.discipline.Part.TheVariants.{Inserted, Named, Untouched, Hit, Cleared, Taken}
 use Rattle.slot_table.specs.Meetings.{Meeting}
 use Rattle.slot_table.proofs.Updated.{updated}
 

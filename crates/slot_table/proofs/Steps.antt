@@ -5,7 +5,10 @@ use Rattle.std.proofs.lemmas.Bool.Decides.{eqb_tells}
 use Rattle.std.proofs.lemmas.List.{get_or-set_other, get_or-set_same, set-get_or}
 use Rattle.slot.specs.Pair.{Halves, unnamed}
 use Rattle.slot_table.specs.Armings.{Arming, armed_after, finder_at, last_arming, taken_after, told_after, told_at}
-use Rattle.slot_table.specs.Discipline.{Allows, Part, Inserted, Named, Untouched, Hit, Cleared, Taken, InHand, hand_after, heard, heard_after, in_hand, part_at}
+use Rattle.slot_table.specs.Discipline.{Allows, hand_after, heard, heard_after, in_hand, part_at}
+use Rattle.slot_table.specs.declared.discipline.InHand.{InHand}
+use Rattle.slot_table.specs.declared.discipline.Part.{Part}
+use Rattle.slot_table.specs.declared.discipline.Part.TheVariants.{Inserted, Named, Untouched, Hit, Cleared, Taken}
 use Rattle.slot_table.specs.Meetings.{Meeting, finders_told, heard_by, heard_from, meetings_at, setters_heard, told_by, told_to}
 use Rattle.slot_table.specs.Records.{Follows, records_of}
 use Rattle.slot_table.specs.Roles.{pair_at, part_of, watch_word_at}

@@ -3,25 +3,14 @@ use Rattle.access_types.specs.Ticket.{task_in}
 use Rattle.slot.specs.Pair.{Halves}
 use Rattle.slot.specs.declared.slot.TheConstants.{CONSUMED}
 use Rattle.slot_table.specs.Records.{records_of}
+use Rattle.slot_table.specs.declared.discipline.InHand.{InHand}
+use Rattle.slot_table.specs.declared.discipline.Part.{Part}
+use Rattle.slot_table.specs.declared.discipline.Part.TheVariants.{Inserted, Named, Untouched, Hit, Cleared, Taken}
 use Rattle.slot_table.specs.declared.records.Record.{Record}
 use Rattle.slot_table.specs.declared.step.Answer.{Answer}
 use Rattle.slot_table.specs.declared.step.Answer.TheVariants as answers
 use Rattle.slot_table.specs.declared.step.Step.{Step}
 use Rattle.slot_table.specs.declared.step.Step.TheVariants.{Load, Insert, TryConsume, Consume, Remove, PairLoad, Name, Tell, Clear, CellLoad, CellExchange, LockTry, LockStore, Clock}
-
--- a task's part in the handshake of a watchpoint, by its last step of it: as the setter it has inserted the watch word, named itself by its ticket, consumed the word and found it untouched or hit, or cleared the pair; as the finder it has taken the watch word
-pub data Part : Type 0 where
-  Inserted : (word : ℕ) → Part
-  Named : (ticket : ℕ) → Part
-  Untouched : Part
-  Hit : Part
-  Cleared : Part
-  Taken : (word : ℕ) → Part
-
--- the handshake that a task has in hand: at which index, and its part
-pub record InHand : Type 0 where
-  pub index : ℕ
-  pub part : Part
 
 -- a step of a handshake puts it into the task's hand, its last step, the setter's remove or the finder's tell, takes it out; any other step leaves what was there
 abbrev pub hand_after : Step → Answer → Option InHand → Option InHand

@@ -1,7 +1,9 @@
 use Rattle.std.specs.Prelude.{◌==◌, ℕ, List, [], ◌∷◌, Option, Some}
 use Rattle.std.specs.List.{filter}
 use Rattle.slot.specs.Pair.{Halves}
-use Rattle.slot_table.specs.Discipline.{Part, Hit, heard, in_hand, part_at}
+use Rattle.slot_table.specs.Discipline.{heard, in_hand, part_at}
+use Rattle.slot_table.specs.declared.discipline.Part.{Part}
+use Rattle.slot_table.specs.declared.discipline.Part.TheVariants.{Hit}
 use Rattle.slot_table.specs.Records.{records_of}
 use Rattle.slot_table.specs.declared.records.Record.{Record}
 use Rattle.slot_table.specs.declared.step.Step.{Step}

@@ -2,7 +2,9 @@ use Rattle.std.specs.Prelude.{◌≡◌, ◌≢◌, ◌<◌, ◌⊎◌, ℕ, Lis
 use Rattle.slot.specs.Pair.{Halves, unnamed}
 use Rattle.slot.specs.declared.slot.TheConstants.{CONSUMED, EMPTY}
 use Rattle.slot_table.specs.Armings.{Arming, finder_at, last_arming, told_at}
-use Rattle.slot_table.specs.Discipline.{Part, Inserted, Named, Untouched, Hit, Cleared, Taken, in_hand, part_at}
+use Rattle.slot_table.specs.Discipline.{in_hand, part_at}
+use Rattle.slot_table.specs.declared.discipline.Part.{Part}
+use Rattle.slot_table.specs.declared.discipline.Part.TheVariants.{Inserted, Named, Untouched, Hit, Cleared, Taken}
 use Rattle.slot_table.specs.Records.{records_of}
 use Rattle.slot_table.specs.Words.{Words}
 use Rattle.slot_table.specs.declared.records.Record.{Record}

@@ -4,7 +4,9 @@
 #![tactic(auto)]
 
 pub mod board;
+pub mod discipline;
 pub mod index;
+pub mod laws;
 pub mod records;
 pub mod step;
 
