@@ -5,3 +5,4 @@ pub mod Views
 pub mod Steps
 pub mod Lists
 pub mod Bags
+pub mod Past

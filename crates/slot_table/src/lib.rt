@@ -8,6 +8,7 @@ pub mod discipline;
 pub mod index;
 pub mod laws;
 pub mod records;
+pub mod replay;
 pub mod step;
 
 pub use board::{Board, BoardError, PlainBoard, Shape};
