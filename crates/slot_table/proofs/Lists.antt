@@ -29,10 +29,10 @@ kept_if : (b : Bool) (task : ℕ) (latest : Record) (own : List Record) → Disc
 kept_if true task latest own keeps = keeps.0
 kept_if false task latest own keeps = keeps
 
-kept_before : (latest : Record) (earlier : List Record) → AllKeepDiscipline (latest ∷ earlier) → AllKeepDiscipline earlier
+pub kept_before : (latest : Record) (earlier : List Record) → AllKeepDiscipline (latest ∷ earlier) → AllKeepDiscipline earlier
 kept_before latest earlier keeps = λ task. kept_if (eqb latest.task task) task latest (records_of task earlier) (keeps task)
 
-allowed_at : (latest : Record) (earlier : List Record) → AllKeepDiscipline (latest ∷ earlier) → Allows latest.task (records_of latest.task earlier) latest.step
+pub allowed_at : (latest : Record) (earlier : List Record) → AllKeepDiscipline (latest ∷ earlier) → Allows latest.task (records_of latest.task earlier) latest.step
 allowed_at latest earlier keeps =
     let P : Bool → Type 0 = λ b. Discipline latest.task (cond b (latest ∷ records_of latest.task earlier) (records_of latest.task earlier)) in
     let whole = subst P (eq-eqb latest.task latest.task refl) (keeps latest.task) in

@@ -1,8 +1,9 @@
 //! A slow plain test of a whole list: is it legal, and does each task keep the discipline?
 
 ghost use Rattle.std.specs.Prelude.{◌≡◌, ◌≤◌, ◌<◌, ◌⊎◌, ◌↔◌, IfOk, IsErrOf, IsTrue, reverse};
-ghost use Rattle.slot_table.specs.Discipline.{AllKeepDiscipline};
-ghost use Rattle.slot_table.specs.Records.{Legal};
+ghost use Rattle.slot_table.specs.Discipline.{AllKeepDiscipline, Allows};
+ghost use Rattle.slot_table.specs.Records.{Follows, Legal, records_of};
+ghost use Rattle.slot_table.specs.StepLine.{step_line};
 ghost use Rattle.slot_table.specs.Words.{words_at_first};
 ghost use Rattle.slot_table.specs.declared.board.BoardError.TheVariants.{BadSlots};
 
@@ -11,15 +12,23 @@ use crate::discipline::allows;
 use crate::records::Record;
 use std::alloc::Global;
 
-/// Makes the steps of a list, in their order, on a new board: whether each names the board's words, is
-/// one that its task's discipline allows and has the answer that the board gives.
+/// Makes the step of a record after those made, if the board has its words and the discipline of its task
+/// allows it. Answers whether that is so and the board's answer is the record's.
+fn follows(board: &mut PlainBoard, made: &[Record], latest: Record) -> bool
+    ensures rules { IsTrue result ↔ (Follows board.old latest × Allows latest.task (records_of latest.task (reverse made.now)) latest.step) }
+    ensures after { IsTrue result → board.new ≡ (step_line board.old latest.step).after }
+{
+    if !board.has(latest.step) || !allows(made, latest.task, latest.step) {
+        return false;
+    }
+    board.step(latest.step) == latest.answer
+}
+
+/// Whether a list, in the order in which it was made, is legal from a new board on and each task in it
+/// keeps the discipline.
 ///
 /// `BadSlots`: there are fewer than 3 slots, or more than 1,024.
-pub fn keeps_rules(
-    alloc: Global,
-    shape: Shape<'_>,
-    made: &[Record],
-) -> Result<bool, BoardError>
+pub fn keeps_rules(alloc: Global, shape: Shape<'_>, made: &[Record]) -> Result<bool, BoardError>
     requires some_task { 1 ≤ shape.tasks }
     requires task_limit { shape.tasks ≤ 16 }
     ensures rules { IfOk result
@@ -28,8 +37,7 @@ pub fn keeps_rules(
 {
     let mut board = PlainBoard::new(alloc, shape)?;
     for (position, record) in made.iter().enumerate() {
-        let is_allowed = allows(&made[..position], record.task, record.step);
-        if !is_allowed || !board.has(record.step) || board.step(record.step) != record.answer {
+        if !follows(&mut board, &made[..position], *record) {
             return Ok(false);
         }
     }
