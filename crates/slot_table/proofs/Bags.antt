@@ -18,27 +18,27 @@ record Split (index : ℕ) (first : Meeting) (rest all : List Meeting) : Type 0 
 split : (index : ℕ) (first : Meeting) (rest all : List Meeting) → meetings_at index all ≡ first ∷ rest → Split index first rest all
 split index first rest [] e = absurd (cc)
 split index first rest (met ∷ all) e = elim (eqb_tells met.index index) [
-    inl same ↦ let begins : met ∷ meetings_at index all ≡ first ∷ rest = rw same.0 at e in
+  | inl same ↦ let begins : met ∷ meetings_at index all ≡ first ∷ rest = rw same.0 at e in
       let head : met ≡ first = cc in
       let tail : meetings_at index all ≡ rest = cc in
       record { before = []; after = all; is = rw head refl; none = refl; others = tail }
-    | inr apart ↦ let later : meetings_at index all ≡ first ∷ rest = rw apart.0 at e in
+  | inr apart ↦ let later : meetings_at index all ≡ first ∷ rest = rw apart.0 at e in
       let s = split index first rest all later in
       record { before = met ∷ s.before; after = s.after; is = ap (λ (l : List Meeting). met ∷ l) s.is; none = rw apart.0 s.none; others = s.others }
-  ]
+]
 
 -- without it the lists still agree
 agree_after : (first : Meeting) (xs ys : List Meeting) (s : Split first.index first (meetings_at first.index xs) ys) → ((index : ℕ) → meetings_at index (first ∷ xs) ≡ meetings_at index ys) → (index : ℕ) → meetings_at index xs ≡ meetings_at index (s.before ++ s.after)
 agree_after first xs ys s agree index = elim (eqb_tells first.index index) [
-    inl same ↦
+  | inl same ↦
       let whole : meetings_at first.index (s.before ++ s.after) ≡ meetings_at first.index xs = filter-append (λ met. eqb met.index first.index) s.before s.after ∙ (rw s.none s.others) in
       rw same.1 at (sym whole)
-    | inr apart ↦
+  | inr apart ↦
       let mine : meetings_at index xs ≡ meetings_at index ys = rw apart.0 at (agree index) in
       let one = ap (λ (l : List Meeting). meetings_at index l) s.is ∙ filter-append (λ met. eqb met.index index) s.before (first ∷ s.after) in
       let two : meetings_at index ys ≡ meetings_at index s.before ++ meetings_at index s.after = rw apart.0 at one in
       mine ∙ (two ∙ sym (filter-append (λ met. eqb met.index index) s.before s.after))
-  ]
+]
 
 pub permuted : (xs ys : List Meeting) → ((index : ℕ) → meetings_at index xs ≡ meetings_at index ys) → IsPermutation xs ys
 permuted [] [] agree = IsPermutation-refl []

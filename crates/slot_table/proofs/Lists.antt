@@ -46,12 +46,15 @@ empty_at (suc n) (suc index) x = empty_at n index x
 
 -- what stands at an index fits
 pub fits_all : (slots locks : ℕ) (cells : List ℕ) (records : List Record) → Legal (words_at_first slots locks cells) records → AllKeepDiscipline records → (index : ℕ) → Fits index (view (words_after (words_at_first slots locks cells) records) records index)
-fits_all slots locks cells [] legal keeps index = (λ task part both has heard. absurd (cc), inl (record {
-  word_is = empty_at (slots + 2) index 0;
-  pair_is = empty_at (slots + 2) index unnamed;
-  nobody = λ task. refl;
-  told = refl;
-}))
+fits_all slots locks cells [] legal keeps index = (
+  λ task part both has heard. absurd (cc),
+  inl (record {
+    word_is = empty_at (slots + 2) index 0;
+    pair_is = empty_at (slots + 2) index unnamed;
+    nobody = λ task. refl;
+    told = refl;
+  }),
+)
 fits_all slots locks cells (latest ∷ earlier) legal keeps index =
     let first = words_at_first slots locks cells in
     let words = words_after first earlier in
@@ -197,6 +200,6 @@ heard_all slots locks cells records legal keeps finished index =
 pub one_index : (hand : Option InHand) (i j : ℕ) (a b : Part) → part_at i hand ≡ Some a → part_at j hand ≡ Some b → i ≡ j
 one_index None i j a b p q = absurd (cc)
 one_index (Some hand) i j a b p q = elim (eqb_tells hand.index i) [
-    inl same ↦ elim (eqb_tells hand.index j) [ inl other ↦ sym same.1 ∙ other.1 | inr apart ↦ let none : part_at j (Some hand) ≡ None = rw apart.0 refl in absurd (cc) ]
-    | inr apart ↦ let none : part_at i (Some hand) ≡ None = rw apart.0 refl in absurd (cc)
-  ]
+  | inl same ↦ elim (eqb_tells hand.index j) [ inl other ↦ sym same.1 ∙ other.1 | inr apart ↦ let none : part_at j (Some hand) ≡ None = rw apart.0 refl in absurd (cc) ]
+  | inr apart ↦ let none : part_at i (Some hand) ≡ None = rw apart.0 refl in absurd (cc)
+]

@@ -42,7 +42,7 @@ setter_part-is QuietCleared word taken = λ e. cc
 is_setter : (index : ℕ) (phase : Phase) (v : View) (h : Open index phase v) (task : ℕ) (part : Part) → v.part task ≡ Some part → ((word : ℕ) → part ≢ Taken word) → (task ≡ h.setter) × (setter_part phase h.word ≡ part)
 is_setter index phase v h task part has other =
     elim (cases_eq task h.setter) [
-      inl same ↦ let its : v.part h.setter ≡ Some part = rw same at has in (same, some_same (sym h.sets ∙ its))
+      | inl same ↦ let its : v.part h.setter ≡ Some part = rw same at has in (same, some_same (sym h.sets ∙ its))
       | inr apart ↦ absurd (other h.word (finder_part-is phase h.word task part (sym (h.others task apart) ∙ has)))
     ]
 
@@ -50,10 +50,10 @@ is_setter index phase v h task part has other =
 hears_reset : (part : ℕ → Option Part) (hears : ℕ → Option Halves) (old new : Halves) (task : ℕ) (its : Option Part) → Hears part hears old → ((other : ℕ) (theirs : Part) (both : Halves) → other ≢ task → part other ≡ Some theirs → StillStands both old → StillStands both new) → Hears (updated part task its) (updated hears task None) new
 hears_reset part hears old new task its fits kept other theirs both has heard =
     elim (cases_eq other task) [
-      inl same ↦ let none : updated hears task None task ≡ None = updated_here hears task None in absurd (cc)
+      | inl same ↦ let none : updated hears task None task ≡ None = updated_here hears task None in absurd (cc)
       | inr apart ↦ let p = updated_other part task other its apart in
-        let q = updated_other hears task other None apart in
-        kept other theirs both apart (sym p ∙ has) (fits other theirs both (sym p ∙ has) (sym q ∙ heard))
+          let q = updated_other hears task other None apart in
+          kept other theirs both apart (sym p ∙ has) (fits other theirs both (sym p ∙ has) (sym q ∙ heard))
     ]
 
 -- the setter's step leads to another phase with the same finder
@@ -76,8 +76,11 @@ setter_moves index phase next v h word pair heard same_finder same_ticket same_p
 
 -- a watchpoint is inserted
 pub fits_insert : (index : ℕ) (v : View) (task word : ℕ) → Fits index v → v.word ≡ 0 → 1 < word → Fits index (after_insert v task word)
-fits_insert index v task word (hears, inl idle) empty above =
-    (hears_reset v.part v.hears v.pair v.pair task (Some (Inserted word)) hears (λ other theirs both apart has stands. stands), inr (Fresh, record {
+fits_insert index v task word (hears, inl idle) empty above = (
+  hears_reset v.part v.hears v.pair v.pair task (Some (Inserted word)) hears (λ other theirs both apart has stands. stands),
+  inr (
+    Fresh,
+    record {
       setter = task;
       word = word;
       above = above;
@@ -91,13 +94,15 @@ fits_insert index v task word (hears, inl idle) empty above =
       ticket = refl;
       own_half = λ both heard. let none = updated_here v.hears task None in absurd (cc);
       told = idle.told;
-    }))
+    },
+  ),
+)
 fits_insert index v task word (hears, inr (phase, h)) empty above = absurd (stands phase h)
   where
-  stands : (phase : Phase) → Open index phase v → ⊥
-  stands Fresh h = omega (arith, h.word_is, h.above)
-  stands (Watching ticket) h = omega (arith, h.word_is, h.above)
-  stands phase h = omega (arith, h.word_is)
+    stands : (phase : Phase) → Open index phase v → ⊥
+    stands Fresh h = omega (arith, h.word_is, h.above)
+    stands (Watching ticket) h = omega (arith, h.word_is, h.above)
+    stands phase h = omega (arith, h.word_is)
 
 -- the setter names itself
 unnamed_yet : (index : ℕ) (phase : Phase) (v : View) (h : Open index phase v) (word : ℕ) → setter_part phase h.word ≡ Inserted word → v.pair ≡ unnamed
@@ -186,7 +191,7 @@ remove_moves index (HitCleared finder telling) v h e = record {
   word_is = refl;
   pair_is = h.pair_is;
   nobody = λ task. elim (cases_eq task h.setter) [
-    inl same ↦ rw same (updated_here v.part h.setter None)
+    | inl same ↦ rw same (updated_here v.part h.setter None)
     | inr apart ↦ updated_other v.part h.setter task None apart ∙ h.others task apart
   ];
   told = h.told;
@@ -195,7 +200,7 @@ remove_moves index QuietCleared v h e = record {
   word_is = refl;
   pair_is = h.pair_is;
   nobody = λ task. elim (cases_eq task h.setter) [
-    inl same ↦ rw same (updated_here v.part h.setter None)
+    | inl same ↦ rw same (updated_here v.part h.setter None)
     | inr apart ↦ updated_other v.part h.setter task None apart ∙ h.others task apart
   ];
   told = h.told;
@@ -220,7 +225,7 @@ finder_moves index phase next v h task its word pair finder ticket told apart fi
       pair_is = pair_is;
       sets = updated_other v.part task h.setter its setter_apart ∙ (h.sets ∙ ap (λ (part : Part). Some part) (sym same_part));
       others = λ other other_apart. elim (cases_eq other task) [
-        inl same ↦ rw same (updated_here v.part task its ∙ its_is)
+        | inl same ↦ rw same (updated_here v.part task its ∙ its_is)
         | inr differs ↦ updated_other v.part task other its differs ∙ (h.others other other_apart ∙ sym (same_others other differs))
       ];
       two = λ finder is. let same : task ≡ finder = some_same (sym finds ∙ is) in λ e. apart (same ∙ e);
@@ -287,9 +292,9 @@ fits_tell index v task word ticket both (hears, inr (phase, h)) has heard above 
 hears_hear : (part : ℕ → Option Part) (hears : ℕ → Option Halves) (pair : Halves) (task : ℕ) → Hears part hears pair → Hears part (updated hears task (Some pair)) pair
 hears_hear part hears pair task fits other theirs both has heard =
     elim (cases_eq other task) [
-      inl same ↦ let its : updated hears task (Some pair) task ≡ Some pair = updated_here hears task (Some pair) in
-        let is : pair ≡ both = some_same (sym its ∙ rw same at heard) in
-        (λ above. ap (λ (halves : Halves). halves.setter) is, λ above. ap (λ (halves : Halves). halves.finder) is)
+      | inl same ↦ let its : updated hears task (Some pair) task ≡ Some pair = updated_here hears task (Some pair) in
+          let is : pair ≡ both = some_same (sym its ∙ rw same at heard) in
+          (λ above. ap (λ (halves : Halves). halves.setter) is, λ above. ap (λ (halves : Halves). halves.finder) is)
       | inr apart ↦ let q = updated_other hears task other (Some pair) apart in fits other theirs both has (sym q ∙ heard)
     ]
 
@@ -307,9 +312,9 @@ hear_moves index phase v h task = record {
   finder = h.finder;
   ticket = h.ticket;
   own_half = λ both heard. elim (cases_eq h.setter task) [
-    inl same ↦ let its : updated v.hears task (Some v.pair) task ≡ Some v.pair = updated_here v.hears task (Some v.pair) in
-      let is : v.pair ≡ both = some_same (sym its ∙ rw same at heard) in
-      sym (ap (λ (halves : Halves). halves.setter) is)
+    | inl same ↦ let its : updated v.hears task (Some v.pair) task ≡ Some v.pair = updated_here v.hears task (Some v.pair) in
+        let is : v.pair ≡ both = some_same (sym its ∙ rw same at heard) in
+        sym (ap (λ (halves : Halves). halves.setter) is)
     | inr apart ↦ let q = updated_other v.hears task h.setter (Some v.pair) apart in h.own_half both (sym q ∙ heard)
   ];
   told = h.told;

@@ -38,12 +38,12 @@ kept_earlier (latest ∷ later) earlier keeps = kept_earlier later earlier (kept
 -- one more record that is allowed
 pub kept_more : (latest : Record) (earlier : List Record) → AllKeepDiscipline earlier → Allows latest.task (records_of latest.task earlier) latest.step → AllKeepDiscipline (latest ∷ earlier)
 kept_more latest earlier keeps allows = λ task. elim (eqb_tells latest.task task) [
-    inl same ↦ let allowed : Allows task (records_of task earlier) latest.step = rw same.1 at allows in
+  | inl same ↦ let allowed : Allows task (records_of task earlier) latest.step = rw same.1 at allows in
       let P : Bool → Type 0 = λ b. Discipline task (cond b (latest ∷ records_of task earlier) (records_of task earlier)) in
       subst P (sym same.0) (keeps task, allowed)
-    | inr apart ↦ let P : Bool → Type 0 = λ b. Discipline task (cond b (latest ∷ records_of task earlier) (records_of task earlier)) in
+  | inr apart ↦ let P : Bool → Type 0 = λ b. Discipline task (cond b (latest ∷ records_of task earlier) (records_of task earlier)) in
       subst P (sym apart.0) (keeps task)
-  ]
+]
 
 -- the records up to an index, the latest first, end a whole list
 parts : (made : List Record) (index : ℕ) → reverse made ≡ reverse (drop index made) ++ reverse (take index made)
@@ -62,8 +62,8 @@ refused first made index d within breaks both =
 pub refused_at : (first board : Words) (made : List Record) (index : ℕ) (d : Record) (holds : Bool) → index < length made → board ≡ words_after first (reverse (take index made)) → holds ≡ false → (IsTrue holds ↔ (Follows board (get_or made index d) × Allows (get_or made index d).task (records_of (get_or made index d).task (reverse (take index made))) (get_or made index d).step)) → Legal first (reverse made) × AllKeepDiscipline (reverse made) → ⊥
 refused_at first board made index d holds within stands fails rules =
     refused first made index d within (λ both.
-      let P : Words → Type 0 = λ words. Follows words (get_or made index d) in
-      false≢true (sym fails ∙ rules.1 (subst P (sym stands) both.0, both.1)))
+    let P : Words → Type 0 = λ words. Follows words (get_or made index d) in
+    false≢true (sym fails ∙ rules.1 (subst P (sym stands) both.0, both.1)))
 
 -- a record that was not
 pub accepted_at : (first board next : Words) (made : List Record) (index : ℕ) (d : Record) → index < length made → board ≡ words_after first (reverse (take index made)) → Legal first (reverse (take index made)) → AllKeepDiscipline (reverse (take index made)) → Follows board (get_or made index d) × Allows (get_or made index d).task (records_of (get_or made index d).task (reverse (take index made))) (get_or made index d).step → next ≡ (step_line board (get_or made index d).step).after → (next ≡ words_after first (reverse (take (index + 1) made))) × (Legal first (reverse (take (index + 1) made))) × (AllKeepDiscipline (reverse (take (index + 1) made)))

@@ -45,11 +45,11 @@ fits_load index at words earlier task answer fits =
 
 fits_pair_load : (index at : ℕ) (words : Words) (earlier : List Record) (task : ℕ) → Fits index (view words earlier index) → Fits index (view_after (step_line words (PairLoad at)).after earlier index task (PairLoad at) (step_line words (PairLoad at)).answer)
 fits_pair_load index at words earlier task fits = elim (eqb_tells at index) [
-    inl same ↦ fits_path index (view_after (step_line words (PairLoad at)).after earlier index task (PairLoad at) (step_line words (PairLoad at)).answer) (after_hear (view words earlier index) task) refl (pair_loaded words.pair_words at index)
+  | inl same ↦ fits_path index (view_after (step_line words (PairLoad at)).after earlier index task (PairLoad at) (step_line words (PairLoad at)).answer) (after_hear (view words earlier index) task) refl (pair_loaded words.pair_words at index)
       (updated_same (λ other. part_of other index earlier) task (part_at index (in_hand (records_of task earlier))) refl)
       (rw same.0 (rw same.1 refl)) refl refl refl refl refl (fits_hear index (view words earlier index) task fits)
-    | inr apart ↦ fits_still index words (step_line words (PairLoad at)).after earlier task (PairLoad at) (step_line words (PairLoad at)).answer fits refl (pair_loaded words.pair_words at index) refl (rw apart.0 refl) refl refl refl refl refl
-  ]
+  | inr apart ↦ fits_still index words (step_line words (PairLoad at)).after earlier task (PairLoad at) (step_line words (PairLoad at)).answer fits refl (pair_loaded words.pair_words at index) refl (rw apart.0 refl) refl refl refl refl refl
+]
 
 -- a word that is written, read there and elsewhere
 set_here : {X : Type 0} (xs : List X) (index : ℕ) (x d : X) → index < length xs → get_or (slice_set xs index x) index d ≡ x
@@ -73,28 +73,28 @@ insert_step : (b : Bool) (index at word : ℕ) (words : Words) (earlier : List R
 insert_step false index at word words earlier task e within above idle fits =
     fits_still index words (record words { watch_words = slice_set words.watch_words at (slice_index words.watch_words at) }) earlier task (Insert at word) (answers.Flag false) fits (loaded words.watch_words at index) refl refl refl refl refl refl refl refl
 insert_step true index at word words earlier task e within above idle fits = elim (eqb_tells at index) [
-    inl same ↦ let empty : slice_index words.watch_words index ≡ 0 = rw same.1 at (eqb-true (slice_index words.watch_words at) 0 e) in
+  | inl same ↦ let empty : slice_index words.watch_words index ≡ 0 = rw same.1 at (eqb-true (slice_index words.watch_words at) 0 e) in
       fits_path index (view_after (record words { watch_words = slice_set words.watch_words at word }) earlier index task (Insert at word) (answers.Flag true)) (after_insert (view words earlier index) task word)
       (rw same.1 (set_here words.watch_words index word 0 (rw same.1 at within))) refl
       (rw same.0 refl) (rw same.0 refl) (rw same.0 refl) (rw same.0 refl) (rw same.0 refl) refl refl
       (fits_insert index (view words earlier index) task word fits empty above)
-    | inr apart ↦ fits_still index words (record words { watch_words = slice_set words.watch_words at word }) earlier task (Insert at word) (answers.Flag true) fits (set_apart words.watch_words at index word 0 apart.1) refl
+  | inr apart ↦ fits_still index words (record words { watch_words = slice_set words.watch_words at word }) earlier task (Insert at word) (answers.Flag true) fits (set_apart words.watch_words at index word 0 apart.1) refl
       (rw apart.0 (sym (idle_part index (in_hand (records_of task earlier)) idle))) (rw apart.0 refl) (rw apart.0 refl) (rw apart.0 refl) (rw apart.0 refl) refl refl
-  ]
+]
 
 -- a try
 try_step : (b : Bool) (index at word : ℕ) (words : Words) (earlier : List Record) (task : ℕ) → eqb (slice_index words.watch_words at) word ≡ b → at < length words.watch_words → 1 < word → in_hand (records_of task earlier) ≡ None → Fits index (view words earlier index) → Fits index (view_after (record words { watch_words = slice_set words.watch_words at (cond b 1 (slice_index words.watch_words at)) }) earlier index task (TryConsume at word) (answers.Flag b))
 try_step false index at word words earlier task e within above idle fits =
     fits_still index words (record words { watch_words = slice_set words.watch_words at (slice_index words.watch_words at) }) earlier task (TryConsume at word) (answers.Flag false) fits (loaded words.watch_words at index) refl refl refl refl refl refl refl refl
 try_step true index at word words earlier task e within above idle fits = elim (eqb_tells at index) [
-    inl same ↦ let is : slice_index words.watch_words index ≡ word = rw same.1 at (eqb-true (slice_index words.watch_words at) word e) in
+  | inl same ↦ let is : slice_index words.watch_words index ≡ word = rw same.1 at (eqb-true (slice_index words.watch_words at) word e) in
       fits_path index (view_after (record words { watch_words = slice_set words.watch_words at 1 }) earlier index task (TryConsume at word) (answers.Flag true)) (after_take (view words earlier index) task word)
       (rw same.1 (set_here words.watch_words index 1 0 (rw same.1 at within))) refl
       (rw same.0 refl) (rw same.0 refl) refl (rw same.0 refl) refl refl refl
       (fits_take index (view words earlier index) task word fits (idle_part index (in_hand (records_of task earlier)) idle) is above)
-    | inr apart ↦ fits_still index words (record words { watch_words = slice_set words.watch_words at 1 }) earlier task (TryConsume at word) (answers.Flag true) fits (set_apart words.watch_words at index 1 0 apart.1) refl
+  | inr apart ↦ fits_still index words (record words { watch_words = slice_set words.watch_words at 1 }) earlier task (TryConsume at word) (answers.Flag true) fits (set_apart words.watch_words at index 1 0 apart.1) refl
       (rw apart.0 (sym (idle_part index (in_hand (records_of task earlier)) idle))) (rw apart.0 refl) refl (rw apart.0 refl) refl refl refl
-  ]
+]
 
 -- a consume
 consumed_hand : (b : Bool) (index at : ℕ) (before : Option InHand) → hand_after (Consume at) (answers.Flag b) before ≡ Some (record { index = at; part = cond b Untouched Hit })
@@ -107,35 +107,35 @@ consume_step index at words earlier task ticket within has fits =
     let b = not (eqb old 0 || eqb old 1) in
     let hand = consumed_hand b index at (in_hand (records_of task earlier)) in
     elim (eqb_tells at index) [
-      inl same ↦ fits_path index (view_after (step_line words (Consume at)).after earlier index task (Consume at) (step_line words (Consume at)).answer) (after_consume (view words earlier index) task)
-        (rw same.1 (set_here words.watch_words index 1 0 (rw same.1 at within))) refl
-        (rw (hand, same.0, same.1) refl) (rw same.0 refl) refl refl refl refl refl
-        (fits_consume index (view words earlier index) task ticket fits (here_part index (in_hand (records_of task earlier)) (Named ticket) (rw same.1 at has)))
+      | inl same ↦ fits_path index (view_after (step_line words (Consume at)).after earlier index task (Consume at) (step_line words (Consume at)).answer) (after_consume (view words earlier index) task)
+          (rw same.1 (set_here words.watch_words index 1 0 (rw same.1 at within))) refl
+          (rw (hand, same.0, same.1) refl) (rw same.0 refl) refl refl refl refl refl
+          (fits_consume index (view words earlier index) task ticket fits (here_part index (in_hand (records_of task earlier)) (Named ticket) (rw same.1 at has)))
       | inr apart ↦ fits_still index words (step_line words (Consume at)).after earlier task (Consume at) (step_line words (Consume at)).answer fits (set_apart words.watch_words at index 1 0 apart.1) refl
-        (rw (hand, apart.0) (sym (apart_part index at (in_hand (records_of task earlier)) (Named ticket) apart.0 has))) (rw apart.0 refl) refl refl refl refl refl
+          (rw (hand, apart.0) (sym (apart_part index at (in_hand (records_of task earlier)) (Named ticket) apart.0 has))) (rw apart.0 refl) refl refl refl refl refl
     ]
 
 -- a remove
 remove_step : (index at : ℕ) (words : Words) (earlier : List Record) (task : ℕ) → at < length words.watch_words → in_hand (records_of task earlier) ≡ Some (record { index = at; part = Cleared }) → Fits index (view words earlier index) → Fits index (view_after (step_line words (Remove at)).after earlier index task (Remove at) answers.Done)
 remove_step index at words earlier task within has fits = elim (eqb_tells at index) [
-    inl same ↦ fits_path index (view_after (step_line words (Remove at)).after earlier index task (Remove at) answers.Done) (after_remove (view words earlier index) task)
+  | inl same ↦ fits_path index (view_after (step_line words (Remove at)).after earlier index task (Remove at) answers.Done) (after_remove (view words earlier index) task)
       (rw same.1 (set_here words.watch_words index 0 0 (rw same.1 at within))) refl
       refl (rw same.0 refl) refl refl refl refl refl
       (fits_remove index (view words earlier index) task fits (here_part index (in_hand (records_of task earlier)) Cleared (rw same.1 at has)))
-    | inr apart ↦ fits_still index words (step_line words (Remove at)).after earlier task (Remove at) answers.Done fits (set_apart words.watch_words at index 0 0 apart.1) refl
+  | inr apart ↦ fits_still index words (step_line words (Remove at)).after earlier task (Remove at) answers.Done fits (set_apart words.watch_words at index 0 0 apart.1) refl
       (sym (apart_part index at (in_hand (records_of task earlier)) Cleared apart.0 has)) (rw apart.0 refl) refl refl refl refl refl
-  ]
+]
 
 -- a name
 name_step : (index at ticket : ℕ) (words : Words) (earlier : List Record) (task word : ℕ) → at < length words.pair_words → in_hand (records_of task earlier) ≡ Some (record { index = at; part = Inserted word }) → Fits index (view words earlier index) → Fits index (view_after (step_line words (Name at ticket)).after earlier index task (Name at ticket) answers.Done)
 name_step index at ticket words earlier task word within has fits = elim (eqb_tells at index) [
-    inl same ↦ fits_path index (view_after (step_line words (Name at ticket)).after earlier index task (Name at ticket) answers.Done) (after_name (view words earlier index) task ticket)
+  | inl same ↦ fits_path index (view_after (step_line words (Name at ticket)).after earlier index task (Name at ticket) answers.Done) (after_name (view words earlier index) task ticket)
       refl (rw same.1 (set_here words.pair_words index (named_pair (slice_index_or words.pair_words index unnamed) ticket) unnamed (rw same.1 at within)))
       (rw same.0 refl) (rw same.0 refl) refl refl refl refl refl
       (fits_name index (view words earlier index) task word ticket fits (here_part index (in_hand (records_of task earlier)) (Inserted word) (rw same.1 at has)))
-    | inr apart ↦ fits_still index words (step_line words (Name at ticket)).after earlier task (Name at ticket) answers.Done fits refl (set_apart words.pair_words at index (named_pair (slice_index_or words.pair_words at unnamed) ticket) unnamed apart.1)
+  | inr apart ↦ fits_still index words (step_line words (Name at ticket)).after earlier task (Name at ticket) answers.Done fits refl (set_apart words.pair_words at index (named_pair (slice_index_or words.pair_words at unnamed) ticket) unnamed apart.1)
       (rw apart.0 (sym (apart_part index at (in_hand (records_of task earlier)) (Inserted word) apart.0 has))) (rw apart.0 refl) refl refl refl refl refl
-  ]
+]
 
 -- a tell
 met_apart : (index at ticket : ℕ) (both : Option Halves) (before : List Meeting) → eqb at index ≡ false → meetings_at index (told_to at ticket both before) ≡ meetings_at index before
@@ -144,25 +144,25 @@ met_apart index at ticket None before apart = refl
 
 tell_step : (index at ticket : ℕ) (words : Words) (earlier : List Record) (task word : ℕ) (both : Halves) → at < length words.pair_words → in_hand (records_of task earlier) ≡ Some (record { index = at; part = Taken word }) → heard at (records_of task earlier) ≡ Some both → 0 < both.setter → Fits index (view words earlier index) → Fits index (view_after (step_line words (Tell at ticket)).after earlier index task (Tell at ticket) answers.Done)
 tell_step index at ticket words earlier task word both within has hears above fits = elim (eqb_tells at index) [
-    inl same ↦ fits_path index (view_after (step_line words (Tell at ticket)).after earlier index task (Tell at ticket) answers.Done) (after_tell (view words earlier index) task ticket (record { index = index; setter = both.setter; finder = ticket } ∷ meetings_at index (finders_told earlier)))
+  | inl same ↦ fits_path index (view_after (step_line words (Tell at ticket)).after earlier index task (Tell at ticket) answers.Done) (after_tell (view words earlier index) task ticket (record { index = index; setter = both.setter; finder = ticket } ∷ meetings_at index (finders_told earlier)))
       refl (rw same.1 (set_here words.pair_words index (told_pair (slice_index_or words.pair_words index unnamed) ticket) unnamed (rw same.1 at within)))
       refl (rw same.0 refl) refl refl (rw same.0 refl) (rw (hears, same.0, same.1) refl) refl
       (fits_tell index (view words earlier index) task word ticket both fits (here_part index (in_hand (records_of task earlier)) (Taken word) (rw same.1 at has)) (rw same.1 at hears) above)
-    | inr apart ↦ fits_still index words (step_line words (Tell at ticket)).after earlier task (Tell at ticket) answers.Done fits refl (set_apart words.pair_words at index (told_pair (slice_index_or words.pair_words at unnamed) ticket) unnamed apart.1)
+  | inr apart ↦ fits_still index words (step_line words (Tell at ticket)).after earlier task (Tell at ticket) answers.Done fits refl (set_apart words.pair_words at index (told_pair (slice_index_or words.pair_words at unnamed) ticket) unnamed apart.1)
       (sym (apart_part index at (in_hand (records_of task earlier)) (Taken word) apart.0 has)) (rw apart.0 refl) refl refl (rw apart.0 refl) (met_apart index at ticket (heard at (records_of task earlier)) (finders_told earlier) apart.0) refl
-  ]
+]
 
 -- a clear, of a pair that nobody told
 clear_step : (index at : ℕ) (words : Words) (earlier : List Record) (task : ℕ) → at < length words.pair_words → in_hand (records_of task earlier) ≡ Some (record { index = at; part = Untouched }) → Fits index (view words earlier index) → Fits index (view_after (step_line words (Clear at)).after earlier index task (Clear at) answers.Done)
 clear_step index at words earlier task within has fits =
     let part = here_part at (in_hand (records_of task earlier)) Untouched has in
     elim (eqb_tells at index) [
-      inl same ↦ fits_path index (view_after (step_line words (Clear at)).after earlier index task (Clear at) answers.Done) (after_clear (view words earlier index) task (meetings_at index (setters_heard earlier)))
-        refl (rw same.1 (set_here words.pair_words index unnamed unnamed (rw same.1 at within)))
-        (rw same.0 refl) (rw same.0 refl) refl refl refl refl (rw part refl)
-        (fits_clear index (view words earlier index) task fits (rw same.1 at part))
+      | inl same ↦ fits_path index (view_after (step_line words (Clear at)).after earlier index task (Clear at) answers.Done) (after_clear (view words earlier index) task (meetings_at index (setters_heard earlier)))
+          refl (rw same.1 (set_here words.pair_words index unnamed unnamed (rw same.1 at within)))
+          (rw same.0 refl) (rw same.0 refl) refl refl refl refl (rw part refl)
+          (fits_clear index (view words earlier index) task fits (rw same.1 at part))
       | inr apart ↦ fits_still index words (step_line words (Clear at)).after earlier task (Clear at) answers.Done fits refl (set_apart words.pair_words at index unnamed unnamed apart.1)
-        (rw apart.0 (sym (apart_part index at (in_hand (records_of task earlier)) Untouched apart.0 has))) (rw apart.0 refl) refl refl refl refl (rw part refl)
+          (rw apart.0 (sym (apart_part index at (in_hand (records_of task earlier)) Untouched apart.0 has))) (rw apart.0 refl) refl refl refl refl (rw part refl)
     ]
 
 -- a clear, of a pair that a finder told
@@ -170,12 +170,12 @@ hit_clear_step : (index at : ℕ) (words : Words) (earlier : List Record) (task 
 hit_clear_step index at words earlier task both within has hears above fits =
     let part = here_part at (in_hand (records_of task earlier)) Hit has in
     elim (eqb_tells at index) [
-      inl same ↦ fits_path index (view_after (step_line words (Clear at)).after earlier index task (Clear at) answers.Done) (after_clear (view words earlier index) task (record { index = index; setter = both.setter; finder = both.finder } ∷ meetings_at index (setters_heard earlier)))
-        refl (rw same.1 (set_here words.pair_words index unnamed unnamed (rw same.1 at within)))
-        (rw same.0 refl) (rw same.0 refl) refl refl refl refl (rw (part, hears, same.0, same.1) refl)
-        (fits_hit_clear index (view words earlier index) task both fits (rw same.1 at part) (rw same.1 at hears) above)
+      | inl same ↦ fits_path index (view_after (step_line words (Clear at)).after earlier index task (Clear at) answers.Done) (after_clear (view words earlier index) task (record { index = index; setter = both.setter; finder = both.finder } ∷ meetings_at index (setters_heard earlier)))
+          refl (rw same.1 (set_here words.pair_words index unnamed unnamed (rw same.1 at within)))
+          (rw same.0 refl) (rw same.0 refl) refl refl refl refl (rw (part, hears, same.0, same.1) refl)
+          (fits_hit_clear index (view words earlier index) task both fits (rw same.1 at part) (rw same.1 at hears) above)
       | inr apart ↦ fits_still index words (step_line words (Clear at)).after earlier task (Clear at) answers.Done fits refl (set_apart words.pair_words at index unnamed unnamed apart.1)
-        (rw apart.0 (sym (apart_part index at (in_hand (records_of task earlier)) Hit apart.0 has))) (rw apart.0 refl) refl refl refl refl (rw (part, hears, apart.0) refl)
+          (rw apart.0 (sym (apart_part index at (in_hand (records_of task earlier)) Hit apart.0 has))) (rw apart.0 refl) refl refl refl refl (rw (part, hears, apart.0) refl)
     ]
 
 -- any step

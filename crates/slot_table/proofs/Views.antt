@@ -48,9 +48,9 @@ view_after words records index task step answer = record {
 own_updated : {X : Type 0} (F : List Record → X) (latest : Record) (earlier : List Record) → (λ (task : ℕ). F (records_of task (latest ∷ earlier))) ≡ updated (λ task. F (records_of task earlier)) latest.task (F (latest ∷ records_of latest.task earlier))
 own_updated F latest earlier = fun_ext (λ task. at task (eqb_tells latest.task task))
   where
-  at : (task : ℕ) → ((eqb latest.task task ≡ true) × (latest.task ≡ task)) ⊎ ((eqb latest.task task ≡ false) × (latest.task ≢ task)) → F (records_of task (latest ∷ earlier)) ≡ updated (λ task. F (records_of task earlier)) latest.task (F (latest ∷ records_of latest.task earlier)) task
-  at task (inl same) = rw same.0 (ap (λ (t : ℕ). F (latest ∷ records_of t earlier)) (sym same.1))
-  at task (inr apart) = rw apart.0 refl
+    at : (task : ℕ) → ((eqb latest.task task ≡ true) × (latest.task ≡ task)) ⊎ ((eqb latest.task task ≡ false) × (latest.task ≢ task)) → F (records_of task (latest ∷ earlier)) ≡ updated (λ task. F (records_of task earlier)) latest.task (F (latest ∷ records_of latest.task earlier)) task
+    at task (inl same) = rw same.0 (ap (λ (t : ℕ). F (latest ∷ records_of t earlier)) (sym same.1))
+    at task (inr apart) = rw apart.0 refl
 
 -- two views that say the same are one
 pub view_path : (a b : View) → a.word ≡ b.word → a.pair ≡ b.pair → a.part ≡ b.part → a.hears ≡ b.hears → a.arming ≡ b.arming → a.finder ≡ b.finder → a.ticket ≡ b.ticket → a.told ≡ b.told → a.heard ≡ b.heard → a ≡ b

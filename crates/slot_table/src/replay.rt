@@ -43,3 +43,6 @@ pub fn keeps_rules(alloc: Global, shape: Shape<'_>, made: &[Record]) -> Result<b
     }
     Ok(true)
 }
+
+#[cfg(test)]
+mod tests;
