@@ -14,7 +14,7 @@ const TICKETS: [u32; 3] = [1, 65537, 131073];
 
 /// One variable, which holds 0, and three tasks.
 fn shape() -> Shape<'static>
-    ensures { result.exit.tasks ≡ 3 }
+    ensures { result.tasks ≡ 3 }
 {
     Shape {
         slots: 64,
