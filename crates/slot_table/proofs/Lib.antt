@@ -6,3 +6,4 @@ pub mod Steps
 pub mod Lists
 pub mod Bags
 pub mod Past
+pub mod Places

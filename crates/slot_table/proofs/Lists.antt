@@ -1,16 +1,16 @@
 -- What holds after every legal list whose tasks keep the discipline, by induction on the list.
-use Rattle.std.proofs.Common.{◌≡◌, ◌≢◌, ◌<◌, ◌⊎◌, inl, inr, ℕ, zero, suc, ◌+◌, Bool, true, false, cond, eqb, List, [], ◌∷◌, Option, None, Some, replicate, get_or, refl, sym, ap, ◌∙◌, subst, arith}
-use Rattle.std.proofs.lemmas.Bool.{cases_eq, eq-eqb, eqb-true, ne_eqb}
+use Rattle.std.proofs.Common.{◌≡◌, ◌≢◌, ◌<◌, inl, inr, ℕ, zero, suc, ◌+◌, Bool, true, false, cond, eqb, List, [], ◌∷◌, Option, None, Some, replicate, get_or, refl, sym, ap, ◌∙◌, subst, arith}
+use Rattle.std.proofs.lemmas.Bool.{eq-eqb, eqb-true, ne_eqb}
 use Rattle.std.proofs.lemmas.Bool.Decides.{eqb_tells}
 use Rattle.slot.specs.Pair.{Halves, unnamed}
-use Rattle.slot_table.specs.Armings.{Arming, MeetOnce, MeetsAnew, finder_at, last_arming, told_at}
-use Rattle.slot_table.specs.Discipline.{AllAreFinished, AllKeepDiscipline, Allows, Discipline, heard, in_hand, part_at}
+use Rattle.slot_table.specs.Armings.{MeetOnce, MeetsAnew}
+use Rattle.slot_table.specs.Discipline.{AllAreFinished, AllKeepDiscipline, Allows, Discipline, in_hand, part_at}
 use Rattle.slot_table.specs.declared.discipline.InHand.{InHand}
 use Rattle.slot_table.specs.declared.discipline.Part.{Part}
 use Rattle.slot_table.specs.declared.discipline.Part.TheVariants.{Taken}
-use Rattle.slot_table.specs.Meetings.{Meeting, finders_told, meetings_at, setters_heard}
-use Rattle.slot_table.specs.Records.{Follows, Legal, records_of, words_after}
-use Rattle.slot_table.specs.Roles.{IsFree, IsQuiet, IsTaken, IsTold, IsUntold, IsWatched, Stands, Free, Watched, TakenThere, Quiet, pair_at, part_of, watch_word_at}
+use Rattle.slot_table.specs.Meetings.{finders_told, meetings_at, setters_heard}
+use Rattle.slot_table.specs.Records.{Legal, records_of, words_after}
+use Rattle.slot_table.specs.Roles.{Stands, Free, Watched, TakenThere, Quiet, watch_word_at}
 use Rattle.slot_table.specs.StepLine.{step_line}
 use Rattle.slot_table.specs.Words.{Words, words_at_first}
 use Rattle.slot_table.specs.declared.records.Record.{Record}

@@ -1,15 +1,14 @@
 -- Each step of a handshake at an index leads from one phase to another.
-use Rattle.std.proofs.Common.{◌≡◌, ◌≢◌, ◌<◌, ◌⊎◌, inl, inr, ℕ, Bool, true, false, not, ◌||◌, cond, eqb, List, ◌∷◌, Option, None, Some, refl, sym, ap, ◌∙◌, subst, arith}
+use Rattle.std.proofs.Common.{◌≡◌, ◌≢◌, ◌<◌, inl, inr, ℕ, Bool, true, false, not, ◌||◌, cond, eqb, List, ◌∷◌, Option, None, Some, refl, sym, ap, ◌∙◌, arith}
 use Rattle.std.proofs.lemmas.Bool.{cases_eq, eq-eqb, ne_eqb}
 use Rattle.std.proofs.lemmas.Bool.Decides.{eqb_tells}
-use Rattle.std.specs.Int.Bits.{bit_or, or_zero_l}
+use Rattle.std.specs.Int.Bits.{or_zero_l}
 use Rattle.slot.specs.Pair.{Halves, unnamed}
-use Rattle.slot_table.specs.Armings.{Arming}
 use Rattle.slot_table.specs.declared.discipline.Part.{Part}
 use Rattle.slot_table.specs.declared.discipline.Part.TheVariants.{Inserted, Named, Untouched, Hit, Cleared, Taken}
 use Rattle.slot_table.specs.Meetings.{Meeting}
 use Rattle.slot_table.proofs.Phases.{View, Phase, Fresh, Watching, FreshTaken, NamedTaken, NamedTold, HitTaken, HitTold, HitCleared, Quiet, QuietCleared, after_clear, after_consume, after_hear, after_insert, after_name, after_remove, after_take, after_tell, named_pair, told_pair, word_in, pair_in, setter_part, finder_part, finder_in, ticket_in, told_in, StillStands, Hears, Idle, Open, Fits}
-use Rattle.slot_table.proofs.Updated.{updated, updated_here, updated_other, updated_same}
+use Rattle.slot_table.proofs.Updated.{updated, updated_here, updated_other}
 
 pub some_same : {X : Type 0} {a b : X} → Some a ≡ Some b → a ≡ b
 some_same e = cc

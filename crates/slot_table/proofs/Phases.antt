@@ -1,5 +1,5 @@
 -- What stands at one index, apart from lists: the words, each task's part, the last arming, and how far its handshake is.
-use Rattle.std.proofs.Common.{◌≡◌, ◌≢◌, ◌<◌, ◌⊎◌, ℕ, Bool, cond, eqb, not, ◌||◌, List, ◌∷◌, Option, None, Some}
+use Rattle.std.proofs.Common.{◌≡◌, ◌≢◌, ◌<◌, ◌⊎◌, ℕ, cond, eqb, not, ◌||◌, List, ◌∷◌, Option, None, Some}
 use Rattle.std.specs.Int.Bits.{bit_or}
 use Rattle.slot.specs.Pair.{Halves, unnamed}
 use Rattle.slot_table.specs.Armings.{Arming}

@@ -1,16 +1,16 @@
 -- Each step that is legal and allowed keeps what stands at every index.
-use Rattle.std.proofs.Common.{◌≡◌, ◌≢◌, ◌<◌, ◌⊎◌, inl, inr, ℕ, Bool, true, false, not, ◌||◌, cond, eqb, List, [], ◌∷◌, Option, None, Some, length, get_or, set, slice_index, slice_index_or, slice_set, refl, sym, ap, ◌∙◌, subst, arith}
-use Rattle.std.proofs.lemmas.Bool.{eq-eqb, eqb-true, ne_eqb, cases_eq}
+use Rattle.std.proofs.Common.{◌≡◌, ◌≢◌, ◌<◌, inl, inr, ℕ, Bool, true, false, not, ◌||◌, cond, eqb, List, ◌∷◌, Option, None, Some, length, get_or, slice_index, slice_index_or, slice_set, refl, sym}
+use Rattle.std.proofs.lemmas.Bool.{eq-eqb, eqb-true}
 use Rattle.std.proofs.lemmas.Bool.Decides.{eqb_tells}
 use Rattle.std.proofs.lemmas.List.{get_or-set_other, get_or-set_same, set-get_or}
 use Rattle.slot.specs.Pair.{Halves, unnamed}
-use Rattle.slot_table.specs.Armings.{Arming, armed_after, finder_at, last_arming, taken_after, told_after, told_at}
+use Rattle.slot_table.specs.Armings.{armed_after, finder_at, last_arming, taken_after, told_after, told_at}
 use Rattle.slot_table.specs.Discipline.{Allows, hand_after, heard, heard_after, in_hand, part_at}
 use Rattle.slot_table.specs.declared.discipline.InHand.{InHand}
 use Rattle.slot_table.specs.declared.discipline.Part.{Part}
 use Rattle.slot_table.specs.declared.discipline.Part.TheVariants.{Inserted, Named, Untouched, Hit, Cleared, Taken}
-use Rattle.slot_table.specs.Meetings.{Meeting, finders_told, heard_by, heard_from, meetings_at, setters_heard, told_by, told_to}
-use Rattle.slot_table.specs.Records.{Follows, records_of}
+use Rattle.slot_table.specs.Meetings.{Meeting, finders_told, heard_by, meetings_at, setters_heard, told_by, told_to}
+use Rattle.slot_table.specs.Records.{records_of}
 use Rattle.slot_table.specs.Roles.{pair_at, part_of, watch_word_at}
 use Rattle.slot_table.specs.StepLine.{Names, step_line}
 use Rattle.slot_table.specs.Words.{Words}
@@ -20,8 +20,8 @@ use Rattle.slot_table.specs.declared.step.Answer.TheVariants as answers
 use Rattle.slot_table.specs.declared.step.Step.{Step}
 use Rattle.slot_table.specs.declared.step.Step.TheVariants.{Load, Insert, TryConsume, Consume, Remove, PairLoad, Name, Tell, Clear, CellLoad, CellExchange, LockTry, LockStore, Clock}
 use Rattle.slot_table.proofs.Moves.{fits_clear, fits_consume, fits_hear, fits_hit_clear, fits_insert, fits_name, fits_remove, fits_take, fits_tell}
-use Rattle.slot_table.proofs.Phases.{View, Fits, after_clear, after_consume, after_hear, after_insert, after_name, after_remove, after_take, after_tell, named_pair, told_pair}
-use Rattle.slot_table.proofs.Updated.{updated, updated_same}
+use Rattle.slot_table.proofs.Phases.{Fits, after_clear, after_consume, after_hear, after_insert, after_name, after_remove, after_take, after_tell, named_pair, told_pair}
+use Rattle.slot_table.proofs.Updated.{updated_same}
 use Rattle.slot_table.proofs.Views.{fits_path, view, view_after}
 
 -- a step that changes nothing at an index

@@ -1,12 +1,10 @@
 -- What words and a list say of an index, and how one record changes it.
-use Rattle.std.proofs.Common.{◌≡◌, ◌≢◌, ◌<◌, ◌⊎◌, inl, inr, ℕ, Bool, true, false, cond, eqb, List, [], ◌∷◌, Option, None, Some, refl, sym, ap, ◌∙◌, subst}
+use Rattle.std.proofs.Common.{◌≡◌, ◌≢◌, ◌⊎◌, inl, inr, ℕ, true, false, eqb, List, ◌∷◌, refl, sym, ap, subst}
 use Rattle.std.proofs.lemmas.Bool.Decides.{eqb_tells}
 use mathlib.Core.Path.{fun_ext}
-use Rattle.slot.specs.Pair.{Halves}
-use Rattle.slot_table.specs.Armings.{Arming, armed_after, finder_at, last_arming, taken_after, told_after, told_at}
+use Rattle.slot_table.specs.Armings.{armed_after, finder_at, last_arming, taken_after, told_after, told_at}
 use Rattle.slot_table.specs.Discipline.{hand_after, heard, heard_after, in_hand, part_at}
-use Rattle.slot_table.specs.declared.discipline.Part.{Part}
-use Rattle.slot_table.specs.Meetings.{Meeting, finders_told, heard_by, meetings_at, setters_heard, told_by}
+use Rattle.slot_table.specs.Meetings.{finders_told, heard_by, meetings_at, setters_heard, told_by}
 use Rattle.slot_table.specs.Records.{records_of}
 use Rattle.slot_table.specs.Roles.{pair_at, part_of, watch_word_at}
 use Rattle.slot_table.specs.Words.{Words}

@@ -1,4 +1,5 @@
-use Rattle.std.specs.Prelude.{◌≡◌, ◌==◌, ℕ, true, List, [], ◌∷◌, Option, None, Some, if◌then◌else◌}
+use Rattle.std.specs.Prelude.{◌≡◌, ◌==◌, ℕ, true, List, [], ◌∷◌, Option, None, Some, length, if◌then◌else◌}
+use Rattle.std.specs.List.{cons_option}
 use Rattle.slot_table.specs.declared.records.Record.{Record}
 use Rattle.slot_table.specs.declared.step.Answer.{Answer}
 use Rattle.slot_table.specs.declared.step.Answer.TheVariants as answers
@@ -52,3 +53,33 @@ MeetsAnew step answer earlier = Unit {0}
 abbrev pub MeetOnce : List Record → Type 0
 MeetOnce [] = Unit {0}
 MeetOnce (latest ∷ earlier) = MeetOnce earlier × MeetsAnew latest.step latest.answer earlier
+
+-- an arming's number in a list: how many records stood before it
+abbrev pub place_after : ℕ → Step → Answer → ℕ → Option ℕ → Option ℕ
+place_after index (Insert at word) (answers.Flag true) number before = if at == index then Some number else before
+place_after index step answer number before = before
+
+-- the number of the last arming at an index
+abbrev pub last_place : ℕ → List Record → Option ℕ
+last_place index [] = None
+last_place index (latest ∷ earlier) = place_after index latest.step latest.answer (length earlier) (last_place index earlier)
+
+-- a taking is of the last arming at its index
+abbrev pub with_taken : Step → Answer → List Record → List ℕ → List ℕ
+with_taken (TryConsume index word) (answers.Flag true) earlier before = cons_option (last_place index earlier) before
+with_taken step answer earlier before = before
+
+-- the numbers of the armings of all takings, the latest first
+abbrev pub armings_taken : List Record → List ℕ
+armings_taken [] = []
+armings_taken (latest ∷ earlier) = with_taken latest.step latest.answer earlier (armings_taken earlier)
+
+-- so is a tell
+abbrev pub with_told : Step → List Record → List ℕ → List ℕ
+with_told (Tell index ticket) earlier before = cons_option (last_place index earlier) before
+with_told step earlier before = before
+
+-- the numbers of the armings of all tells, the latest first
+abbrev pub armings_told : List Record → List ℕ
+armings_told [] = []
+armings_told (latest ∷ earlier) = with_told latest.step earlier (armings_told earlier)

@@ -1,7 +1,7 @@
 use Rattle.std.specs.Prelude.{◌≡◌, ◌≢◌, ◌<◌, ◌⊎◌, ℕ, List, Option, None, Some, slice_index, slice_index_or}
 use Rattle.slot.specs.Pair.{Halves, unnamed}
 use Rattle.slot.specs.declared.slot.TheConstants.{CONSUMED, EMPTY}
-use Rattle.slot_table.specs.Armings.{Arming, finder_at, last_arming, told_at}
+use Rattle.slot_table.specs.Armings.{finder_at, last_arming, told_at}
 use Rattle.slot_table.specs.Discipline.{in_hand, part_at}
 use Rattle.slot_table.specs.declared.discipline.Part.{Part}
 use Rattle.slot_table.specs.declared.discipline.Part.TheVariants.{Inserted, Named, Untouched, Hit, Cleared, Taken}

@@ -1,9 +1,9 @@
 //! What is true of every list of steps. Each law speaks of definitions alone, of any list that is legal
 //! from the words of a new board and whose tasks all keep the discipline, and its function does nothing.
 
-ghost use Rattle.std.specs.Prelude.{◌≡◌, ℕ, List, Some};
+ghost use Rattle.std.specs.Prelude.{◌≡◌, ◌≢◌, ℕ, List, AllPairs, Some};
 ghost use Rattle.std.specs.List.Sorted.{IsPermutation};
-ghost use Rattle.slot_table.specs.Armings.{MeetOnce};
+ghost use Rattle.slot_table.specs.Armings.{MeetOnce, armings_taken, armings_told};
 ghost use Rattle.slot_table.specs.Discipline.{AllAreFinished, AllKeepDiscipline};
 ghost use Rattle.slot_table.specs.Meetings.{finders_told, meetings_at, setters_heard};
 ghost use Rattle.slot_table.specs.Records.{Legal, words_after};
@@ -26,10 +26,15 @@ pub fn one_part_at_a_time()
         → part_of task i records ≡ Some here → part_of task j records ≡ Some there → i ≡ j }
 {}
 
-/// Law: no two takings have the same arming, and no two tells.
+/// Law: each taking is of the last arming at its index, which nobody took before, and each tell is for one
+/// that was not told of before. So the armings of all takings are different, and those of all tells.
 pub fn armings_are_met_once()
-    ensures { (slots locks : ℕ) (cells : List ℕ) (records : List Record) → Legal (words_at_first slots locks cells) records → AllKeepDiscipline records
+    ensures once { (slots locks : ℕ) (cells : List ℕ) (records : List Record) → Legal (words_at_first slots locks cells) records → AllKeepDiscipline records
         → MeetOnce records }
+    ensures taken { (slots locks : ℕ) (cells : List ℕ) (records : List Record) → Legal (words_at_first slots locks cells) records → AllKeepDiscipline records
+        → AllPairs ◌≢◌ (armings_taken records) }
+    ensures told { (slots locks : ℕ) (cells : List ℕ) (records : List Record) → Legal (words_at_first slots locks cells) records → AllKeepDiscipline records
+        → AllPairs ◌≢◌ (armings_told records) }
 {}
 
 /// Law: where no check is unfinished, the pairs of halves that setters heard at an index are those that

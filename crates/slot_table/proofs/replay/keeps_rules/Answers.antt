@@ -1,4 +1,4 @@
-use Rattle.std.proofs.Common.{◌≡◌, ◌↔◌, IsTrue, Bool, false, true, get_or, reverse, take, refl, sym, subst}
+use Rattle.std.proofs.Common.{◌≡◌, ◌↔◌, IsTrue, get_or, reverse, take}
 use Rattle.std.proofs.lemmas.Bool.{false≢true}
 use Rattle.slot_table.specs.Discipline.{Allows}
 use Rattle.slot_table.specs.Records.{Follows, records_of}
