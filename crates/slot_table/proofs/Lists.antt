@@ -74,7 +74,7 @@ bystander finder task word apart = rw (ne_eqb finder task (λ e. apart (sym e)))
 -- the row of the table in which an open arming stands
 row : (index : ℕ) (words : Words) (records : List Record) (phase : phases.Phase) → Open index phase (view words records index) → Stands words records index
 row index words records phases.Fresh h = Watched (record { setter = h.setter; word = h.word; is = h.word_is; above = h.above; armed = h.arming; stands = inl (h.sets, h.pair_is); untaken = h.finder; alone = h.others })
-row index words records (phases.Watching ticket) h = Watched (record { setter = h.setter; word = h.word; is = h.word_is; above = h.above; armed = h.arming; stands = inr (ticket, h.sets, h.pair_is); untaken = h.finder; alone = h.others })
+row index words records (phases.Watching ticket) h = Watched (record { setter = h.setter; word = h.word; is = h.word_is; above = h.above; armed = h.arming; stands = inr (ticket, h.sets, h.pair_is, h.owned); untaken = h.finder; alone = h.others })
 row index words records (phases.FreshTaken finder) h = TakenThere (record {
   setter = h.setter;
   finder = finder;
@@ -94,7 +94,7 @@ row index words records (phases.NamedTaken finder ticket) h = TakenThere (record
   two = h.two finder refl;
   armed = h.arming;
   taken = h.finder;
-  stands = inl (record { finds = h.others finder (h.two finder refl) ∙ taker finder h.word; sets = inr (inl (ticket, h.sets)); half = ap (λ (both : Halves). both.finder) h.pair_is; telling = h.ticket });
+  stands = inl (record { finds = h.others finder (h.two finder refl) ∙ taker finder h.word; sets = inr (inl (ticket, h.sets, h.owned)); half = ap (λ (both : Halves). both.finder) h.pair_is; telling = h.ticket });
   alone = λ task apart other. h.others task apart ∙ bystander finder task h.word other;
 })
 row index words records (phases.NamedTold finder ticket telling) h = TakenThere (record {
@@ -105,7 +105,7 @@ row index words records (phases.NamedTold finder ticket telling) h = TakenThere 
   two = h.two finder refl;
   armed = h.arming;
   taken = h.finder;
-  stands = inr (record { ticket = telling; telling = h.ticket; finds = h.others finder (h.two finder refl); sets = inl (inl (ticket, h.sets), ap (λ (both : Halves). both.finder) h.pair_is) });
+  stands = inr (record { ticket = telling; own = h.owned.1; telling = h.ticket; finds = h.others finder (h.two finder refl); sets = inl (inl (ticket, h.sets, h.owned.0), ap (λ (both : Halves). both.finder) h.pair_is) });
   alone = λ task apart other. h.others task apart;
 })
 row index words records (phases.HitTaken finder ticket) h = TakenThere (record {
@@ -127,7 +127,7 @@ row index words records (phases.HitTold finder ticket telling) h = TakenThere (r
   two = h.two finder refl;
   armed = h.arming;
   taken = h.finder;
-  stands = inr (record { ticket = telling; telling = h.ticket; finds = h.others finder (h.two finder refl); sets = inl (inr h.sets, ap (λ (both : Halves). both.finder) h.pair_is) });
+  stands = inr (record { ticket = telling; own = h.owned.1; telling = h.ticket; finds = h.others finder (h.two finder refl); sets = inl (inr h.sets, ap (λ (both : Halves). both.finder) h.pair_is) });
   alone = λ task apart other. h.others task apart;
 })
 row index words records (phases.HitCleared finder telling) h = TakenThere (record {
@@ -138,7 +138,7 @@ row index words records (phases.HitCleared finder telling) h = TakenThere (recor
   two = h.two finder refl;
   armed = h.arming;
   taken = h.finder;
-  stands = inr (record { ticket = telling; telling = h.ticket; finds = h.others finder (h.two finder refl); sets = inr (h.sets, h.pair_is) });
+  stands = inr (record { ticket = telling; own = h.owned; telling = h.ticket; finds = h.others finder (h.two finder refl); sets = inr (h.sets, h.pair_is) });
   alone = λ task apart other. h.others task apart;
 })
 row index words records (phases.Quiet ticket) h = Quiet (record { setter = h.setter; word = h.word; is = h.word_is; armed = h.arming; stands = inl h.sets; untaken = h.finder; alone = h.others })

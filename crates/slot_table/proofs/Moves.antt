@@ -4,10 +4,11 @@ use Rattle.std.proofs.lemmas.Bool.{cases_eq, eq-eqb, ne_eqb}
 use Rattle.std.proofs.lemmas.Bool.Decides.{eqb_tells}
 use Rattle.std.specs.Int.Bits.{or_zero_l}
 use Rattle.slot.specs.Pair.{Halves, unnamed}
+use Rattle.slot_table.specs.Discipline.{IsOwnTicket}
 use Rattle.slot_table.specs.declared.discipline.Part.{Part}
 use Rattle.slot_table.specs.declared.discipline.Part.TheVariants.{Inserted, Named, Untouched, Hit, Cleared, Taken}
 use Rattle.slot_table.specs.Meetings.{Meeting}
-use Rattle.slot_table.proofs.Phases.{View, Phase, Fresh, Watching, FreshTaken, NamedTaken, NamedTold, HitTaken, HitTold, HitCleared, Quiet, QuietCleared, after_clear, after_consume, after_hear, after_insert, after_name, after_remove, after_take, after_tell, named_pair, told_pair, word_in, pair_in, setter_part, finder_part, finder_in, ticket_in, told_in, StillStands, Hears, Idle, Open, Fits}
+use Rattle.slot_table.proofs.Phases.{View, Phase, Fresh, Watching, FreshTaken, NamedTaken, NamedTold, HitTaken, HitTold, HitCleared, Quiet, QuietCleared, after_clear, after_consume, after_hear, after_insert, after_name, after_remove, after_take, after_tell, named_pair, told_pair, word_in, pair_in, setter_part, finder_part, finder_in, ticket_in, told_in, owned_in, StillStands, Hears, Idle, Open, Fits}
 use Rattle.slot_table.proofs.Updated.{updated, updated_here, updated_other}
 
 pub some_same : {X : Type 0} {a b : X} → Some a ≡ Some b → a ≡ b
@@ -56,8 +57,8 @@ hears_reset part hears old new task its fits kept other theirs both has heard =
     ]
 
 -- the setter's step leads to another phase with the same finder
-setter_moves : (index : ℕ) (phase next : Phase) (v : View) (h : Open index phase v) (word : ℕ) (pair : Halves) (heard : List Meeting) → finder_in next ≡ finder_in phase → ticket_in next ≡ ticket_in phase → ((task : ℕ) → finder_part next h.word task ≡ finder_part phase h.word task) → word ≡ word_in next h.word → pair ≡ pair_in next → v.told ≡ told_in index next heard → Open index next (record v { word = word; pair = pair; part = updated v.part h.setter (Some (setter_part next h.word)); hears = updated v.hears h.setter None; heard = heard })
-setter_moves index phase next v h word pair heard same_finder same_ticket same_part word_is pair_is told = record {
+setter_moves : (index : ℕ) (phase next : Phase) (v : View) (h : Open index phase v) (word : ℕ) (pair : Halves) (heard : List Meeting) → finder_in next ≡ finder_in phase → ticket_in next ≡ ticket_in phase → ((task : ℕ) → finder_part next h.word task ≡ finder_part phase h.word task) → word ≡ word_in next h.word → pair ≡ pair_in next → v.told ≡ told_in index next heard → owned_in next h.setter → Open index next (record v { word = word; pair = pair; part = updated v.part h.setter (Some (setter_part next h.word)); hears = updated v.hears h.setter None; heard = heard })
+setter_moves index phase next v h word pair heard same_finder same_ticket same_part word_is pair_is told owned = record {
   setter = h.setter;
   word = h.word;
   above = h.above;
@@ -71,6 +72,7 @@ setter_moves index phase next v h word pair heard same_finder same_ticket same_p
   ticket = h.ticket ∙ sym same_ticket;
   own_half = λ both heard_is. let none = updated_here v.hears h.setter None in absurd (cc);
   told = told;
+  owned = owned;
 }
 
 -- a watchpoint is inserted
@@ -93,6 +95,7 @@ fits_insert index v task word (hears, inl idle) empty above = (
       ticket = refl;
       own_half = λ both heard. let none = updated_here v.hears task None in absurd (cc);
       told = idle.told;
+      owned = tt;
     },
   ),
 )
@@ -112,17 +115,17 @@ unnamed_yet index phase v h word e = absurd (cc)
 pair_named : (pair : Halves) (ticket : ℕ) → pair ≡ unnamed → named_pair pair ticket ≡ record { setter = ticket; finder = 0 }
 pair_named pair ticket e = rw (e, or_zero_l ticket) refl
 
-name_moves : (index : ℕ) (phase : Phase) (v : View) (h : Open index phase v) (word ticket : ℕ) → setter_part phase h.word ≡ Inserted word → (next : Phase) × Open index next (after_name v h.setter ticket)
-name_moves index Fresh v h word ticket e = (Watching ticket, setter_moves index Fresh (Watching ticket) v h v.word (named_pair v.pair ticket) v.heard refl refl (λ task. refl) h.word_is (pair_named v.pair ticket h.pair_is) h.told)
-name_moves index (FreshTaken finder) v h word ticket e = (NamedTaken finder ticket, setter_moves index (FreshTaken finder) (NamedTaken finder ticket) v h v.word (named_pair v.pair ticket) v.heard refl refl (λ task. refl) h.word_is (pair_named v.pair ticket h.pair_is) h.told)
-name_moves index phase v h word ticket e = absurd (cc)
+name_moves : (index : ℕ) (phase : Phase) (v : View) (h : Open index phase v) (word ticket : ℕ) → setter_part phase h.word ≡ Inserted word → IsOwnTicket h.setter ticket → (next : Phase) × Open index next (after_name v h.setter ticket)
+name_moves index Fresh v h word ticket e own = (Watching ticket, setter_moves index Fresh (Watching ticket) v h v.word (named_pair v.pair ticket) v.heard refl refl (λ task. refl) h.word_is (pair_named v.pair ticket h.pair_is) h.told own)
+name_moves index (FreshTaken finder) v h word ticket e own = (NamedTaken finder ticket, setter_moves index (FreshTaken finder) (NamedTaken finder ticket) v h v.word (named_pair v.pair ticket) v.heard refl refl (λ task. refl) h.word_is (pair_named v.pair ticket h.pair_is) h.told own)
+name_moves index phase v h word ticket e own = absurd (cc)
 
-pub fits_name : (index : ℕ) (v : View) (task word ticket : ℕ) → Fits index v → v.part task ≡ Some (Inserted word) → Fits index (after_name v task ticket)
-fits_name index v task word ticket (hears, inl idle) has = let none = idle.nobody task in absurd (cc)
-fits_name index v task word ticket (hears, inr (phase, h)) has =
+pub fits_name : (index : ℕ) (v : View) (task word ticket : ℕ) → Fits index v → v.part task ≡ Some (Inserted word) → IsOwnTicket task ticket → Fits index (after_name v task ticket)
+fits_name index v task word ticket (hears, inl idle) has own = let none = idle.nobody task in absurd (cc)
+fits_name index v task word ticket (hears, inr (phase, h)) has own =
     let it = is_setter index phase v h task (Inserted word) has (λ other e. cc) in
     let empty : v.pair.setter ≡ 0 = ap (λ (both : Halves). both.setter) (unnamed_yet index phase v h word it.1) in
-    rw it.0 (hears_reset v.part v.hears v.pair (named_pair v.pair ticket) h.setter (Some (Named ticket)) hears (λ other theirs both apart has stands. (λ above. absurd (omega (arith, stands.0 above, empty)), stands.1)), inr (name_moves index phase v h word ticket it.1))
+    rw it.0 (hears_reset v.part v.hears v.pair (named_pair v.pair ticket) h.setter (Some (Named ticket)) hears (λ other theirs both apart has stands. (λ above. absurd (omega (arith, stands.0 above, empty)), stands.1)), inr (name_moves index phase v h word ticket it.1 (rw it.0 at own)))
 
 -- the setter consumes
 untouched_if : (word : ℕ) → 1 < word → cond (not (eqb word 0 || eqb word 1)) Untouched Hit ≡ Untouched
@@ -135,9 +138,9 @@ hit_if : (word : ℕ) → word ≡ 1 → cond (not (eqb word 0 || eqb word 1)) U
 hit_if word e = rw e refl
 
 consume_moves : (index : ℕ) (phase : Phase) (v : View) (h : Open index phase v) (ticket : ℕ) → setter_part phase h.word ≡ Named ticket → (next : Phase) × Open index next (after_consume v h.setter)
-consume_moves index (Watching named) v h ticket e = (Quiet named, rw (untouched_if v.word (omega (arith, h.word_is, h.above))) (setter_moves index (Watching named) (Quiet named) v h 1 v.pair v.heard refl refl (λ task. refl) refl h.pair_is h.told))
-consume_moves index (NamedTaken finder named) v h ticket e = (HitTaken finder named, rw (hit_if v.word h.word_is) (setter_moves index (NamedTaken finder named) (HitTaken finder named) v h 1 v.pair v.heard refl refl (λ task. refl) refl h.pair_is h.told))
-consume_moves index (NamedTold finder named telling) v h ticket e = (HitTold finder named telling, rw (hit_if v.word h.word_is) (setter_moves index (NamedTold finder named telling) (HitTold finder named telling) v h 1 v.pair v.heard refl refl (λ task. refl) refl h.pair_is h.told))
+consume_moves index (Watching named) v h ticket e = (Quiet named, rw (untouched_if v.word (omega (arith, h.word_is, h.above))) (setter_moves index (Watching named) (Quiet named) v h 1 v.pair v.heard refl refl (λ task. refl) refl h.pair_is h.told h.owned))
+consume_moves index (NamedTaken finder named) v h ticket e = (HitTaken finder named, rw (hit_if v.word h.word_is) (setter_moves index (NamedTaken finder named) (HitTaken finder named) v h 1 v.pair v.heard refl refl (λ task. refl) refl h.pair_is h.told h.owned))
+consume_moves index (NamedTold finder named telling) v h ticket e = (HitTold finder named telling, rw (hit_if v.word h.word_is) (setter_moves index (NamedTold finder named telling) (HitTold finder named telling) v h 1 v.pair v.heard refl refl (λ task. refl) refl h.pair_is h.told h.owned))
 consume_moves index phase v h ticket e = absurd (cc)
 
 pub fits_consume : (index : ℕ) (v : View) (task ticket : ℕ) → Fits index v → v.part task ≡ Some (Named ticket) → Fits index (after_consume v task)
@@ -148,7 +151,7 @@ fits_consume index v task ticket (hears, inr (phase, h)) has =
 
 -- the setter clears a pair whose word nobody had hit
 clear_moves : (index : ℕ) (phase : Phase) (v : View) (h : Open index phase v) → setter_part phase h.word ≡ Untouched → (next : Phase) × Open index next (after_clear v h.setter v.heard)
-clear_moves index (Quiet ticket) v h e = (QuietCleared, setter_moves index (Quiet ticket) QuietCleared v h v.word unnamed v.heard refl refl (λ task. refl) h.word_is refl h.told)
+clear_moves index (Quiet ticket) v h e = (QuietCleared, setter_moves index (Quiet ticket) QuietCleared v h v.word unnamed v.heard refl refl (λ task. refl) h.word_is refl h.told tt)
 clear_moves index phase v h e = absurd (cc)
 
 -- then no other task has a part
@@ -174,7 +177,7 @@ hit_moves index (HitTold finder ticket telling) v h both e heard stands above =
     let theirs : v.pair.finder ≡ telling = ap (λ (pair : Halves). pair.finder) h.pair_is in
     let one : both.setter ≡ ticket = h.own_half both heard ∙ its in
     let other : both.finder ≡ telling = sym (stands.1 above) ∙ theirs in
-    (λ task. refl, HitCleared finder telling, setter_moves index (HitTold finder ticket telling) (HitCleared finder telling) v h v.word unnamed (record { index = index; setter = both.setter; finder = both.finder } ∷ v.heard) refl refl (λ task. refl) h.word_is refl (rw (one, other) h.told))
+    (λ task. refl, HitCleared finder telling, setter_moves index (HitTold finder ticket telling) (HitCleared finder telling) v h v.word unnamed (record { index = index; setter = both.setter; finder = both.finder } ∷ v.heard) refl refl (λ task. refl) h.word_is refl (rw (one, other) h.told) h.owned.1)
 hit_moves index phase v h both e heard stands above = absurd (cc)
 
 pub fits_hit_clear : (index : ℕ) (v : View) (task : ℕ) (both : Halves) → Fits index v → v.part task ≡ Some Hit → v.hears task ≡ Some both → 0 < both.finder → Fits index (after_clear v task (record { index = index; setter = both.setter; finder = both.finder } ∷ v.heard))
@@ -213,8 +216,8 @@ fits_remove index v task (hears, inr (phase, h)) has =
     rw it.0 (hears_reset v.part v.hears v.pair v.pair h.setter None hears (λ other theirs both apart its stands. stands), inl (remove_moves index phase v h it.1))
 
 -- a finder's step leads to another phase with the same setter
-finder_moves : (index : ℕ) (phase next : Phase) (v : View) (h : Open index phase v) (task : ℕ) (its : Option Part) (word : ℕ) (pair : Halves) (finder ticket : Option ℕ) (told : List Meeting) → task ≢ h.setter → finder ≡ finder_in next → finder_in next ≡ Some task → ticket ≡ ticket_in next → setter_part next h.word ≡ setter_part phase h.word → its ≡ finder_part next h.word task → ((other : ℕ) → other ≢ task → finder_part next h.word other ≡ finder_part phase h.word other) → word ≡ word_in next h.word → pair ≡ pair_in next → pair.setter ≡ v.pair.setter → told ≡ told_in index next v.heard → Open index next (record v { word = word; pair = pair; part = updated v.part task its; hears = updated v.hears task None; finder = finder; ticket = ticket; told = told })
-finder_moves index phase next v h task its word pair finder ticket told apart finder_is finds ticket_is same_part its_is same_others word_is pair_is same_half told_is =
+finder_moves : (index : ℕ) (phase next : Phase) (v : View) (h : Open index phase v) (task : ℕ) (its : Option Part) (word : ℕ) (pair : Halves) (finder ticket : Option ℕ) (told : List Meeting) → task ≢ h.setter → finder ≡ finder_in next → finder_in next ≡ Some task → ticket ≡ ticket_in next → setter_part next h.word ≡ setter_part phase h.word → its ≡ finder_part next h.word task → ((other : ℕ) → other ≢ task → finder_part next h.word other ≡ finder_part phase h.word other) → word ≡ word_in next h.word → pair ≡ pair_in next → pair.setter ≡ v.pair.setter → told ≡ told_in index next v.heard → owned_in next h.setter → Open index next (record v { word = word; pair = pair; part = updated v.part task its; hears = updated v.hears task None; finder = finder; ticket = ticket; told = told })
+finder_moves index phase next v h task its word pair finder ticket told apart finder_is finds ticket_is same_part its_is same_others word_is pair_is same_half told_is owned =
     let setter_apart : h.setter ≢ task = λ e. apart (sym e) in
     record {
       setter = h.setter;
@@ -233,6 +236,7 @@ finder_moves index phase next v h task its word pair finder ticket told apart fi
       ticket = ticket_is;
       own_half = λ both heard. let q = updated_other v.hears task h.setter None setter_apart in h.own_half both (sym q ∙ heard) ∙ sym same_half;
       told = told_is;
+      owned = owned;
     }
 
 taken_by : (task word taken : ℕ) → word ≡ taken → Some (Taken word) ≡ cond (eqb task task) (Some (Taken taken)) None
@@ -242,10 +246,10 @@ taken_by task word taken same = rw (eq-eqb task task refl, same) refl
 take_moves : (index : ℕ) (phase : Phase) (v : View) (h : Open index phase v) (task word : ℕ) → task ≢ h.setter → v.word ≡ word → 1 < word → (next : Phase) × Open index next (after_take v task word)
 take_moves index Fresh v h task word apart is above =
     let same : word ≡ h.word = sym is ∙ h.word_is in
-    (FreshTaken task, finder_moves index Fresh (FreshTaken task) v h task (Some (Taken word)) 1 v.pair (Some task) v.ticket v.told apart refl refl h.ticket refl (taken_by task word h.word same) (λ other differs. rw (ne_eqb task other (λ e. differs (sym e))) refl) refl h.pair_is refl h.told)
+    (FreshTaken task, finder_moves index Fresh (FreshTaken task) v h task (Some (Taken word)) 1 v.pair (Some task) v.ticket v.told apart refl refl h.ticket refl (taken_by task word h.word same) (λ other differs. rw (ne_eqb task other (λ e. differs (sym e))) refl) refl h.pair_is refl h.told tt)
 take_moves index (Watching ticket) v h task word apart is above =
     let same : word ≡ h.word = sym is ∙ h.word_is in
-    (NamedTaken task ticket, finder_moves index (Watching ticket) (NamedTaken task ticket) v h task (Some (Taken word)) 1 v.pair (Some task) v.ticket v.told apart refl refl h.ticket refl (taken_by task word h.word same) (λ other differs. rw (ne_eqb task other (λ e. differs (sym e))) refl) refl h.pair_is refl h.told)
+    (NamedTaken task ticket, finder_moves index (Watching ticket) (NamedTaken task ticket) v h task (Some (Taken word)) 1 v.pair (Some task) v.ticket v.told apart refl refl h.ticket refl (taken_by task word h.word same) (λ other differs. rw (ne_eqb task other (λ e. differs (sym e))) refl) refl h.pair_is refl h.told h.owned)
 take_moves index phase v h task word apart is above = absurd (omega (arith, h.word_is))
 
 pub fits_take : (index : ℕ) (v : View) (task word : ℕ) → Fits index v → v.part task ≡ None → v.word ≡ word → 1 < word → Fits index (after_take v task word)
@@ -267,24 +271,24 @@ pair_told pair named ticket e = rw (e, or_zero_l ticket) refl
 meets : (index named heard ticket : ℕ) (told before : List Meeting) → heard ≡ named → told ≡ before → record { index = index; setter = heard; finder = ticket } ∷ told ≡ record { index = index; setter = named; finder = ticket } ∷ before
 meets index named heard ticket told before same all = rw (same, all) refl
 
-tell_moves : (index : ℕ) (phase : Phase) (v : View) (h : Open index phase v) (task word ticket : ℕ) (both : Halves) → task ≢ h.setter → finder_part phase h.word task ≡ Some (Taken word) → StillStands both v.pair → 0 < both.setter → (v.pair.finder ≡ 0) × (next : Phase) × Open index next (after_tell v task ticket (record { index = index; setter = both.setter; finder = ticket } ∷ v.told))
-tell_moves index (FreshTaken finder) v h task word ticket both apart takes stands above =
+tell_moves : (index : ℕ) (phase : Phase) (v : View) (h : Open index phase v) (task word ticket : ℕ) (both : Halves) → task ≢ h.setter → finder_part phase h.word task ≡ Some (Taken word) → StillStands both v.pair → 0 < both.setter → IsOwnTicket task ticket → (v.pair.finder ≡ 0) × (next : Phase) × Open index next (after_tell v task ticket (record { index = index; setter = both.setter; finder = ticket } ∷ v.told))
+tell_moves index (FreshTaken finder) v h task word ticket both apart takes stands above own =
     let half : v.pair.setter ≡ 0 = ap (λ (pair : Halves). pair.setter) h.pair_is in absurd (omega (arith, stands.0 above))
-tell_moves index (NamedTaken finder named) v h task word ticket both apart takes stands above =
+tell_moves index (NamedTaken finder named) v h task word ticket both apart takes stands above own =
     let half : v.pair.setter ≡ named = ap (λ (pair : Halves). pair.setter) h.pair_is in
     let is = taker_is finder h.word task word takes in
-    (ap (λ (pair : Halves). pair.finder) h.pair_is, NamedTold finder named ticket, finder_moves index (NamedTaken finder named) (NamedTold finder named ticket) v h task None v.word (told_pair v.pair ticket) v.finder (Some ticket) (record { index = index; setter = both.setter; finder = ticket } ∷ v.told) apart h.finder (ap (λ (n : ℕ). Some n) is) refl refl refl (λ other differs. nobody_else finder h.word task other is differs) h.word_is (pair_told v.pair named ticket h.pair_is) refl (meets index named both.setter ticket v.told v.heard (sym (stands.0 above) ∙ half) h.told))
-tell_moves index (HitTaken finder named) v h task word ticket both apart takes stands above =
+    (ap (λ (pair : Halves). pair.finder) h.pair_is, NamedTold finder named ticket, finder_moves index (NamedTaken finder named) (NamedTold finder named ticket) v h task None v.word (told_pair v.pair ticket) v.finder (Some ticket) (record { index = index; setter = both.setter; finder = ticket } ∷ v.told) apart h.finder (ap (λ (n : ℕ). Some n) is) refl refl refl (λ other differs. nobody_else finder h.word task other is differs) h.word_is (pair_told v.pair named ticket h.pair_is) refl (meets index named both.setter ticket v.told v.heard (sym (stands.0 above) ∙ half) h.told) (h.owned, rw is own))
+tell_moves index (HitTaken finder named) v h task word ticket both apart takes stands above own =
     let half : v.pair.setter ≡ named = ap (λ (pair : Halves). pair.setter) h.pair_is in
     let is = taker_is finder h.word task word takes in
-    (ap (λ (pair : Halves). pair.finder) h.pair_is, HitTold finder named ticket, finder_moves index (HitTaken finder named) (HitTold finder named ticket) v h task None v.word (told_pair v.pair ticket) v.finder (Some ticket) (record { index = index; setter = both.setter; finder = ticket } ∷ v.told) apart h.finder (ap (λ (n : ℕ). Some n) is) refl refl refl (λ other differs. nobody_else finder h.word task other is differs) h.word_is (pair_told v.pair named ticket h.pair_is) refl (meets index named both.setter ticket v.told v.heard (sym (stands.0 above) ∙ half) h.told))
-tell_moves index phase v h task word ticket both apart takes stands above = absurd (cc)
+    (ap (λ (pair : Halves). pair.finder) h.pair_is, HitTold finder named ticket, finder_moves index (HitTaken finder named) (HitTold finder named ticket) v h task None v.word (told_pair v.pair ticket) v.finder (Some ticket) (record { index = index; setter = both.setter; finder = ticket } ∷ v.told) apart h.finder (ap (λ (n : ℕ). Some n) is) refl refl refl (λ other differs. nobody_else finder h.word task other is differs) h.word_is (pair_told v.pair named ticket h.pair_is) refl (meets index named both.setter ticket v.told v.heard (sym (stands.0 above) ∙ half) h.told) (h.owned, rw is own))
+tell_moves index phase v h task word ticket both apart takes stands above own = absurd (cc)
 
-pub fits_tell : (index : ℕ) (v : View) (task word ticket : ℕ) (both : Halves) → Fits index v → v.part task ≡ Some (Taken word) → v.hears task ≡ Some both → 0 < both.setter → Fits index (after_tell v task ticket (record { index = index; setter = both.setter; finder = ticket } ∷ v.told))
-fits_tell index v task word ticket both (hears, inl idle) has heard above = let none = idle.nobody task in absurd (cc)
-fits_tell index v task word ticket both (hears, inr (phase, h)) has heard above =
+pub fits_tell : (index : ℕ) (v : View) (task word ticket : ℕ) (both : Halves) → Fits index v → v.part task ≡ Some (Taken word) → v.hears task ≡ Some both → 0 < both.setter → IsOwnTicket task ticket → Fits index (after_tell v task ticket (record { index = index; setter = both.setter; finder = ticket } ∷ v.told))
+fits_tell index v task word ticket both (hears, inl idle) has heard above own = let none = idle.nobody task in absurd (cc)
+fits_tell index v task word ticket both (hears, inr (phase, h)) has heard above own =
     let apart : task ≢ h.setter = λ e. setter_part-is phase h.word word (some_same (sym h.sets ∙ rw e at has)) in
-    let moves = tell_moves index phase v h task word ticket both apart (sym (h.others task apart) ∙ has) (hears task (Taken word) both has heard) above in
+    let moves = tell_moves index phase v h task word ticket both apart (sym (h.others task apart) ∙ has) (hears task (Taken word) both has heard) above own in
     (hears_reset v.part v.hears v.pair (told_pair v.pair ticket) task None hears (λ other theirs heard_by_other differs its stands. (stands.0, λ more. let empty = moves.0 in absurd (omega (arith, stands.1 more, empty)))), inr (moves.1, moves.2))
 
 -- a task hears the pair
@@ -317,6 +321,7 @@ hear_moves index phase v h task = record {
     | inr apart ↦ let q = updated_other v.hears task h.setter (Some v.pair) apart in h.own_half both (sym q ∙ heard)
   ];
   told = h.told;
+  owned = h.owned;
 }
 
 pub fits_hear : (index : ℕ) (v : View) (task : ℕ) → Fits index v → Fits index (after_hear v task)

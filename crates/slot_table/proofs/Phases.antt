@@ -3,6 +3,7 @@ use Rattle.std.proofs.Common.{◌≡◌, ◌≢◌, ◌<◌, ◌⊎◌, ℕ, con
 use Rattle.std.specs.Int.Bits.{bit_or}
 use Rattle.slot.specs.Pair.{Halves, unnamed}
 use Rattle.slot_table.specs.Armings.{Arming}
+use Rattle.slot_table.specs.Discipline.{IsOwnTicket}
 use Rattle.slot_table.specs.declared.discipline.Part.{Part}
 use Rattle.slot_table.specs.declared.discipline.Part.TheVariants.{Inserted, Named, Untouched, Hit, Cleared, Taken}
 use Rattle.slot_table.specs.Meetings.{Meeting}
@@ -92,6 +93,17 @@ told_in index (NamedTold finder ticket telling) heard = record { index = index; 
 told_in index (HitTold finder ticket telling) heard = record { index = index; setter = ticket; finder = telling } ∷ heard
 told_in index phase heard = heard
 
+-- the tickets that stand are their tasks' own
+abbrev pub owned_in : Phase → ℕ → Type 0
+owned_in (Watching ticket) setter = IsOwnTicket setter ticket
+owned_in (NamedTaken finder ticket) setter = IsOwnTicket setter ticket
+owned_in (NamedTold finder ticket telling) setter = IsOwnTicket setter ticket × IsOwnTicket finder telling
+owned_in (HitTaken finder ticket) setter = IsOwnTicket setter ticket
+owned_in (HitTold finder ticket telling) setter = IsOwnTicket setter ticket × IsOwnTicket finder telling
+owned_in (HitCleared finder telling) setter = IsOwnTicket finder telling
+owned_in (Quiet ticket) setter = IsOwnTicket setter ticket
+owned_in phase setter = Unit {0}
+
 -- a half that a task heard above 0 still stands
 abbrev pub StillStands : Halves → Halves → Type 0
 StillStands both pair = (0 < both.setter → pair.setter ≡ both.setter) × (0 < both.finder → pair.finder ≡ both.finder)
@@ -122,6 +134,7 @@ pub record Open (index : ℕ) (phase : Phase) (v : View) : Type 0 where
   pub ticket : v.ticket ≡ ticket_in phase
   pub own_half : (both : Halves) → v.hears setter ≡ Some both → both.setter ≡ v.pair.setter
   pub told : v.told ≡ told_in index phase v.heard
+  pub owned : owned_in phase setter
 
 -- what the view of an index always is
 abbrev pub Fits : ℕ → View → Type 0

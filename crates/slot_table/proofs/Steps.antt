@@ -5,7 +5,7 @@ use Rattle.std.proofs.lemmas.Bool.Decides.{eqb_tells}
 use Rattle.std.proofs.lemmas.List.{get_or-set_other, get_or-set_same, set-get_or}
 use Rattle.slot.specs.Pair.{Halves, unnamed}
 use Rattle.slot_table.specs.Armings.{armed_after, finder_at, last_arming, taken_after, told_after, told_at}
-use Rattle.slot_table.specs.Discipline.{Allows, hand_after, heard, heard_after, in_hand, part_at}
+use Rattle.slot_table.specs.Discipline.{Allows, IsOwnTicket, hand_after, heard, heard_after, in_hand, part_at}
 use Rattle.slot_table.specs.declared.discipline.InHand.{InHand}
 use Rattle.slot_table.specs.declared.discipline.Part.{Part}
 use Rattle.slot_table.specs.declared.discipline.Part.TheVariants.{Inserted, Named, Untouched, Hit, Cleared, Taken}
@@ -127,12 +127,12 @@ remove_step index at words earlier task within has fits = elim (eqb_tells at ind
 ]
 
 -- a name
-name_step : (index at ticket : ℕ) (words : Words) (earlier : List Record) (task word : ℕ) → at < length words.pair_words → in_hand (records_of task earlier) ≡ Some (record { index = at; part = Inserted word }) → Fits index (view words earlier index) → Fits index (view_after (step_line words (Name at ticket)).after earlier index task (Name at ticket) answers.Done)
-name_step index at ticket words earlier task word within has fits = elim (eqb_tells at index) [
+name_step : (index at ticket : ℕ) (words : Words) (earlier : List Record) (task word : ℕ) → at < length words.pair_words → in_hand (records_of task earlier) ≡ Some (record { index = at; part = Inserted word }) → IsOwnTicket task ticket → Fits index (view words earlier index) → Fits index (view_after (step_line words (Name at ticket)).after earlier index task (Name at ticket) answers.Done)
+name_step index at ticket words earlier task word within has own fits = elim (eqb_tells at index) [
   | inl same ↦ fits_path index (view_after (step_line words (Name at ticket)).after earlier index task (Name at ticket) answers.Done) (after_name (view words earlier index) task ticket)
       refl (rw same.1 (set_here words.pair_words index (named_pair (slice_index_or words.pair_words index unnamed) ticket) unnamed (rw same.1 at within)))
       (rw same.0 refl) (rw same.0 refl) refl refl refl refl refl
-      (fits_name index (view words earlier index) task word ticket fits (here_part index (in_hand (records_of task earlier)) (Inserted word) (rw same.1 at has)))
+      (fits_name index (view words earlier index) task word ticket fits (here_part index (in_hand (records_of task earlier)) (Inserted word) (rw same.1 at has)) own)
   | inr apart ↦ fits_still index words (step_line words (Name at ticket)).after earlier task (Name at ticket) answers.Done fits refl (set_apart words.pair_words at index (named_pair (slice_index_or words.pair_words at unnamed) ticket) unnamed apart.1)
       (rw apart.0 (sym (apart_part index at (in_hand (records_of task earlier)) (Inserted word) apart.0 has))) (rw apart.0 refl) refl refl refl refl refl
 ]
@@ -142,12 +142,12 @@ met_apart : (index at ticket : ℕ) (both : Option Halves) (before : List Meetin
 met_apart index at ticket (Some both) before apart = rw apart refl
 met_apart index at ticket None before apart = refl
 
-tell_step : (index at ticket : ℕ) (words : Words) (earlier : List Record) (task word : ℕ) (both : Halves) → at < length words.pair_words → in_hand (records_of task earlier) ≡ Some (record { index = at; part = Taken word }) → heard at (records_of task earlier) ≡ Some both → 0 < both.setter → Fits index (view words earlier index) → Fits index (view_after (step_line words (Tell at ticket)).after earlier index task (Tell at ticket) answers.Done)
-tell_step index at ticket words earlier task word both within has hears above fits = elim (eqb_tells at index) [
+tell_step : (index at ticket : ℕ) (words : Words) (earlier : List Record) (task word : ℕ) (both : Halves) → at < length words.pair_words → in_hand (records_of task earlier) ≡ Some (record { index = at; part = Taken word }) → heard at (records_of task earlier) ≡ Some both → 0 < both.setter → IsOwnTicket task ticket → Fits index (view words earlier index) → Fits index (view_after (step_line words (Tell at ticket)).after earlier index task (Tell at ticket) answers.Done)
+tell_step index at ticket words earlier task word both within has hears above own fits = elim (eqb_tells at index) [
   | inl same ↦ fits_path index (view_after (step_line words (Tell at ticket)).after earlier index task (Tell at ticket) answers.Done) (after_tell (view words earlier index) task ticket (record { index = index; setter = both.setter; finder = ticket } ∷ meetings_at index (finders_told earlier)))
       refl (rw same.1 (set_here words.pair_words index (told_pair (slice_index_or words.pair_words index unnamed) ticket) unnamed (rw same.1 at within)))
       refl (rw same.0 refl) refl refl (rw same.0 refl) (rw (hears, same.0, same.1) refl) refl
-      (fits_tell index (view words earlier index) task word ticket both fits (here_part index (in_hand (records_of task earlier)) (Taken word) (rw same.1 at has)) (rw same.1 at hears) above)
+      (fits_tell index (view words earlier index) task word ticket both fits (here_part index (in_hand (records_of task earlier)) (Taken word) (rw same.1 at has)) (rw same.1 at hears) above own)
   | inr apart ↦ fits_still index words (step_line words (Tell at ticket)).after earlier task (Tell at ticket) answers.Done fits refl (set_apart words.pair_words at index (told_pair (slice_index_or words.pair_words at unnamed) ticket) unnamed apart.1)
       (sym (apart_part index at (in_hand (records_of task earlier)) (Taken word) apart.0 has)) (rw apart.0 refl) refl refl (rw apart.0 refl) (met_apart index at ticket (heard at (records_of task earlier)) (finders_told earlier) apart.0) refl
 ]
@@ -186,8 +186,8 @@ fits_step index words earlier task (TryConsume at word) names allows fits = try_
 fits_step index words earlier task (Consume at) names allows fits = consume_step index at words earlier task allows.0 names allows.1 fits
 fits_step index words earlier task (Remove at) names allows fits = remove_step index at words earlier task names allows fits
 fits_step index words earlier task (PairLoad at) names allows fits = fits_pair_load index at words earlier task fits
-fits_step index words earlier task (Name at ticket) names allows fits = name_step index at ticket words earlier task allows.1 names allows.2 fits
-fits_step index words earlier task (Tell at ticket) names allows fits = tell_step index at ticket words earlier task allows.1.0 allows.2.0 names allows.1.1 allows.2.1 allows.2.2 fits
+fits_step index words earlier task (Name at ticket) names allows fits = name_step index at ticket words earlier task allows.1 names allows.2 allows.0 fits
+fits_step index words earlier task (Tell at ticket) names allows fits = tell_step index at ticket words earlier task allows.1.0 allows.2.0 names allows.1.1 allows.2.1 allows.2.2 allows.0 fits
 fits_step index words earlier task (Clear at) names (inl untouched) fits = clear_step index at words earlier task names untouched fits
 fits_step index words earlier task (Clear at) names (inr hit) fits = hit_clear_step index at words earlier task hit.1.0 names hit.0 hit.1.1 hit.1.2 fits
 fits_step index words earlier task (CellLoad cell) names allows fits =

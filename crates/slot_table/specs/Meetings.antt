@@ -20,6 +20,7 @@ abbrev pub told_to : ℕ → ℕ → Option Halves → List Meeting → List Mee
 told_to index ticket (Some both) before = record { index = index; setter = both.setter; finder = ticket } ∷ before
 told_to index ticket nothing before = before
 
+-- what finders told after one more step, of a task with these records
 abbrev pub told_by : Step → List Record → List Meeting → List Meeting
 told_by (Tell index ticket) own before = told_to index ticket (heard index own) before
 told_by step own before = before
@@ -34,6 +35,7 @@ abbrev pub heard_from : ℕ → Option Part → Option Halves → List Meeting �
 heard_from index (Some Hit) (Some both) before = record { index = index; setter = both.setter; finder = both.finder } ∷ before
 heard_from index part nothing before = before
 
+-- what setters heard after one more step, of a task with these records
 abbrev pub heard_by : Step → List Record → List Meeting → List Meeting
 heard_by (Clear index) own before = heard_from index (part_at index (in_hand own)) (heard index own) before
 heard_by step own before = before

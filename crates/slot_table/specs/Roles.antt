@@ -2,17 +2,18 @@ use Rattle.std.specs.Prelude.{◌≡◌, ◌≢◌, ◌<◌, ◌⊎◌, ℕ, Lis
 use Rattle.slot.specs.Pair.{Halves, unnamed}
 use Rattle.slot.specs.declared.slot.TheConstants.{CONSUMED, EMPTY}
 use Rattle.slot_table.specs.Armings.{finder_at, last_arming, told_at}
-use Rattle.slot_table.specs.Discipline.{in_hand, part_at}
+use Rattle.slot_table.specs.Discipline.{IsOwnTicket, in_hand, part_at}
 use Rattle.slot_table.specs.declared.discipline.Part.{Part}
 use Rattle.slot_table.specs.declared.discipline.Part.TheVariants.{Inserted, Named, Untouched, Hit, Cleared, Taken}
 use Rattle.slot_table.specs.Records.{records_of}
 use Rattle.slot_table.specs.Words.{Words}
 use Rattle.slot_table.specs.declared.records.Record.{Record}
 
--- the watch word and the pair at an index
+-- the watch word at an index
 abbrev pub watch_word_at : ℕ → Words → ℕ
 watch_word_at index words = slice_index words.watch_words index
 
+-- the pair at an index
 abbrev pub pair_at : ℕ → Words → Halves
 pair_at index words = slice_index_or words.pair_words index unnamed
 
@@ -33,23 +34,24 @@ pub record IsWatched (words : Words) (records : List Record) (index : ℕ) : Typ
   pub is : watch_word_at index words ≡ word
   pub above : CONSUMED < word
   pub armed : last_arming index records ≡ Some (record { setter = setter; word = word })
-  pub stands : ((part_of setter index records ≡ Some (Inserted word)) × (pair_at index words ≡ unnamed)) ⊎ ((ticket : ℕ) × (part_of setter index records ≡ Some (Named ticket)) × (pair_at index words ≡ record { setter = ticket; finder = 0 }))
+  pub stands : ((part_of setter index records ≡ Some (Inserted word)) × (pair_at index words ≡ unnamed)) ⊎ ((ticket : ℕ) × (part_of setter index records ≡ Some (Named ticket)) × (pair_at index words ≡ record { setter = ticket; finder = 0 }) × IsOwnTicket setter ticket)
   pub untaken : finder_at index records ≡ None
   pub alone : (task : ℕ) → task ≢ setter → part_of task index records ≡ None
 
 -- the finder has not told: its half is empty, and the setter has not cleared
 pub record IsUntold (words : Words) (records : List Record) (index setter finder word : ℕ) : Type 0 where
   pub finds : part_of finder index records ≡ Some (Taken word)
-  pub sets : (part_of setter index records ≡ Some (Inserted word)) ⊎ (((ticket : ℕ) × (part_of setter index records ≡ Some (Named ticket))) ⊎ (part_of setter index records ≡ Some Hit))
+  pub sets : (part_of setter index records ≡ Some (Inserted word)) ⊎ (((ticket : ℕ) × (part_of setter index records ≡ Some (Named ticket)) × IsOwnTicket setter ticket) ⊎ (part_of setter index records ≡ Some Hit))
   pub half : (pair_at index words).finder ≡ 0
   pub telling : told_at index records ≡ None
 
 -- the finder has told: its half is its ticket until the setter clears the pair
 pub record IsTold (words : Words) (records : List Record) (index setter finder : ℕ) : Type 0 where
   pub ticket : ℕ
+  pub own : IsOwnTicket finder ticket
   pub telling : told_at index records ≡ Some ticket
   pub finds : part_of finder index records ≡ None
-  pub sets : ((((named : ℕ) × (part_of setter index records ≡ Some (Named named))) ⊎ (part_of setter index records ≡ Some Hit)) × ((pair_at index words).finder ≡ ticket)) ⊎ ((part_of setter index records ≡ Some Cleared) × (pair_at index words ≡ unnamed))
+  pub sets : ((((named : ℕ) × (part_of setter index records ≡ Some (Named named)) × IsOwnTicket setter named) ⊎ (part_of setter index records ≡ Some Hit)) × ((pair_at index words).finder ≡ ticket)) ⊎ ((part_of setter index records ≡ Some Cleared) × (pair_at index words ≡ unnamed))
 
 -- watch word 1, taken: one setter, which has not removed, and one finder, which took this arming
 pub record IsTaken (words : Words) (records : List Record) (index : ℕ) : Type 0 where
