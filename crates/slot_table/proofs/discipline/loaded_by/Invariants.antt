@@ -1,0 +1,7 @@
+use Rattle.std.proofs.Common.{◌≡◌, reverse, take}
+use Rattle.slot_table.specs.Discipline.{last_load}
+use Rattle.slot_table.specs.Records.{records_of}
+use Rattle.slot_table.proofs.discipline.loaded_by.Given as goal
+
+abbrev pub invariant-loop-record : goal.invariant-loop-record
+invariant-loop-record l = l.word ≡ last_load l.index (records_of l.task (reverse (take l.record-index l.made)))

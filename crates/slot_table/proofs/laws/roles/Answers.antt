@@ -1,0 +1,5 @@
+use Rattle.slot_table.proofs.Lists.{stands_all}
+use Rattle.slot_table.proofs.laws.roles.Goals as goal
+
+pub returns : goal.returns
+returns c = stands_all

@@ -1,0 +1,21 @@
+use Rattle.std.specs.Prelude.{◌+◌, ℕ, List, replicate}
+use Rattle.slot.specs.declared.slot.TheConstants.{EMPTY}
+use Rattle.slot.specs.Pair.{Halves, unnamed}
+
+-- the words that the tasks share: a watch word and a pair word at each index, the cells of memory, the lock words, and the clock
+pub record Words : Type 0 where
+  pub watch_words : List ℕ
+  pub pair_words : List Halves
+  pub cells : List ℕ
+  pub locks : List ℕ
+  pub clock : ℕ
+
+-- no watchpoint is set up at any of the indices, two more than there are slots; the cells hold these values, the locks are free, and the clock stands at 0
+abbrev pub words_at_first : ℕ → ℕ → List ℕ → Words
+words_at_first slots locks cells = record {
+  watch_words = replicate (slots + 2) EMPTY;
+  pair_words = replicate (slots + 2) unnamed;
+  cells = cells;
+  locks = replicate locks 0;
+  clock = 0;
+}
