@@ -3,7 +3,7 @@ ghost use Rattle.access_types.specs.Access as spec;
 ghost use Rattle.watch_word.specs.declared.layout.Layout.{Layout};
 ghost use Rattle.watch_word.specs.Layout.{word_span};
 ghost use Rattle.watch_word.specs.Match.{Matches};
-ghost use Rattle.watch_word.specs.Word.{Encodable, IsOfAccess, IsWatchWord, Watches, WordOf, watch_of, word_of};
+ghost use Rattle.watch_word.specs.Word.{Encodable, IsOfAccess, IsWatchWord, Watches, WordOf, watch_of};
 
 use crate::layout::Layout;
 use access_types::Access;
@@ -118,8 +118,8 @@ pub fn matches(watch: &Watch, addr: u64, size: u64) -> bool
 /// Law: the word of an access that can be watched says its write flag, its size and its masked address.
 #[tactic(auto, unfolding(crate::specs::Word::word_of, crate::specs::Word::watch_in, crate::specs::Layout::masked))]
 pub fn words_read_back()
-    ensures { (layout : Layout) (a : spec.Access) →
-        Encodable a → Watches layout (word_of layout a) (watch_of layout a) }
+    ensures { (layout : Layout) (a : spec.Access) (word : ℕ) →
+        WordOf layout a word → Watches layout word (watch_of layout a) }
 {}
 
 /// Law: each word that says something is the word of an access that can be watched, and says it of that.
@@ -131,8 +131,8 @@ pub fn watches_are_of_accesses()
 /// has no bit above the layout's.
 #[tactic(auto, unfolding(crate::specs::Word::word_of, crate::specs::Layout::masked))]
 pub fn words_are_above_one()
-    ensures { (layout : Layout) (a : spec.Access) →
-        Encodable a → (1 < word_of layout a) × (word_of layout a < word_span layout) }
+    ensures { (layout : Layout) (a : spec.Access) (word : ℕ) →
+        WordOf layout a word → (1 < word) × (word < word_span layout) }
 {}
 
 #[cfg(test)]

@@ -8,7 +8,7 @@ use Rattle.access_types.specs.declared.kind.Operation.TheVariants.{Read, Write}
 use Rattle.watch_word.specs.declared.layout.Layout.{Layout}
 use Rattle.watch_word.specs.declared.layout.Layout.TheVariants.{W64, W32}
 use Rattle.watch_word.specs.Layout.{address_span, masked}
-use Rattle.watch_word.specs.Word.{Encodable, IsWatchWord, WordOf, watch_in, watch_of, word_of}
+use Rattle.watch_word.specs.Word.{Encodable, IsWatchWord, watch_in, watch_of, word_of}
 use Rattle.watch_word.proofs.watch.watches_are_of_accesses.Goals as goal
 
 -- a kind with this write flag
@@ -42,7 +42,7 @@ unfolding access_for watch_in masked
 encodable W64 word h = record { address = omega arith; has_bytes = omega arith; size = omega arith }
 encodable W32 word h = record { address = omega arith; has_bytes = omega arith; size = omega arith }
 
-word_of_access : (layout : Layout) (word : ℕ) → IsWatchWord layout word → WordOf layout (access_for layout word) word
+word_of_access : (layout : Layout) (word : ℕ) → IsWatchWord layout word → word ≡ word_of layout (access_for layout word)
 unfolding access_for word_of watch_in masked
 word_of_access W64 word h = rw write_flag-kind_with (grind arith)
 word_of_access W32 word h = rw write_flag-kind_with (grind arith)
@@ -56,7 +56,6 @@ pub returns : goal.returns
 returns c layout word h = record {
   access = access_for layout word;
   in_limits = in_limits layout word h;
-  encodable = encodable layout word h;
-  word_of_access = word_of_access layout word h;
+  word_of_access = record { encodable = encodable layout word h; is = word_of_access layout word h };
   says = says layout word;
 }
