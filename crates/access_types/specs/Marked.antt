@@ -6,6 +6,7 @@ use Rattle.access_types.specs.declared.history.Mark.{Mark}
 use Rattle.access_types.specs.declared.history.Mark.TheVariants.{Disable, Enable, NestOpen, NestClose, FlatBegin, FlatEnd, Next}
 use Rattle.access_types.specs.declared.history.Happening.{Happening}
 use Rattle.access_types.specs.declared.history.Happening.TheVariants as happenings
+use Rattle.access_types.specs.declared.history.Moment.{Moment}
 
 -- a plain write that the machine makes in one piece, where plain writes are assumed atomic: not compound, of at most 8 bytes, at a multiple of its size
 abbrev pub is_atomic_write : Bool → Access → Bool
@@ -68,10 +69,14 @@ pub record IsFlatOpen (marks : List Mark) : Type 0 where
   pub split : marks ≡ earlier ++ FlatBegin ∷ later
   pub last : count_by is_flat later ≡ 0
 
--- a moment begins a countable access of the task
-abbrev pub begins_countable : Bool → ℕ → Happening → Bool
-begins_countable plain_writes_atomic task (happenings.Begin access) = (access.task == task) && is_countable plain_writes_atomic access
-begins_countable plain_writes_atomic task _ = false
+-- a countable access of the task begins
+abbrev pub is_countable_begin : Bool → ℕ → Happening → Bool
+is_countable_begin plain_writes_atomic task (happenings.Begin access) = (access.task == task) && is_countable plain_writes_atomic access
+is_countable_begin plain_writes_atomic task _ = false
+
+-- a moment of the task begins a countable access of the task
+abbrev pub begins_countable : Bool → ℕ → Moment → Bool
+begins_countable plain_writes_atomic task moment = is_countable_begin plain_writes_atomic task moment.happening && (moment.task == task)
 
 -- the task's last next-mark is next(n), and fewer than n of its countable accesses began after it
 pub record IsWithinNext (plain_writes_atomic : Bool) (task : ℕ) (moments : History) : Type 0 where
@@ -80,7 +85,7 @@ pub record IsWithinNext (plain_writes_atomic : Bool) (task : ℕ) (moments : His
   pub later : History
   pub split : moments ≡ earlier ++ (record { task = task; happening = happenings.Mark (Next count) }) ∷ later
   pub last : count_by is_next (marks_of task later) ≡ 0
-  pub fewer : count_by (λ moment. begins_countable plain_writes_atomic task moment.happening) later < count
+  pub fewer : count_by (begins_countable plain_writes_atomic task) later < count
 
 -- the access counts as marked if these moments come before its begin
 pub data CountsAfter (plain_writes_atomic : Bool) (a : Access) (before : History) : Type 0 where

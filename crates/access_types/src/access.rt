@@ -7,10 +7,10 @@ use crate::kind::Kind;
 use std::marker::Model;
 use thiserror::Error;
 
-/// How many tasks there can be.
+/// How many tasks there are at most.
 pub const TASKS: u32 = 16;
 
-/// How many sites a task can have, and how often a site can run.
+/// How many sites a task has at most, and how often a site runs at most.
 pub const SITES: u32 = 256;
 
 /// The address space ends here, so that no range of bytes wraps.
@@ -153,6 +153,13 @@ impl Access {
         self.mask
     }
 }
+
+/// Law: the limits of accesses, as numbers.
+pub fn limits_are_numbers()
+    ensures tasks { TASKS ≡ 16 }
+    ensures sites { SITES ≡ 256 }
+    ensures addresses { ADDRESS_END ≡ 2 ^ 63 }
+{}
 
 /// The two have a byte in common.
 pub fn overlaps(a: &Access, b: &Access) -> bool

@@ -12,7 +12,9 @@ pub mod stamped;
 pub mod takes;
 pub mod tickets;
 
-pub use access::{Access, AccessError, conflicts, overlaps};
+pub use access::{
+    ADDRESS_END, Access, AccessError, SITES, TASKS, conflicts, limits_are_numbers, overlaps,
+};
 pub use arms::{Arm, ArmOutcome, HitResult};
 pub use history::{Bytes, Happening, Mark, Moment};
 pub use kind::{Claim, Kind, KindError, Operation, words};

@@ -1,4 +1,5 @@
 use Rattle.std.proofs.Common.{◌≡◌, ◌<◌, ◌≤◌, ◌-◌, ◌==◌, ◌∙◌, ◌&&◌, ◌⊎◌, ◌↔◌, ℕ, List, [], ◌∷◌, Bool, true, false, not, cond, IsTrue, refl, ap, arith, inl, inr}
+use Rattle.std.proofs.Math.Bool.{and-true}
 use Rattle.std.proofs.lemmas.Bool.{eq-eqb}
 use Rattle.access_types.specs.Access.{Access}
 use Rattle.access_types.specs.Kind.{is_assertion, is_marked}
@@ -38,7 +39,7 @@ begin_quiet a = ap (λ own. mark_before own (Begin a) (let none : List Mark = []
 begun-is : (plain_writes_atomic : Bool) (a : Access) (counted : Bool) → is_countable plain_writes_atomic a ≡ counted → begun plain_writes_atomic a.task (record { task = a.task; happening = Begin a }) ≡ cond counted 1 0
 begun-is plain_writes_atomic a counted e =
     let own : (a.task == a.task) ≡ true = eq-eqb a.task a.task refl in
-    rw (own, e) refl
+    rw (own, e, and-true) refl
 
 begins : (plain_writes_atomic : Bool) (a : Access) (disables nests : ℕ) (flag : Bool) (left after : ℕ) → after ≡ left - begun plain_writes_atomic a.task (record { task = a.task; happening = Begin a }) → Follows plain_writes_atomic a.task (record { disable_count = disables; nest_count = nests; in_flat = flag; atomic_next = left }) (Begin a) (record { disable_count = disables; nest_count = nests; in_flat = flag; atomic_next = after })
 begins plain_writes_atomic a disables nests flag left after takes xs h =

@@ -55,7 +55,7 @@ IsLeft-next plain_writes_atomic task n xs = set n xs [] refl refl (omega arith)
 
 -- how much a moment counts
 abbrev pub begun : Bool → ℕ → Moment → ℕ
-begun plain_writes_atomic task moment = cond (begins_countable plain_writes_atomic task moment.happening) 1 0
+begun plain_writes_atomic task moment = cond (begins_countable plain_writes_atomic task moment) 1 0
 
 -- a moment with no next-mark takes one where it begins a countable access
 pub IsLeft-other : (plain_writes_atomic : Bool) (task left after : ℕ) (xs : History) (moment : Moment) → nexts task (moment ∷ []) ≡ 0 → after ≡ left - begun plain_writes_atomic task moment → IsLeft plain_writes_atomic task xs left → IsLeft plain_writes_atomic task (xs ++ moment ∷ []) after
@@ -79,7 +79,7 @@ IsWithinNext-left plain_writes_atomic task left xs (unset never is) here =
 IsWithinNext-left plain_writes_atomic task left xs (set n earlier later split last is) here =
     let same = one_last task n here.count earlier here.earlier later here.later (sym split ∙ here.split) last here.last in
     let fewer = here.fewer in
-    omega (arith, same.counts, ap (count_by (λ (moment : Moment). begins_countable plain_writes_atomic task moment.happening)) same.moments)
+    omega (arith, same.counts, ap (count_by (begins_countable plain_writes_atomic task)) same.moments)
 
 -- there is one number left
 pub IsLeft-one : (plain_writes_atomic : Bool) (task n m : ℕ) (xs : History) → IsLeft plain_writes_atomic task xs n → IsLeft plain_writes_atomic task xs m → n ≡ m
@@ -90,4 +90,4 @@ IsLeft-one plain_writes_atomic task n m xs (set count earlier later split last i
     absurd (omega (arith, ap (nexts task) split, nexts-split task count earlier later))
 IsLeft-one plain_writes_atomic task n m xs (set count earlier later split last is) (set number before after parts final also) =
     let same = one_last task count number earlier before later after (sym split ∙ parts) last final in
-    omega (arith, same.counts, ap (count_by (λ (moment : Moment). begins_countable plain_writes_atomic task moment.happening)) same.moments)
+    omega (arith, same.counts, ap (count_by (begins_countable plain_writes_atomic task)) same.moments)

@@ -1,8 +1,9 @@
-use Rattle.std.proofs.Common.{◌≡◌, ◌-◌, ◌++◌, ◌==◌, ℕ, List, [], ◌∷◌, Bool, true, false, refl, ap, arith}
-use Rattle.std.proofs.lemmas.Bool.{ne_eqb}
+use Rattle.std.proofs.Common.{◌≡◌, ◌-◌, ◌++◌, ◌==◌, ◌&&◌, ℕ, List, [], ◌∷◌, Bool, true, false, refl, ap, arith}
+use Rattle.std.proofs.Math.Bool.{and-false}
+use Rattle.std.proofs.lemmas.Bool.{eqb-true, ne_eqb}
 use Rattle.access_types.specs.Access.{Access}
 use Rattle.access_types.specs.History.{History}
-use Rattle.access_types.specs.Marked.{mark_before, marks_of}
+use Rattle.access_types.specs.Marked.{begins_countable, mark_before, marks_of}
 use Rattle.access_types.specs.declared.history.Happening.{Happening}
 use Rattle.access_types.specs.declared.history.Happening.TheVariants.{Begin, End, Read, Write, Lock, Unlock}
 use Rattle.access_types.specs.declared.history.Happening.TheVariants as happenings
@@ -43,11 +44,16 @@ no_mark task owner (Unlock lock) other = nothing (owner == task) where
   nothing true = refl
   nothing false = refl
 
--- the moment begins no countable access of the task
+-- where the moment or the access that it begins is of another task, no countable access of the task begins
+begins_none : (plain_writes_atomic : Bool) (task owner : ℕ) (a : Access) (own mine : Bool) → (owner == task) ≡ own → (a.task == task) ≡ mine
+    → ¬ Concerns task owner (Begin a) → begins_countable plain_writes_atomic task (record { task = owner; happening = Begin a }) ≡ false
+begins_none plain_writes_atomic task owner a true true e f other = absurd (other (eqb-true owner task e, eqb-true a.task task f))
+begins_none plain_writes_atomic task owner a own false e f other = rw f refl
+begins_none plain_writes_atomic task owner a false true e f other = rw (e, f, and-false) refl
+
 takes_none : (plain_writes_atomic : Bool) (task owner left : ℕ) (happening : Happening) → ¬ Concerns task owner happening → left ≡ left - begun plain_writes_atomic task (record { task = owner; happening = happening })
 takes_none plain_writes_atomic task owner left (Begin a) other =
-    let foreign : (a.task == task) ≡ false = ne_eqb a.task task other in
-    rw foreign (omega arith)
+    rw (begins_none plain_writes_atomic task owner a _ _ refl refl other) (omega arith)
 takes_none plain_writes_atomic task owner left (End a) other = omega arith
 takes_none plain_writes_atomic task owner left (Read bytes value) other = omega arith
 takes_none plain_writes_atomic task owner left (Write bytes value) other = omega arith

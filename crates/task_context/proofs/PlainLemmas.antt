@@ -74,7 +74,7 @@ not_flat_open marks none is_open =
 
 -- the first is a next-mark of the task and its last, and fewer countable accesses begin after it than it says
 abbrev pub BeginsLastNext : Bool → ℕ → History → Type 0
-BeginsLastNext plain_writes_atomic task moments = (count : ℕ) × (later : History) × (moments ≡ (record { task = task; happening = happenings.Mark (Next count) }) ∷ later) × (count_by is_next (marks_of task later) ≡ 0) × (count_by (λ moment. begins_countable plain_writes_atomic task moment.happening) later < count)
+BeginsLastNext plain_writes_atomic task moments = (count : ℕ) × (later : History) × (moments ≡ (record { task = task; happening = happenings.Mark (Next count) }) ∷ later) × (count_by is_next (marks_of task later) ≡ 0) × (count_by (begins_countable plain_writes_atomic task) later < count)
 
 pub is_within_next : (plain_writes_atomic : Bool) (task : ℕ) (moments : History) (place : ℕ) → BeginsLastNext plain_writes_atomic task (drop place moments) → IsWithinNext plain_writes_atomic task moments
 is_within_next plain_writes_atomic task moments place here = record { count = here.0; earlier = take place moments; later = here.1; split = split_of moments here.1 (record { task = task; happening = happenings.Mark (Next here.0) }) place here.2; last = here.3; fewer = here.4 }

@@ -21,7 +21,7 @@ pub data IsLeft (plain_writes_atomic : Bool) (task : ℕ) (moments : History) (l
       (count : ℕ) (earlier later : History) →
       moments ≡ earlier ++ (record { task = task; happening = happenings.Mark (Next count) }) ∷ later →
       count_by is_next (marks_of task later) ≡ 0 →
-      left ≡ count - count_by (λ (moment : Moment). begins_countable plain_writes_atomic task moment.happening) later →
+      left ≡ count - count_by (begins_countable plain_writes_atomic task) later →
       IsLeft plain_writes_atomic task moments left
 
 -- what the task did so far leads to the context: with one setting for plain writes, and any moments of other tasks
@@ -40,9 +40,9 @@ Follows plain_writes_atomic task old happening new =
 abbrev pub MarkFollows : Context → Mark → Context → Type 0
 MarkFollows old mark new = (plain_writes_atomic : Bool) (task : ℕ) → Follows plain_writes_atomic task old (happenings.Mark mark) new
 
--- what happens at a moment of some task concerns the context of the task: it is a mark of it, or begins an access of it
+-- what happens at a moment of its owner concerns the context of a task: the owner is the task, and makes a mark or begins an access of the task
 abbrev pub Concerns : ℕ → ℕ → Happening → Type 0
-Concerns task owner (happenings.Begin access) = access.task ≡ task
+Concerns task owner (happenings.Begin access) = (owner ≡ task) × (access.task ≡ task)
 Concerns task owner (happenings.Mark mark) = owner ≡ task
 Concerns task owner (happenings.End access) = ⊥
 Concerns task owner (happenings.Read bytes value) = ⊥

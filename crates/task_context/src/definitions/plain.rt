@@ -157,17 +157,19 @@ fn is_countable(atomic: bool, a: &Access) -> bool
 
 /// The moment begins a countable access of the task.
 fn begins_countable(atomic: bool, task: u32, moment: &Moment) -> bool
-    ensures { result ≡ begins_countable atomic task moment.now.happening }
+    ensures { result ≡ begins_countable atomic task moment.now }
 {
     match moment.happening {
-        Happening::Begin(a) => a.task() == task && is_countable(atomic, &a),
+        Happening::Begin(a) => {
+            moment.task == task && a.task() == task && is_countable(atomic, &a)
+        }
         _ => false,
     }
 }
 
 /// How many of the moments begin a countable access of the task.
 fn countable_begins(atomic: bool, task: u32, moments: &[Moment]) -> usize
-    ensures { result ≡ count_by (λ moment. begins_countable atomic task moment.happening) moments.now }
+    ensures { result ≡ count_by (begins_countable atomic task) moments.now }
 {
     moments
         .iter()
@@ -180,7 +182,7 @@ fn begins_last_next(alloc: Global, atomic: bool, task: u32, moments: &[Moment]) 
     ensures { IfOk result (λ answer. IsTrue answer ↔ ((count : ℕ) × (later : History)
         × (moments.now ≡ (record { task = task; happening = happenings.Mark (Next count) }) ∷ later)
         × (count_by is_next (marks_of task later) ≡ 0)
-        × (count_by (λ moment. begins_countable atomic task moment.happening) later < count))) }
+        × (count_by (begins_countable atomic task) later < count))) }
 {
     let Some((first, later)) = moments.split_first() else {
         return Ok(false);
