@@ -27,7 +27,7 @@ impl Model for Slot {
 impl Slot {
     /// A place with no watchpoint.
     pub fn new() -> Slot
-        ensures { result ≡ EMPTY }
+        ensures { result ≡ 0 }
     {
         Slot { word: EMPTY }
     }
@@ -41,7 +41,7 @@ impl Slot {
 
     /// Sets up the watchpoint `word` if there is none, and answers whether it did.
     pub fn insert(&mut self, word: u64) -> bool
-        requires { CONSUMED < word }
+        requires { 1 < word }
         ensures answer { result ≡ (insert_line self.old word).answer }
         ensures after { self.new ≡ (insert_line self.old word).after }
     {
@@ -55,7 +55,7 @@ impl Slot {
     /// Marks the watchpoint `word` as hit if it still stands there, and answers whether it did. An access
     /// that found a watchpoint claims it so, and only one access can.
     pub fn try_consume(&mut self, word: u64) -> bool
-        requires { CONSUMED < word }
+        requires { 1 < word }
         ensures answer { result ≡ (try_consume_line self.old word).answer }
         ensures after { self.new ≡ (try_consume_line self.old word).after }
     {
