@@ -7,4 +7,3 @@ pub mod Begins
 pub mod OtherMoments
 pub mod OneContext
 pub mod OneBegin
-pub mod PlainLemmas

@@ -3,8 +3,6 @@
 #![tactic(auto)]
 
 pub mod context;
-#[cfg(test)]
-mod definitions;
 pub mod laws;
 
 pub use context::{Context, ContextError};

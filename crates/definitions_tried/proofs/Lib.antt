@@ -1,0 +1,4 @@
+pub mod MarkLists
+pub mod Splits
+pub mod Searches
+pub mod Together

@@ -1,5 +1,0 @@
-use Rattle.std.proofs.Common.{◌≡◌, ◌/◌, ◌^◌}
-use Rattle.task_context.proofs.definitions.byte_of_value.Given as goal
-
-abbrev pub invariant-loop : goal.invariant-loop
-invariant-loop l = l.rest ≡ l.value / 256 ^ l.counter
