@@ -1,2 +1,2 @@
 pub mod LaidBytes
-pub mod SitesLemmas
+pub mod SiteEntries

@@ -1,8 +1,10 @@
-use Rattle.std.specs.Prelude.{◌+◌, ◌^◌, ◌<◌, ◌≤◌, ◌==◌, ◌⊎◌, ℕ, Option, Some, None, IsTrue, if◌then◌else◌}
+use Rattle.std.specs.Prelude.{◌+◌, ◌^◌, ◌<◌, ◌≤◌, ◌==◌, ◌⊎◌, ℕ, Option, Some, None, IsTrue}
+use Rattle.std.specs.Prelude.{if◌then◌else◌}
 use Rattle.access_types.specs.declared.kind.Kind.{Kind}
 use Rattle.access_types.specs.Kind.{write_flag}
 
--- an access: whose it is, at which site and repetition, the bytes from addr on, size of them, what it does, and a mask or none
+-- an access: whose it is, at which site and repetition, the bytes from addr on, size of them, what
+-- it does, and a mask or none
 pub record Access : Type 0 where
   pub task : ℕ
   pub site : ℕ
@@ -12,7 +14,8 @@ pub record Access : Type 0 where
   pub kind : Kind
   pub mask : Option ℕ
 
--- what holds of every access: there are 16 tasks, and 256 sites of a task and repetitions of a site, and its range ends at 2^63 at most
+-- what holds of every access: there are 16 tasks, and 256 sites of a task and repetitions of a
+-- site, and its range ends at 2^63 at most
 pub record IsInLimits (a : Access) : Type 0 where
   pub task : a.task < 16
   pub site : a.site < 256

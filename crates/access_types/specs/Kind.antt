@@ -69,9 +69,11 @@ is_scoped (Marked operation) = false
 is_scoped (Assert claim) = false
 is_scoped (AssertScoped claim) = true
 
--- the flags make no kind: compound without write, scoped without assert, an assertion that is compound or marked
+-- the flags make no kind: compound without write, scoped without assert, an assertion that is
+-- compound or marked
 abbrev pub is_bad : Bool → Bool → Bool → Bool → Bool → Bool
-is_bad write compound marked assert scoped = (compound && not write) || (scoped && not assert) || (assert && (compound || marked))
+is_bad write compound marked assert scoped =
+    (compound && not write) || (scoped && not assert) || (assert && (compound || marked))
 
 -- the kind has these flags
 pub record HasFlags (write compound marked assert scoped : Bool) (kind : Kind) : Type 0 where
@@ -92,7 +94,8 @@ abbrev pub claim_words : Claim → List ℕ
 claim_words NoWrites = codes "assert no writes"
 claim_words NoAccesses = codes "assert no accesses"
 
--- what a report calls the kind: a declared marked operation has a suffix, and a scope changes no words
+-- what a report calls the kind: a declared marked operation has a suffix, and a scope changes no
+-- words
 abbrev pub access_words : Kind → List ℕ
 access_words (Plain operation) = operation_words operation
 access_words (Marked operation) = operation_words operation ++ codes " (marked)"

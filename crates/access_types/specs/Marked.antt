@@ -1,20 +1,28 @@
-use Rattle.std.specs.Prelude.{◌≡◌, ◌<◌, ◌&&◌, ◌==◌, ◌%◌, ℕ, List, [], ◌∷◌, ◌++◌, Bool, true, false, IsTrue, count_by, drop, nat_le, nat_lt, not}
+use Rattle.std.specs.Prelude.{◌≡◌, ◌<◌, ◌&&◌, ◌==◌, ◌%◌, ℕ, List, [], ◌∷◌, ◌++◌, Bool, true, false}
+use Rattle.std.specs.Prelude.{IsTrue, count_by, drop, nat_le, nat_lt, not}
 use Rattle.access_types.specs.Access.{Access}
 use Rattle.access_types.specs.Kind.{is_assertion, is_compound, is_marked, writes}
 use Rattle.access_types.specs.History.{History, beginning}
 use Rattle.access_types.specs.declared.history.Mark.{Mark}
-use Rattle.access_types.specs.declared.history.Mark.TheVariants.{Disable, Enable, NestOpen, NestClose, FlatBegin, FlatEnd, Next}
+use Rattle.access_types.specs.declared.history.Mark.TheVariants.{Disable, Enable, NestOpen}
+use Rattle.access_types.specs.declared.history.Mark.TheVariants.{NestClose, FlatBegin, FlatEnd}
+use Rattle.access_types.specs.declared.history.Mark.TheVariants.{Next}
 use Rattle.access_types.specs.declared.history.Happening.{Happening}
 use Rattle.access_types.specs.declared.history.Happening.TheVariants as happenings
 use Rattle.access_types.specs.declared.history.Moment.{Moment}
 
--- a plain write that the machine makes in one piece, where plain writes are assumed atomic: not compound, of at most 8 bytes, at a multiple of its size
+-- a plain write that the machine makes in one piece, where plain writes are assumed atomic: not
+-- compound, of at most 8 bytes, at a multiple of its size
 abbrev pub is_atomic_write : Bool → Access → Bool
-is_atomic_write plain_writes_atomic a = plain_writes_atomic && writes a.kind && not (is_compound a.kind) && nat_lt 0 a.size && nat_le a.size 8 && (a.addr % a.size == 0)
+is_atomic_write plain_writes_atomic a =
+    plain_writes_atomic && writes a.kind && not (is_compound a.kind)
+    && nat_lt 0 a.size && nat_le a.size 8 && (a.addr % a.size == 0)
 
 -- an access that kcsan_atomic_next counts: not declared marked, no assertion, and no atomic write
 abbrev pub is_countable : Bool → Access → Bool
-is_countable plain_writes_atomic a = not (is_marked a.kind) && not (is_assertion a.kind) && not (is_atomic_write plain_writes_atomic a)
+is_countable plain_writes_atomic a =
+    not (is_marked a.kind) && not (is_assertion a.kind)
+    && not (is_atomic_write plain_writes_atomic a)
 
 -- the mark of a task that a moment is, in front of others
 abbrev pub mark_before : Bool → Happening → List Mark → List Mark
@@ -24,7 +32,8 @@ mark_before _ _ marks = marks
 -- the marks of a task, in order
 abbrev pub marks_of : ℕ → History → List Mark
 marks_of task [] = []
-marks_of task (moment ∷ moments) = mark_before (moment.task == task) moment.happening (marks_of task moments)
+marks_of task (moment ∷ moments) =
+    mark_before (moment.task == task) moment.happening (marks_of task moments)
 
 -- the mark turns reporting off for its task
 abbrev pub is_disable : Mark → Bool
@@ -71,29 +80,40 @@ pub record IsFlatOpen (marks : List Mark) : Type 0 where
 
 -- a countable access of the task begins
 abbrev pub is_countable_begin : Bool → ℕ → Happening → Bool
-is_countable_begin plain_writes_atomic task (happenings.Begin access) = (access.task == task) && is_countable plain_writes_atomic access
+is_countable_begin plain_writes_atomic task (happenings.Begin access) =
+    (access.task == task) && is_countable plain_writes_atomic access
 is_countable_begin plain_writes_atomic task _ = false
 
 -- a moment of the task begins a countable access of the task
 abbrev pub begins_countable : Bool → ℕ → Moment → Bool
-begins_countable plain_writes_atomic task moment = is_countable_begin plain_writes_atomic task moment.happening && (moment.task == task)
+begins_countable plain_writes_atomic task moment =
+    is_countable_begin plain_writes_atomic task moment.happening && (moment.task == task)
+
+-- a task's call that the next so many of its accesses count as marked
+abbrev pub next_mark : ℕ → ℕ → Moment
+next_mark task count = record { task = task; happening = happenings.Mark (Next count) }
 
 -- the task's last next-mark is next(n), and fewer than n of its countable accesses began after it
 pub record IsWithinNext (plain_writes_atomic : Bool) (task : ℕ) (moments : History) : Type 0 where
   pub count : ℕ
   pub earlier : History
   pub later : History
-  pub split : moments ≡ earlier ++ (record { task = task; happening = happenings.Mark (Next count) }) ∷ later
+  pub split : moments ≡ earlier ++ next_mark task count ∷ later
   pub last : count_by is_next (marks_of task later) ≡ 0
   pub fewer : count_by (begins_countable plain_writes_atomic task) later < count
 
 -- the access counts as marked if these moments come before its begin
 pub data CountsAfter (plain_writes_atomic : Bool) (a : Access) (before : History) : Type 0 where
   declared : IsTrue (is_marked a.kind) → CountsAfter plain_writes_atomic a before
-  atomic_write : ¬ IsTrue (is_assertion a.kind) → IsTrue (is_atomic_write plain_writes_atomic a) → CountsAfter plain_writes_atomic a before
-  within_next : ¬ IsTrue (is_assertion a.kind) → ¬ IsTrue (is_atomic_write plain_writes_atomic a) → IsWithinNext plain_writes_atomic a.task before → CountsAfter plain_writes_atomic a before
-  in_nest : ¬ IsTrue (is_assertion a.kind) → EndsRaised is_nest_open is_nest_close (marks_of a.task before) → CountsAfter plain_writes_atomic a before
-  in_flat : ¬ IsTrue (is_assertion a.kind) → IsFlatOpen (marks_of a.task before) → CountsAfter plain_writes_atomic a before
+  atomic_write : ¬ IsTrue (is_assertion a.kind) → IsTrue (is_atomic_write plain_writes_atomic a)
+      → CountsAfter plain_writes_atomic a before
+  within_next : ¬ IsTrue (is_assertion a.kind) → ¬ IsTrue (is_atomic_write plain_writes_atomic a)
+      → IsWithinNext plain_writes_atomic a.task before → CountsAfter plain_writes_atomic a before
+  in_nest : ¬ IsTrue (is_assertion a.kind)
+      → EndsRaised is_nest_open is_nest_close (marks_of a.task before)
+      → CountsAfter plain_writes_atomic a before
+  in_flat : ¬ IsTrue (is_assertion a.kind) → IsFlatOpen (marks_of a.task before)
+      → CountsAfter plain_writes_atomic a before
 
 -- the access begins after these moments
 pub record BeginsAfter (history : History) (a : Access) (before : History) : Type 0 where
@@ -101,12 +121,14 @@ pub record BeginsAfter (history : History) (a : Access) (before : History) : Typ
   pub split : history ≡ before ++ beginning a ∷ later
 
 -- the access counts as marked: decided by what came before its begin
-pub record CountedAsMarked (plain_writes_atomic : Bool) (history : History) (a : Access) : Type 0 where
-  pub before : History
-  pub begins : BeginsAfter history a before
-  pub counts : CountsAfter plain_writes_atomic a before
+pub record CountedAsMarked (plain_writes_atomic : Bool) (history : History) (a : Access) : Type 0
+  where
+    pub before : History
+    pub begins : BeginsAfter history a before
+    pub counts : CountsAfter plain_writes_atomic a before
 
--- the access is silenced: some ending part of its task's marks before its begin has more disables than enables
+-- the access is silenced: some ending part of its task's marks before its begin has more disables
+-- than enables
 pub record Silenced (history : History) (a : Access) : Type 0 where
   pub before : History
   pub begins : BeginsAfter history a before

@@ -1,16 +1,20 @@
-use Rattle.std.specs.Prelude.{◌≡◌, ◌≢◌, ◌<◌, ◌≤◌, ℕ, Bool, Option, Some, None, All, bit_and, bit_xor, drop, length, take}
+use Rattle.std.specs.Prelude.{◌≡◌, ◌≢◌, ◌<◌, ◌≤◌, ℕ, Bool, Option, Some, None, All, bit_and}
+use Rattle.std.specs.Prelude.{bit_xor, drop, length, take}
 use Rattle.access_types.specs.Access.{Access, Breaks, Overlap}
 use Rattle.access_types.specs.History.{History, InProgress, Memory, content}
 use Rattle.access_types.specs.Marked.{CountedAsMarked, Silenced}
 use Rattle.access_types.specs.declared.history.Bytes.{Bytes}
 use Rattle.access_types.specs.declared.history.Moment.{Moment}
 
--- the two accesses race: of different tasks, with a common byte, conflicting, not both marked, neither silenced, and in progress at one moment
+-- the two accesses race: of different tasks, with a common byte, conflicting, not both marked,
+-- neither silenced, and in progress at one moment
 pub record TrueRace (plain_writes_atomic : Bool) (history : History) (s f : Access) : Type 0 where
   pub tasks : s.task ≢ f.task
   pub overlap : Overlap s f
   pub breaks : Breaks s f
-  pub unmarked : ¬ (CountedAsMarked plain_writes_atomic history s × CountedAsMarked plain_writes_atomic history f)
+  pub unmarked : ¬ (
+      CountedAsMarked plain_writes_atomic history s × CountedAsMarked plain_writes_atomic history f
+      )
   pub first_heard : ¬ Silenced history s
   pub second_heard : ¬ Silenced history f
   pub moment : ℕ
@@ -26,8 +30,10 @@ Differ (Some mask) old new = bit_and (bit_xor old new) mask ≢ 0
 abbrev pub bytes_of : Access → Bytes
 bytes_of a = record { addr = a.addr; size = a.size }
 
--- the bytes of an access changed from old to new while it was in progress, by no moment of its own task
-pub record ChangedUnderWatch (initial : Memory) (history : History) (a : Access) (old new : ℕ) : Type 0 where
+-- the bytes of an access changed from old to new while it was in progress, by no moment of its own
+-- task
+pub record ChangedUnderWatch (initial : Memory) (history : History) (a : Access) (old new : ℕ) :
+    Type 0 where
   pub first : ℕ
   pub later : ℕ
   pub order : first < later

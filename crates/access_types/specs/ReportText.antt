@@ -1,4 +1,5 @@
-use Rattle.std.specs.Prelude.{◌-◌, ◌*◌, ◌^◌, ◌==◌, ◌||◌, ◌++◌, ℕ, List, [], ◌∷◌, Bool, false, Option, Some, None, codes, max, min, replicate, if◌then◌else◌}
+use Rattle.std.specs.Prelude.{◌-◌, ◌*◌, ◌^◌, ◌==◌, ◌||◌, ◌++◌, ℕ, List, [], ◌∷◌, Bool, false}
+use Rattle.std.specs.Prelude.{Option, Some, None, codes, max, min, replicate, if◌then◌else◌}
 use Rattle.std.specs.Fmt.{decimal, digits, format_spec, padded_integral}
 use Rattle.access_types.specs.Access.{Access}
 use Rattle.access_types.specs.Kind.{access_words, is_assertion}
@@ -22,7 +23,9 @@ race_name asserted = if asserted then codes "assert: race" else codes "data-race
 
 -- what an access does to which bytes, and whose it is
 unfoldable pub access_line : List ℕ → ℕ → ℕ → ℕ → List ℕ
-access_line does addr size task = line (does ++ codes " to 0x" ++ hex 16 addr ++ codes " of " ++ decimal size ++ codes " bytes by task " ++ decimal task ++ codes ":")
+access_line does addr size task =
+    line (does ++ codes " to 0x" ++ hex 16 addr ++ codes " of " ++ decimal size
+    ++ codes " bytes by task " ++ decimal task ++ codes ":")
 
 -- what is said of a repetition above 0
 abbrev pub repeat_words : ℕ → List ℕ
@@ -30,15 +33,20 @@ repeat_words rep = if rep == 0 then [] else codes " repeat " ++ decimal rep
 
 -- where an access stands
 unfoldable pub site_line : ℕ → ℕ → ℕ → List ℕ
-site_line task site rep = line (codes " P" ++ decimal task ++ codes " site " ++ decimal site ++ repeat_words rep)
+site_line task site rep =
+    line (codes " P" ++ decimal task ++ codes " site " ++ decimal site ++ repeat_words rep)
 
 -- what a report says of an access
 unfoldable pub paragraph : Access → List ℕ
-paragraph a = access_line (access_words a.kind) a.addr a.size a.task ++ site_line a.task a.site a.rep
+paragraph a =
+    access_line (access_words a.kind) a.addr a.size a.task ++ site_line a.task a.site a.rep
 
--- a change of the bytes of an access: two digits for each byte, of which it has 8 at most where values are loaded
+-- a change of the bytes of an access: two digits for each byte, of which it has 8 at most where
+-- values are loaded
 unfoldable pub change_line : ℕ → ValueChange → List ℕ
-change_line size change = line (codes "value changed: 0x" ++ hex (2 * min size 8) change.old ++ codes " -> 0x" ++ hex (2 * min size 8) change.new)
+change_line size change =
+    line (codes "value changed: 0x" ++ hex (2 * min size 8) change.old
+    ++ codes " -> 0x" ++ hex (2 * min size 8) change.new)
 
 -- the change, after an empty line, where one was seen
 unfoldable pub seen_lines : ℕ → Option ValueChange → List ℕ
@@ -49,7 +57,8 @@ seen_lines size (Some change) = line [] ++ change_line size change
 unfoldable pub two_sided_title : Access → Access → List ℕ
 two_sided_title setter finder =
     line (codes "BUG: KCSAN: " ++ race_name (is_assertion setter.kind || is_assertion finder.kind)
-    ++ codes " in P" ++ decimal (min setter.task finder.task) ++ codes " / P" ++ decimal (max setter.task finder.task))
+    ++ codes " in P" ++ decimal (min setter.task finder.task)
+    ++ codes " / P" ++ decimal (max setter.task finder.task))
 
 -- the report of two accesses
 unfoldable pub two_sided_text : Access → Access → Option ValueChange → List ℕ
@@ -61,7 +70,9 @@ two_sided_text setter finder seen =
 
 -- the title of the report of a change whose origin is unknown
 unfoldable pub unknown_title : Access → List ℕ
-unknown_title setter = line (codes "BUG: KCSAN: " ++ race_name (is_assertion setter.kind) ++ codes " in P" ++ decimal setter.task)
+unknown_title setter =
+    line (codes "BUG: KCSAN: " ++ race_name (is_assertion setter.kind)
+    ++ codes " in P" ++ decimal setter.task)
 
 -- the report of a change whose origin is unknown
 unfoldable pub unknown_text : Access → ValueChange → List ℕ

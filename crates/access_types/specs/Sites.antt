@@ -14,4 +14,5 @@ map_of entries = map.from_entries entries
 
 -- what stands under a ticket is an access that has it
 abbrev pub StandUnderTickets : AccessMap → Type 0
-StandUnderTickets sites = (ticket : ℕ) → IfSome (map.get sites ticket) (λ access. ticket_number access ≡ ticket)
+StandUnderTickets sites =
+    (ticket : ℕ) → IfSome (map.get sites ticket) (λ access. ticket_number access ≡ ticket)

@@ -1,7 +1,8 @@
 use Rattle.std.specs.Prelude.{ℕ, Bool}
 use Rattle.access_types.specs.Access.{Access}
 
--- an access that has ended: what the clock showed at its begin and at its end, whether it counted as marked, and whether it was silenced
+-- an access that has ended: what the clock showed at its begin and at its end, whether it counted
+-- as marked, and whether it was silenced
 pub record Stamped : Type 0 where
   pub access : Access
   pub begin : ℕ

@@ -39,16 +39,40 @@ pub enum AccessError {
 impl Model for Access {
     ghost Value = { spec.Access };
 
-    ghost view = { λ a. record { task = a.task; site = a.site; rep = a.rep; addr = a.addr; size = a.size; kind = a.kind; mask = a.mask } };
+    ghost view = { λ a. record {
+      task = a.task;
+      site = a.site;
+      rep = a.rep;
+      addr = a.addr;
+      size = a.size;
+      kind = a.kind;
+      mask = a.mask;
+    } };
 
-    ghost invariant = { λ a. IsInLimits (record { task = a.task; site = a.site; rep = a.rep; addr = a.addr; size = a.size; kind = a.kind; mask = a.mask }) };
+    ghost invariant = { λ a. IsInLimits (record {
+      task = a.task;
+      site = a.site;
+      rep = a.rep;
+      addr = a.addr;
+      size = a.size;
+      kind = a.kind;
+      mask = a.mask;
+    }) };
 
-    ghost inverse = { λ a. record { task = a.task; site = a.site; rep = a.rep; addr = a.addr; size = a.size; kind = a.kind; mask = a.mask } };
+    ghost inverse = { λ a. record {
+      task = a.task;
+      site = a.site;
+      rep = a.rep;
+      addr = a.addr;
+      size = a.size;
+      kind = a.kind;
+      mask = a.mask;
+    } };
 }
 
 impl Access {
-    /// The first access of a task at a site: `size` bytes from `addr` on. A mask without a bit is no
-    /// mask.
+    /// The first access of a task at a site: `size` bytes from `addr` on. A mask without a bit is
+    /// no mask.
     ///
     /// `RangeTooLong`: the range ends above 2^63.
     pub fn new(
@@ -63,7 +87,15 @@ impl Access {
         requires site_limit { site < 256 }
         // The only error is `RangeTooLong`.
         ensures made { OkIff result (addr + size ≤ 2 ^ 63)
-            (record { task = task; site = site; rep = 0; addr = addr; size = size; kind = kind; mask = proper_mask mask }) }
+            (record {
+              task = task;
+              site = site;
+              rep = 0;
+              addr = addr;
+              size = size;
+              kind = kind;
+              mask = proper_mask mask;
+            }) }
     {
         Access::new_rep(task, site, 0, addr, size, kind, mask)
     }
@@ -83,7 +115,15 @@ impl Access {
         requires rep_limit { rep < 256 }
         // The only error is `RangeTooLong`.
         ensures made { OkIff result (addr + size ≤ 2 ^ 63)
-            (record { task = task; site = site; rep = rep; addr = addr; size = size; kind = kind; mask = proper_mask mask }) }
+            (record {
+              task = task;
+              site = site;
+              rep = rep;
+              addr = addr;
+              size = size;
+              kind = kind;
+              mask = proper_mask mask;
+            }) }
     {
         if addr > ADDRESS_END || size > ADDRESS_END - addr {
             return Err(AccessError::RangeTooLong);

@@ -1,4 +1,5 @@
-//! Armings that are over, as a task keeps them: each watchpoint that it set up, with what became of it.
+//! Armings that are over, as a task keeps them: each watchpoint that it set up, with what became of
+//! it.
 
 ghost use Rattle.std.specs.Prelude.{◌≡◌};
 ghost use Rattle.access_types.specs.Arms as spec;
@@ -35,29 +36,47 @@ pub struct Arm {
     setter: u32,
     number: u64,
     index: usize,
-    word: u64,
+    watch_word: u64,
     outcome: ArmOutcome,
 }
 
 impl Model for Arm {
     ghost Value = { spec.Arm };
 
-    ghost view = { λ a. record { setter = a.setter; number = a.number; index = a.index; word = a.word; outcome = a.outcome } };
+    ghost view = { λ a. record {
+      setter = a.setter;
+      number = a.number;
+      index = a.index;
+      watch_word = a.watch_word;
+      outcome = a.outcome;
+    } };
 
-    ghost inverse = { λ a. record { setter = a.setter; number = a.number; index = a.index; word = a.word; outcome = a.outcome } };
+    ghost inverse = { λ a. record {
+      setter = a.setter;
+      number = a.number;
+      index = a.index;
+      watch_word = a.watch_word;
+      outcome = a.outcome;
+    } };
 }
 
 impl Arm {
-    /// The arming by the access with the ticket `setter`, after `number` earlier ones by this access, of the
-    /// place `index` with the watch word `word`.
-    pub fn new(setter: u32, number: u64, index: usize, word: u64, outcome: ArmOutcome) -> Arm
-        ensures { result ≡ record { setter = setter; number = number; index = index; word = word; outcome = outcome } }
+    /// The arming by the access with the ticket `setter`, after `number` earlier ones by this
+    /// access, at `index` with the watch word `watch_word`.
+    pub fn new(setter: u32, number: u64, index: usize, watch_word: u64, outcome: ArmOutcome) -> Arm
+        ensures { result ≡ record {
+          setter = setter;
+          number = number;
+          index = index;
+          watch_word = watch_word;
+          outcome = outcome;
+        } }
     {
         Arm {
             setter,
             number,
             index,
-            word,
+            watch_word,
             outcome,
         }
     }
@@ -76,7 +95,7 @@ impl Arm {
         self.number
     }
 
-    /// The index of its place.
+    /// The index at which it stood.
     pub fn index(&self) -> usize
         ensures { result ≡ self.now.index }
     {
@@ -84,10 +103,10 @@ impl Arm {
     }
 
     /// Its watch word.
-    pub fn word(&self) -> u64
-        ensures { result ≡ self.now.word }
+    pub fn watch_word(&self) -> u64
+        ensures { result ≡ self.now.watch_word }
     {
-        self.word
+        self.watch_word
     }
 
     /// What became of it.
@@ -114,7 +133,7 @@ mod tests {
         ] {
             let arm = Arm::new(1, 2, 17, 0x0008_0000_0001_0000, outcome);
             assert_eq!(rt; (arm.setter(), arm.number(), arm.index()), (1, 2, 17));
-            assert_eq!(rt; arm.word(), 0x0008_0000_0001_0000);
+            assert_eq!(rt; arm.watch_word(), 0x0008_0000_0001_0000);
             assert_eq!(rt; arm.outcome(), outcome);
         }
     }

@@ -2,7 +2,8 @@
 
 ghost use Rattle.std.specs.Prelude.{◌≡◌, ◌≤◌, ◌%◌, ◌^◌, ℕ, Bool, Contains, take};
 ghost use Rattle.access_types.specs.Access as spec;
-ghost use Rattle.access_types.specs.History.{AreApart, History, InProgress, Memory, content, ending, laid, value_from};
+ghost use Rattle.access_types.specs.History.{AreApart, History, InProgress, Memory, content};
+ghost use Rattle.access_types.specs.History.{ending, laid, value_from};
 ghost use Rattle.access_types.specs.Race.{TrueRace};
 ghost use Rattle.access_types.specs.declared.history.Bytes.{Bytes};
 
@@ -55,25 +56,31 @@ pub struct Moment {
 
 /// Law: a true race is symmetric.
 pub fn races_are_symmetric()
-    ensures { (plain_writes_atomic : Bool) (history : History) (s f : spec.Access) → TrueRace plain_writes_atomic history s f → TrueRace plain_writes_atomic history f s }
+    ensures { (plain_writes_atomic : Bool) (history : History) (s f : spec.Access)
+        → TrueRace plain_writes_atomic history s f → TrueRace plain_writes_atomic history f s }
 {}
 
 /// Law: the content after no moments is the initial content.
 pub fn content_begins_with_the_initial()
-    ensures { (initial : Memory) (history : History) (bytes : Bytes) → content initial history 0 bytes ≡ value_from initial bytes.addr bytes.size }
+    ensures { (initial : Memory) (history : History) (bytes : Bytes)
+        → content initial history 0 bytes ≡ value_from initial bytes.addr bytes.size }
 {}
 
 /// Law: the bytes of a value that was laid down are read back, up to their size.
 pub fn laid_bytes_are_read_back()
-    ensures { (memory : Memory) (bytes : Bytes) (value : ℕ) → value_from (laid memory bytes value) bytes.addr bytes.size ≡ value % 256 ^ bytes.size }
+    ensures { (memory : Memory) (bytes : Bytes) (value : ℕ)
+        → value_from (laid memory bytes value) bytes.addr bytes.size ≡ value % 256 ^ bytes.size }
 {}
 
 /// Law: a value that is laid down leaves other bytes as they are.
 pub fn other_bytes_stay()
-    ensures { (memory : Memory) (bytes other : Bytes) (value : ℕ) → AreApart bytes other → value_from (laid memory bytes value) other.addr other.size ≡ value_from memory other.addr other.size }
+    ensures { (memory : Memory) (bytes other : Bytes) (value : ℕ) → AreApart bytes other
+        → value_from (laid memory bytes value) other.addr other.size
+        ≡ value_from memory other.addr other.size }
 {}
 
 /// Law: an access that has ended is not in progress at any later moment.
 pub fn ended_accesses_stay_ended()
-    ensures { (history : History) (a : spec.Access) (k later : ℕ) → Contains (take k history) (ending a) → k ≤ later → ¬ InProgress history a later }
+    ensures { (history : History) (a : spec.Access) (k later : ℕ)
+        → Contains (take k history) (ending a) → k ≤ later → ¬ InProgress history a later }
 {}

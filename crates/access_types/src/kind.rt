@@ -1,5 +1,6 @@
 ghost use Rattle.std.specs.Prelude.{◌≡◌, ◌↔◌, IsTrue, IsErrOf, IfOk};
-ghost use Rattle.access_types.specs.Kind.{HasFlags, access_words, is_assertion, is_bad, is_compound, is_marked, is_scoped, write_flag};
+ghost use Rattle.access_types.specs.Kind.{HasFlags, access_words, is_assertion, is_bad};
+ghost use Rattle.access_types.specs.Kind.{is_compound, is_marked, is_scoped, write_flag};
 
 use thiserror::Error;
 
@@ -11,16 +12,16 @@ pub enum Operation {
     ReadWrite,
 }
 
-/// What an assertion claims of the other tasks while it is in progress: that none of them writes, or
-/// that none of them accesses the bytes at all.
+/// What an assertion claims of the other tasks while it is in progress: that none of them writes,
+/// or that none of them accesses the bytes at all.
 #[derive(Clone, Copy, Debug, PartialEq, Eq)]
 pub enum Claim {
     NoWrites,
     NoAccesses,
 }
 
-/// The kind of an access, after the access types of KCSAN: a plain or a marked operation on memory, or
-/// an assertion, which holds for one moment or for a scope.
+/// The kind of an access, after the access types of KCSAN: a plain or a marked operation on memory,
+/// or an assertion, which holds for one moment or for a scope.
 #[derive(Clone, Copy, Debug, PartialEq, Eq)]
 pub enum Kind {
     Plain(Operation),
@@ -37,11 +38,11 @@ pub enum KindError {
 }
 
 impl Kind {
-    /// The kind with these flags, as KCSAN's access types combine them: `write` with `assert` asserts no
-    /// accesses, and `assert` alone asserts no writes.
+    /// The kind with these flags, as KCSAN's access types combine them: `write` with `assert`
+    /// asserts no accesses, and `assert` alone asserts no writes.
     ///
-    /// `BadKind`: compound without write, scoped without assert, or an assertion that is compound or
-    /// marked.
+    /// `BadKind`: compound without write, scoped without assert, or an assertion that is compound
+    /// or marked.
     pub fn new(
         write: bool,
         compound: bool,
@@ -49,7 +50,8 @@ impl Kind {
         assert: bool,
         scoped: bool,
     ) -> Result<Kind, KindError>
-        ensures bad { IsErrOf result KindError.BadKind ↔ IsTrue (is_bad write compound marked assert scoped) }
+        ensures bad { IsErrOf result KindError.BadKind
+            ↔ IsTrue (is_bad write compound marked assert scoped) }
         ensures flags { IfOk result (HasFlags write compound marked assert scoped) }
     {
         let operation = match (write, compound) {

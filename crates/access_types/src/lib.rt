@@ -1,5 +1,5 @@
-//! Memory accesses as KCSAN sees them: who makes them, which bytes they cover and what they do, and the
-//! tickets that name them.
+//! Memory accesses as KCSAN sees them: who makes them, which bytes they cover and what they do, and
+//! the tickets that name them.
 #![tactic(auto)]
 
 pub mod access;

@@ -5,8 +5,8 @@ pub struct ValueChange {
     pub new: u64,
 }
 
-/// What KCSAN reports. `setter` and `finder` are tickets: of the access that set the watchpoint up, and
-/// of the one that hit it.
+/// What KCSAN reports. `setter` and `finder` are tickets: of the access that set the watchpoint up,
+/// and of the one that hit it.
 #[derive(Clone, Copy, Debug, PartialEq, Eq)]
 pub enum Report {
     /// Two accesses raced. `seen` is the change of the bytes, where one was seen.

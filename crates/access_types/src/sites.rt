@@ -1,5 +1,5 @@
-//! Accesses by ticket: a pair word and a report name an access by its ticket, and the site table of a
-//! program has the access that is meant.
+//! Accesses by ticket: a pair word and a report name an access by its ticket, and the site table of
+//! a program has the access that is meant.
 
 ghost use Rattle.std.specs.Prelude.{◌≡◌, IfSome, None, OnErr, OnOk};
 ghost use Rattle.std.specs.FinMap as map;
@@ -48,7 +48,8 @@ impl Sites {
     /// The only error is want of memory.
     pub fn add(&mut self, access: &Access) -> Result<(), AllocError>
         requires new_ticket { map.get self.old (ticket_number access.now) ≡ None }
-        ensures added { OnOk result (self.new ≡ map.insert self.old (ticket_number access.now) access.now) }
+        ensures added { OnOk result
+            (self.new ≡ map.insert self.old (ticket_number access.now) access.now) }
         ensures unchanged { OnErr result (self.new ≡ self.old) }
     {
         self.accesses.insert(ticket(access), *access)?;
@@ -109,8 +110,9 @@ mod tests {
         Ok(())
     }
 
-    /// Where memory is ample, each access is added at once. Run under a refusal of the Nth growth for each N,
-    /// this shows that the map is then unchanged, and that the access can be added later.
+    /// Where memory is ample, each access is added at once. Run under a refusal of the Nth growth
+    /// for each N, this shows that the map is then unchanged, and that the access can be added
+    /// later.
     #[test]
     fn a_refused_growth_leaves_the_sites_unchanged(rt: HostRuntime) -> Result<(), Fail> {
         let mut sites = Sites::new(rt.alloc());

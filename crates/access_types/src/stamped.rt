@@ -6,8 +6,8 @@ ghost use Rattle.access_types.specs.Stamped as spec;
 use crate::access::Access;
 use std::marker::Model;
 
-/// An access that has ended. A stamp is what the clock of the run showed: it goes up by one at each begin
-/// and each end of an access.
+/// An access that has ended. A stamp is what the clock of the run showed: it goes up by one at each
+/// begin and each end of an access.
 #[derive(Clone, Copy, Debug, PartialEq, Eq)]
 pub struct Stamped {
     access: Access,
@@ -20,15 +20,33 @@ pub struct Stamped {
 impl Model for Stamped {
     ghost Value = { spec.Stamped };
 
-    ghost view = { λ s. record { access = s.access; begin = s.begin; end = s.end; marked = s.marked; silenced = s.silenced } };
+    ghost view = { λ s. record {
+      access = s.access;
+      begin = s.begin;
+      end = s.end;
+      marked = s.marked;
+      silenced = s.silenced;
+    } };
 
-    ghost inverse = { λ s. record { access = s.access; begin = s.begin; end = s.end; marked = s.marked; silenced = s.silenced } };
+    ghost inverse = { λ s. record {
+      access = s.access;
+      begin = s.begin;
+      end = s.end;
+      marked = s.marked;
+      silenced = s.silenced;
+    } };
 }
 
 impl Stamped {
     /// The access with its two stamps, whether it counted as marked and whether it was silenced.
     pub fn new(access: Access, begin: u64, end: u64, marked: bool, silenced: bool) -> Stamped
-        ensures { result ≡ record { access = access; begin = begin; end = end; marked = marked; silenced = silenced } }
+        ensures { result ≡ record {
+          access = access;
+          begin = begin;
+          end = end;
+          marked = marked;
+          silenced = silenced;
+        } }
     {
         Stamped {
             access,

@@ -22,8 +22,8 @@ impl Model for Take {
 }
 
 impl Take {
-    /// The taking by the access with the ticket `finder`, of the watchpoint at `index` that the access with
-    /// the ticket `setter` had set up.
+    /// The taking by the access with the ticket `finder`, of the watchpoint at `index` that the
+    /// access with the ticket `setter` had set up.
     pub fn new(finder: u32, index: usize, setter: u32) -> Take
         ensures { result ≡ record { finder = finder; index = index; setter = setter } }
     {
@@ -41,7 +41,7 @@ impl Take {
         self.finder
     }
 
-    /// The index of its place.
+    /// The index at which it stood.
     pub fn index(&self) -> usize
         ensures { result ≡ self.now.index }
     {

@@ -1,10 +1,11 @@
-//! Tickets name accesses in pair words and reports. A site runs at most 256 times, each time with its
-//! own repetition, so a ticket names one access of a run.
+//! Tickets name accesses in pair words and reports. A site runs at most 256 times, each time with
+//! its own repetition, so a ticket names one access of a run.
 
 ghost use Rattle.std.specs.Prelude.{◌≡◌, ◌<◌};
 ghost use Rattle.access_types.specs.Access as spec;
 ghost use Rattle.access_types.specs.Access.{IsInLimits};
-ghost use Rattle.access_types.specs.Ticket.{rep_in, site_in, task_in, ticket_number, AreOneTurn, ReadsBack};
+ghost use Rattle.access_types.specs.Ticket.{rep_in, site_in, task_in, ticket_number, AreOneTurn};
+ghost use Rattle.access_types.specs.Ticket.{ReadsBack};
 
 use crate::access::Access;
 
@@ -49,7 +50,8 @@ pub fn tickets_read_back()
 
 /// Law: accesses that differ in task, site or repetition have different tickets.
 pub fn tickets_differ()
-    ensures { (a b : spec.Access) → IsInLimits a → IsInLimits b → ticket_number a ≡ ticket_number b → AreOneTurn a b }
+    ensures { (a b : spec.Access) → IsInLimits a → IsInLimits b → ticket_number a ≡ ticket_number b
+        → AreOneTurn a b }
 {}
 
 #[cfg(test)]

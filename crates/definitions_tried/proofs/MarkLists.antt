@@ -1,5 +1,6 @@
 -- the marks of a history, moment by moment: each adds its own mark at the end
-use Rattle.std.proofs.Common.{◌≡◌, ◌<◌, ◌+◌, ◌++◌, ℕ, List, [], ◌∷◌, Bool, true, ap, get_or, length, refl, sym, take}
+use Rattle.std.proofs.Common.{◌≡◌, ◌<◌, ◌+◌, ◌++◌, ℕ, List, [], ◌∷◌, Bool, true, ap, get_or, length}
+use Rattle.std.proofs.Common.{refl, sym, take}
 use Rattle.std.proofs.lemmas.List.{take_more}
 use Rattle.access_types.specs.History.{History}
 use Rattle.access_types.specs.Marked.{mark_before, marks_of}
@@ -18,7 +19,8 @@ marks_of-append : (task : ℕ) (earlier later : History)
     → marks_of task (earlier ++ later) ≡ marks_of task earlier ++ marks_of task later
 marks_of-append task [] later = refl
 marks_of-append task (moment ∷ moments) later =
-    let apart = mark_before-append _ moment.happening (marks_of task moments) (marks_of task later) in
+    let apart = mark_before-append _ moment.happening (marks_of task moments)
+    (marks_of task later) in
     rw (marks_of-append task moments later) (sym apart)
 
 -- the marks up to the next moment

@@ -1,10 +1,13 @@
 -- a search from each start in turn finds what a definition says of some split of the list
-use Rattle.std.proofs.Common.{◌≡◌, ◌<◌, ◌≤◌, ℕ, List, ◌∷◌, Bool, count_by, drop, inl, inr, length, take, arith}
+use Rattle.std.proofs.Common.{◌≡◌, ◌<◌, ◌≤◌, ℕ, List, ◌∷◌, Bool, count_by, drop, inl, inr, length}
+use Rattle.std.proofs.Common.{take, arith}
 use Rattle.std.proofs.Math.ListN.{drop_of_length-le}
 use Rattle.std.proofs.lemmas.Bool.{cases_lt}
 use Rattle.access_types.specs.Access.{Access}
 use Rattle.access_types.specs.History.{History, beginning}
-use Rattle.access_types.specs.Marked.{CountedAsMarked, CountsAfter, EndsRaised, IsFlatOpen, IsWithinNext, Silenced, begins_countable, is_disable, is_enable, is_flat, is_next, marks_of}
+use Rattle.access_types.specs.Marked.{CountedAsMarked, CountsAfter, EndsRaised, IsFlatOpen}
+use Rattle.access_types.specs.Marked.{IsWithinNext, Silenced, begins_countable, is_disable}
+use Rattle.access_types.specs.Marked.{is_enable, is_flat, is_next, marks_of, next_mark}
 use Rattle.access_types.specs.declared.history.Happening.TheVariants as happenings
 use Rattle.access_types.specs.declared.history.Mark.{Mark}
 use Rattle.access_types.specs.declared.history.Mark.TheVariants.{FlatBegin, Next}
@@ -14,7 +17,7 @@ use Rattle.definitions_tried.proofs.Splits.{between, split_of}
 -- where no ending part has more of the one, none is raised
 pub not_raised : (raises lowers : Mark → Bool) (marks : List Mark)
     → ((k : ℕ) → k < length marks
-        → count_by raises (drop k marks) ≤ count_by lowers (drop k marks))
+    → count_by raises (drop k marks) ≤ count_by lowers (drop k marks))
     → ¬ EndsRaised raises lowers marks
 not_raised raises lowers marks none raised =
     elim (cases_lt raised.from (length marks)) [
@@ -45,15 +48,11 @@ not_flat_open marks none is_open =
     let at = between marks is_open.earlier is_open.later FlatBegin is_open.split in
     none (length is_open.earlier) at.within (is_open.later, at.back, is_open.last)
 
--- the task sets the number
-abbrev pub next_mark : ℕ → ℕ → Moment
-next_mark task count = record { task = task; happening = happenings.Mark (Next count) }
-
 -- the first is the task's last next-mark, and fewer countable accesses begin after it than it says
 abbrev pub BeginsLastNext : Bool → ℕ → History → Type 0
 BeginsLastNext plain_writes_atomic task moments =
     (count : ℕ) × (later : History)
-    × (moments ≡ (record { task = task; happening = happenings.Mark (Next count) }) ∷ later)
+    × (moments ≡ next_mark task count ∷ later)
     × (count_by is_next (marks_of task later) ≡ 0)
     × (count_by (begins_countable plain_writes_atomic task) later < count)
 

@@ -1,10 +1,12 @@
 -- a list split at an element: what comes before it, and what comes after
-use Rattle.std.proofs.Common.{◌≡◌, ◌<◌, ◌-◌, ◌++◌, ◌∙◌, ℕ, List, ◌∷◌, ap, drop, length, length-append, length-drop, sym, take, arith}
+use Rattle.std.proofs.Common.{◌≡◌, ◌<◌, ◌-◌, ◌++◌, ◌∙◌, ℕ, List, ◌∷◌, ap, drop, length}
+use Rattle.std.proofs.Common.{length-append, length-drop, sym, take, arith}
 use Rattle.std.proofs.Math.Seq.{drop-append_seam, take-append_seam}
 use Rattle.std.proofs.lemmas.List.{take-append-drop, take_all}
 
 -- what a slice that begins at `from` holds
-pub rest_of : {X : Type 0} (xs : List X) (from : ℕ) → take (length xs - from) (drop from xs) ≡ drop from xs
+pub rest_of : {X : Type 0} (xs : List X) (from : ℕ)
+    → take (length xs - from) (drop from xs) ≡ drop from xs
 rest_of xs from =
     let size = length-drop from xs in
     take_all (length xs - from) (drop from xs) (omega arith)

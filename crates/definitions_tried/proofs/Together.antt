@@ -10,7 +10,8 @@ in_progress-past : (history : History) (a : Access) (k : ℕ) → length history
     → InProgress history a k → InProgress history a (length history)
 in_progress-past history a k past goes =
     let all = take_all (length history) history (omega arith) in
-    let same : take (length history) history ≡ take k history = all ∙ sym (take_all k history past) in
+    let same : take (length history) history ≡ take k history = all
+    ∙ sym (take_all k history past) in
     record { begun = rw same goes.begun; unended = rw same goes.unended }
 
 -- both are in progress after k moments
@@ -25,5 +26,8 @@ not_together history s f none both =
     let at_end = none (length history) (omega arith) in
     elim (cases_lt both.0 (length history)) [
       | inl within ↦ none both.0 (omega arith) both.1
-      | inr past ↦ at_end (in_progress-past history s both.0 past both.1.0, in_progress-past history f both.0 past both.1.1)
+      | inr past ↦ at_end (
+        in_progress-past history s both.0 past both.1.0,
+        in_progress-past history f both.0 past both.1.1,
+      )
     ]

@@ -31,7 +31,8 @@ fn byte_of_value(value: u64, offset: u64) -> u64
     rest % 256
 }
 
-/// The content of some bytes after k moments, where every byte is 0 at first; none where it doesn't fit.
+/// The content of some bytes after k moments, where every byte is 0 at first; none where it doesn't
+/// fit.
 pub fn content_after(history: &[Moment], k: usize, bytes: Bytes) -> Option<u64>
     requires { k ≤ length history.now }
     ensures { IfSome result (λ value. value ≡ content (λ _. 0) history.now k bytes) }

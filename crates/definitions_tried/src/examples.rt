@@ -37,7 +37,11 @@ pub(crate) fn mark(task: u32, mark: Mark) -> Moment {
 }
 
 /// Task 0 makes the marks, and then the accesses begin.
-pub(crate) fn after(alloc: Global, marks: &[Mark], accesses: &[Access]) -> Result<Vec<Moment>, AllocError> {
+pub(crate) fn after(
+    alloc: Global,
+    marks: &[Mark],
+    accesses: &[Access],
+) -> Result<Vec<Moment>, AllocError> {
     let moments = marks.iter().map(|made| mark(0, *made));
     let begins = accesses.iter().map(|access| begin(*access));
     moments.chain(begins).collect(alloc)

@@ -1,6 +1,7 @@
-//! The definitions, tried: for each definition of a history that no other crate computes, a plain slow
-//! program whose contract is that definition, and examples worked by hand. An example that comes out
-//! otherwise shows that the definition says something else than was meant. Nothing stands on this crate.
+//! The definitions, tried: for each definition of a history that no other crate computes, a plain
+//! slow program whose contract is that definition, and examples worked by hand. An example that
+//! comes out otherwise shows that the definition says something else than was meant. Nothing stands
+//! on this crate.
 #![tactic(auto)]
 
 pub mod content;

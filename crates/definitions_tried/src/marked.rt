@@ -1,8 +1,13 @@
 //! Which accesses count as marked, and which are silenced.
 
-ghost use Rattle.std.specs.Prelude.{◌≡◌, ◌<◌, ◌≤◌, ◌↔◌, [], ◌∷◌, ℕ, List, IsTrue, IfOk, MatchOption, count_by, drop, length, take};
+ghost use Rattle.std.specs.Prelude.{◌≡◌, ◌<◌, ◌≤◌, ◌↔◌, [], ◌∷◌, ℕ, List, IsTrue, IfOk};
+ghost use Rattle.std.specs.Prelude.{MatchOption, count_by, drop, length, take};
 ghost use Rattle.access_types.specs.History.{History, beginning};
-ghost use Rattle.access_types.specs.Marked.{CountedAsMarked, CountsAfter, EndsRaised, IsFlatOpen, IsWithinNext, Silenced, begins_countable, is_atomic_write, is_countable, is_disable, is_enable, is_flat, is_nest_close, is_nest_open, is_next, marks_of};
+ghost use Rattle.access_types.specs.Marked.{CountedAsMarked, CountsAfter, EndsRaised, IsFlatOpen};
+ghost use Rattle.access_types.specs.Marked.{IsWithinNext, Silenced, begins_countable};
+ghost use Rattle.access_types.specs.Marked.{is_atomic_write, is_countable, is_disable, is_enable};
+ghost use Rattle.access_types.specs.Marked.{is_flat, is_nest_close, is_nest_open, is_next};
+ghost use Rattle.access_types.specs.Marked.{marks_of, next_mark};
 ghost use Rattle.access_types.specs.declared.history.Happening.TheVariants as happenings;
 ghost use Rattle.access_types.specs.declared.history.Mark.{Mark};
 ghost use Rattle.access_types.specs.declared.history.Mark.TheVariants.{FlatBegin, Next};
@@ -19,7 +24,8 @@ pub type Answer = Result<bool, AllocError>;
 
 /// The mark of a task that a moment is, or none.
 fn mark_of(moment: &Moment, task: u32) -> Option<Mark>
-    ensures { MatchOption result (marks_of task (moment.now ∷ []) ≡ []) (λ mark. marks_of task (moment.now ∷ []) ≡ mark ∷ []) }
+    ensures { MatchOption result (marks_of task (moment.now ∷ []) ≡ [])
+        (λ mark. marks_of task (moment.now ∷ []) ≡ mark ∷ []) }
 {
     match moment.happening {
         Happening::Mark(mark) if moment.task == task => Some(mark),
@@ -110,7 +116,8 @@ fn flat_marks(marks: &[Mark]) -> usize
 
 /// The first is a flat begin, and no flat mark comes after it.
 fn begins_last_flat(marks: &[Mark]) -> bool
-    ensures { IsTrue result ↔ ((later : List Mark) × (marks.now ≡ FlatBegin ∷ later) × (count_by is_flat later ≡ 0)) }
+    ensures { IsTrue result
+        ↔ ((later : List Mark) × (marks.now ≡ FlatBegin ∷ later) × (count_by is_flat later ≡ 0)) }
 {
     match marks.split_first() {
         Some((Mark::FlatBegin, later)) => flat_marks(later) == 0,
@@ -179,10 +186,11 @@ fn countable_begins(atomic: bool, task: u32, moments: &[Moment]) -> usize
         .count()
 }
 
-/// The first moment is the task's last next-mark, and fewer countable accesses began since than it says.
+/// The first moment is the task's last next-mark, and fewer countable accesses began since than it
+/// says.
 fn begins_last_next(alloc: Global, atomic: bool, task: u32, moments: &[Moment]) -> Answer
     ensures { IfOk result (λ answer. IsTrue answer ↔ ((count : ℕ) × (later : History)
-        × (moments.now ≡ (record { task = task; happening = happenings.Mark (Next count) }) ∷ later)
+        × (moments.now ≡ next_mark task count ∷ later)
         × (count_by is_next (marks_of task later) ≡ 0)
         × (count_by (begins_countable atomic task) later < count))) }
 {

@@ -39,7 +39,8 @@ fn both_in_progress(history: &[Moment], s: &Access, f: &Access, k: usize) -> boo
 
 /// At some moment both are in progress.
 fn go_together(history: &[Moment], s: &Access, f: &Access) -> bool
-    ensures { IsTrue result ↔ ((k : ℕ) × (InProgress history.now s.now k × InProgress history.now f.now k)) }
+    ensures { IsTrue result
+        ↔ ((k : ℕ) × (InProgress history.now s.now k × InProgress history.now f.now k)) }
 {
     for k in 0..history.len() + 1 {
         if both_in_progress(history, s, f, k) {
@@ -51,7 +52,9 @@ fn go_together(history: &[Moment], s: &Access, f: &Access) -> bool
 
 /// Both count as marked.
 fn both_counted(alloc: Global, atomic: bool, history: &[Moment], s: &Access, f: &Access) -> Answer
-    ensures { IfOk result (λ answer. IsTrue answer ↔ (CountedAsMarked atomic history.now s.now × CountedAsMarked atomic history.now f.now)) }
+    ensures { IfOk result
+        (λ answer. IsTrue answer
+        ↔ (CountedAsMarked atomic history.now s.now × CountedAsMarked atomic history.now f.now)) }
 {
     let first = counted_as_marked(alloc, atomic, history, s)?;
     let second = counted_as_marked(alloc, atomic, history, f)?;
@@ -60,7 +63,9 @@ fn both_counted(alloc: Global, atomic: bool, history: &[Moment], s: &Access, f: 
 
 /// Neither is silenced.
 fn both_heard(alloc: Global, history: &[Moment], s: &Access, f: &Access) -> Answer
-    ensures { IfOk result (λ answer. IsTrue answer ↔ ((¬ Silenced history.now s.now) × (¬ Silenced history.now f.now))) }
+    ensures { IfOk result
+        (λ answer. IsTrue answer
+        ↔ ((¬ Silenced history.now s.now) × (¬ Silenced history.now f.now))) }
 {
     let first = silenced(alloc, history, s)?;
     let second = silenced(alloc, history, f)?;

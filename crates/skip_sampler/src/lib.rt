@@ -1,9 +1,11 @@
-//! Which accesses of a task are watched: after a number of others that are skipped, as KCSAN samples.
+//! Which accesses of a task are watched: after a number of others that are skipped, as KCSAN
+//! samples.
 #![tactic(auto)]
 
 ghost use Rattle.std.specs.Prelude.{◌≡◌, ◌+◌, ◌↔◌, ℕ, Bool, IsTrue, if◌then◌else◌};
 ghost use Rattle.skip_sampler.specs.Sampler as spec;
-ghost use Rattle.skip_sampler.specs.Sampler.{LeadsTo, SamplerPositions, gap_by, is_drawn, stream_from};
+ghost use Rattle.skip_sampler.specs.Sampler.{LeadsTo, SamplerPositions, gap_by, is_drawn};
+ghost use Rattle.skip_sampler.specs.Sampler.{stream_from};
 ghost use Rattle.rand_core.specs.Stream.{next_u64};
 
 use rand_core::{Rng, SeedableRng};
@@ -29,12 +31,17 @@ pub struct Sampler {
 impl Model for Sampler {
     ghost Value = { spec.Sampler };
 
-    ghost view = { λ s. record { skip = s.skip; randomize = s.randomize; counter = s.counter; generator = s.generator } };
+    ghost view = { λ s. record {
+      skip = s.skip;
+      randomize = s.randomize;
+      counter = s.counter;
+      generator = s.generator;
+    } };
 }
 
 impl Sampler {
-    /// A sampler that skips the first `skip` accesses. The seed decides what a randomized sampler skips
-    /// between later ones.
+    /// A sampler that skips the first `skip` accesses. The seed decides what a randomized sampler
+    /// skips between later ones.
     pub fn new(skip: u64, randomize: bool, seed: u64) -> Sampler
         ensures { LeadsTo skip randomize seed 0 result }
     {
@@ -48,9 +55,11 @@ impl Sampler {
 
     /// Whether the access that asks now is watched.
     pub fn should_watch(&mut self) -> bool
-        ensures watched { (skip : ℕ) (randomize : Bool) (seed askings : ℕ) → LeadsTo skip randomize seed askings self.old
+        ensures watched { (skip : ℕ) (randomize : Bool) (seed askings : ℕ)
+            → LeadsTo skip randomize seed askings self.old
             → (IsTrue result ↔ SamplerPositions skip randomize seed (askings + 1)) }
-        ensures follows { (skip : ℕ) (randomize : Bool) (seed askings : ℕ) → LeadsTo skip randomize seed askings self.old
+        ensures follows { (skip : ℕ) (randomize : Bool) (seed askings : ℕ)
+            → LeadsTo skip randomize seed askings self.old
             → LeadsTo skip randomize seed (askings + 1) self.new }
     {
         if self.counter > 0 {
@@ -62,12 +71,14 @@ impl Sampler {
     }
 }
 
-/// How many accesses are skipped after one that is watched. The generator is asked only where this is
-/// drawn.
+/// How many accesses are skipped after one that is watched. The generator is asked only where this
+/// is drawn.
 fn next_gap(skip: u64, randomize: bool, generator: &mut Xoshiro256PlusPlus) -> u64
     ensures gap { result ≡ gap_by skip randomize (next_u64 (stream_from generator.old)).0 }
     ensures rest { stream_from generator.new
-        ≡ (if is_drawn skip randomize then (next_u64 (stream_from generator.old)).1 else stream_from generator.old) }
+        ≡ (if is_drawn skip randomize
+        then (next_u64 (stream_from generator.old)).1
+        else stream_from generator.old) }
 {
     if !randomize || skip == 0 {
         return skip;
@@ -97,11 +108,11 @@ mod tests {
         expect_watched(&rt, Sampler::new(2, false, 1), 10, &[3, 6, 9]);
     }
 
-    // With skip 10 and seed 1, computed from the published C of the two generators, apart from this code:
-    // SplitMix64 from 1 gives the four words of the state, and xoshiro256++ from there gives
-    // 0xcfc5d07f6f03c29b, 0xbf424132963fe08d, 0x19a37d5757aaf520, 0xbf08119f05cd56d6, 0x2f47184b86186fa4, ..
+    // With skip 10 and seed 1, computed from the published C of the two generators, apart from this
+    // code: SplitMix64 from 1 gives the four numbers of the state, and from there xoshiro256++ gives
+    // 0xcfc5d07f6f03c29b, 0xbf424132963fe08d, 0x19a37d5757aaf520, 0xbf08119f05cd56d6, ..
     // whose remainders by 10 are 7, 5, 4, 0, 0, 5, 3, 5, 0, 2, 1, 7, 6, 1, 0, 3, 0, 9, 2.
-    // The first yes is at 11, and each later one 10 less the remainder, plus 1, after the one before.
+    // The first yes is at 11, and each later one 10 less the remainder, plus 1, after it.
     #[test]
     fn randomized_skips_are_those_of_the_generator(rt: HostRuntime) {
         let wanted = [

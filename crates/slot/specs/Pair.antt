@@ -12,11 +12,17 @@ halves_line old = record { answer = old; after = old }
 
 -- the bits of the ticket are set in the setter's half
 abbrev pub name_line : Halves → ℕ → Line (Unit {0}) Halves
-name_line old ticket = record { answer = tt; after = record { setter = bit_or old.setter ticket; finder = old.finder } }
+name_line old ticket = record {
+  answer = tt;
+  after = record { setter = bit_or old.setter ticket; finder = old.finder };
+}
 
 -- the bits of the ticket are set in the finder's half
 abbrev pub tell_line : Halves → ℕ → Line (Unit {0}) Halves
-tell_line old ticket = record { answer = tt; after = record { setter = old.setter; finder = bit_or old.finder ticket } }
+tell_line old ticket = record {
+  answer = tt;
+  after = record { setter = old.setter; finder = bit_or old.finder ticket };
+}
 
 -- neither half names anybody
 abbrev pub unnamed : Halves

@@ -5,7 +5,7 @@ use Rattle.slot.specs.Line.{Line}
 abbrev pub load_line : ℕ → Line ℕ ℕ
 load_line old = record { answer = old; after = old }
 
--- a watchpoint takes the place if it is empty
+-- a watchpoint is set up if there is none
 abbrev pub insert_line : ℕ → ℕ → Line Bool ℕ
 insert_line old word = record { answer = old == 0; after = if old == 0 then word else old }
 
@@ -17,6 +17,6 @@ try_consume_line old word = record { answer = old == word; after = if old == wor
 abbrev pub consume_line : ℕ → Line Bool ℕ
 consume_line old = record { answer = not (old == 0 || old == 1); after = 1 }
 
--- the place is emptied
+-- the watchpoint is taken away
 abbrev pub remove_line : ℕ → Line (Unit {0}) ℕ
 remove_line old = record { answer = tt; after = 0 }

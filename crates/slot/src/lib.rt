@@ -1,8 +1,8 @@
-//! The two words of a watchpoint's place: the watch word, which says what is watched, and the pair word,
-//! in which the setter of a watchpoint and the access that hits it name themselves to each other.
+//! The two words of an index: the watch word, which says what is watched, and the pair word, in
+//! which the setter of a watchpoint and the access that hits it name themselves to each other.
 //!
-//! Each call is one indivisible step of a word, a line: its answer and the word after it, both from the
-//! word before it.
+//! Each call is one indivisible step on one of them, a line: its answer and the word after it, both
+//! from the word before it.
 #![tactic(auto)]
 
 pub mod pair;

@@ -3,9 +3,9 @@ ghost use Rattle.slot.specs.Pair.{Halves, clear_line, halves_line, name_line, te
 
 use std::marker::Model;
 
-/// The pair word of a watchpoint's place: the tickets of the access that set the watchpoint up and of the
-/// one that hit it, 0 where nobody is named. Stored in one word of 64 bits, the setter's is the upper 32
-/// and the finder's the lower.
+/// The pair word of an index: the tickets of the access that set the watchpoint up and of the one
+/// that hit it, 0 where nobody is named. In one word of 64 bits the setter's is the upper half and
+/// the finder's the lower.
 #[derive(Clone, Copy, Debug, PartialEq, Eq, Default)]
 pub struct Pair {
     setter: u32,
@@ -38,7 +38,8 @@ impl Pair {
         self.setter |= ticket;
     }
 
-    /// Tells the setter who hit its watchpoint: the bits of the finder's ticket are set in its half.
+    /// Tells the setter who hit its watchpoint: the bits of the finder's ticket are set in its
+    /// half.
     pub fn tell(&mut self, ticket: u32)
         ensures { self.new ≡ (tell_line self.old ticket).after }
     {

@@ -1,16 +1,17 @@
 ghost use Rattle.std.specs.Prelude.{◌≡◌, ◌<◌, ℕ};
-ghost use Rattle.slot.specs.Slot.{consume_line, insert_line, load_line, remove_line, try_consume_line};
+ghost use Rattle.slot.specs.Slot.{consume_line, insert_line, load_line, remove_line};
+ghost use Rattle.slot.specs.Slot.{try_consume_line};
 
 use std::marker::Model;
 
-/// The word of a place with no watchpoint.
+/// The watch word of an index with no watchpoint.
 pub const EMPTY: u64 = 0;
 
-/// The word of a place whose watchpoint was hit.
+/// The watch word of an index whose watchpoint was hit.
 pub const CONSUMED: u64 = 1;
 
-/// A place for one watchpoint. It holds a watch word: `EMPTY`, `CONSUMED` or, above these, the word of
-/// what is watched.
+/// The watch word that stands at an index: `EMPTY`, `CONSUMED` or, above these, the word of what is
+/// watched. (The page slot of an address is something else: a number.)
 #[derive(Clone, Copy, Debug, PartialEq, Eq, Default)]
 pub struct Slot {
     word: u64,
@@ -25,14 +26,14 @@ impl Model for Slot {
 }
 
 impl Slot {
-    /// A place with no watchpoint.
+    /// No watchpoint.
     pub fn new() -> Slot
         ensures { result ≡ 0 }
     {
         Slot { word: EMPTY }
     }
 
-    /// The word that it holds.
+    /// The watch word.
     pub fn load(&self) -> u64
         ensures { result ≡ (load_line self.now).answer }
     {
@@ -52,8 +53,8 @@ impl Slot {
         is_empty
     }
 
-    /// Marks the watchpoint `word` as hit if it still stands there, and answers whether it did. An access
-    /// that found a watchpoint claims it so, and only one access can.
+    /// Marks the watchpoint `word` as hit if it still stands there, and answers whether it did. An
+    /// access that found a watchpoint claims it so, and only one access can.
     pub fn try_consume(&mut self, word: u64) -> bool
         requires { 1 < word }
         ensures answer { result ≡ (try_consume_line self.old word).answer }
@@ -66,8 +67,8 @@ impl Slot {
         is_here
     }
 
-    /// Marks whatever stands there as hit, and answers whether it was a watchpoint that nobody had hit.
-    /// The setter ends its watch so.
+    /// Marks whatever stands there as hit, and answers whether it was a watchpoint that nobody had
+    /// hit. The setter ends its watch so.
     pub fn consume(&mut self) -> bool
         ensures answer { result ≡ (consume_line self.old).answer }
         ensures after { self.new ≡ (consume_line self.old).after }
@@ -93,8 +94,8 @@ mod tests {
 
     const WRITE: u64 = 0x8008_0000_0001_0000;
 
-    /// Places with the words 0, 1, `READ` and `WRITE`.
-    fn places() -> [Slot; 4] {
+    /// The watch words 0, 1, `READ` and `WRITE`.
+    fn slots() -> [Slot; 4] {
         let mut consumed = Slot::new();
         let _ = consumed.consume();
         let mut read = Slot::new();
@@ -105,45 +106,45 @@ mod tests {
     }
 
     #[test]
-    fn places_hold_their_words(rt: HostRuntime) {
-        for (place, word) in places().into_iter().zip([0, 1, READ, WRITE]) {
-            assert_eq!(rt; place.load(), word);
+    fn slots_hold_their_words(rt: HostRuntime) {
+        for (slot, word) in slots().into_iter().zip([0, 1, READ, WRITE]) {
+            assert_eq!(rt; slot.load(), word);
         }
         assert_eq!(rt; Slot::default(), Slot::new());
     }
 
     #[test]
-    fn insert_fills_an_empty_place_only(rt: HostRuntime) {
+    fn insert_fills_an_empty_slot_only(rt: HostRuntime) {
         let wanted = [(true, READ), (false, 1), (false, READ), (false, WRITE)];
-        for (mut place, want) in places().into_iter().zip(wanted) {
-            let answer = place.insert(READ);
-            assert_eq!(rt; (answer, place.load()), want);
+        for (mut slot, want) in slots().into_iter().zip(wanted) {
+            let answer = slot.insert(READ);
+            assert_eq!(rt; (answer, slot.load()), want);
         }
     }
 
     #[test]
     fn try_consume_takes_its_word_only(rt: HostRuntime) {
         let wanted = [(false, 0), (false, 1), (true, 1), (false, WRITE)];
-        for (mut place, want) in places().into_iter().zip(wanted) {
-            let answer = place.try_consume(READ);
-            assert_eq!(rt; (answer, place.load()), want);
+        for (mut slot, want) in slots().into_iter().zip(wanted) {
+            let answer = slot.try_consume(READ);
+            assert_eq!(rt; (answer, slot.load()), want);
         }
     }
 
     #[test]
     fn consume_tells_an_untouched_watchpoint(rt: HostRuntime) {
         let wanted = [(false, 1), (false, 1), (true, 1), (true, 1)];
-        for (mut place, want) in places().into_iter().zip(wanted) {
-            let answer = place.consume();
-            assert_eq!(rt; (answer, place.load()), want);
+        for (mut slot, want) in slots().into_iter().zip(wanted) {
+            let answer = slot.consume();
+            assert_eq!(rt; (answer, slot.load()), want);
         }
     }
 
     #[test]
-    fn remove_empties_any_place(rt: HostRuntime) {
-        for mut place in places() {
-            place.remove();
-            assert_eq!(rt; place.load(), 0);
+    fn remove_empties_any_slot(rt: HostRuntime) {
+        for mut slot in slots() {
+            slot.remove();
+            assert_eq!(rt; slot.load(), 0);
         }
     }
 }

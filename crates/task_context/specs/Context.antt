@@ -1,6 +1,7 @@
 use Rattle.std.specs.Prelude.{ℕ, Bool, false}
 
--- what a task keeps: how often reporting is disabled, how many nested regions are open, whether a flat one is, and how many of the next accesses count as marked
+-- what a task keeps: how often reporting is disabled, how many nested regions are open, whether a
+-- flat one is, and how many of the next accesses count as marked
 pub record Context : Type 0 where
   pub disable_count : ℕ
   pub nest_count : ℕ

@@ -1,9 +1,13 @@
-ghost use Rattle.std.specs.Prelude.{◌≡◌, ◌+◌, ◌<◌, ◌^◌, ◌↔◌, ℕ, [], Bool, IsFalse, IsTrue, IsErrOf, OnErr};
+ghost use Rattle.std.specs.Prelude.{◌≡◌, ◌+◌, ◌<◌, ◌^◌, ◌↔◌, ℕ, [], Bool, IsFalse, IsTrue, IsErrOf};
+ghost use Rattle.std.specs.Prelude.{OnErr};
 ghost use Rattle.access_types.specs.History.{History};
 ghost use Rattle.access_types.specs.Marked as marked;
-ghost use Rattle.access_types.specs.Marked.{CountsAfter, EndsRaised, is_disable, is_enable, marks_of};
+ghost use Rattle.access_types.specs.Marked.{CountsAfter, EndsRaised, is_disable, is_enable};
+ghost use Rattle.access_types.specs.Marked.{marks_of};
 ghost use Rattle.access_types.specs.declared.history.Happening.TheVariants.{Begin};
-ghost use Rattle.access_types.specs.declared.history.Mark.TheVariants.{Disable, Enable, FlatBegin, FlatEnd, NestClose, NestOpen, Next};
+ghost use Rattle.access_types.specs.declared.history.Mark.TheVariants.{Disable, Enable, FlatBegin};
+ghost use Rattle.access_types.specs.declared.history.Mark.TheVariants.{FlatEnd, NestClose};
+ghost use Rattle.access_types.specs.declared.history.Mark.TheVariants.{NestOpen, Next};
 ghost use Rattle.task_context.specs.Context as spec;
 ghost use Rattle.task_context.specs.Context.{idle};
 ghost use Rattle.task_context.specs.History.{Follows, LeadsTo, MarkFollows};
@@ -32,16 +36,27 @@ pub enum ContextError {
 impl Model for Context {
     ghost Value = { spec.Context };
 
-    ghost view = { λ c. record { disable_count = c.disable_count; nest_count = c.nest_count; in_flat = c.in_flat; atomic_next = c.atomic_next } };
+    ghost view = { λ c. record {
+      disable_count = c.disable_count;
+      nest_count = c.nest_count;
+      in_flat = c.in_flat;
+      atomic_next = c.atomic_next;
+    } };
 
-    ghost inverse = { λ c. record { disable_count = c.disable_count; nest_count = c.nest_count; in_flat = c.in_flat; atomic_next = c.atomic_next } };
+    ghost inverse = { λ c. record {
+      disable_count = c.disable_count;
+      nest_count = c.nest_count;
+      in_flat = c.in_flat;
+      atomic_next = c.atomic_next;
+    } };
 }
 
 impl Context {
     /// The context of a task that has done nothing yet.
     pub fn new() -> Context
         ensures value { result ≡ idle }
-        ensures begins { (plain_writes_atomic : Bool) (task : ℕ) → LeadsTo plain_writes_atomic task [] result }
+        ensures begins { (plain_writes_atomic : Bool) (task : ℕ)
+            → LeadsTo plain_writes_atomic task [] result }
     {
         Context {
             disable_count: 0,
@@ -62,8 +77,8 @@ impl Context {
 
     /// `kcsan_enable_current`: takes one `disable` back.
     ///
-    /// `Unbalanced`: there is none to take back. Nothing changes, and the refused call may stand in the
-    /// history all the same.
+    /// `Unbalanced`: there is none to take back. Nothing changes, and the refused call may stand in
+    /// the history all the same.
     pub fn enable(&mut self) -> Result<(), ContextError>
         ensures unbalanced { IsErrOf result ContextError.Unbalanced ↔ (self.old.disable_count ≡ 0) }
         ensures unchanged { OnErr result (self.new ≡ self.old) }
@@ -76,7 +91,8 @@ impl Context {
         Ok(())
     }
 
-    /// `kcsan_nestable_atomic_begin`: opens an atomic region, in which every access counts as marked.
+    /// `kcsan_nestable_atomic_begin`: opens an atomic region, in which every access counts as
+    /// marked.
     pub fn nest_begin(&mut self)
         requires { self.old.nest_count < 2 ^ 32 }
         ensures count { self.new.nest_count ≡ self.old.nest_count + 1 }
@@ -87,8 +103,8 @@ impl Context {
 
     /// `kcsan_nestable_atomic_end`: closes the region that `nest_begin` opened last.
     ///
-    /// `Unbalanced`: none is open. Nothing changes, and the refused call may stand in the history all the
-    /// same.
+    /// `Unbalanced`: none is open. Nothing changes, and the refused call may stand in the history
+    /// all the same.
     pub fn nest_end(&mut self) -> Result<(), ContextError>
         ensures unbalanced { IsErrOf result ContextError.Unbalanced ↔ (self.old.nest_count ≡ 0) }
         ensures unchanged { OnErr result (self.new ≡ self.old) }
@@ -115,20 +131,22 @@ impl Context {
         self.in_flat = false;
     }
 
-    /// `kcsan_atomic_next`: the next `count` accesses count as marked, of those that could be plain. What
-    /// was left of an earlier call is forgotten.
+    /// `kcsan_atomic_next`: the next `count` accesses count as marked, of those that could be
+    /// plain. What was left of an earlier call is forgotten.
     pub fn atomic_next(&mut self, count: u64)
         ensures follows { MarkFollows self.old (Next count) self.new }
     {
         self.atomic_next = count;
     }
 
-    /// Whether the access, which begins now and is of this context's task, counts as marked. One that
-    /// `atomic_next` counts takes one of what is left.
+    /// Whether the access, which begins now and is of this context's task, counts as marked. One
+    /// that `atomic_next` counts takes one of what is left.
     pub fn counts_as_marked(&mut self, access: &Access, plain_writes_atomic: bool) -> bool
-        ensures counts { (before : History) → LeadsTo plain_writes_atomic access.now.task before self.old
+        ensures counts { (before : History)
+            → LeadsTo plain_writes_atomic access.now.task before self.old
             → (IsTrue result ↔ CountsAfter plain_writes_atomic access.now before) }
-        ensures follows { Follows plain_writes_atomic access.now.task self.old (Begin access.now) self.new }
+        ensures follows { Follows plain_writes_atomic access.now.task self.old (Begin access.now)
+            self.new }
     {
         if access.kind().is_marked() {
             return true;
@@ -146,17 +164,19 @@ impl Context {
         self.nest_count > 0 || self.in_flat
     }
 
-    /// Whether an access that begins now is heard: it is silenced while a `disable` isn't taken back.
+    /// Whether an access that begins now is heard: it is silenced while a `disable` isn't taken
+    /// back.
     pub fn enabled(&self) -> bool
-        ensures { (plain_writes_atomic : Bool) (task : ℕ) (before : History) → LeadsTo plain_writes_atomic task before self.now
+        ensures { (plain_writes_atomic : Bool) (task : ℕ) (before : History)
+            → LeadsTo plain_writes_atomic task before self.now
             → (IsFalse result ↔ EndsRaised is_disable is_enable (marks_of task before)) }
     {
         self.disable_count == 0
     }
 }
 
-/// A plain write that the machine makes in one piece, where plain writes are assumed atomic: not compound,
-/// of at most 8 bytes, at a multiple of its size.
+/// A plain write that the machine makes in one piece, where plain writes are assumed atomic: not
+/// compound, of at most 8 bytes, at a multiple of its size.
 fn is_atomic_write(access: &Access, plain_writes_atomic: bool) -> bool
     ensures { result ≡ marked.is_atomic_write plain_writes_atomic access.now }
 {

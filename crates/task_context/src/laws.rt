@@ -1,25 +1,30 @@
-//! What is true of the definitions: contexts stand for histories, and accesses are judged by what came
-//! before they began.
+//! What is true of the definitions: contexts stand for histories, and accesses are judged by what
+//! came before they began.
 
 ghost use Rattle.std.specs.Prelude.{◌≡◌, ◌↔◌, ◌++◌, ℕ, [], ◌∷◌, Bool, Contains};
 ghost use Rattle.access_types.specs.Access as accesses;
 ghost use Rattle.access_types.specs.History.{History, beginning};
-ghost use Rattle.access_types.specs.Marked.{CountedAsMarked, CountsAfter, EndsRaised, Silenced, is_disable, is_enable, marks_of};
+ghost use Rattle.access_types.specs.Marked.{CountedAsMarked, CountsAfter, EndsRaised, Silenced};
+ghost use Rattle.access_types.specs.Marked.{is_disable, is_enable, marks_of};
 ghost use Rattle.access_types.specs.declared.history.Moment.{Moment};
 ghost use Rattle.task_context.specs.Context as spec;
 ghost use Rattle.task_context.specs.History.{Concerns, IsWithinCalls, LeadsTo};
 
 /// Law: each history leads to one context, whatever is in it.
 pub fn histories_lead_to_one_context()
-    ensures some { (plain_writes_atomic : Bool) (task : ℕ) (moments : History) → (context : spec.Context) × LeadsTo plain_writes_atomic task moments context }
+    ensures some { (plain_writes_atomic : Bool) (task : ℕ) (moments : History)
+        → (context : spec.Context) × LeadsTo plain_writes_atomic task moments context }
     ensures one { (plain_writes_atomic : Bool) (task : ℕ) (moments : History) (a b : spec.Context)
-        → LeadsTo plain_writes_atomic task moments a → LeadsTo plain_writes_atomic task moments b → a ≡ b }
+        → LeadsTo plain_writes_atomic task moments a → LeadsTo plain_writes_atomic task moments b
+        → a ≡ b }
 {}
 
 /// Law: a moment that is no mark of the task and begins no access of it changes nothing.
 pub fn other_moments_change_nothing()
-    ensures { (plain_writes_atomic : Bool) (task : ℕ) (moments : History) (context : spec.Context) (moment : Moment)
-        → ¬ Concerns task moment.task moment.happening → LeadsTo plain_writes_atomic task moments context
+    ensures { (plain_writes_atomic : Bool) (task : ℕ) (moments : History)
+        (context : spec.Context) (moment : Moment)
+        → ¬ Concerns task moment.task moment.happening
+        → LeadsTo plain_writes_atomic task moments context
         → LeadsTo plain_writes_atomic task (moments ++ moment ∷ []) context }
 {}
 
@@ -34,8 +39,10 @@ pub fn counts_are_within_calls()
 pub fn accesses_are_judged_at_their_begin()
     ensures marked { (plain_writes_atomic : Bool) (a : accesses.Access) (before later : History)
         → ¬ Contains (before ++ later) (beginning a)
-        → (CountedAsMarked plain_writes_atomic (before ++ beginning a ∷ later) a ↔ CountsAfter plain_writes_atomic a before) }
+        → (CountedAsMarked plain_writes_atomic (before ++ beginning a ∷ later) a
+        ↔ CountsAfter plain_writes_atomic a before) }
     ensures silenced { (a : accesses.Access) (before later : History)
         → ¬ Contains (before ++ later) (beginning a)
-        → (Silenced (before ++ beginning a ∷ later) a ↔ EndsRaised is_disable is_enable (marks_of a.task before)) }
+        → (Silenced (before ++ beginning a ∷ later) a
+        ↔ EndsRaised is_disable is_enable (marks_of a.task before)) }
 {}

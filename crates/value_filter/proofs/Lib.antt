@@ -1,1 +1,1 @@
-pub mod BitLemmas
+pub mod ChangedBits

@@ -7,12 +7,15 @@ ghost use Rattle.value_filter.specs.Change.{BitDiffers, IsSeen};
 use crate::verdict::Change;
 use access_types::Access;
 
-/// What the old and the new value of an access's bytes say of a change, or what is said where none were
-/// loaded. The mask of an access has a bit, since `Access::new_rep` makes one without a bit none.
+/// What the old and the new value of an access's bytes say of a change, or what is said where none
+/// were loaded. The mask of an access has a bit, since `Access::new_rep` makes one without a bit
+/// none.
 pub fn change(access: &Access, values: Option<(u64, u64)>) -> Change
     ensures seen { (result ≡ Change.Seen) ↔ IsSeen access.now values }
-    ensures ruled { (result ≡ Change.Ruled) ↔ (¬ IsSeen access.now values × IsSome access.now.mask) }
-    ensures maybe { (result ≡ Change.Maybe) ↔ (¬ IsSeen access.now values × IsNone access.now.mask) }
+    ensures ruled { (result ≡ Change.Ruled)
+        ↔ (¬ IsSeen access.now values × IsSome access.now.mask) }
+    ensures maybe { (result ≡ Change.Maybe)
+        ↔ (¬ IsSeen access.now values × IsNone access.now.mask) }
 {
     let mask = access.mask();
     match values {

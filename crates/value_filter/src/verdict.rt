@@ -6,7 +6,8 @@ ghost use Rattle.value_filter.specs.Verdict.{VerdictOf};
 
 use access_types::Access;
 
-/// What the values of an access's bytes, at the beginning and at the end of its watch, say of a change.
+/// What the values of an access's bytes, at the beginning and at the end of its watch, say of a
+/// change.
 #[derive(Clone, Copy, Debug, PartialEq, Eq)]
 pub enum Change {
     /// They differ in a bit that counts.
@@ -39,11 +40,11 @@ pub enum Verdict {
     Quiet,
 }
 
-/// The verdict on the setter's watch. `taken` says that the watchpoint was hit, by an access that shares a
-/// byte with the setter: whether it does is for the caller to find out, and so the answer is never
-/// `Reason::Encoding`. With `value_change_only`, as by KCSAN's option of this name, a hit is reported only
-/// where a change was seen; but an access of more than 8 bytes is taken to have changed, and an assertion is
-/// about accesses and not about values.
+/// The verdict on the setter's watch. `taken` says that the watchpoint was hit, by an access that
+/// shares a byte with the setter: whether it does is for the caller to find out, and so the answer
+/// is never `Reason::Encoding`. With `value_change_only`, as by KCSAN's option of this name, a hit
+/// is reported only where a change was seen; but an access of more than 8 bytes is taken to have
+/// changed, and an assertion is about accesses and not about values.
 pub fn judge(change: Change, setter: &Access, taken: bool, value_change_only: bool) -> Verdict
     ensures verdict { VerdictOf setter.now taken change value_change_only result }
     ensures not_encoding { result ≢ Verdict.Drop Reason.Encoding }
@@ -62,8 +63,10 @@ pub fn judge(change: Change, setter: &Access, taken: bool, value_change_only: bo
 
 /// Law: there is one verdict on each watch.
 pub fn verdicts_are_unique()
-    ensures { (setter : spec.Access) (taken : Bool) (change : Change) (value_change_only : Bool) (first second : Verdict) →
-        VerdictOf setter taken change value_change_only first → VerdictOf setter taken change value_change_only second → first ≡ second }
+    ensures { (setter : spec.Access) (taken : Bool) (change : Change) (value_change_only : Bool)
+        (first second : Verdict) →
+        VerdictOf setter taken change value_change_only first
+        → VerdictOf setter taken change value_change_only second → first ≡ second }
 {}
 
 #[cfg(test)]

@@ -5,15 +5,19 @@ use Rattle.watch_word.specs.declared.layout.Layout.{Layout}
 use Rattle.watch_word.specs.declared.watch.Watch.{Watch}
 use Rattle.watch_word.specs.Layout.{address_span, masked, size_span, word_span, write_bit}
 
--- an access that a word can stand for: none of the first page, that of null pointers, and of 1 to 8192 bytes
+-- an access that a word can stand for: none of the first page, that of null pointers, and of 1 to
+-- 8192 bytes
 pub record Encodable (a : Access) : Type 0 where
   pub address : 4096 ≤ a.addr
   pub has_bytes : 0 < a.size
   pub size : a.size ≤ 8192
 
--- the word of the access: the write bit if its write flag is set, its size in the size field and its address in the address field
+-- the word of the access: the write bit if its write flag is set, its size in the size field and
+-- its address in the address field
 unfoldable pub word_of : Layout → Access → ℕ
-word_of layout a = (if write_flag a.kind then write_bit layout else 0) + a.size * address_span layout + masked layout a.addr
+word_of layout a =
+    (if write_flag a.kind then write_bit layout else 0)
+    + a.size * address_span layout + masked layout a.addr
 
 -- the access has a word, and it is this one
 pub record WordOf (layout : Layout) (a : Access) (word : ℕ) : Type 0 where
@@ -28,7 +32,8 @@ watch_in layout word = record {
   addr = masked layout word;
 }
 
--- the word is neither that of an empty place, 0, nor that of a consumed one, 1; it is one of the layout, and its size is one that can be watched
+-- the word is neither the empty one, 0, nor the consumed one, 1; it is one of the layout, and its
+-- size is one that can be watched
 pub record IsWatchWord (layout : Layout) (word : ℕ) : Type 0 where
   pub above_one : 1 < word
   pub below : word < word_span layout

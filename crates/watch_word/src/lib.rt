@@ -1,8 +1,8 @@
-//! Watch words: what KCSAN keeps of a watched access in one word, so that the place of a watchpoint can
-//! be read and changed in one step.
+//! Watch words: what KCSAN keeps of a watched access in one word, so that what stands at an index
+//! can be read and changed in one step.
 //!
-//! From the top, a word has the write bit, 14 bits of size and the low bits of the address, 49 in a word
-//! of 64 bits and 17 in one of 32.
+//! From the top, a watch word has the write bit, 14 bits of size and the low bits of the address,
+//! 49 in a word of 64 bits and 17 in one of 32.
 #![tactic(auto)]
 
 pub mod layout;

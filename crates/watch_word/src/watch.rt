@@ -3,7 +3,8 @@ ghost use Rattle.access_types.specs.Access as spec;
 ghost use Rattle.watch_word.specs.declared.layout.Layout.{Layout};
 ghost use Rattle.watch_word.specs.Layout.{word_span};
 ghost use Rattle.watch_word.specs.Match.{Matches};
-ghost use Rattle.watch_word.specs.Word.{Encodable, IsOfAccess, IsWatchWord, Watches, WordOf, watch_of};
+ghost use Rattle.watch_word.specs.Word.{Encodable, IsOfAccess, IsWatchWord, Watches, WordOf};
+ghost use Rattle.watch_word.specs.Word.{watch_of};
 
 use crate::layout::Layout;
 use access_types::Access;
@@ -28,8 +29,8 @@ pub struct Watch {
     pub addr: u64,
 }
 
-/// The word of the access, or `None` if it can't be watched: its address is below `PAGE_SIZE`, or its
-/// size is 0 or above `MAX_ENCODABLE_SIZE`.
+/// The word of the access, or `None` if it can't be watched: its address is below `PAGE_SIZE`, or
+/// its size is 0 or above `MAX_ENCODABLE_SIZE`.
 #[tactic(auto, unfolding(crate::specs::Word::word_of, crate::specs::Word::watch_in, crate::specs::Layout::masked))]
 pub fn encode_in(layout: Layout, access: &Access) -> Option<u64>
     ensures encodable { IsSome result ↔ Encodable access.now }
@@ -48,8 +49,8 @@ pub fn encode_in(layout: Layout, access: &Access) -> Option<u64>
     Some(write_bit + size * layout.address_span() + access.addr() % layout.address_span())
 }
 
-/// What the word says, or `None` if it is the word of no access: its size is 0, as in the words of an
-/// empty and of a consumed place, or above `MAX_ENCODABLE_SIZE`, or it has bits above the layout's.
+/// What the word says, or `None` if it is the word of no access: its size is 0, as in the empty and
+/// in the consumed word, or above `MAX_ENCODABLE_SIZE`, or it has bits above the layout's.
 #[tactic(auto, unfolding(crate::specs::Word::watch_in, crate::specs::Layout::masked))]
 pub fn decode_in(layout: Layout, word: u64) -> Option<Watch>
     ensures watch_word { IsSome result ↔ IsWatchWord layout word }
@@ -71,9 +72,9 @@ pub fn decode_in(layout: Layout, word: u64) -> Option<Watch>
     })
 }
 
-/// The watched bytes and those of the access meet, as far as the low bits of the addresses tell. Ranges
-/// do not wrap where these bits do, so an access whose range passes such a point can be missed, and one
-/// far away can be taken for it.
+/// The watched bytes and those of the access meet, as far as the low bits of the addresses tell.
+/// Ranges do not wrap where these bits do, so an access whose range passes such a point can be
+/// missed, and one far away can be taken for it.
 #[tactic(auto, unfolding(crate::specs::Layout::masked))]
 pub fn matches_in(layout: Layout, watch: &Watch, addr: u64, size: u64) -> bool
     requires has_bytes { 0 < size }
@@ -93,7 +94,8 @@ pub fn matches_in(layout: Layout, watch: &Watch, addr: u64, size: u64) -> bool
 pub fn encode(access: &Access) -> Option<u64>
     ensures encodable { IsSome result ↔ Encodable access.now }
     ensures word { IfSome result (WordOf Layout.W64 access.now) }
-    ensures says { IfSome result (λ word. Watches Layout.W64 word (watch_of Layout.W64 access.now)) }
+    ensures says { IfSome result
+        (λ word. Watches Layout.W64 word (watch_of Layout.W64 access.now)) }
 {
     encode_in(Layout::W64, access)
 }
@@ -115,20 +117,20 @@ pub fn matches(watch: &Watch, addr: u64, size: u64) -> bool
     matches_in(Layout::W64, watch, addr, size)
 }
 
-/// Law: the word of an access that can be watched says its write flag, its size and its masked address.
+/// Law: the word of an access says its write flag, its size and its masked address.
 #[tactic(auto, unfolding(crate::specs::Word::word_of, crate::specs::Word::watch_in, crate::specs::Layout::masked))]
 pub fn words_read_back()
     ensures { (layout : Layout) (a : spec.Access) (word : ℕ) →
         WordOf layout a word → Watches layout word (watch_of layout a) }
 {}
 
-/// Law: each word that says something is the word of an access that can be watched, and says it of that.
+/// Law: each word that says something is the word of an access, and says it of that.
 pub fn watches_are_of_accesses()
     ensures { (layout : Layout) (word : ℕ) → IsWatchWord layout word → IsOfAccess layout word }
 {}
 
-/// Law: the word of an access that can be watched is above those of an empty and of a consumed place, and
-/// has no bit above the layout's.
+/// Law: the word of an access is above the empty and the consumed word, and has no bit above the
+/// layout's.
 #[tactic(auto, unfolding(crate::specs::Word::word_of, crate::specs::Layout::masked))]
 pub fn words_are_above_one()
     ensures { (layout : Layout) (a : spec.Access) (word : ℕ) →

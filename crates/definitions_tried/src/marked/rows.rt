@@ -2,7 +2,8 @@
 
 use super::{counted_as_marked, silenced};
 use crate::examples::{
-    INCREMENT, NO_ACCESSES, NO_WRITES, NO_WRITES_IN_SCOPE, READ, READ_ONCE, WRITE, access, after, mark,
+    INCREMENT, NO_ACCESSES, NO_WRITES, NO_WRITES_IN_SCOPE, READ, READ_ONCE, WRITE, access, after,
+    mark,
 };
 use crate::moments::{begin, end};
 use access_types::Mark::{Disable, Enable, FlatBegin, FlatEnd, NestClose, NestOpen, Next};

@@ -3,7 +3,8 @@
 use super::{in_progress, true_race};
 use crate::content::content_after;
 use crate::examples::{
-    INCREMENT, NO_ACCESSES, NO_WRITES, NO_WRITES_IN_SCOPE, READ, READ_ONCE, WRITE, WRITE_ONCE, access, mark,
+    INCREMENT, NO_ACCESSES, NO_WRITES, NO_WRITES_IN_SCOPE, READ, READ_ONCE, WRITE, WRITE_ONCE,
+    access, mark,
 };
 use crate::moments::{begin, end};
 use access_types::Mark::{Disable, Enable};

@@ -1,3 +1,4 @@
+-- no byte of the others is one that was laid down
 use Rattle.access_types.proofs.LaidBytes.{laid-apart}
 use Rattle.access_types.proofs.history.other_bytes_stay.Goals as goal
 

@@ -1,7 +1,8 @@
+-- the two accesses change sides in each part of the definition
 use Rattle.std.proofs.Common.{inl, inr, sym}
 use Rattle.access_types.proofs.history.races_are_symmetric.Goals as goal
 
--- the two change places in each part
+-- the two are exchanged in each part
 pub returns : goal.returns
 returns c = λ plain_writes_atomic history s f race. record {
   tasks = λ same. race.tasks (sym same);

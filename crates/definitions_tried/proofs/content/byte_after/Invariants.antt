@@ -1,3 +1,4 @@
+-- the byte after the moments that the loop has passed
 use Rattle.std.proofs.Common.{◌≡◌, take}
 use Rattle.access_types.specs.History.{after_moments}
 use Rattle.definitions_tried.proofs.content.byte_after.Given as goal

@@ -1,3 +1,4 @@
+-- what is left of the value after some divisions by 256
 use Rattle.std.proofs.Common.{◌≡◌, ◌/◌, ◌^◌}
 use Rattle.definitions_tried.proofs.content.byte_of_value.Given as goal
 

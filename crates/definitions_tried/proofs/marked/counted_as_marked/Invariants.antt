@@ -1,3 +1,4 @@
+-- the search has found no begin that counts so far
 use Rattle.std.proofs.Common.{◌<◌, ℕ}
 use Rattle.definitions_tried.proofs.Searches.{CountsAt}
 use Rattle.definitions_tried.proofs.marked.counted_as_marked.Given as goal

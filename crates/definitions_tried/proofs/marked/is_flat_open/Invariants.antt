@@ -1,3 +1,4 @@
+-- the search has found no such flat begin so far
 use Rattle.std.proofs.Common.{◌<◌, ℕ, drop}
 use Rattle.definitions_tried.proofs.Searches.{BeginsLastFlat}
 use Rattle.definitions_tried.proofs.marked.is_flat_open.Given as goal

@@ -1,3 +1,4 @@
+-- the search has found no such next-mark so far
 use Rattle.std.proofs.Common.{◌<◌, ℕ, drop}
 use Rattle.definitions_tried.proofs.Searches.{BeginsLastNext}
 use Rattle.definitions_tried.proofs.marked.is_within_next.Given as goal

@@ -1,3 +1,4 @@
+-- the marks of the moments that the loop has passed
 use Rattle.std.proofs.Common.{◌≡◌, take}
 use Rattle.access_types.specs.Marked.{marks_of}
 use Rattle.definitions_tried.proofs.marked.marks_of.Given as goal

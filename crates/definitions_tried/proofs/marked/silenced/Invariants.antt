@@ -1,3 +1,4 @@
+-- the search has found no silenced begin so far
 use Rattle.std.proofs.Common.{◌<◌, ℕ}
 use Rattle.definitions_tried.proofs.Searches.{IsSilencedAt}
 use Rattle.definitions_tried.proofs.marked.silenced.Given as goal

@@ -1,3 +1,4 @@
+-- the search has found no common moment so far
 use Rattle.std.proofs.Common.{◌<◌, ℕ}
 use Rattle.access_types.specs.History.{InProgress}
 use Rattle.definitions_tried.proofs.race.go_together.Given as goal

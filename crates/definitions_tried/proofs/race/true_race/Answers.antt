@@ -1,3 +1,4 @@
+-- each test answers for one part of the definition
 use Rattle.std.proofs.Common.{◌∙◌, sym}
 use Rattle.definitions_tried.proofs.race.true_race.Goals as goal
 

@@ -1,3 +1,4 @@
+-- one asking after the other
 use Rattle.skip_sampler.proofs.Positions.{some_sampler}
 use Rattle.skip_sampler.proofs.laws.askings_lead_to_samplers.Goals as goal
 

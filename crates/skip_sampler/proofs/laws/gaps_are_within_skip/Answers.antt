@@ -1,3 +1,4 @@
+-- a remainder by skip is below skip
 use Rattle.skip_sampler.proofs.Positions.{gap_least, gap_most}
 use Rattle.skip_sampler.proofs.laws.gaps_are_within_skip.Goals as goal
 

@@ -1,3 +1,4 @@
+-- each gap is then skip itself
 use Rattle.skip_sampler.proofs.Positions.{position-fixed}
 use Rattle.skip_sampler.proofs.laws.positions_without_chance.Goals as goal
 

@@ -1,3 +1,4 @@
+-- there is one list of moments before the begin
 use Rattle.task_context.proofs.OneBegin.{marked_at_begin, silenced_at_begin}
 use Rattle.task_context.proofs.laws.accesses_are_judged_at_their_begin.Goals as goal
 

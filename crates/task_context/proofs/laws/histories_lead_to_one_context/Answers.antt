@@ -1,3 +1,4 @@
+-- some context by going on moment by moment, and one since each part is determined
 use Rattle.task_context.proofs.OneContext.{one_context, some_context}
 use Rattle.task_context.proofs.laws.histories_lead_to_one_context.Goals as goal
 

@@ -1,4 +1,5 @@
-use Rattle.value_filter.proofs.BitLemmas.{bits_from_differ, differ_from_bits}
+-- both ways, from a bit to the values and from the values to a bit
+use Rattle.value_filter.proofs.ChangedBits.{bits_from_differ, differ_from_bits}
 use Rattle.value_filter.proofs.values.seen_changes_differ.Goals as goal
 
 pub returns : goal.returns

@@ -32,22 +32,28 @@ access_for layout word = record {
   mask = None;
 }
 
-in_limits : (layout : Layout) (word : ℕ) → IsWatchWord layout word → IsInLimits (access_for layout word)
+in_limits : (layout : Layout) (word : ℕ) → IsWatchWord layout word
+    → IsInLimits (access_for layout word)
 unfolding access_for watch_in masked
-in_limits W64 word h = record { task = omega arith; site = omega arith; rep = omega arith; range = omega arith }
-in_limits W32 word h = record { task = omega arith; site = omega arith; rep = omega arith; range = omega arith }
+in_limits W64 word h =
+    record { task = omega arith; site = omega arith; rep = omega arith; range = omega arith }
+in_limits W32 word h =
+    record { task = omega arith; site = omega arith; rep = omega arith; range = omega arith }
 
-encodable : (layout : Layout) (word : ℕ) → IsWatchWord layout word → Encodable (access_for layout word)
+encodable : (layout : Layout) (word : ℕ) → IsWatchWord layout word
+    → Encodable (access_for layout word)
 unfolding access_for watch_in masked
 encodable W64 word h = record { address = omega arith; has_bytes = omega arith; size = omega arith }
 encodable W32 word h = record { address = omega arith; has_bytes = omega arith; size = omega arith }
 
-word_of_access : (layout : Layout) (word : ℕ) → IsWatchWord layout word → word ≡ word_of layout (access_for layout word)
+word_of_access : (layout : Layout) (word : ℕ) → IsWatchWord layout word
+    → word ≡ word_of layout (access_for layout word)
 unfolding access_for word_of watch_in masked
 word_of_access W64 word h = rw write_flag-kind_with (grind arith)
 word_of_access W32 word h = rw write_flag-kind_with (grind arith)
 
-says : (layout : Layout) (word : ℕ) → watch_in layout word ≡ watch_of layout (access_for layout word)
+says : (layout : Layout) (word : ℕ)
+    → watch_in layout word ≡ watch_of layout (access_for layout word)
 unfolding access_for watch_in masked
 says W64 word = rw write_flag-kind_with (grind arith)
 says W32 word = rw write_flag-kind_with (grind arith)
@@ -56,6 +62,7 @@ pub returns : goal.returns
 returns c layout word h = record {
   access = access_for layout word;
   in_limits = in_limits layout word h;
-  word_of_access = record { encodable = encodable layout word h; is = word_of_access layout word h };
+  word_of_access =
+      record { encodable = encodable layout word h; is = word_of_access layout word h };
   says = says layout word;
 }

@@ -1,4 +1,5 @@
-use Rattle.access_types.proofs.SitesLemmas.{stand_under_tickets-empty}
+-- no entry stands under a wrong ticket where there is none
+use Rattle.access_types.proofs.SiteEntries.{stand_under_tickets-empty}
 use Rattle.access_types.proofs.sites.Sites.new.Goals as goal
 
 pub invariant_of-result : goal.invariant_of-result

@@ -1,3 +1,4 @@
+-- the last next-mark is now this one
 use Rattle.task_context.proofs.Leads.{next_follows}
 use Rattle.task_context.proofs.context.Context.atomic_next.Goals as goal
 

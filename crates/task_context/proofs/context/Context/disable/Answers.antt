@@ -1,3 +1,4 @@
+-- one disable more at the end raises the largest surplus by one
 use Rattle.task_context.proofs.Leads.{disable_follows}
 use Rattle.task_context.proofs.context.Context.disable.Goals as goal
 

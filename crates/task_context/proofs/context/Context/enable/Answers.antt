@@ -1,9 +1,11 @@
+-- one enable more at the end takes one from the largest surplus, if there is one
 use Rattle.task_context.proofs.Leads.{enable_follows}
 use Rattle.task_context.proofs.context.Context.enable.Goals as goal
 
 -- none is open, and so none after it
 pub returns-then-self-eq0-clause-follows : goal.returns-then-self-eq0-clause-follows
-returns-then-self-eq0-clause-follows c = rw (← c.self.view_is, c.if-self-eq0.true) (enable_follows _ _ _ _)
+returns-then-self-eq0-clause-follows c =
+    rw (← c.self.view_is, c.if-self-eq0.true) (enable_follows _ _ _ _)
 
 pub returns-clause-follows : goal.returns-clause-follows
 returns-clause-follows c = rw (← c.self.view_is) (enable_follows _ _ _ _)

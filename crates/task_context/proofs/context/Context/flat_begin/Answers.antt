@@ -1,3 +1,4 @@
+-- the last flat mark is now a begin
 use Rattle.task_context.proofs.Leads.{flat_begin_follows}
 use Rattle.task_context.proofs.context.Context.flat_begin.Goals as goal
 

@@ -1,3 +1,4 @@
+-- the last flat mark is now an end
 use Rattle.task_context.proofs.Leads.{flat_end_follows}
 use Rattle.task_context.proofs.context.Context.flat_end.Goals as goal
 

@@ -1,3 +1,4 @@
+-- one open more at the end raises the largest surplus by one
 use Rattle.task_context.proofs.Leads.{nest_open_follows}
 use Rattle.task_context.proofs.context.Context.nest_begin.Goals as goal
 

@@ -1,3 +1,4 @@
+-- no moment has no marks
 use Rattle.task_context.proofs.Leads.{leads-nil}
 use Rattle.task_context.proofs.context.Context.new.Goals as goal
 
