@@ -8,10 +8,8 @@ use Rattle.access_types.specs.History.{History, beginning}
 use Rattle.access_types.specs.Marked.{CountedAsMarked, CountsAfter, EndsRaised, IsFlatOpen}
 use Rattle.access_types.specs.Marked.{IsWithinNext, Silenced, begins_countable, is_disable}
 use Rattle.access_types.specs.Marked.{is_enable, is_flat, is_next, marks_of, next_mark}
-use Rattle.access_types.specs.declared.history.Happening.TheVariants as happenings
 use Rattle.access_types.specs.declared.history.Mark.{Mark}
-use Rattle.access_types.specs.declared.history.Mark.TheVariants.{FlatBegin, Next}
-use Rattle.access_types.specs.declared.history.Moment.{Moment}
+use Rattle.access_types.specs.declared.history.Mark.TheVariants.{FlatBegin}
 use Rattle.definitions_tried.proofs.Splits.{between, split_of}
 
 -- where no ending part has more of the one, none is raised

@@ -4,7 +4,6 @@ use Rattle.std.proofs.Common.{ap, arith, append_assoc, sym}
 use Rattle.std.proofs.lemmas.List.Sums.{sum_by-append}
 use Rattle.access_types.specs.History.{History}
 use Rattle.access_types.specs.Marked.{IsWithinNext, begins_countable, is_next, marks_of, next_mark}
-use Rattle.access_types.specs.declared.history.Happening.TheVariants as happenings
 use Rattle.access_types.specs.declared.history.Mark.TheVariants.{Next}
 use Rattle.access_types.specs.declared.history.Moment.{Moment}
 use Rattle.task_context.specs.History.{IsLeft}

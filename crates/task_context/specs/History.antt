@@ -6,8 +6,6 @@ use Rattle.access_types.specs.Marked.{is_nest_close, is_nest_open, is_next, mark
 use Rattle.access_types.specs.declared.history.Happening.{Happening}
 use Rattle.access_types.specs.declared.history.Happening.TheVariants as happenings
 use Rattle.access_types.specs.declared.history.Mark.{Mark}
-use Rattle.access_types.specs.declared.history.Mark.TheVariants.{Next}
-use Rattle.access_types.specs.declared.history.Moment.{Moment}
 use Rattle.task_context.specs.Context.{Context}
 
 -- the largest surplus that an ending part of the marks has, of those that raise a count over those
