@@ -16,6 +16,10 @@ use Rattle.kcsan_litmus.specs.declared.engine.EngineError.TheVariants as engine
 use Rattle.kcsan_litmus.specs.Sink.{appended}
 use Rattle.kcsan_litmus.specs.Transcript.{transcript_text}
 
+-- the most bytes that a litmus file may have
+abbrev pub most_file_bytes : ℕ
+most_file_bytes = 65536
+
 -- what the engine answers for a text that is refused
 abbrev pub parse_fault : ParseError → EngineError
 parse_fault parse.OutOfMemory = engine.OutOfMemory
@@ -34,7 +38,10 @@ world_fault world.BadSchedule = engine.BadSchedule
 abbrev pub HoldsAtEnd : World → Type 0
 HoldsAtEnd last = value_at last last.program.condition.place ≡ Some last.program.condition.value
 
--- a run of some program in the order of the schedule, to its end, has this output: its reports in order, its counters and its condition. What happens at its turns is a run of the program in which all tasks do their whole texts. A report of two accesses names two of different tasks with a byte in common. There was a race if there is a report
+-- a run of some program in the order of the schedule, to its end, has this output: its reports in
+-- order, its counters and its condition. What happens at its turns is a run of the program in which
+-- all tasks do their whole texts. A report of two accesses names two of different tasks with a byte
+-- in common. There was a race if there is a report
 pub record IsOutput (entries : List Entry) (raced : Bool) (text : List ℕ) : Type 0 where
   pub program : Program
   pub first : World
@@ -50,7 +57,8 @@ pub record IsOutput (entries : List Entry) (raced : Bool) (text : List ℕ) : Ty
   pub raced_if_found : raced ≡ not (length last.findings.items == 0)
 
 -- behind what was there stands an output
-pub record HoldsOutput (entries : List Entry) (raced : Bool) (before after : Option (List ℕ)) : Type 0 where
+pub record HoldsOutput
+    (entries : List Entry) (raced : Bool) (before after : Option (List ℕ)) : Type 0 where
   pub text : List ℕ
   pub output : IsOutput entries raced text
   pub holds : after ≡ appended before text
@@ -60,7 +68,8 @@ abbrev pub HoldsSomeOutput : Bool → Option (List ℕ) → Option (List ℕ) �
 HoldsSomeOutput raced before after = (entries : List Entry) × HoldsOutput entries raced before after
 
 -- behind what was there stands a beginning of an output
-pub record HoldsBeginningOfOutput (entries : List Entry) (before after : Option (List ℕ)) : Type 0 where
+pub record HoldsBeginningOfOutput
+    (entries : List Entry) (before after : Option (List ℕ)) : Type 0 where
   pub raced : Bool
   pub text : List ℕ
   pub output : IsOutput entries raced text

@@ -52,11 +52,13 @@ pub enum ReadFault {
 pub trait Desk: Sink {
     /// The bytes of a named file, but no more than `limit`.
     fn read_file(&mut self, alloc: Global, path: &str, limit: u64) -> Result<Vec<u8>, ReadFault>
-        ensures sink_stays { IsSinkAsBefore (Self.written self.old) (Self.written self.new) (Self.failures self.old) (Self.failures self.new) };
+        ensures sink_stays { IsSinkAsBefore (Self.written self.old) (Self.written self.new)
+            (Self.failures self.old) (Self.failures self.new) };
 
     /// Takes a text for standard error.
     fn complain<T: fmt::Display + Drop>(&mut self, text: T)
-        ensures sink_stays { IsSinkAsBefore (Self.written self.old) (Self.written self.new) (Self.failures self.old) (Self.failures self.new) };
+        ensures sink_stays { IsSinkAsBefore (Self.written self.old) (Self.written self.new)
+            (Self.failures self.old) (Self.failures self.new) };
 }
 
 /// Why the program does not end well. Its text goes to standard error.
@@ -139,14 +141,15 @@ struct Request<'a> {
     schedule: &'a str,
 }
 
-/// The whole program: does what the words ask for, and answers the status that the program ends with.
-/// The first word is the program's name.
+/// The whole program: does what the words ask for, and answers the status that the program ends
+/// with. The first word is the program's name.
 ///
-/// 0: no report, or help. 2: a report. 64: usage, or a schedule that doesn't read or names a task that
-/// isn't there. 65: the file is refused. 66: it can't be read. 70: a task is stuck. 71: out of memory.
-/// 74: output can't be written. At 64 to 71 nothing goes to standard output.
+/// 0: no report, or help. 2: a report. 64: usage, or a schedule that doesn't read or names a task
+/// that isn't there. 65: the file is refused. 66: it can't be read. 70: a task is stuck. 71: out of
+/// memory. 74: output can't be written. At 64 to 71 nothing goes to standard output.
 pub fn command<S: AsStr, D: Desk>(alloc: Global, words: &[S], desk: &mut D) -> u8
-    ensures { EndsAs result (D.written desk.old) (D.written desk.new) (D.failures desk.old) (D.failures desk.new) }
+    ensures { EndsAs result (D.written desk.old) (D.written desk.new)
+        (D.failures desk.old) (D.failures desk.new) }
 {
     match asked(alloc, words) {
         Ok(request) => carry_out(alloc, request, desk),
@@ -156,8 +159,10 @@ pub fn command<S: AsStr, D: Desk>(alloc: Global, words: &[S], desk: &mut D) -> u
 
 /// Does what is asked, and answers the status that the program ends with.
 fn carry_out<D: Desk>(alloc: Global, request: Request<'_>, desk: &mut D) -> u8
-    ensures ends { EndsAs result (D.written desk.old) (D.written desk.new) (D.failures desk.old) (D.failures desk.new) }
-    ensures unreported { result ≡ NO_REPORT → HoldsSomeOutput false (D.written desk.old) (D.written desk.new) }
+    ensures ends { EndsAs result (D.written desk.old) (D.written desk.new)
+        (D.failures desk.old) (D.failures desk.new) }
+    ensures unreported { result ≡ 0 →
+        HoldsSomeOutput false (D.written desk.old) (D.written desk.new) }
 {
     match step(alloc, request, desk) {
         Ok(true) => REPORTED,
@@ -169,7 +174,8 @@ fn carry_out<D: Desk>(alloc: Global, request: Request<'_>, desk: &mut D) -> u8
 /// Says on standard error why the program ends, and answers its status.
 fn fail<D: Desk>(failure: Failure, desk: &mut D) -> u8
     ensures status { result ≡ status_of failure }
-    ensures sink_stays { IsSinkAsBefore (D.written desk.old) (D.written desk.new) (D.failures desk.old) (D.failures desk.new) }
+    ensures sink_stays { IsSinkAsBefore (D.written desk.old) (D.written desk.new)
+        (D.failures desk.old) (D.failures desk.new) }
 {
     desk.complain(format_args!("kcsan_litmus: {failure}\n"));
     failure.status()
@@ -177,9 +183,12 @@ fn fail<D: Desk>(failure: Failure, desk: &mut D) -> u8
 
 /// Steps a file, and writes what is found. Whether there was a report.
 fn step<D: Desk>(alloc: Global, request: Request<'_>, desk: &mut D) -> Result<bool, Failure>
-    ensures written { IfOk result (λ raced. HoldsSomeOutput raced (D.written desk.old) (D.written desk.new)) }
-    ensures silent { IfErr result (λ failure. status_of failure ≢ UNWRITABLE → D.written desk.new ≡ D.written desk.old) }
-    ensures failed { IfErr result (λ failure. status_of failure ≡ UNWRITABLE → CountsFailure (D.failures desk.old) (D.failures desk.new)) }
+    ensures written { IfOk result (λ raced.
+        HoldsSomeOutput raced (D.written desk.old) (D.written desk.new)) }
+    ensures silent { IfErr result (λ failure.
+        status_of failure ≢ 74 → D.written desk.new ≡ D.written desk.old) }
+    ensures failed { IfErr result (λ failure.
+        status_of failure ≡ 74 → CountsFailure (D.failures desk.old) (D.failures desk.new)) }
 {
     let Some(schedule) = Schedule::parse(alloc, request.schedule)? else {
         return Err(Failure::BadSchedule);
@@ -224,7 +233,8 @@ fn program<'a>(alloc: Global) -> Result<Command<'a>, AllocError> {
 
 /// Help goes to standard output, and what is wrong with the words to standard error.
 fn explain<D: Desk>(alloc: Global, error: clap::Error, desk: &mut D) -> u8
-    ensures { EndsAs result (D.written desk.old) (D.written desk.new) (D.failures desk.old) (D.failures desk.new) }
+    ensures { EndsAs result (D.written desk.old) (D.written desk.new)
+        (D.failures desk.old) (D.failures desk.new) }
 {
     if error.kind() == ErrorKind::OutOfMemory {
         return fail(Failure::OutOfMemory, desk);

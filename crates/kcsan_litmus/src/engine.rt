@@ -4,13 +4,13 @@ ghost use Rattle.std.specs.Prelude.{◌≡◌, ◌≤◌, ◌<◌, ◌↔◌, An
 ghost use Rattle.std.specs.String.{string_bytes};
 ghost use Rattle.litmus_parse.specs.Text.{IsTextByte};
 ghost use Rattle.litmus_step.specs.Schedule.{entries_of, names_stranger};
-ghost use Rattle.kcsan_litmus.specs.Engine.{IsOutput, parse_fault, world_fault, HoldsOutput, HoldsBeginningOfOutput};
+ghost use Rattle.kcsan_litmus.specs.Engine.{IsOutput, parse_fault, world_fault, HoldsOutput, HoldsBeginningOfOutput, most_file_bytes};
 ghost use Rattle.kcsan_litmus.specs.Sink.{CountsFailure};
 ghost use Rattle.kcsan_litmus.specs.declared.engine.EngineError.TheVariants.{OutOfMemory};
 
 use crate::report::transcript;
 use crate::sink::{Sink, write_all};
-use litmus_parse::{FILE_BYTES, Limit, ParseError, TaskNumber, parse};
+use litmus_parse::{Limit, ParseError, TaskNumber, parse};
 use litmus_step::{Schedule, World, WorldError};
 use std::alloc::{AllocError, Global};
 use thiserror::Error;
@@ -84,8 +84,8 @@ struct Output {
     raced: bool,
 }
 
-/// Steps the program of a litmus text under a schedule, and writes the reports in order, the line of
-/// counters and the line on the condition to the sink. Answers whether there was a report.
+/// Steps the program of a litmus text under a schedule, and writes the reports in order, the line
+/// of counters and the line on the condition to the sink. Answers whether there was a report.
 ///
 /// Nothing is written before the run has ended and the whole output stands in memory.
 pub fn step_file<K: Sink>(
@@ -94,19 +94,25 @@ pub fn step_file<K: Sink>(
     schedule: &Schedule,
     sink: &mut K,
 ) -> Result<bool, EngineError>
-    ensures written { IfOk result (λ raced. HoldsOutput (entries_of schedule.now) raced (K.written sink.old) (K.written sink.new)) }
+    ensures written { IfOk result (λ raced.
+        HoldsOutput (entries_of schedule.now) raced (K.written sink.old) (K.written sink.new)) }
 
     // The sink's count of failures rose in this call, or stood at its last value.
-    ensures failed { IsErrOf result EngineError.SinkFailed → CountsFailure (K.failures sink.old) (K.failures sink.new) }
-    ensures beginning { IsErrOf result EngineError.SinkFailed → HoldsBeginningOfOutput (entries_of schedule.now) (K.written sink.old) (K.written sink.new) }
+    ensures failed { IsErrOf result EngineError.SinkFailed →
+        CountsFailure (K.failures sink.old) (K.failures sink.new) }
+    ensures beginning { IsErrOf result EngineError.SinkFailed →
+        HoldsBeginningOfOutput (entries_of schedule.now) (K.written sink.old) (K.written sink.new) }
 
     // Every other refusal comes before anything is written.
-    ensures unwritten { IsErr result → (IsErrOf result EngineError.SinkFailed → ⊥) → sink.new ≡ sink.old }
-    ensures bad_schedule { IsErrOf result EngineError.BadSchedule → IsTrue (names_stranger (entries_of schedule.now)) }
+    ensures unwritten { IsErr result → (IsErrOf result EngineError.SinkFailed → ⊥) →
+        sink.new ≡ sink.old }
+    ensures bad_schedule { IsErrOf result EngineError.BadSchedule →
+        IsTrue (names_stranger (entries_of schedule.now)) }
     ensures all_there { IfOk result (λ _. ¬ IsTrue (names_stranger (entries_of schedule.now))) }
-    ensures file_limit { IsErrOf result (EngineError.Limit Limit.File) ↔ (FILE_BYTES < length text.now) }
+    ensures file_limit { IsErrOf result (EngineError.Limit Limit.File) ↔
+        (most_file_bytes < length text.now) }
     ensures not_ascii { IsErrOf result EngineError.NotAscii ↔
-        ((length text.now ≤ FILE_BYTES) × Any (λ byte. ¬ IsTextByte byte) text.now) }
+        ((length text.now ≤ most_file_bytes) × Any (λ byte. ¬ IsTextByte byte) text.now) }
 {
     let output = run_file(alloc, text, schedule)?;
     if write_all(sink, output.text.as_bytes()).is_err() {
@@ -117,13 +123,16 @@ pub fn step_file<K: Sink>(
 
 /// Steps the program of a litmus text under a schedule to its end.
 fn run_file(alloc: Global, text: &[u8], schedule: &Schedule) -> Result<Output, EngineError>
-    ensures output { IfOk result (λ output. IsOutput (entries_of schedule.now) output.raced (string_bytes output.text)) }
+    ensures output { IfOk result (λ output.
+        IsOutput (entries_of schedule.now) output.raced (string_bytes output.text)) }
     ensures unwritten { IsErrOf result EngineError.SinkFailed → ⊥ }
-    ensures bad_schedule { IsErrOf result EngineError.BadSchedule → IsTrue (names_stranger (entries_of schedule.now)) }
+    ensures bad_schedule { IsErrOf result EngineError.BadSchedule →
+        IsTrue (names_stranger (entries_of schedule.now)) }
     ensures all_there { IfOk result (λ _. ¬ IsTrue (names_stranger (entries_of schedule.now))) }
-    ensures file_limit { IsErrOf result (EngineError.Limit Limit.File) ↔ (FILE_BYTES < length text.now) }
+    ensures file_limit { IsErrOf result (EngineError.Limit Limit.File) ↔
+        (most_file_bytes < length text.now) }
     ensures not_ascii { IsErrOf result EngineError.NotAscii ↔
-        ((length text.now ≤ FILE_BYTES) × Any (λ byte. ¬ IsTextByte byte) text.now) }
+        ((length text.now ≤ most_file_bytes) × Any (λ byte. ¬ IsTextByte byte) text.now) }
 {
     let program = parse(alloc, text)?;
     let mut world = World::new(alloc, program);

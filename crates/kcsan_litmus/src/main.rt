@@ -1,4 +1,5 @@
-//! `kcsan_litmus`: the runtime of KCSAN, the Linux kernel's concurrency sanitizer, over C litmus programs.
+//! `kcsan_litmus`: the runtime of KCSAN, the Linux kernel's concurrency sanitizer, over C litmus
+//! programs.
 #![tactic(auto)]
 
 pub mod command;

@@ -12,7 +12,8 @@ use litmus_step::{Counters, Finding};
 use std::alloc::{AllocError, Global};
 use std::fmt::Write;
 
-/// The whole output of a stepped run: the reports in order, the counters, and whether the condition held.
+/// The whole output of a stepped run: the reports in order, the counters, and whether the condition
+/// held.
 pub fn transcript(
     alloc: Global,
     findings: &[Finding],
@@ -30,7 +31,8 @@ pub fn transcript(
 
 /// Appends the reports in order.
 fn append_findings(text: &mut String, findings: &[Finding]) -> Result<(), AllocError>
-    ensures { OnOk result (string_bytes text.new ≡ string_bytes text.old ++ flat_map finding_text findings.now) }
+    ensures { OnOk result
+        (string_bytes text.new ≡ string_bytes text.old ++ flat_map finding_text findings.now) }
 {
     for finding in findings {
         append_finding(text, finding)?;
@@ -41,7 +43,8 @@ fn append_findings(text: &mut String, findings: &[Finding]) -> Result<(), AllocE
 /// Appends the line of counters.
 #[tactic(auto, unfolding(crate::specs::Transcript::counters_line))]
 fn append_counters(text: &mut String, counters: Counters) -> Result<(), AllocError>
-    ensures { OnOk result (string_bytes text.new ≡ string_bytes text.old ++ counters_line counters) }
+    ensures { OnOk result
+        (string_bytes text.new ≡ string_bytes text.old ++ counters_line counters) }
 {
     let Counters {
         arms,
@@ -88,8 +91,8 @@ fn append_condition(text: &mut String, held: bool) -> Result<(), AllocError>
     })
 }
 
-/// Appends what a report says of one access: what it does to which bytes and whose it is, and where it
-/// stands.
+/// Appends what a report says of one access: what it does to which bytes and whose it is, and where
+/// it stands.
 #[tactic(auto, unfolding(access_types::specs::ReportText::paragraph))]
 fn append_paragraph(text: &mut String, access: &Access) -> Result<(), AllocError>
     ensures { OnOk result (string_bytes text.new ≡ string_bytes text.old ++ paragraph access.now) }
@@ -108,7 +111,8 @@ fn append_access_line(
     size: u64,
     task: u32,
 ) -> Result<(), AllocError>
-    ensures { OnOk result (string_bytes text.new ≡ string_bytes text.old ++ access_line does.now addr size task) }
+    ensures { OnOk result
+        (string_bytes text.new ≡ string_bytes text.old ++ access_line does.now addr size task) }
 {
     write!(text, "{does} to 0x")?;
     append_hex(text, 16, addr)?;
@@ -126,7 +130,8 @@ fn append_hex(text: &mut String, digits: usize, number: u64) -> Result<(), Alloc
 /// Appends the line on where an access stands. Nothing is said of a first repetition.
 #[tactic(auto, unfolding(access_types::specs::ReportText::site_line))]
 fn append_site_line(text: &mut String, task: u32, site: u32, rep: u32) -> Result<(), AllocError>
-    ensures { OnOk result (string_bytes text.new ≡ string_bytes text.old ++ site_line task site rep) }
+    ensures { OnOk result
+        (string_bytes text.new ≡ string_bytes text.old ++ site_line task site rep) }
 {
     if rep == 0 {
         writeln!(text, " P{task} site {site}")
@@ -152,7 +157,8 @@ fn append_seen(text: &mut String, size: u64, seen: Option<ValueChange>) -> Resul
 /// Appends the line on a change of the bytes: two digits for each byte.
 #[tactic(auto, unfolding(access_types::specs::ReportText::change_line))]
 fn append_change(text: &mut String, size: u64, change: ValueChange) -> Result<(), AllocError>
-    ensures { OnOk result (string_bytes text.new ≡ string_bytes text.old ++ change_line size change) }
+    ensures { OnOk result
+        (string_bytes text.new ≡ string_bytes text.old ++ change_line size change) }
 {
     let digits = 2 * size.min(8) as usize;
     text.push_str("value changed: 0x")?;
@@ -165,7 +171,8 @@ fn append_change(text: &mut String, size: u64, change: ValueChange) -> Result<()
 
 /// Appends the report of what was found.
 pub fn append_finding(text: &mut String, finding: &Finding) -> Result<(), AllocError>
-    ensures { OnOk result (string_bytes text.new ≡ string_bytes text.old ++ finding_text finding.now) }
+    ensures { OnOk result
+        (string_bytes text.new ≡ string_bytes text.old ++ finding_text finding.now) }
 {
     match finding {
         Finding::TwoSided {
@@ -185,7 +192,8 @@ fn append_two_sided(
     finder: &Access,
     seen: Option<ValueChange>,
 ) -> Result<(), AllocError>
-    ensures { OnOk result (string_bytes text.new ≡ string_bytes text.old ++ two_sided_text setter.now finder.now seen) }
+    ensures { OnOk result
+        (string_bytes text.new ≡ string_bytes text.old ++ two_sided_text setter.now finder.now seen) }
 {
     append_rule(text)?;
     append_two_sided_title(text, setter, finder)?;
@@ -205,7 +213,8 @@ fn append_two_sided_title(
     setter: &Access,
     finder: &Access,
 ) -> Result<(), AllocError>
-    ensures { OnOk result (string_bytes text.new ≡ string_bytes text.old ++ two_sided_title setter.now finder.now) }
+    ensures { OnOk result
+        (string_bytes text.new ≡ string_bytes text.old ++ two_sided_title setter.now finder.now) }
 {
     let asserted = setter.kind().is_assertion() || finder.kind().is_assertion();
     let name = race_name(asserted);
@@ -217,7 +226,8 @@ fn append_two_sided_title(
 /// Appends the report of a change whose origin is unknown.
 #[tactic(auto, unfolding(access_types::specs::ReportText::unknown_text))]
 fn append_unknown(text: &mut String, setter: &Access, change: ValueChange) -> Result<(), AllocError>
-    ensures { OnOk result (string_bytes text.new ≡ string_bytes text.old ++ unknown_text setter.now change) }
+    ensures { OnOk result
+        (string_bytes text.new ≡ string_bytes text.old ++ unknown_text setter.now change) }
 {
     append_rule(text)?;
     append_unknown_title(text, setter)?;
@@ -231,7 +241,8 @@ fn append_unknown(text: &mut String, setter: &Access, change: ValueChange) -> Re
 /// Appends the title of a report of unknown origin.
 #[tactic(auto, unfolding(access_types::specs::ReportText::unknown_title))]
 fn append_unknown_title(text: &mut String, setter: &Access) -> Result<(), AllocError>
-    ensures { OnOk result (string_bytes text.new ≡ string_bytes text.old ++ unknown_title setter.now) }
+    ensures { OnOk result
+        (string_bytes text.new ≡ string_bytes text.old ++ unknown_title setter.now) }
 {
     let name = race_name(setter.kind().is_assertion());
     let task = setter.task();

@@ -11,8 +11,8 @@ use std::fmt::Write;
 use std::process::Abort;
 use std::test::Fail;
 
-/// A desk in memory with one file. Each write takes `room` bytes at most, and the one after `writes_left`
-/// others fails.
+/// A desk in memory with one file, where there is one. Each write takes `room` bytes at most, and
+/// the one after `writes_left` others fails.
 #[derive(Drop)]
 struct Table<'a> {
     file: Option<&'a [u8]>,
@@ -25,9 +25,9 @@ struct Table<'a> {
 
 impl<'a> Table<'a> {
     /// A desk whose writes take whatever comes.
-    fn new(alloc: Global, file: &'a [u8]) -> Table<'a> {
+    fn new(alloc: Global, file: Option<&'a [u8]>) -> Table<'a> {
         Table {
-            file: Some(file),
+            file,
             output: Vec::new(alloc),
             errors: String::new(alloc),
             room: usize::MAX,
@@ -128,235 +128,252 @@ const MARKED_PAIR_OUTPUT: &str =
 condition held in 0 of 1 runs
 ";
 
-/// The program ends with this status, and writes this to standard output and to standard error.
-fn assert_ends<R: Abort>(
-    rt: &R,
-    alloc: Global,
-    file: &[u8],
-    words: &[&str],
+/// What a stream has to hold.
+#[derive(Clone, Copy)]
+enum Text {
+    Is(&'static str),
+    /// Words of the command line's reader.
+    Something,
+}
+
+/// The program over one file, where there is one, and what has to come out.
+#[derive(Clone, Copy)]
+struct Row {
+    name: &'static str,
+    file: Option<&'static [u8]>,
+    arguments: &'static [&'static str],
     status: u8,
-    output: &str,
-    errors: &str,
-) {
-    let mut table = Table::new(alloc, file);
-    let ended = command(alloc, words, &mut table);
-    assert_eq!(rt; table.output.as_slice(), output.as_bytes());
-    assert_eq!(rt; table.errors.as_str(), errors);
-    assert_eq!(rt; ended, status);
+    output: Text,
+    errors: Text,
 }
 
-#[test]
-fn a_race_is_reported(rt: HostRuntime) {
-    let words = [
-        "kcsan_litmus",
-        "step",
-        "race.litmus",
-        "--schedule",
-        "0x7,1x9",
-    ];
-    assert_ends(&rt, rt.alloc(), RACE, &words, 2, RACE_OUTPUT, "");
-}
+const BAD_SCHEDULE: Row = Row {
+    name: "a schedule that doesn't read",
+    file: Some(RACE),
+    arguments: &["step", "t", "--schedule", "x"],
+    status: 64,
+    output: Text::Is(""),
+    errors: Text::Is("kcsan_litmus: bad schedule\n"),
+};
 
-#[test]
-fn a_write_before_the_watch_ends_is_of_unknown_origin(rt: HostRuntime) {
-    let words = [
-        "kcsan_litmus",
-        "step",
-        "race.litmus",
-        "--schedule",
-        "1x4,0x7,1x3",
-    ];
-    assert_ends(&rt, rt.alloc(), RACE, &words, 2, UNKNOWN_ORIGIN_OUTPUT, "");
-}
+const USAGE: Row = Row {
+    name: "no words",
+    file: Some(RACE),
+    arguments: &[],
+    status: 64,
+    output: Text::Is(""),
+    errors: Text::Something,
+};
 
-#[test]
-fn the_same_value_is_no_report(rt: HostRuntime) {
-    let words = [
-        "kcsan_litmus",
-        "step",
-        "same_value.litmus",
-        "--schedule",
-        "0x7,1x9",
-    ];
-    assert_ends(
-        &rt,
-        rt.alloc(),
-        SAME_VALUE,
-        &words,
-        0,
-        SAME_VALUE_OUTPUT,
-        "",
-    );
-}
+const HELP: Row = Row {
+    name: "help",
+    file: Some(RACE),
+    arguments: &["--help"],
+    status: 0,
+    output: Text::Something,
+    errors: Text::Is(""),
+};
 
-#[test]
-fn a_marked_pair_is_not_watched(rt: HostRuntime) {
-    let words = ["kcsan_litmus", "step", "marked_pair.litmus"];
-    assert_ends(
-        &rt,
-        rt.alloc(),
-        MARKED_PAIR,
-        &words,
-        0,
-        MARKED_PAIR_OUTPUT,
-        "",
-    );
-}
+const REFUSED: Row = Row {
+    name: "a file without a byte",
+    file: Some(b""),
+    arguments: &["step", "t"],
+    status: 65,
+    output: Text::Is(""),
+    errors: Text::Is("kcsan_litmus: line 1: syntax\n"),
+};
 
-#[test]
-fn a_schedule_has_to_read_and_to_name_tasks_that_are_there(rt: HostRuntime) {
-    for schedule in [
-        "x",
-        "0x",
-        "0x1,",
-        "+0x1",
-        "0x18446744073709551616",
-        "0 x1",
-        "2x1",
-        "2x0",
-    ] {
-        let words = [
-            "kcsan_litmus",
-            "step",
-            "race.litmus",
-            "--schedule",
-            schedule,
-        ];
-        assert_ends(
-            &rt,
-            rt.alloc(),
-            RACE,
-            &words,
-            64,
-            "",
-            "kcsan_litmus: bad schedule\n",
-        );
-    }
-}
-
-#[test]
-fn refused_files_are_named(rt: HostRuntime) {
-    let files: [(&[u8], &str); 6] = [
-        (
-            b"C t\n{}\nP0(int *x)\n{\n*x == 1;\n}\n",
-            "kcsan_litmus: line 5: syntax\n",
-        ),
-        (
-            b"C t\n{}\nP0(int *x)\n{\nrcu_read_lock();\n}\n",
-            "kcsan_litmus: line 5: unsupported\n",
-        ),
-        (
-            b"C t\n{ x=18446744073709551616; }\n",
-            "kcsan_litmus: limit: number\n",
-        ),
-        (b"C t\n{}\n\xC3\n", "kcsan_litmus: not ascii\n"),
-        (&[b' '; 65537], "kcsan_litmus: limit: file\n"),
-        (b"", "kcsan_litmus: line 1: syntax\n"),
-    ];
-    for (file, errors) in files {
-        let words = ["kcsan_litmus", "step", "refused.litmus"];
-        assert_ends(&rt, rt.alloc(), file, &words, 65, "", errors);
-    }
-}
-
-#[test]
-fn a_task_that_waits_in_vain_is_stuck(rt: HostRuntime) {
+const ROWS: [Row; 28] = [
+    Row {
+        name: "race",
+        file: Some(RACE),
+        arguments: &["step", "t", "--schedule", "0x7,1x9"],
+        status: 2,
+        output: Text::Is(RACE_OUTPUT),
+        errors: Text::Is(""),
+    },
+    Row {
+        name: "write before watch ends",
+        file: Some(RACE),
+        arguments: &["step", "t", "--schedule", "1x4,0x7,1x3"],
+        status: 2,
+        output: Text::Is(UNKNOWN_ORIGIN_OUTPUT),
+        errors: Text::Is(""),
+    },
+    Row {
+        name: "same value",
+        file: Some(SAME_VALUE),
+        arguments: &["step", "t", "--schedule", "0x7,1x9"],
+        status: 0,
+        output: Text::Is(SAME_VALUE_OUTPUT),
+        errors: Text::Is(""),
+    },
+    Row {
+        name: "marked pair",
+        file: Some(MARKED_PAIR),
+        arguments: &["step", "t"],
+        status: 0,
+        output: Text::Is(MARKED_PAIR_OUTPUT),
+        errors: Text::Is(""),
+    },
+    BAD_SCHEDULE,
+    Row {
+        name: "a schedule without a count",
+        arguments: &["step", "t", "--schedule", "0x"],
+        ..BAD_SCHEDULE
+    },
+    Row {
+        name: "a schedule that ends in a comma",
+        arguments: &["step", "t", "--schedule", "0x1,"],
+        ..BAD_SCHEDULE
+    },
+    Row {
+        name: "a schedule with a sign",
+        arguments: &["step", "t", "--schedule", "+0x1"],
+        ..BAD_SCHEDULE
+    },
+    Row {
+        name: "a schedule with a count of 2^64",
+        arguments: &["step", "t", "--schedule", "0x18446744073709551616"],
+        ..BAD_SCHEDULE
+    },
+    Row {
+        name: "a schedule with a blank",
+        arguments: &["step", "t", "--schedule", "0 x1"],
+        ..BAD_SCHEDULE
+    },
+    Row {
+        name: "a schedule of a task that isn't there",
+        arguments: &["step", "t", "--schedule", "2x1"],
+        ..BAD_SCHEDULE
+    },
+    Row {
+        name: "a schedule of no steps of a task that isn't there",
+        arguments: &["step", "t", "--schedule", "2x0"],
+        ..BAD_SCHEDULE
+    },
+    REFUSED,
+    Row {
+        name: "syntax",
+        file: Some(b"C t\n{}\nP0(int *x)\n{\n*x == 1;\n}\n"),
+        errors: Text::Is("kcsan_litmus: line 5: syntax\n"),
+        ..REFUSED
+    },
+    Row {
+        name: "a call that isn't taken",
+        file: Some(b"C t\n{}\nP0(int *x)\n{\nrcu_read_lock();\n}\n"),
+        errors: Text::Is("kcsan_litmus: line 5: unsupported\n"),
+        ..REFUSED
+    },
+    Row {
+        name: "a number of 2^64",
+        file: Some(b"C t\n{ x=18446744073709551616; }\n"),
+        errors: Text::Is("kcsan_litmus: limit: number\n"),
+        ..REFUSED
+    },
+    Row {
+        name: "a byte that is no text",
+        file: Some(b"C t\n{}\n\xC3\n"),
+        errors: Text::Is("kcsan_litmus: not ascii\n"),
+        ..REFUSED
+    },
+    Row {
+        name: "a file of 65,537 bytes",
+        file: Some(&[b' '; 65537]),
+        errors: Text::Is("kcsan_litmus: limit: file\n"),
+        ..REFUSED
+    },
+    Row {
+        name: "a file that can't be read",
+        file: None,
+        arguments: &["step", "t"],
+        status: 66,
+        output: Text::Is(""),
+        errors: Text::Is("kcsan_litmus: cannot read\n"),
+    },
     // Task 0 has set its watchpoint up and not named itself, and task 1 has taken it.
-    let words = [
-        "kcsan_litmus",
-        "step",
-        "race.litmus",
-        "--schedule",
-        "0x5,1x1000004",
-    ];
-    assert_ends(
-        &rt,
-        rt.alloc(),
-        RACE,
-        &words,
-        70,
-        "",
-        "kcsan_litmus: task 1 is stuck\n",
-    );
-}
+    Row {
+        name: "a task that waits in vain",
+        file: Some(RACE),
+        arguments: &["step", "t", "--schedule", "0x5,1x1000004"],
+        status: 70,
+        output: Text::Is(""),
+        errors: Text::Is("kcsan_litmus: task 1 is stuck\n"),
+    },
+    // The tasks then take turns: task 0 names itself, loads 0 twice and ends its watch before
+    // task 1 writes.
+    Row {
+        name: "a wait of one try less",
+        file: Some(RACE),
+        arguments: &["step", "t", "--schedule", "0x5,1x1000003"],
+        status: 0,
+        output: Text::Is(SAME_VALUE_OUTPUT),
+        errors: Text::Is(""),
+    },
+    USAGE,
+    Row {
+        name: "no file",
+        arguments: &["step"],
+        ..USAGE
+    },
+    Row {
+        name: "no such command",
+        arguments: &["jump", "t"],
+        ..USAGE
+    },
+    Row {
+        name: "no such option",
+        arguments: &["step", "t", "--no-such-option"],
+        ..USAGE
+    },
+    Row {
+        name: "an option twice",
+        arguments: &["step", "t", "--schedule", "0x1", "--schedule", "0x1"],
+        ..USAGE
+    },
+    HELP,
+    Row {
+        name: "help of step",
+        arguments: &["step", "--help"],
+        ..HELP
+    },
+];
 
-#[test]
-fn a_wait_may_have_one_try_less(rt: HostRuntime) {
-    // The tasks then take turns: task 0 names itself, loads 0 twice and ends its watch before task 1 writes.
-    let words = [
-        "kcsan_litmus",
-        "step",
-        "race.litmus",
-        "--schedule",
-        "0x5,1x1000003",
-    ];
-    assert_ends(&rt, rt.alloc(), RACE, &words, 0, SAME_VALUE_OUTPUT, "");
-}
-
-#[test]
-fn a_file_that_cannot_be_read_is_said(rt: HostRuntime) {
-    let mut table = Table::new(rt.alloc(), b"");
-    table.file = None;
-    let words = ["kcsan_litmus", "step", "missing.litmus"];
-    assert_eq!(rt; command(rt.alloc(), &words, &mut table), 66);
-    assert_eq!(rt; table.errors.as_str(), "kcsan_litmus: cannot read\n");
-    assert!(rt; table.output.is_empty());
-}
-
-#[test]
-fn words_that_make_no_sense_are_a_usage_error(rt: HostRuntime) {
-    let words: [&[&str]; 5] = [
-        &["kcsan_litmus"],
-        &["kcsan_litmus", "step"],
-        &["kcsan_litmus", "jump", "race.litmus"],
-        &["kcsan_litmus", "step", "race.litmus", "--no-such-option"],
-        &[
-            "kcsan_litmus",
-            "step",
-            "race.litmus",
-            "--schedule",
-            "0x1",
-            "--schedule",
-            "0x1",
-        ],
-    ];
-    for words in words {
-        let mut table = Table::new(rt.alloc(), RACE);
-        assert_eq!(rt; command(rt.alloc(), words, &mut table), 64);
-        assert!(rt; table.output.is_empty() && !table.errors.is_empty());
+/// A stream holds what it has to.
+fn assert_holds<R: Abort>(rt: &R, name: &str, found: &[u8], wanted: Text) {
+    match wanted {
+        Text::Is(text) => assert_eq!(rt; found, text.as_bytes(), "{name}"),
+        Text::Something => assert!(rt; !found.is_empty(), "{name}"),
     }
 }
 
 #[test]
-fn help_goes_to_standard_output(rt: HostRuntime) {
-    let words: [&[&str]; 2] = [
-        &["kcsan_litmus", "--help"],
-        &["kcsan_litmus", "step", "--help"],
-    ];
-    for words in words {
-        let mut table = Table::new(rt.alloc(), RACE);
-        assert_eq!(rt; command(rt.alloc(), words, &mut table), 0);
-        assert!(rt; !table.output.is_empty() && table.errors.is_empty());
+fn rows_come_out_as_they_say(rt: HostRuntime) -> Result<(), Fail> {
+    for row in ROWS {
+        let mut words = vec![in rt.alloc(); "kcsan_litmus"]?;
+        words.extend_from_slice(row.arguments)?;
+        let mut table = Table::new(rt.alloc(), row.file);
+        let status = command(rt.alloc(), &words, &mut table);
+        assert_holds(&rt, row.name, &table.output, row.output);
+        assert_holds(&rt, row.name, table.errors.as_bytes(), row.errors);
+        assert_eq!(rt; status, row.status, "{}", row.name);
     }
+    Ok(())
 }
+
+/// The words that step *race*.
+const RACE_WORDS: [&str; 5] = ["kcsan_litmus", "step", "t", "--schedule", "0x7,1x9"];
 
 #[test]
 fn a_failed_write_leaves_a_beginning(rt: HostRuntime) {
-    let words = [
-        "kcsan_litmus",
-        "step",
-        "race.litmus",
-        "--schedule",
-        "0x7,1x9",
-    ];
     let size = RACE_OUTPUT.len();
     for room in [1, 7, usize::MAX] {
         let writes = size.div_ceil(room) as u64;
         for writes_left in 0..=writes {
-            let mut table = Table::new(rt.alloc(), RACE);
+            let mut table = Table::new(rt.alloc(), Some(RACE));
             table.room = room;
             table.writes_left = writes_left;
-            let status = command(rt.alloc(), &words, &mut table);
+            let status = command(rt.alloc(), &RACE_WORDS, &mut table);
             if writes_left == writes {
                 assert_eq!(rt; status, 2);
                 assert_eq!(rt; table.output.as_slice(), RACE_OUTPUT.as_bytes());
@@ -375,16 +392,9 @@ fn a_failed_write_leaves_a_beginning(rt: HostRuntime) {
 
 #[test]
 fn a_sink_that_takes_nothing_fails(rt: HostRuntime) {
-    let words = [
-        "kcsan_litmus",
-        "step",
-        "race.litmus",
-        "--schedule",
-        "0x7,1x9",
-    ];
-    let mut table = Table::new(rt.alloc(), RACE);
+    let mut table = Table::new(rt.alloc(), Some(RACE));
     table.room = 0;
-    assert_eq!(rt; command(rt.alloc(), &words, &mut table), 74);
+    assert_eq!(rt; command(rt.alloc(), &RACE_WORDS, &mut table), 74);
     assert_eq!(rt; table.failures, 1);
     assert!(rt; table.output.is_empty());
 }

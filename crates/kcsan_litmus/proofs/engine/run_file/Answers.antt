@@ -1,12 +1,13 @@
+-- the run that was made is the one that the output is of
 use Rattle.std.proofs.Common.{All, [], arith, refl}
 use Rattle.std.proofs.lemmas.Grind.{common_steps}
 use Rattle.litmus_step.specs.Outcome.{HasSharedByte}
 use Rattle.kcsan_litmus.proofs.engine.run_file.Goals as goal
 
--- the run that was made is the one that the output is of
 pub returns-clause-output : goal.returns-clause-output
 returns-clause-output c =
-    let none_yet : All HasSharedByte c.new-world.result.findings.items = grind (arith, common_steps) in
+    let none_yet : All HasSharedByte c.new-world.result.findings.items =
+    grind (arith, common_steps) in
     record {
       program = c.in_ok-program.program;
       first = c.new-world.result;

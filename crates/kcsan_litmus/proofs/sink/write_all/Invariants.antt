@@ -1,8 +1,8 @@
+-- what stands before `at` is written, and no write has failed
 use Rattle.std.proofs.Common.{◌≡◌, ◌≤◌, ◌-◌, length, take}
 use Rattle.kcsan_litmus.specs.Sink.{appended}
 use Rattle.kcsan_litmus.proofs.sink.write_all.Given as goal
 
--- what stands before `at` is written, and no write has failed
 abbrev pub invariant-loop-at : goal.invariant-loop-at
 invariant-loop-at g l =
     (l.at ≤ length l.text)
