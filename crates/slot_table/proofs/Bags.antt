@@ -3,7 +3,9 @@ use Rattle.std.proofs.Common.{◌≡◌, inl, inr, ℕ, eqb, List, [], ◌∷◌
 use Rattle.std.proofs.lemmas.Bool.{eq-eqb}
 use Rattle.std.proofs.lemmas.Bool.Decides.{eqb_tells}
 use Rattle.std.proofs.lemmas.List.Elements.{filter-append}
-use Rattle.std.proofs.lemmas.List.Sorted.{IsPermutation-cons, IsPermutation-middle, IsPermutation-refl, IsPermutation-sym, IsPermutation-trans}
+use Rattle.std.proofs.lemmas.List.Sorted.{IsPermutation-cons, IsPermutation-middle}
+use Rattle.std.proofs.lemmas.List.Sorted.{IsPermutation-refl, IsPermutation-sym}
+use Rattle.std.proofs.lemmas.List.Sorted.{IsPermutation-trans}
 use Rattle.std.specs.List.Sorted.{IsPermutation}
 use Rattle.slot_table.specs.Meetings.{Meeting, meetings_at}
 
@@ -15,7 +17,8 @@ record Split (index : ℕ) (first : Meeting) (rest all : List Meeting) : Type 0 
   none : meetings_at index before ≡ []
   others : meetings_at index after ≡ rest
 
-split : (index : ℕ) (first : Meeting) (rest all : List Meeting) → meetings_at index all ≡ first ∷ rest → Split index first rest all
+split : (index : ℕ) (first : Meeting) (rest all : List Meeting)
+    → meetings_at index all ≡ first ∷ rest → Split index first rest all
 split index first rest [] e = absurd (cc)
 split index first rest (met ∷ all) e = elim (eqb_tells met.index index) [
   | inl same ↦ let begins : met ∷ meetings_at index all ≡ first ∷ rest = rw same.0 at e in
@@ -24,28 +27,57 @@ split index first rest (met ∷ all) e = elim (eqb_tells met.index index) [
       record { before = []; after = all; is = rw head refl; none = refl; others = tail }
   | inr apart ↦ let later : meetings_at index all ≡ first ∷ rest = rw apart.0 at e in
       let s = split index first rest all later in
-      record { before = met ∷ s.before; after = s.after; is = ap (λ (l : List Meeting). met ∷ l) s.is; none = rw apart.0 s.none; others = s.others }
+      record {
+        before = met
+            ∷ s.before;
+        after =
+            s.after;
+        is =
+            ap (λ (l : List Meeting). met ∷ l) s.is;
+        none =
+            rw apart.0 s.none;
+        others = s.others;
+      }
 ]
 
 -- without it the lists still agree
-agree_after : (first : Meeting) (xs ys : List Meeting) (s : Split first.index first (meetings_at first.index xs) ys) → ((index : ℕ) → meetings_at index (first ∷ xs) ≡ meetings_at index ys) → (index : ℕ) → meetings_at index xs ≡ meetings_at index (s.before ++ s.after)
+agree_after : (first : Meeting) (xs ys : List Meeting)
+    (s : Split first.index first (meetings_at first.index xs) ys)
+    → ((index : ℕ) → meetings_at index (first ∷ xs) ≡ meetings_at index ys) → (index : ℕ)
+    → meetings_at index xs ≡ meetings_at index (s.before ++ s.after)
 agree_after first xs ys s agree index = elim (eqb_tells first.index index) [
   | inl same ↦
-      let whole : meetings_at first.index (s.before ++ s.after) ≡ meetings_at first.index xs = filter-append (λ met. eqb met.index first.index) s.before s.after ∙ (rw s.none s.others) in
+      let whole : meetings_at first.index (s.before ++ s.after) ≡ meetings_at first.index xs =
+      filter-append (λ met. eqb met.index first.index) s.before s.after
+      ∙ (rw s.none s.others) in
       rw same.1 at (sym whole)
   | inr apart ↦
       let mine : meetings_at index xs ≡ meetings_at index ys = rw apart.0 at (agree index) in
-      let one = ap (λ (l : List Meeting). meetings_at index l) s.is ∙ filter-append (λ met. eqb met.index index) s.before (first ∷ s.after) in
-      let two : meetings_at index ys ≡ meetings_at index s.before ++ meetings_at index s.after = rw apart.0 at one in
+      let one =
+      ap (λ (l : List Meeting). meetings_at index l) s.is
+      ∙ filter-append (λ met. eqb met.index index) s.before (first ∷ s.after) in
+      let two : meetings_at index ys ≡ meetings_at index s.before ++ meetings_at index s.after =
+      rw apart.0 at one in
       mine ∙ (two ∙ sym (filter-append (λ met. eqb met.index index) s.before s.after))
 ]
 
-pub permuted : (xs ys : List Meeting) → ((index : ℕ) → meetings_at index xs ≡ meetings_at index ys) → IsPermutation xs ys
+pub permuted : (xs ys : List Meeting) → ((index : ℕ) → meetings_at index xs ≡ meetings_at index ys)
+    → IsPermutation xs ys
 permuted [] [] agree = IsPermutation-refl []
-permuted [] (met ∷ ys) agree = let none = agree met.index in let one : [] ≡ met ∷ meetings_at met.index ys = rw (eq-eqb met.index met.index refl) at none in absurd (cc)
+permuted [] (met ∷ ys) agree =
+    let none =
+    agree met.index in
+    let one : [] ≡ met ∷ meetings_at met.index ys =
+    rw (eq-eqb met.index met.index refl) at none in absurd (cc)
 permuted (first ∷ xs) ys agree =
-    let here : first ∷ meetings_at first.index xs ≡ meetings_at first.index ys = rw (eq-eqb first.index first.index refl) at (agree first.index) in
+    let here : first ∷ meetings_at first.index xs ≡ meetings_at first.index ys =
+    rw (eq-eqb first.index first.index refl) at (agree first.index) in
     let s = split first.index first (meetings_at first.index xs) ys (sym here) in
     let rest = permuted xs (s.before ++ s.after) (agree_after first xs ys s agree) in
-    let middle = IsPermutation-sym (s.before ++ first ∷ s.after) (first ∷ (s.before ++ s.after)) (IsPermutation-middle s.before first s.after) in
-    rw s.is (IsPermutation-trans (first ∷ xs) (first ∷ (s.before ++ s.after)) (s.before ++ first ∷ s.after) (IsPermutation-cons first xs (s.before ++ s.after) rest) middle)
+    let middle =
+    IsPermutation-sym (s.before ++ first ∷ s.after) (first ∷ (s.before ++ s.after))
+    (IsPermutation-middle s.before first s.after) in
+    rw s.is
+    (IsPermutation-trans (first ∷ xs) (first ∷ (s.before ++ s.after))
+    (s.before ++ first ∷ s.after) (IsPermutation-cons first xs (s.before ++ s.after) rest)
+    middle)

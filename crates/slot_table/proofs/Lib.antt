@@ -4,6 +4,11 @@ pub mod Moves
 pub mod Views
 pub mod Steps
 pub mod Lists
+pub mod Rows
+pub mod Numbers
+pub mod Once
+pub mod Told
+pub mod Hears
 pub mod Bags
-pub mod Past
-pub mod Places
+pub mod Hands
+pub mod Made

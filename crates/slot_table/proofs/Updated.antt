@@ -17,6 +17,7 @@ updated_other f k n x apart = rw (ne_eqb k n (λ e. apart (sym e))) refl
 pub updated_same : {X : Type 0} (f : ℕ → X) (k : ℕ) (x : X) → x ≡ f k → updated f k x ≡ f
 updated_same f k x same = fun_ext (λ n. at n (eqb_tells k n))
   where
-    at : (n : ℕ) → ((eqb k n ≡ true) × (k ≡ n)) ⊎ ((eqb k n ≡ false) × (k ≢ n)) → updated f k x n ≡ f n
+    at : (n : ℕ) → ((eqb k n ≡ true) × (k ≡ n)) ⊎ ((eqb k n ≡ false) × (k ≢ n))
+        → updated f k x n ≡ f n
     at n (inl here) = cc
     at n (inr there) = rw there.0 refl

@@ -2,7 +2,10 @@ use Rattle.std.specs.Prelude.{◌⊎◌, ◌≡◌, true}
 use Rattle.slot_table.specs.declared.step.Answer.{Answer}
 use Rattle.slot_table.specs.declared.step.Answer.TheVariants.{Word, Flag, Halves, Done}
 use Rattle.slot_table.specs.declared.step.Step.{Step}
-use Rattle.slot_table.specs.declared.step.Step.TheVariants.{Load, Insert, TryConsume, Consume, Remove, PairLoad, Name, Tell, Clear, CellLoad, CellExchange, LockTry, LockStore, Clock}
+use Rattle.slot_table.specs.declared.step.Step.TheVariants.{Load, Insert, TryConsume, Consume}
+use Rattle.slot_table.specs.declared.step.Step.TheVariants.{Remove, PairLoad, Name, Tell, Clear}
+use Rattle.slot_table.specs.declared.step.Step.TheVariants.{CellLoad, CellExchange, LockTry}
+use Rattle.slot_table.specs.declared.step.Step.TheVariants.{LockStore, Clock}
 
 -- the answer is a word
 abbrev pub IsWord : Answer → Type 0

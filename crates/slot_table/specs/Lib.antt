@@ -6,3 +6,5 @@ pub mod Discipline
 pub mod Armings
 pub mod Meetings
 pub mod Roles
+pub mod Hearings
+pub mod Parts

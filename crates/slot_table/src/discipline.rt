@@ -1,8 +1,11 @@
-//! The discipline that each task keeps: which steps it may make after its own. It is the rule by which a
-//! setter and a finder meet at a watchpoint, and here a slow plain test of it over a list of records.
+//! The discipline that each task keeps: which steps it may make after its own. It is the rule by
+//! which a setter and a finder meet at a watchpoint, and here a slow plain test of it over a list
+//! of records.
 
 ghost use Rattle.std.specs.Prelude.{◌≡◌, ◌↔◌, ◌<◌, ℕ, Some, IsTrue, reverse};
-ghost use Rattle.slot_table.specs.Discipline.{Allows, HasHeardFinder, HasHeardSetter, IsOwnTicket, hand_after, heard, heard_after, holds, holds_after, in_hand, last_load, load_after};
+ghost use Rattle.slot_table.specs.Discipline.{Allows, HasHeardFinder, HasHeardSetter, IsOwnTicket};
+ghost use Rattle.slot_table.specs.Discipline.{hand_after, heard, heard_after, holds, holds_after};
+ghost use Rattle.slot_table.specs.Discipline.{in_hand, last_load, load_after};
 ghost use Rattle.slot_table.specs.Records.{records_of};
 
 use crate::records::Record;

@@ -1,35 +1,35 @@
-//! Indices: where an access looks for watchpoints, and where it sets one up. An address belongs to the
-//! slot of its page. An access looks at its slot and at the two after it, so a table of N slots has
-//! N + 2 indices and nothing wraps.
+//! Indices: where an access looks for watchpoints, and where it sets one up. The page of an address
+//! has a page slot, which is the first of three indices: an access looks there and at the two after
+//! it. So a table of N page slots has N + 2 indices and nothing wraps.
 
 ghost use Rattle.std.specs.Prelude.{◌≡◌, ◌+◌, ◌/◌, ◌%◌, ◌<◌, ◌≤◌, [], ◌∷◌};
 
 /// The bytes of a page.
 const PAGE: u64 = 4096;
 
-/// The slot of an address's page, among `slots`.
-pub fn page_slot(addr: u64, slots: usize) -> usize
-    requires { 0 < slots }
-    ensures value { result ≡ addr / 4096 % slots }
-    ensures limit { result < slots }
+/// The page slot of an address, one of this many.
+pub fn page_slot(addr: u64, page_slots: usize) -> usize
+    requires { 0 < page_slots }
+    ensures value { result ≡ addr / 4096 % page_slots }
+    ensures limit { result < page_slots }
 {
-    (addr / PAGE % slots as u64) as usize
+    (addr / PAGE % page_slots as u64) as usize
 }
 
-/// The indices at which an access looks for a watchpoint, in this order.
-pub fn look_order(slot: usize) -> [usize; 3]
-    requires { slot ≤ 1023 }
-    ensures { result ≡ slot ∷ (slot + 1) ∷ (slot + 2) ∷ [] }
+/// The indices at which an access of this page slot looks for a watchpoint, in this order.
+pub fn look_order(page_slot: usize) -> [usize; 3]
+    requires { page_slot ≤ 1023 }
+    ensures { result ≡ page_slot ∷ (page_slot + 1) ∷ (page_slot + 2) ∷ [] }
 {
-    [slot, slot + 1, slot + 2]
+    [page_slot, page_slot + 1, page_slot + 2]
 }
 
-/// The indices at which an access tries to set up a watchpoint, in this order.
-pub fn try_order(slot: usize) -> [usize; 3]
-    requires { slot ≤ 1023 }
-    ensures { result ≡ (slot + 1) ∷ (slot + 2) ∷ slot ∷ [] }
+/// The indices at which an access of this page slot tries to set up a watchpoint, in this order.
+pub fn try_order(page_slot: usize) -> [usize; 3]
+    requires { page_slot ≤ 1023 }
+    ensures { result ≡ (page_slot + 1) ∷ (page_slot + 2) ∷ page_slot ∷ [] }
 {
-    [slot + 1, slot + 2, slot]
+    [page_slot + 1, page_slot + 2, page_slot]
 }
 
 #[cfg(test)]
@@ -38,10 +38,10 @@ mod tests {
 
     #[test]
     fn indices_of_addresses(rt: HostRuntime) {
-        let slot = page_slot(0x3F000, 64);
-        assert_eq!(rt; slot, 63);
-        assert_eq!(rt; look_order(slot), [63, 64, 65]);
-        assert_eq!(rt; try_order(slot), [64, 65, 63]);
+        let last = page_slot(0x3F000, 64);
+        assert_eq!(rt; last, 63);
+        assert_eq!(rt; look_order(last), [63, 64, 65]);
+        assert_eq!(rt; try_order(last), [64, 65, 63]);
         assert_eq!(rt; page_slot(0x10000, 3), 1);
     }
 }

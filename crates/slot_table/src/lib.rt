@@ -1,6 +1,7 @@
-//! The table: all the words that the tasks of a run share, and what is true of every list of steps on
-//! them. A watchpoint's place is an index with a watch word and a pair word; beside the indices there are
-//! the cells of memory, the lock words and the clock. A step is one operation on one word.
+//! The table: all the words that the tasks of a run share, and what is true of every list of steps
+//! on them. A watchpoint stands at an index, which has a watch word and a pair word; beside the
+//! indices there are the cells of memory, the lock words and the clock. A step is one operation on
+//! one word.
 #![tactic(auto)]
 
 pub mod board;

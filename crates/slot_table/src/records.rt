@@ -1,5 +1,5 @@
-//! Lists of steps: who made each, and what it answered. A list grows at its head: its first record is
-//! the latest.
+//! Lists of steps: who made each, and what it answered. A list grows at its head: its first record
+//! is the latest.
 
 use crate::step::{Answer, Step};
 

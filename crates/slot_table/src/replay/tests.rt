@@ -59,8 +59,8 @@ fn race() -> [Record; 23] {
     ]
 }
 
-/// Task 0 reads and is watched, and tasks 1 and 2, which write 1 and 2, find its watchpoint. Task 1 takes
-/// it, and task 2 has lost it.
+/// Task 0 reads and is watched, and tasks 1 and 2, which write 1 and 2, find its watchpoint. Task 1
+/// takes it, and task 2 has lost it.
 fn two_finders() -> [Record; 30] {
     let [setter, finder, _] = TICKETS;
     [
@@ -97,8 +97,8 @@ fn two_finders() -> [Record; 30] {
     ]
 }
 
-/// Task 1 reads the word of task 0's watchpoint, which then ends quietly. Task 2 arms the same word there,
-/// and task 1 takes that.
+/// Task 1 reads the word of task 0's watchpoint, which then ends quietly. Task 2 arms the same word
+/// there, and task 1 takes that.
 fn later_setter() -> [Record; 36] {
     let [first, finder, second] = TICKETS;
     [

@@ -4,4 +4,5 @@ use Rattle.slot_table.specs.Records.{records_of}
 use Rattle.slot_table.proofs.discipline.loaded_by.Given as goal
 
 abbrev pub invariant-loop-record : goal.invariant-loop-record
-invariant-loop-record l = l.word ≡ last_load l.index (records_of l.task (reverse (take l.record-index l.made)))
+invariant-loop-record l =
+    l.word ≡ last_load l.index (records_of l.task (reverse (take l.record-index l.made)))

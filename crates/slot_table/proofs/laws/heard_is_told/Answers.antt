@@ -1,7 +1,14 @@
+-- Lists that agree at each index are one bag, and each arming is told of once.
 use Rattle.slot_table.specs.Meetings.{finders_told, setters_heard}
 use Rattle.slot_table.proofs.Bags.{permuted}
-use Rattle.slot_table.proofs.Lists.{heard_all}
+use Rattle.slot_table.proofs.Told.{heard_all, meetings_differ}
 use Rattle.slot_table.proofs.laws.heard_is_told.Goals as goal
 
-pub returns : goal.returns
-returns c = λ slots locks cells records legal keeps finished. permuted (setters_heard records) (finders_told records) (heard_all slots locks cells records legal keeps finished)
+pub returns-clause-bag : goal.returns-clause-bag
+returns-clause-bag c =
+    λ page_slots locks cells records rules finished.
+    permuted (setters_heard records) (finders_told records)
+    (heard_all page_slots locks cells records rules finished)
+
+pub returns-clause-once : goal.returns-clause-once
+returns-clause-once c = meetings_differ

@@ -1,7 +1,14 @@
-use Rattle.slot_table.specs.Discipline.{in_hand}
+-- What a task has open is what it has in hand, and a hand holds one thing.
 use Rattle.slot_table.specs.Records.{records_of}
-use Rattle.slot_table.proofs.Lists.{one_index}
+use Rattle.slot_table.proofs.Hands.{not_both, one_index}
 use Rattle.slot_table.proofs.laws.one_part_at_a_time.Goals as goal
 
-pub returns : goal.returns
-returns c = λ task records i j here there has also. one_index (in_hand (records_of task records)) i j here there has also
+pub returns-clause-one_index : goal.returns-clause-one_index
+returns-clause-one_index c =
+    λ page_slots locks cells records rules task i j here there.
+    one_index task i j (records_of task records) (rules.keeps task) here there
+
+pub returns-clause-not_both : goal.returns-clause-not_both
+returns-clause-not_both c =
+    λ page_slots locks cells records rules task i j arming taking.
+    not_both task i j (records_of task records) (rules.keeps task) arming taking

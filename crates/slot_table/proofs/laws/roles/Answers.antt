@@ -1,4 +1,5 @@
-use Rattle.slot_table.proofs.Lists.{stands_all}
+-- The table holds after every list.
+use Rattle.slot_table.proofs.Rows.{stands_all}
 use Rattle.slot_table.proofs.laws.roles.Goals as goal
 
 pub returns : goal.returns

@@ -1,15 +1,16 @@
+-- The board has the words that the records so far leave, and these keep the rules.
 use Rattle.std.proofs.Common.{◌≡◌, reverse, take}
-use Rattle.slot_table.specs.Discipline.{AllKeepDiscipline}
-use Rattle.slot_table.specs.Records.{Legal, words_after}
+use Rattle.slot_table.specs.Discipline.{LegalInDiscipline}
+use Rattle.slot_table.specs.Records.{words_after}
 use Rattle.slot_table.specs.Words.{words_at_first}
 use Rattle.slot_table.proofs.replay.keeps_rules.Given as goal
 
 abbrev pub invariant-loop-position : goal.invariant-loop-position
 invariant-loop-position l =
-    let first = words_at_first l.fn.shape.slots l.fn.shape.locks l.fn.shape.cells.now in
-    let past = reverse (take l.position l.made) in
+    let shape = l.fn.shape in
+    let earlier = reverse (take l.position l.made) in
     record {
-      board : l.board ≡ words_after first past;
-      legal : Legal first past;
-      keeps : AllKeepDiscipline past;
+      board : l.board
+          ≡ words_after (words_at_first shape.slots shape.locks shape.cells.now) earlier;
+      rules : LegalInDiscipline shape.slots shape.locks shape.cells.now earlier;
     }
