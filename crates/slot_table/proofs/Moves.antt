@@ -17,7 +17,7 @@ use Rattle.slot_table.proofs.Phases.{after_name, after_remove, after_take, after
 use Rattle.slot_table.proofs.Phases.{named_pair, told_pair, word_in, pair_in, setter_part}
 use Rattle.slot_table.proofs.Phases.{finder_part, finder_in, named_in, telling_in, meeting, told_in}
 use Rattle.slot_table.proofs.Phases.{owned_in, StillStands, Hears, Idle, Open, Fits}
-use Rattle.slot_table.proofs.Updated.{updated, updated_here, updated_other}
+use Rattle.slot_table.proofs.Updates.{updated, updated_here, updated_other}
 
 pub some_same : {X : Type 0} {a b : X} → Some a ≡ Some b → a ≡ b
 some_same e = cc

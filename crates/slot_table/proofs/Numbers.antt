@@ -19,7 +19,8 @@ below_after : (index : ℕ) (step : Step) (answer : Answer) (n : ℕ) (before : 
     → number_after index step answer n before ≡ Some p → (before ≡ Some p → p < n) → p < suc n
 below_after index (Insert at word) (answers.Flag true) n before p e within =
     elim (eqb_tells at index) [
-      | inl same ↦ let is : Some n ≡ Some p = rw same.0 at e in let number : n ≡ p = cc in omega arith
+      | inl same ↦
+          let is : Some n ≡ Some p = rw same.0 at e in let number : n ≡ p = cc in omega arith
       | inr apart ↦ let is : before ≡ Some p = rw apart.0 at e in let h = within is in omega arith
     ]
 below_after index step answer n before p e within = let h = within e in omega arith

@@ -10,7 +10,7 @@ use Rattle.slot_table.specs.declared.discipline.Part.{Part}
 use Rattle.slot_table.specs.declared.discipline.Part.TheVariants.{Inserted, Named, Untouched, Hit}
 use Rattle.slot_table.specs.declared.discipline.Part.TheVariants.{Cleared, Taken}
 use Rattle.slot_table.specs.Meetings.{Meeting}
-use Rattle.slot_table.proofs.Updated.{updated}
+use Rattle.slot_table.proofs.Updates.{updated}
 
 -- the last arming at an index: its number, the ticket that its setter named, its finder, and the
 -- ticket that was told

@@ -32,7 +32,7 @@ use Rattle.slot_table.proofs.Moves.{fits_insert, fits_name, fits_remove, fits_ta
 use Rattle.slot_table.proofs.Phases.{View, Fits, after_clear, after_consume, after_hear}
 use Rattle.slot_table.proofs.Phases.{after_insert, after_name, after_remove, after_take, after_tell}
 use Rattle.slot_table.proofs.Phases.{meeting, named_pair, told_pair}
-use Rattle.slot_table.proofs.Updated.{updated_same}
+use Rattle.slot_table.proofs.Updates.{updated_same}
 use Rattle.slot_table.proofs.Views.{fits_path, last_after, last_at, view, view_after}
 
 -- a load writes back what it read

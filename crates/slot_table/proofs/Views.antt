@@ -15,7 +15,7 @@ use Rattle.slot_table.specs.declared.records.Record.{Record}
 use Rattle.slot_table.specs.declared.step.Answer.{Answer}
 use Rattle.slot_table.specs.declared.step.Step.{Step}
 use Rattle.slot_table.proofs.Phases.{Last, View, Fits}
-use Rattle.slot_table.proofs.Updated.{updated}
+use Rattle.slot_table.proofs.Updates.{updated}
 
 -- the last arming at an index
 abbrev pub last_at : ℕ → List Record → Last

@@ -63,12 +63,13 @@ told_at index [] = None
 told_at index (latest ∷ earlier) =
     told_after index latest.step latest.answer (told_at index earlier)
 
--- a taking is of an arming that nobody took before, with its word; a tell is for one that was not
--- told of before
+-- a taking is of an arming that nobody took before, or told of, with its word; a tell is for one
+-- that was not told of before
 abbrev pub MeetsAnew : Step → Answer → List Record → Type 0
 MeetsAnew (TryConsume index word) (answers.Flag true) earlier =
     ((setter : ℕ) × (last_arming index earlier ≡ Some (record { setter = setter; word = word })))
     × (finder_at index earlier ≡ None)
+    × (told_at index earlier ≡ None)
 MeetsAnew (Tell index ticket) answer earlier = told_at index earlier ≡ None
 MeetsAnew step answer earlier = Unit {0}
 

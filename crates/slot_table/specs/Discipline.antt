@@ -148,7 +148,7 @@ abbrev pub AllAreFinished : List Record → Type 0
 AllAreFinished records = (task : ℕ) → IsFinished (records_of task records)
 
 -- the list is legal from the words of a new board on, and each task in it keeps the discipline
-pub record LegalInDiscipline (page_slots locks : ℕ) (cells : List ℕ) (records : List Record) : Type
-    0 where
+pub record LegalInDiscipline (page_slots locks : ℕ) (cells : List ℕ)
+    (records : List Record) : Type 0 where
   pub legal : Legal (words_at_first page_slots locks cells) records
   pub keeps : AllKeepDiscipline records

@@ -28,8 +28,7 @@ pub record IsUnnamed (words : Words) (records : List Record) (index setter word 
   pub naming : named_at index records ≡ None
   pub half : (pair_at index words).setter ≡ 0
 
--- the setter has named itself by a ticket of its own, and now has this part: its half is that
--- ticket
+-- the setter has named itself by a ticket of its own, and has this part: its half is that ticket
 pub record IsNamed (words : Words) (records : List Record) (index setter ticket : ℕ)
     (part : Part) : Type 0 where
   pub sets : part_of setter index records ≡ Some part
@@ -37,9 +36,15 @@ pub record IsNamed (words : Words) (records : List Record) (index setter ticket 
   pub own : IsOwnTicket setter ticket
   pub half : (pair_at index words).setter ≡ ticket
 
+-- so it has, and has not consumed since, or found its word hit
+abbrev pub HasNamed : Words → List Record → ℕ → ℕ → ℕ → Type 0
+HasNamed words records index setter ticket =
+    IsNamed words records index setter ticket (Named ticket)
+    ⊎ IsNamed words records index setter ticket Hit
+
 -- the setter, which had named itself by this ticket, has cleared the pair: both halves are 0
-pub record IsCleared (words : Words) (records : List Record) (index setter ticket : ℕ) : Type
-    0 where
+pub record IsCleared (words : Words) (records : List Record)
+    (index setter ticket : ℕ) : Type 0 where
   pub sets : part_of setter index records ≡ Some Cleared
   pub naming : named_at index records ≡ Some ticket
   pub own : IsOwnTicket setter ticket
@@ -68,13 +73,11 @@ pub record IsWatched (words : Words) (records : List Record) (index : ℕ) : Typ
   pub alone : (task : ℕ) → task ≢ setter → part_of task index records ≡ None
 
 -- the finder has not told: its half is 0, and the setter has not cleared, whatever else it has done
-pub record IsUntold (words : Words) (records : List Record) (index setter finder word : ℕ) : Type
-    0 where
+pub record IsUntold (words : Words) (records : List Record)
+    (index setter finder word : ℕ) : Type 0 where
   pub finds : part_of finder index records ≡ Some (Taken word)
   pub sets : IsUnnamed words records index setter word
-      ⊎ ((ticket : ℕ)
-      × (IsNamed words records index setter ticket (Named ticket)
-      ⊎ IsNamed words records index setter ticket Hit))
+      ⊎ ((ticket : ℕ) × HasNamed words records index setter ticket)
   pub half : (pair_at index words).finder ≡ 0
   pub telling : told_at index records ≡ None
 
@@ -86,8 +89,7 @@ pub record IsTold (words : Words) (records : List Record) (index setter finder :
   pub own : IsOwnTicket finder ticket
   pub telling : told_at index records ≡ Some ticket
   pub finds : part_of finder index records ≡ None
-  pub sets : ((IsNamed words records index setter named (Named named)
-      ⊎ IsNamed words records index setter named Hit) × ((pair_at index words).finder ≡ ticket))
+  pub sets : (HasNamed words records index setter named × ((pair_at index words).finder ≡ ticket))
       ⊎ IsCleared words records index setter named
 
 -- watch word 1, taken: one setter, which has not removed, and one finder, which took this arming

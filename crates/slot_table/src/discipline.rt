@@ -160,21 +160,24 @@ fn is_own_ticket(task: u32, ticket: u32) -> bool
 
 /// Whether it is the setter that has inserted its word at the index.
 fn has_inserted(hand: Option<InHand>, index: usize) -> bool
-    ensures { IsTrue result ↔ ((word : ℕ) × (hand ≡ Some (record { index = index; part = Part.Inserted word }))) }
+    ensures { IsTrue result
+        ↔ ((word : ℕ) × (hand ≡ Some (record { index = index; part = Part.Inserted word }))) }
 {
     matches!(hand, Some(InHand { index: at, part: Part::Inserted(_) }) if at == index)
 }
 
 /// Whether it is the setter that has named itself at the index.
 fn has_named(hand: Option<InHand>, index: usize) -> bool
-    ensures { IsTrue result ↔ ((ticket : ℕ) × (hand ≡ Some (record { index = index; part = Part.Named ticket }))) }
+    ensures { IsTrue result
+        ↔ ((ticket : ℕ) × (hand ≡ Some (record { index = index; part = Part.Named ticket }))) }
 {
     matches!(hand, Some(InHand { index: at, part: Part::Named(_) }) if at == index)
 }
 
 /// Whether it is the finder that has taken a word at the index.
 fn has_taken(hand: Option<InHand>, index: usize) -> bool
-    ensures { IsTrue result ↔ ((word : ℕ) × (hand ≡ Some (record { index = index; part = Part.Taken word }))) }
+    ensures { IsTrue result
+        ↔ ((word : ℕ) × (hand ≡ Some (record { index = index; part = Part.Taken word }))) }
 {
     matches!(hand, Some(InHand { index: at, part: Part::Taken(_) }) if at == index)
 }

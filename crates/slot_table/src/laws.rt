@@ -52,7 +52,8 @@ pub fn armings_are_met_once()
 /// Law: the setter's half that a finder heard since its taking is the ticket that the setter of the
 /// arming which it took has named, and the finder's half that a setter heard since it found its
 /// word hit is the ticket that the finder which took this very arming has told. So it is at each
-/// tell, and at each clear of a setter whose word was hit.
+/// tell, and at each clear of a setter whose word was hit. The insertion, the taking, the name and
+/// the tell stand in the list, each of this arming.
 pub fn each_hears_the_other()
     ensures finder { (page_slots locks : ℕ) (cells : List ℕ) (records : List Record)
         → LegalInDiscipline page_slots locks cells records
@@ -80,11 +81,14 @@ pub fn meetings_keep_their_order()
 {}
 
 /// Law: where no check is unfinished, the pairs of halves that setters heard are those that finders
-/// told, as a bag, and each arming stands in it at most once.
+/// told, as a bag. Each tell stands in it with its arming, and each arming at most once.
 pub fn heard_is_told()
     ensures bag { (page_slots locks : ℕ) (cells : List ℕ) (records : List Record)
         → LegalInDiscipline page_slots locks cells records → AllAreFinished records
         → IsPermutation (setters_heard records) (finders_told records) }
+    ensures tells { (page_slots locks : ℕ) (cells : List ℕ) (records : List Record)
+        → LegalInDiscipline page_slots locks cells records
+        → numbers_met (finders_told records) ≡ armings_told records }
     ensures once { (page_slots locks : ℕ) (cells : List ℕ) (records : List Record)
         → LegalInDiscipline page_slots locks cells records
         → AllPairs ◌≢◌ (numbers_met (finders_told records)) }

@@ -1,3 +1,4 @@
+-- The loop knows what the task has in hand after its records so far.
 use Rattle.std.proofs.Common.{◌≡◌, reverse, take}
 use Rattle.slot_table.specs.Discipline.{in_hand}
 use Rattle.slot_table.specs.Records.{records_of}

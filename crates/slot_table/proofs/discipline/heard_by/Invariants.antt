@@ -1,3 +1,4 @@
+-- The loop knows what the task has heard after its records so far.
 use Rattle.std.proofs.Common.{◌≡◌, reverse, take}
 use Rattle.slot_table.specs.Discipline.{heard}
 use Rattle.slot_table.specs.Records.{records_of}

@@ -1,5 +1,6 @@
+-- A record of the task is one more of its own, and one of another task changes nothing.
 use Rattle.slot_table.specs.Discipline.{holds}
-use Rattle.slot_table.proofs.Made.{all_made, more_here, more_other}
+use Rattle.slot_table.proofs.Prefixes.{all_made, more_here, more_other}
 use Rattle.slot_table.proofs.discipline.is_held_by.Goals as goal
 use Rattle.slot_table.proofs.discipline.is_held_by.Goals.{then-record-task, else-record-task}
 

@@ -1,3 +1,4 @@
+-- The loop knows whether the task holds the lock after its records so far.
 use Rattle.std.proofs.Common.{◌≡◌, reverse, take}
 use Rattle.slot_table.specs.Discipline.{holds}
 use Rattle.slot_table.specs.Records.{records_of}

@@ -1,3 +1,4 @@
+-- The loop knows what the task's last load answered after its records so far.
 use Rattle.std.proofs.Common.{◌≡◌, reverse, take}
 use Rattle.slot_table.specs.Discipline.{last_load}
 use Rattle.slot_table.specs.Records.{records_of}

@@ -1,6 +1,6 @@
 -- Each taking and each tell is new, so the armings that they are of differ.
 use Rattle.slot_table.proofs.Numbers.{taken_differ, told_differ}
-use Rattle.slot_table.proofs.Once.{meet_once}
+use Rattle.slot_table.proofs.Firsts.{meet_once}
 use Rattle.slot_table.proofs.laws.armings_are_met_once.Goals as goal
 
 pub returns-clause-once : goal.returns-clause-once

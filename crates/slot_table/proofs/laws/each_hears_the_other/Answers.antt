@@ -1,5 +1,5 @@
 -- What was heard still stands, and it is what the other of this arming gave.
-use Rattle.slot_table.proofs.Hears.{each_hears, heard_finder, heard_setter}
+use Rattle.slot_table.proofs.Hearings.{each_hears, heard_finder, heard_setter}
 use Rattle.slot_table.proofs.laws.each_hears_the_other.Goals as goal
 
 pub returns-clause-finder : goal.returns-clause-finder

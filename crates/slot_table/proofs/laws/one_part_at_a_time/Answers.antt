@@ -1,6 +1,6 @@
 -- What a task has open is what it has in hand, and a hand holds one thing.
 use Rattle.slot_table.specs.Records.{records_of}
-use Rattle.slot_table.proofs.Hands.{not_both, one_index}
+use Rattle.slot_table.proofs.Parts.{not_both, one_index}
 use Rattle.slot_table.proofs.laws.one_part_at_a_time.Goals as goal
 
 pub returns-clause-one_index : goal.returns-clause-one_index

@@ -1,5 +1,5 @@
 -- The table holds after every list.
-use Rattle.slot_table.proofs.Rows.{stands_all}
+use Rattle.slot_table.proofs.Roles.{stands_all}
 use Rattle.slot_table.proofs.laws.roles.Goals as goal
 
 pub returns : goal.returns

@@ -4,7 +4,7 @@ use Rattle.std.proofs.lemmas.Bool.{false≢true}
 use Rattle.slot_table.specs.declared.records.Record.{Record}
 use Rattle.slot_table.specs.declared.step.Answer.TheVariants.{Word}
 use Rattle.slot_table.specs.declared.step.Step.TheVariants.{Load}
-use Rattle.slot_table.proofs.Made.{May, accepted_at, refused_at}
+use Rattle.slot_table.proofs.Prefixes.{May, accepted_at, refused_at}
 use Rattle.slot_table.proofs.replay.keeps_rules.Goals as goal
 
 -- any record, for an index past the last

@@ -26,13 +26,14 @@ untaken : (index : ℕ) (v : View) (word : ℕ)
     → Fits index v → v.word ≡ word → 1 < word
     → ((setter : ℕ) × (v.last.arming ≡ Some (record { setter = setter; word = word })))
     × (v.last.finder ≡ None)
+    × (v.last.telling ≡ None)
 untaken index v word (hears, inl idle) is above = absurd (omega (arith, idle.word_is))
 untaken index v word (hears, inr (phases.Fresh, h)) is above =
     let same : h.word ≡ word = sym h.word_is ∙ is in
-    ((h.setter, rw (← same) h.arming), h.finder)
+    ((h.setter, rw (← same) h.arming), h.finder, h.telling)
 untaken index v word (hears, inr (phases.Watching ticket, h)) is above =
     let same : h.word ≡ word = sym h.word_is ∙ is in
-    ((h.setter, rw (← same) h.arming), h.finder)
+    ((h.setter, rw (← same) h.arming), h.finder, h.telling)
 untaken index v word (hears, inr (phase, h)) is above = absurd (omega (arith, h.word_is))
 
 -- a finder that has not told is the first that tells

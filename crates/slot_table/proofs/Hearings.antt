@@ -19,8 +19,10 @@ use Rattle.slot_table.specs.declared.step.Answer.{Answer}
 use Rattle.slot_table.specs.declared.step.Answer.TheVariants as answers
 use Rattle.slot_table.specs.declared.step.Step.{Step}
 use Rattle.slot_table.specs.declared.step.Step.TheVariants.{Insert, TryConsume, Clear, Tell}
+use Rattle.slot_table.proofs.Sources.{arming_stands, name_stands, taking_stands, tell_stands}
 use Rattle.slot_table.proofs.Lists.{Keeps, allowed_at, fits_all, keeps_before, view_of}
 use Rattle.slot_table.proofs.Moves.{is_finder, is_setter, some_same, taker_is}
+use Rattle.slot_table.proofs.Firsts.{meet_once}
 use Rattle.slot_table.proofs.Phases as phases
 use Rattle.slot_table.proofs.Phases.{View, Fits, Open, StillStands}
 use Rattle.slot_table.proofs.Steps.{here_part}
@@ -167,29 +169,39 @@ from_finder index phase v h task both is e heard stands above = absurd (cc)
 module _ (page_slots locks : ℕ) (cells : List ℕ) where
   -- a finder heard its setter
   finder_of : (records : List Record) (task index word : ℕ) (both : Halves)
+      → Keeps page_slots locks cells records
       → Fits index (view_of page_slots locks cells records index)
       → part_of task index records ≡ Some (Taken word)
       → heard index (records_of task records) ≡ Some both → 0 < both.setter
       → HeardItsSetter task index word both records
-  finder_of records task index word both (hears, inl idle) has its above =
+  finder_of records task index word both rules (hears, inl idle) has its above =
       let none = idle.nobody task in absurd (cc)
-  finder_of records task index word both (hears, inr (phase, h)) has its above =
+  finder_of records task index word both rules (hears, inr (phase, h)) has its above =
       let v = view_of page_slots locks cells records index in
       let apart = is_finder index phase v h task word has in
       let from = from_setter index phase v h task word both (sym (h.others task apart) ∙ has)
       (hears task (Taken word) both has its) above in
+      let once = meet_once page_slots locks cells records rules in
+      let armed : last_arming index records ≡ Some (record { setter = h.setter; word = word }) =
+      rw (← from.same) h.arming in
       record {
         setter = h.setter;
         number = h.number;
         met = record {
           last = h.numbered;
-          armed = rw (← from.same) h.arming;
+          armed = armed;
           made = made_last h.setter index h.word records h.arming ∙ h.numbered;
+          arming = arming_stands index h.number h.setter word records armed h.numbered;
           found = from.found;
           taken = taken_last task index records from.found ∙ h.numbered;
+          taking = taking_stands index h.number h.setter task word records once from.found armed
+              h.numbered;
           two = apart;
         };
         named = from.named;
+        naming = name_stands page_slots locks cells index h.number
+            (record { setter = h.setter; word = word }) both.setter records rules from.named armed
+            h.numbered;
         own = from.own;
         untold = from.untold;
       }
@@ -201,23 +213,26 @@ module _ (page_slots locks : ℕ) (cells : List ℕ) where
       → heard index (records_of task records) ≡ Some both → 0 < both.setter
       → HeardItsSetter task index word both records
   heard_setter records rules task index word both =
-      finder_of records task index word both (fits_all page_slots locks cells records rules index)
+      finder_of records task index word both rules
+      (fits_all page_slots locks cells records rules index)
 
   -- a setter heard its finder
   setter_of : (records : List Record) (task index : ℕ) (both : Halves)
+      → Keeps page_slots locks cells records
       → Fits index (view_of page_slots locks cells records index)
       → part_of task index records ≡ Some Hit
       → heard index (records_of task records) ≡ Some both → 0 < both.finder
       → HeardItsFinder task index both records
-  setter_of records task index both (hears, inl idle) has its above =
+  setter_of records task index both rules (hears, inl idle) has its above =
       let none = idle.nobody task in absurd (cc)
-  setter_of records task index both (hears, inr (phase, h)) has its above =
+  setter_of records task index both rules (hears, inr (phase, h)) has its above =
       let v = view_of page_slots locks cells records index in
       let it = is_setter index phase v h task Hit has (λ other e. cc) in
       let from = from_finder index phase v h task both it.0 it.1 its
       (hears task Hit both has its) above in
       let armed : last_arming index records ≡ Some (record { setter = task; word = h.word }) =
       rw it.0 h.arming in
+      let once = meet_once page_slots locks cells records rules in
       record {
         finder = from.finder;
         word = h.word;
@@ -226,13 +241,22 @@ module _ (page_slots locks : ℕ) (cells : List ℕ) where
           last = h.numbered;
           armed = armed;
           made = made_last task index h.word records armed ∙ h.numbered;
+          arming = arming_stands index h.number task h.word records armed h.numbered;
           found = from.found;
           taken = taken_last from.finder index records from.found ∙ h.numbered;
+          taking =
+              taking_stands index h.number task from.finder h.word records once from.found armed
+              h.numbered;
           two = from.two;
         };
         named = from.named;
+        naming = name_stands page_slots locks cells index h.number
+            (record { setter = task; word = h.word }) both.setter records rules from.named armed
+            h.numbered;
         own = from.own;
         told = from.told;
+        telling = tell_stands page_slots locks cells index h.number from.finder both.finder records
+            rules once from.told from.found h.numbered;
         theirs = from.theirs;
       }
 
@@ -243,7 +267,7 @@ module _ (page_slots locks : ℕ) (cells : List ℕ) where
       → heard index (records_of task records) ≡ Some both → 0 < both.finder
       → HeardItsFinder task index both records
   heard_finder records rules task index both =
-      setter_of records task index both (fits_all page_slots locks cells records rules index)
+      setter_of records task index both rules (fits_all page_slots locks cells records rules index)
 
   -- each record
   hears_step : (earlier : List Record) (task : ℕ) (step : Step)

@@ -12,7 +12,7 @@ use Rattle.slot_table.specs.declared.step.Step.{Step}
 use Rattle.slot_table.specs.declared.step.Step.TheVariants.{Tell}
 use Rattle.slot_table.proofs.Lists.{Keeps, allowed_at, fits_all, kept_before, view_of}
 use Rattle.slot_table.proofs.Numbers.{told_differ}
-use Rattle.slot_table.proofs.Once.{meet_once}
+use Rattle.slot_table.proofs.Firsts.{meet_once}
 use Rattle.slot_table.proofs.Phases.{View, Fits}
 
 -- where nothing is in hand, all that was told at an index was heard there
@@ -48,7 +48,7 @@ number_step task (Tell index ticket) earlier allows same =
     rw (allows.2.1, number_told index ticket last allows.2.0 (finders_told earlier), same) refl
 number_step task step earlier allows same = same
 
-numbers_told : (records : List Record)
+pub numbers_told : (records : List Record)
     → AllKeepDiscipline records → numbers_met (finders_told records) ≡ armings_told records
 numbers_told [] keeps = refl
 numbers_told (latest ∷ earlier) keeps =
