@@ -21,63 +21,60 @@ split : (index : ℕ) (first : Meeting) (rest all : List Meeting)
     → meetings_at index all ≡ first ∷ rest → Split index first rest all
 split index first rest [] e = absurd (cc)
 split index first rest (met ∷ all) e = elim (eqb_tells met.index index) [
-  | inl same ↦ let begins : met ∷ meetings_at index all ≡ first ∷ rest = rw same.0 at e in
+  | inl same ↦
+      let begins : met ∷ meetings_at index all ≡ first ∷ rest = rw same.0 at e in
       let head : met ≡ first = cc in
       let tail : meetings_at index all ≡ rest = cc in
       record { before = []; after = all; is = rw head refl; none = refl; others = tail }
-  | inr apart ↦ let later : meetings_at index all ≡ first ∷ rest = rw apart.0 at e in
+  | inr apart ↦
+      let later : meetings_at index all ≡ first ∷ rest = rw apart.0 at e in
       let s = split index first rest all later in
-      record {
-        before = met
-            ∷ s.before;
-        after =
-            s.after;
-        is =
-            ap (λ (l : List Meeting). met ∷ l) s.is;
-        none =
-            rw apart.0 s.none;
-        others = s.others;
-      }
+      let is = ap (λ (l : List Meeting). met ∷ l) s.is in
+      let none : meetings_at index (met ∷ s.before) ≡ [] = rw apart.0 s.none in
+      record { before = met ∷ s.before; after = s.after; is = is; none = none; others = s.others }
 ]
 
--- without it the lists still agree
+-- the meetings at an index of two lists, one after the other
+joined : (index : ℕ) (xs ys : List Meeting)
+    → meetings_at index (xs ++ ys) ≡ meetings_at index xs ++ meetings_at index ys
+joined index xs ys = filter-append (λ met. eqb met.index index) xs ys
+
+-- without the first the lists still agree
 agree_after : (first : Meeting) (xs ys : List Meeting)
     (s : Split first.index first (meetings_at first.index xs) ys)
-    → ((index : ℕ) → meetings_at index (first ∷ xs) ≡ meetings_at index ys) → (index : ℕ)
-    → meetings_at index xs ≡ meetings_at index (s.before ++ s.after)
+    → ((index : ℕ) → meetings_at index (first ∷ xs) ≡ meetings_at index ys)
+    → (index : ℕ) → meetings_at index xs ≡ meetings_at index (s.before ++ s.after)
 agree_after first xs ys s agree index = elim (eqb_tells first.index index) [
   | inl same ↦
-      let whole : meetings_at first.index (s.before ++ s.after) ≡ meetings_at first.index xs =
-      filter-append (λ met. eqb met.index first.index) s.before s.after
-      ∙ (rw s.none s.others) in
+      let parts = joined first.index s.before s.after in
+      let whole : meetings_at first.index (s.before ++ s.after) ≡ meetings_at first.index xs
+      = parts ∙ (rw s.none s.others) in
       rw same.1 at (sym whole)
   | inr apart ↦
       let mine : meetings_at index xs ≡ meetings_at index ys = rw apart.0 at (agree index) in
-      let one =
-      ap (λ (l : List Meeting). meetings_at index l) s.is
-      ∙ filter-append (λ met. eqb met.index index) s.before (first ∷ s.after) in
-      let two : meetings_at index ys ≡ meetings_at index s.before ++ meetings_at index s.after =
-      rw apart.0 at one in
-      mine ∙ (two ∙ sym (filter-append (λ met. eqb met.index index) s.before s.after))
+      let one = ap (λ (l : List Meeting). meetings_at index l) s.is in
+      let all = one ∙ joined index s.before (first ∷ s.after) in
+      let two : meetings_at index ys ≡ meetings_at index s.before ++ meetings_at index s.after
+      = rw apart.0 at all in
+      mine ∙ (two ∙ sym (joined index s.before s.after))
 ]
 
-pub permuted : (xs ys : List Meeting) → ((index : ℕ) → meetings_at index xs ≡ meetings_at index ys)
-    → IsPermutation xs ys
+pub permuted : (xs ys : List Meeting)
+    → ((index : ℕ) → meetings_at index xs ≡ meetings_at index ys) → IsPermutation xs ys
 permuted [] [] agree = IsPermutation-refl []
 permuted [] (met ∷ ys) agree =
-    let none =
-    agree met.index in
-    let one : [] ≡ met ∷ meetings_at met.index ys =
-    rw (eq-eqb met.index met.index refl) at none in absurd (cc)
+    let same = eq-eqb met.index met.index refl in
+    let one : [] ≡ met ∷ meetings_at met.index ys = rw same at (agree met.index) in
+    absurd (cc)
 permuted (first ∷ xs) ys agree =
-    let here : first ∷ meetings_at first.index xs ≡ meetings_at first.index ys =
-    rw (eq-eqb first.index first.index refl) at (agree first.index) in
+    let same = eq-eqb first.index first.index refl in
+    let here : first ∷ meetings_at first.index xs ≡ meetings_at first.index ys
+    = rw same at (agree first.index) in
     let s = split first.index first (meetings_at first.index xs) ys (sym here) in
-    let rest = permuted xs (s.before ++ s.after) (agree_after first xs ys s agree) in
-    let middle =
-    IsPermutation-sym (s.before ++ first ∷ s.after) (first ∷ (s.before ++ s.after))
-    (IsPermutation-middle s.before first s.after) in
-    rw s.is
-    (IsPermutation-trans (first ∷ xs) (first ∷ (s.before ++ s.after))
-    (s.before ++ first ∷ s.after) (IsPermutation-cons first xs (s.before ++ s.after) rest)
-    middle)
+    let others : List Meeting = s.before ++ s.after in
+    let all : List Meeting = s.before ++ first ∷ s.after in
+    let rest = permuted xs others (agree_after first xs ys s agree) in
+    let moved = IsPermutation-middle s.before first s.after in
+    let middle = IsPermutation-sym all (first ∷ others) moved in
+    let begins = IsPermutation-cons first xs others rest in
+    rw s.is (IsPermutation-trans (first ∷ xs) (first ∷ others) all begins middle)
