@@ -16,6 +16,14 @@ use thiserror::Error;
 /// How many bytes a litmus text can have.
 pub const FILE_BYTES: usize = 65536;
 
+/// Law: the limits are these numbers.
+pub fn limits()
+    ensures file_bytes { FILE_BYTES ≡ 65536 }
+    ensures statements { STATEMENTS ≡ 256 }
+    ensures variables { VARIABLES ≡ 32 }
+    ensures registers { REGISTERS ≡ 32 }
+{}
+
 /// What a litmus text can have too much of.
 #[derive(Clone, Copy, Debug, PartialEq, Eq)]
 pub enum Limit {

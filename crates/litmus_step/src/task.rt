@@ -21,6 +21,11 @@ use watch_word::{decode, encode, matches};
 /// At so many vain tries of one wait a task is stuck.
 pub const TURNS: u64 = 1_000_000;
 
+/// Law: the tries are a million.
+pub fn default_turns()
+    ensures { TURNS ≡ 1000000 }
+{}
+
 /// What a task does next at its statement.
 #[derive(Clone, Copy, Debug, PartialEq, Eq)]
 pub enum Phase {
