@@ -109,7 +109,7 @@ mod tests {
     }
 
     // With skip 10 and seed 1, computed from the published C of the two generators, apart from this
-    // code: SplitMix64 from 1 gives the four numbers of the state, and from there xoshiro256++ gives
+    // code: SplitMix64 from 1 gives the four numbers of the state, from which xoshiro256++ gives
     // 0xcfc5d07f6f03c29b, 0xbf424132963fe08d, 0x19a37d5757aaf520, 0xbf08119f05cd56d6, ..
     // whose remainders by 10 are 7, 5, 4, 0, 0, 5, 3, 5, 0, 2, 1, 7, 6, 1, 0, 3, 0, 9, 2.
     // The first yes is at 11, and each later one 10 less the remainder, plus 1, after it.
