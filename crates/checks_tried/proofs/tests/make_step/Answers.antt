@@ -1,0 +1,7 @@
+-- The answer is of the kind of the step that the checker said.
+use Rattle.checks_tried.proofs.tests.make_step.Goals as goal
+
+pub answer-requires : goal.answer-requires
+answer-requires g c =
+    let says = rw c.expect-step.ensures at (c.next.ensures.step c.args.sites.now) in
+    rw says c.step-answer.ensures.kind

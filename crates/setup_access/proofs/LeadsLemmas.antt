@@ -1,0 +1,188 @@
+-- A record more of what is done leads to what the checker has left after its answer.
+use Rattle.std.proofs.Common.{◌≡◌, ◌↔◌, ◌∷◌, ◌++◌, [], ◌∙◌, ℕ, Bool, true, false, not, IsFalse, IsTrue, List, Option, None, Some, ap, append_assoc, refl, subst, sym}
+use Rattle.access_types.specs.Sites.{AccessMap}
+use Rattle.slot_table.specs.Answer.{IsWord}
+use Rattle.slot_table.specs.declared.records.Record.{Record}
+use Rattle.slot_table.specs.declared.step.Answer.{Answer}
+use Rattle.slot_table.specs.declared.step.Answer.TheVariants as answers
+use Rattle.slot_table.specs.declared.step.Step.{Step}
+use Rattle.slot_table.specs.declared.step.Step.TheVariants.{Clock}
+use Rattle.setup_access.specs.Check.{ChecksBegun, Passes}
+use Rattle.setup_access.specs.Checker.{Does, Doing, RoleLeft, StageLeft, ToRoleLeft}
+use Rattle.setup_access.specs.Due.{extended}
+use Rattle.setup_access.specs.Kept.{setting_with}
+use Rattle.setup_access.specs.Leads.{Leads, stage_step}
+use Rattle.setup_access.specs.Parts.{made}
+use Rattle.setup_access.specs.PassLeft.{Given, PassLeft, Samples, TurnLeft, pass_step, with_outcome}
+use Rattle.setup_access.specs.Records.{OnWord}
+use Rattle.setup_access.specs.Setting.{Setting}
+use Rattle.setup_access.specs.declared.begun.Begun.{Begun}
+use Rattle.setup_access.specs.declared.checker.Checker.{Checker}
+use Rattle.setup_access.specs.declared.outcome.Outcome.{Outcome}
+use Rattle.setup_access.specs.declared.pass.Pass.{Pass}
+use Rattle.setup_access.specs.declared.pass.Turn.{Turn}
+use Rattle.setup_access.specs.declared.stage.Role.{Role}
+use Rattle.setup_access.specs.declared.stage.Stage.{Stage}
+use Rattle.setup_access.specs.declared.stage.Stage.TheVariants as stages
+use Rattle.setup_access.proofs.PassLemmas.{through}
+
+-- what is given after the outcomes so far
+abbrev pub after : List Outcome → Passes → Passes
+after outcomes more = record { outcomes = outcomes ++ more.outcomes; asked = more.asked }
+
+-- what a stage still gives, after the outcomes so far
+abbrev pub Still : Setting → List Begun → Stage → ℕ → List Outcome → List Record → Passes → Type 0
+Still s scopes stage now outcomes records passes = (more : Passes) × StageLeft s scopes stage now records more × (passes ≡ after outcomes more)
+
+-- one record more
+pub leads_on : (s : Setting) (scopes : List Begun) (doing : Doing) (asked : ℕ) (records : List Record) (old new : Checker) (first : Record) (leads : Leads s scopes doing asked records old) (now : ℕ)
+    → new.setting ≡ old.setting → new.scopes.items ≡ old.scopes.items → Samples s now new.sampler
+    → ((later : List Record) (passes : Passes) → Still s scopes old.stage leads.now old.outcomes (first ∷ later) passes ↔ Still s scopes new.stage now new.outcomes later passes)
+    → Leads s scopes doing asked (records ++ first ∷ []) new
+leads_on s scopes doing asked records old new first leads now same_setting same_scopes samples step = record {
+  setting = ap (λ kept. setting_with kept s.sites) same_setting ∙ leads.setting;
+  in_force = same_scopes ∙ leads.in_force;
+  now = now;
+  samples = samples;
+  left = λ later passes.
+      let joined : (records ++ first ∷ []) ++ later ≡ records ++ (first ∷ later) = append_assoc records (first ∷ []) later in
+      rw joined (through (leads.left (first ∷ later) passes) (step later passes));
+}
+
+-- from the beginning
+pub leads_first : (s : Setting) (scopes : List Begun) (doing : Doing) (asked : ℕ) (checker : Checker)
+    → setting_with checker.setting s.sites ≡ s → checker.scopes.items ≡ scopes → Samples s asked checker.sampler → checker.outcomes ≡ []
+    → ((records : List Record) (passes : Passes) → Does s scopes doing asked records passes ↔ StageLeft s scopes checker.stage asked records passes)
+    → Leads s scopes doing asked [] checker
+leads_first s scopes doing asked checker setting in_force samples none does = record {
+  setting = setting;
+  in_force = in_force;
+  now = asked;
+  samples = samples;
+  left = λ later passes. rw none
+      (λ h. (passes, (does later passes).0 h, refl), λ h. subst (λ p. Does s scopes doing asked later p) (sym h.2) ((does later h.0).1 h.1));
+}
+
+module _ (s : Setting) (scopes : List Begun) (role : Role) (begun : Begun) (pass : Pass) (turn : Turn) (stage : Stage) (then now : ℕ) (first : Record) (later : List Record)
+    (left : (given : Given) (rest : List Record) → PassLeft s begun pass then (first ∷ later) given rest ↔ TurnLeft s begun turn now later given rest)
+    (leads : (passes : Passes) → ToRoleLeft s scopes turn.to role begun now later passes ↔ StageLeft s scopes stage now later passes) where
+  -- an outcome that a turn gives goes to those so far
+  joined : (outcomes : List Outcome) (outcome : Option Outcome) (given : Given) (more : Passes)
+      → after outcomes (record { outcomes = (with_outcome outcome given).outcomes ++ more.outcomes; asked = more.asked })
+      ≡ after (extended outcomes outcome) (record { outcomes = given.outcomes ++ more.outcomes; asked = more.asked })
+  joined outcomes None given more = refl
+  joined outcomes (Some outcome) given more =
+      ap (λ (list : List Outcome). record { outcomes = list; asked = more.asked }) (sym (append_assoc outcomes (outcome ∷ []) (given.outcomes ++ more.outcomes)))
+
+  settled_is : (outcome : Option Outcome) (given : Given) → ((with_outcome outcome given).settled ≡ given.settled) × ((with_outcome outcome given).asked ≡ given.asked)
+  settled_is None given = (refl, refl)
+  settled_is (Some outcome) given = (refl, refl)
+
+  pub turn_still : (outcomes : List Outcome) (passes : Passes)
+      → (Still s scopes (stages.Check role begun pass) then outcomes (first ∷ later) passes ↔ Still s scopes stage now (extended outcomes turn.outcome) later passes)
+  turn_still outcomes passes = (
+    λ h. let check = h.1 in
+        let turned = (left check.0 check.1).0 check.3 in
+        let role_at : RoleLeft s scopes role (with_outcome turn.outcome turned.0).settled (with_outcome turn.outcome turned.0).asked check.1 check.2 =
+        subst (λ (g : Given). RoleLeft s scopes role g.settled g.asked check.1 check.2) turned.2 check.4 in
+        let role_here : RoleLeft s scopes role turned.0.settled turned.0.asked check.1 check.2 =
+        subst (λ a. RoleLeft s scopes role turned.0.settled a check.1 check.2) (settled_is turn.outcome turned.0).1
+        (subst (λ b. RoleLeft s scopes role b (with_outcome turn.outcome turned.0).asked check.1 check.2) (settled_is turn.outcome turned.0).0 role_at) in
+        let still : Passes = record { outcomes = turned.0.outcomes ++ check.2.outcomes; asked = check.2.asked } in
+        let is : passes ≡ after outcomes (record { outcomes = (with_outcome turn.outcome turned.0).outcomes ++ check.2.outcomes; asked = check.2.asked }) =
+        h.2 ∙ ap (after outcomes) (check.5 ∙ ap (λ (g : Given). record { outcomes = g.outcomes ++ check.2.outcomes; asked = check.2.asked }) turned.2) in
+        (still, (leads still).0 (turned.0, check.1, check.2, turned.1, role_here, refl), is ∙ joined outcomes turn.outcome turned.0 check.2),
+    λ h. let to = (leads h.0).1 h.1 in
+        let given : Given = with_outcome turn.outcome to.0 in
+        let role_here : RoleLeft s scopes role given.settled given.asked to.1 to.2 =
+        subst (λ a. RoleLeft s scopes role given.settled a to.1 to.2) (sym (settled_is turn.outcome to.0).1)
+        (subst (λ b. RoleLeft s scopes role b to.0.asked to.1 to.2) (sym (settled_is turn.outcome to.0).0) to.4) in (
+          record { outcomes = given.outcomes ++ to.2.outcomes; asked = to.2.asked },
+          (given, to.1, to.2, (left given to.1).1 (to.0, to.3, refl), role_here, refl),
+          h.2 ∙ (ap (after (extended outcomes turn.outcome)) to.5 ∙ sym (joined outcomes turn.outcome to.0 to.2)),
+        ),
+  )
+
+-- what an option has is one
+some_is : (first second : Step) → Some second ≡ Some first → first ≡ second
+some_is first second is = cc
+
+-- the answer is a word where the clock gives it
+on_word : (answer : Answer) (P : Type 0) → IsWord answer → (OnWord answer (λ word. P) ↔ P)
+on_word (answers.Word word) P is = (λ p. p, λ p. p)
+on_word (answers.Flag flag) P is = absurd is
+on_word (answers.Halves setter finder) P is = absurd is
+on_word answers.Done P is = absurd is
+
+module _ (s : Setting) (sites : AccessMap) (scopes : List Begun) (doing : Doing) (asked : ℕ) (records : List Record) (old new : Checker) (step : Step) (answer : Answer) where
+  -- the stamp of a begin was drawn
+  pub begin_on : (begun : Begun) → s.sites ≡ sites → Leads s scopes doing asked records old → old.stage ≡ stages.Begin begun → stage_step s old.stage ≡ Some step
+      → new.setting ≡ old.setting → new.scopes.items ≡ old.scopes.items → new.outcomes ≡ old.outcomes → IsWord answer
+      → ((in_force : List Begun) (then : ℕ) → Samples (setting_with old.setting sites) then old.sampler → (now : ℕ) × Samples (setting_with old.setting sites) now new.sampler
+      × ((left : List Record) (passes : Passes) → ChecksBegun (setting_with old.setting sites) in_force begun then left passes [] ↔ StageLeft (setting_with old.setting sites) in_force new.stage now left passes))
+      → Leads s scopes doing asked (records ++ made s.task step answer ∷ []) new
+  begin_on begun same_sites leads stage is same_setting same_scopes same_outcomes word began =
+      let s_is : setting_with old.setting sites ≡ s = ap (λ (x : AccessMap). setting_with old.setting x) (sym same_sites) ∙ leads.setting in
+      let here : Began s = subst Began s_is began in
+      let goes = here scopes leads.now leads.samples in
+      let step_is : step ≡ Clock = some_is step Clock (subst (λ x. stage_step s x ≡ Some step) stage is) in
+      rw step_is
+      (leads_on s scopes doing asked records old new (made s.task Clock answer) leads goes.0 same_setting same_scopes goes.1
+      (λ later passes. rw (stage, same_outcomes) (
+        λ h. (h.0, (goes.2 later h.0).0 ((on_word answer (ChecksBegun s scopes begun leads.now later h.0 []) word).0 h.1.2), h.2),
+        λ h. (h.0, (refl, refl, (on_word answer (ChecksBegun s scopes begun leads.now later h.0 []) word).1 ((goes.2 later h.0).1 h.1)), h.2),
+      )))
+    where
+      Began : Setting → Type 0
+      Began t = (in_force : List Begun) (then : ℕ) → Samples t then old.sampler → (now : ℕ) × Samples t now new.sampler
+          × ((left : List Record) (passes : Passes) → ChecksBegun t in_force begun then left passes [] ↔ StageLeft t in_force new.stage now left passes)
+
+  -- a check of an access went on
+  pub check_on : (role : Role) (begun : Begun) (pass : Pass) (turn : Turn) → s.sites ≡ sites → Leads s scopes doing asked records old → old.stage ≡ stages.Check role begun pass → stage_step s old.stage ≡ Some step
+      → new.setting ≡ old.setting → new.scopes.items ≡ old.scopes.items → new.outcomes ≡ extended old.outcomes turn.outcome
+      → ((then : ℕ) → Samples (setting_with old.setting sites) then old.sampler → (now : ℕ) × Samples (setting_with old.setting sites) now new.sampler
+      × ((given : Given) (later rest : List Record) → PassLeft (setting_with old.setting sites) begun pass then
+      (made (setting_with old.setting sites).task (pass_step (setting_with old.setting sites) begun pass) answer ∷ later) given rest
+      ↔ TurnLeft (setting_with old.setting sites) begun turn now later given rest))
+      → ((t : Setting) (now : ℕ) (left : List Record) (passes : Passes) → ToRoleLeft t old.scopes.items turn.to role begun now left passes ↔ StageLeft t old.scopes.items new.stage now left passes)
+      → Leads s scopes doing asked (records ++ made s.task step answer ∷ []) new
+  check_on role begun pass turn same_sites leads stage is same_setting same_scopes outcomes answered after_turn =
+      let s_is : setting_with old.setting sites ≡ s = ap (λ (x : AccessMap). setting_with old.setting x) (sym same_sites) ∙ leads.setting in
+      let here : Answered s = subst Answered s_is answered in
+      let goes = here leads.now leads.samples in
+      let step_is : step ≡ pass_step s begun pass = some_is step (pass_step s begun pass) (subst (λ x. stage_step s x ≡ Some step) stage is) in
+      let turned : (t : Setting) (now : ℕ) (left : List Record) (passes : Passes) → ToRoleLeft t scopes turn.to role begun now left passes ↔ StageLeft t scopes new.stage now left passes =
+      subst (λ (x : List Begun). (t : Setting) (now : ℕ) (left : List Record) (passes : Passes) → ToRoleLeft t x turn.to role begun now left passes ↔ StageLeft t x new.stage now left passes) leads.in_force after_turn in
+      rw step_is
+      (leads_on s scopes doing asked records old new (made s.task (pass_step s begun pass) answer) leads goes.0 same_setting same_scopes goes.1
+      (λ later passes. rw (stage, outcomes)
+      (turn_still s scopes role begun pass turn new.stage leads.now goes.0 (made s.task (pass_step s begun pass) answer) later
+      (λ given rest. goes.2 given later rest) (turned s goes.0 later) old.outcomes passes)))
+    where
+      Answered : Setting → Type 0
+      Answered t = (then : ℕ) → Samples t then old.sampler → (now : ℕ) × Samples t now new.sampler
+          × ((given : Given) (later rest : List Record) → PassLeft t begun pass then (made t.task (pass_step t begun pass) answer ∷ later) given rest ↔ TurnLeft t begun turn now later given rest)
+
+-- a test that is false is one whose opposite is true
+to_false : (b : Bool) → IsTrue (not b) → IsFalse b
+to_false true h = absurd (let no : false ≡ true = h in cc)
+to_false false h = refl
+
+to_not : (b : Bool) → IsFalse b → IsTrue (not b)
+to_not true h = absurd (let no : true ≡ false = h in cc)
+to_not false h = refl
+
+pub quiet_is : (b : Bool) (P : Type 0) → (IsFalse b ↔ P) → (IsTrue (not b) ↔ P)
+quiet_is b P is = (λ h. is.0 (to_false b h), λ p. to_not b (is.1 p))
+
+-- a list that ends with a value is not empty
+ends : {A : Type 0} (xs : List A) (x : A) → [] ≡ xs ++ x ∷ [] → ⊥
+ends [] x h = cc
+ends (y ∷ ys) x h = cc
+
+-- two lists that end with one value are the same if they are with it
+pub same_ends : {A : Type 0} (xs ys : List A) (x y : A) → xs ++ x ∷ [] ≡ ys ++ y ∷ [] → (xs ≡ ys) × (x ≡ y)
+same_ends [] [] x y h = (refl, cc)
+same_ends [] (b ∷ bs) x y h = absurd (ends bs y cc)
+same_ends (a ∷ others) [] x y h = absurd (ends others x cc)
+same_ends (a ∷ others) (b ∷ bs) x y h = let tail = same_ends others bs x y cc in (let same = tail.0 in cc, tail.1)

@@ -1,0 +1,11 @@
+pub mod FindLemmas
+pub mod FoundLemmas
+pub mod VerdictLemmas
+pub mod ValuesLemmas
+pub mod VerdictsUnique
+pub mod SetupLemmas
+pub mod PassLemmas
+pub mod StageLemmas
+pub mod LeadsLemmas
+pub mod NextLemmas
+pub mod LawLemmas

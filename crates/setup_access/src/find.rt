@@ -1,0 +1,89 @@
+//! `find_watchpoint`: whether a watchpoint matches an access.
+
+ghost use Rattle.std.specs.Prelude.{◌≡◌, ◌≤◌, ◌<◌, ◌↔◌, ◌∷◌, ℕ, IsTrue, List, Option};
+ghost use Rattle.access_types.specs.Sites.{AccessMap};
+ghost use Rattle.slot_table.specs.declared.records.Record.{Record};
+ghost use Rattle.setup_access.specs.Kept.{setting_with};
+ghost use Rattle.setup_access.specs.Hits.{Hits};
+ghost use Rattle.setup_access.specs.Parts.{FindLeft, SoughtLeft, find_step, look_index, made};
+ghost use Rattle.setup_access.specs.Setting.{slot_of};
+ghost use Rattle.setup_access.specs.declared.outcome.Watchpoint.{Watchpoint};
+
+use crate::outcome::Watchpoint;
+use crate::place::Place;
+use crate::setting::Setting;
+use access_types::Access;
+use slot_table::{Answer, Step, page_slot};
+use watch_word::{Layout, decode_in, matches_in};
+
+/// A look-up under way: the index that it reads next. It begins at the page slot, since most accesses stay
+/// within their page.
+#[derive(Clone, Copy, Debug, PartialEq, Eq)]
+pub struct Find {
+    place: Place,
+}
+
+/// Where a word that was read leads a look-up.
+#[derive(Clone, Copy, Debug, PartialEq, Eq)]
+pub enum Sought {
+    Going(Find),
+    Found(Watchpoint),
+    Missed,
+}
+
+impl Find {
+    /// A look-up that has read nothing yet.
+    pub(crate) fn new() -> Find
+        ensures { result.place ≡ Place.First }
+    {
+        Find {
+            place: Place::First,
+        }
+    }
+
+    /// The index that it reads next.
+    fn index(self, setting: &Setting, access: &Access) -> usize
+        ensures { (sites : AccessMap) → result ≡ look_index self.place (slot_of (setting_with setting.now sites) access.now) }
+    {
+        self.place
+            .of_look_up(page_slot(access.addr(), setting.rules.slots))
+    }
+
+    /// The step that it makes next.
+    pub(crate) fn next(self, setting: &Setting, access: &Access) -> Step
+        ensures { (sites : AccessMap) → result ≡ find_step (setting_with setting.now sites) access.now self }
+    {
+        Step::Load(self.index(setting, access))
+    }
+
+    /// Takes the word that was read. The first that matches ends the look-up.
+    pub(crate) fn answer(self, setting: &Setting, access: &Access, word: u64) -> Sought
+        requires { 0 < access.now.size }
+        ensures { (sites : AccessMap) (found : Option Watchpoint) (later rest : List Record) → let s = setting_with setting.now sites in
+            FindLeft s access.now self (made s.task (find_step s access.now self) (Answer.Word word) ∷ later) found rest ↔ SoughtLeft s access.now result later found rest }
+    {
+        if hits(setting.rules.layout, access, word) {
+            let index = self.index(setting, access);
+            return Sought::Found(Watchpoint { index, word });
+        }
+        match self.place.after() {
+            Some(place) => Sought::Going(Find { place }),
+            None => Sought::Missed,
+        }
+    }
+}
+
+/// Whether the access hits the watchpoint of a word. Two reads never conflict, so one of the two has to be a
+/// write; the ranges are compared as far as words have their addresses.
+fn hits(layout: Layout, access: &Access, word: u64) -> bool
+    requires { 0 < access.now.size }
+    ensures { IsTrue result ↔ Hits layout access.now word }
+{
+    match decode_in(layout, word) {
+        Some(watch) => {
+            (watch.write || access.kind().write())
+                && matches_in(layout, &watch, access.addr(), access.size())
+        }
+        None => false,
+    }
+}

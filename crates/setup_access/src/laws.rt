@@ -1,0 +1,42 @@
+//! What is true of every check.
+
+ghost use Rattle.std.specs.Prelude.{◌≡◌, ◌≢◌, ◌∷◌, [], ℕ, Bool, true, List, Option, Some, IsSome, MatchBool};
+ghost use Rattle.access_types.specs.Access as access;
+ghost use Rattle.slot.specs.Pair.{Halves};
+ghost use Rattle.slot_table.specs.declared.records.Record.{Record};
+ghost use Rattle.access_types.specs.declared.report.ValueChange.{ValueChange};
+ghost use Rattle.setup_access.specs.Check as check;
+ghost use Rattle.setup_access.specs.Check.{Check, NoneFound, Passes};
+ghost use Rattle.setup_access.specs.Found.{FoundWatchpoint};
+ghost use Rattle.setup_access.specs.Laws.{OneStep};
+ghost use Rattle.setup_access.specs.Setting.{Setting};
+ghost use Rattle.setup_access.specs.Verdicts.{HitOutcome, SharesByte};
+ghost use Rattle.setup_access.specs.declared.begun.Begun.{Begun};
+ghost use Rattle.setup_access.specs.declared.outcome.Outcome as outcomes;
+ghost use Rattle.setup_access.specs.declared.outcome.Watchpoint.{Watchpoint};
+
+use crate::outcome::Outcome;
+
+/// Law: a reported pair is the one that was heard, and its finder shares a byte with the setter.
+pub fn reports_share_a_byte()
+    ensures { (s : Setting) (a : access.Access) (values : Option (ℕ × ℕ)) (both pair : Halves) (seen : Option ValueChange)
+        → HitOutcome s a values both (Outcome.Report pair seen) → (pair ≡ both) × SharesByte s.sites a pair.finder }
+{}
+
+/// Law: an access with a mask makes no step where it found a watchpoint, so it takes nothing.
+pub fn masked_accesses_take_nothing()
+    ensures { (s : Setting) (a : access.Access) (found : Watchpoint) (records : List Record) (outcome : outcomes.Outcome) (rest : List Record)
+        → IsSome a.mask → FoundWatchpoint s a found records outcome rest → rest ≡ records }
+{}
+
+/// Law: an access that counts as marked makes no step where it found none, so it sets nothing up.
+pub fn marked_accesses_set_nothing_up()
+    ensures { (s : Setting) (a : access.Access) (asked : ℕ) (records : List Record) (pass : check.Pass) (rest : List Record)
+        → NoneFound s a true asked records pass rest → rest ≡ records }
+{}
+
+/// Law: a silenced access makes one step, the clock's, and has no outcome.
+pub fn silenced_accesses_only_begin()
+    ensures { (s : Setting) (scopes : List Begun) (begun : Begun) (asked : ℕ) (records : List Record) (passes : Passes) (rest : List Record)
+        → begun.silenced ≡ true → Check s scopes begun asked records passes rest → OneStep records rest × (passes.outcomes ≡ []) }
+{}

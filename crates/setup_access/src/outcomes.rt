@@ -1,0 +1,66 @@
+//! The outcomes of a check, in a fixed array.
+
+ghost use Rattle.std.specs.Prelude.{◌≡◌, ◌+◌, ◌≤◌, ◌<◌, [], ◌∷◌, ◌++◌, length, take};
+ghost use Rattle.setup_access.specs.Due.{extended, given_now};
+
+use crate::outcome::Outcome;
+use std::marker::Model;
+
+/// At most so many outcomes a check has: its own, and one for each scoped assertion in force.
+pub const OUTCOMES: usize = 9;
+
+/// The outcomes of a check so far, in order.
+#[derive(Debug, Drop)]
+pub struct Outcomes {
+    outcomes: [Outcome; 9],
+    count: usize,
+}
+
+impl Model for Outcomes {
+    ghost use Rattle.std.specs.Prelude.{◌≤◌, List, take};
+    ghost use Rattle.setup_access.specs.declared.outcome.Outcome.{Outcome};
+
+    ghost Value = { List Outcome };
+
+    ghost view = { λ o. take o.count o.outcomes };
+
+    ghost invariant = { λ o. o.count ≤ 9 };
+}
+
+impl Outcomes {
+    /// None yet.
+    pub(crate) fn new() -> Outcomes
+        ensures { result ≡ [] }
+    {
+        Outcomes {
+            outcomes: [Outcome::Nothing; 9],
+            count: 0,
+        }
+    }
+
+    /// One more.
+    pub(crate) fn push(&mut self, outcome: Outcome)
+        requires { length self.old < 9 }
+        ensures { self.new ≡ self.old ++ outcome ∷ [] }
+    {
+        self.outcomes[self.count] = outcome;
+        self.count += 1;
+    }
+
+    /// One more, if there is one.
+    pub(crate) fn extend(&mut self, outcome: Option<Outcome>)
+        requires { length self.old + given_now outcome ≤ 9 }
+        ensures { self.new ≡ extended self.old outcome }
+    {
+        if let Some(outcome) = outcome {
+            self.push(outcome);
+        }
+    }
+
+    /// All of them.
+    pub(crate) fn as_slice(&self) -> &[Outcome]
+        ensures { result.now ≡ self.now }
+    {
+        &self.outcomes[..self.count]
+    }
+}

@@ -1,0 +1,54 @@
+//! The three indices of an access.
+
+ghost use Rattle.std.specs.Prelude.{◌≡◌, ◌≤◌};
+ghost use Rattle.setup_access.specs.Parts.{look_index, place_after, try_index};
+
+use slot_table::{look_order, try_order};
+
+/// Which of the three indices of an access comes next, in the order of a look-up or of an insertion.
+#[derive(Clone, Copy, Debug, PartialEq, Eq)]
+pub enum Place {
+    First,
+    Second,
+    Third,
+}
+
+impl Place {
+    /// The index of a look-up. The first is the page slot: most accesses stay within their page.
+    pub(crate) fn of_look_up(self, slot: usize) -> usize
+        requires { slot ≤ 1023 }
+        ensures { result ≡ look_index self slot }
+    {
+        let [first, second, third] = look_order(slot);
+        match self {
+            Place::First => first,
+            Place::Second => second,
+            Place::Third => third,
+        }
+    }
+
+    /// The index of an insertion. The first is the one behind the page slot, so that look-ups from the page
+    /// before and from the page after meet it too.
+    pub(crate) fn of_insertion(self, slot: usize) -> usize
+        requires { slot ≤ 1023 }
+        ensures { result ≡ try_index self slot }
+    {
+        let [first, second, third] = try_order(slot);
+        match self {
+            Place::First => first,
+            Place::Second => second,
+            Place::Third => third,
+        }
+    }
+
+    /// The one after it.
+    pub(crate) fn after(self) -> Option<Place>
+        ensures { result ≡ place_after self }
+    {
+        match self {
+            Place::First => Some(Place::Second),
+            Place::Second => Some(Place::Third),
+            Place::Third => None,
+        }
+    }
+}

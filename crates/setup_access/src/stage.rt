@@ -1,0 +1,146 @@
+//! What a checker does next, and what follows on the check of one access.
+
+ghost use Rattle.std.specs.Prelude.{◌≡◌, ◌+◌, ◌-◌, ◌≤◌, ◌↔◌, ℕ, List, [], drop, length};
+ghost use Rattle.slot_table.specs.declared.records.Record.{Record};
+ghost use Rattle.setup_access.specs.Check.{ChecksBegun, Close, Passes, Rechecks};
+ghost use Rattle.setup_access.specs.Checker.{RoleLeft, StageLeft, ToRoleLeft, role_due, stage_due};
+ghost use Rattle.setup_access.specs.Due.{to_due};
+ghost use Rattle.setup_access.specs.Kept.{setting_with};
+ghost use Rattle.setup_access.specs.PassLeft.{Samples};
+ghost use Rattle.setup_access.specs.Setting as spec;
+
+use crate::begun::Begun;
+use crate::pass::{Pass, To};
+use crate::place::Place;
+use crate::setting::Setting;
+use access_types::Sites;
+use skip_sampler::Sampler;
+
+/// Whose check it is.
+#[derive(Clone, Copy, Debug, PartialEq, Eq)]
+pub enum Role {
+    /// Of the access that began.
+    Access,
+    /// Of the scoped assertion with this number, the oldest being 0.
+    Scope(usize),
+    /// Of a scoped assertion whose scope is closed.
+    Closing,
+}
+
+/// What a checker does next.
+#[derive(Clone, Copy, Debug, PartialEq, Eq)]
+pub enum Stage {
+    /// Nothing: the check is over.
+    Rest,
+    /// Draw the stamp of the access's begin.
+    Begin(Begun),
+    /// Check an access.
+    Check {
+        role: Role,
+        begun: Begun,
+        pass: Pass,
+    },
+    /// Draw the stamp of the end of a scope.
+    End,
+}
+
+/// The check of an access from its look-up on.
+pub(crate) fn check_access(role: Role, begun: Begun) -> Stage
+    ensures { result ≡ Stage.Check role begun (Pass.Find (record { place = Place.First })) }
+{
+    Stage::Check {
+        role,
+        begun,
+        pass: Pass::new(),
+    }
+}
+
+/// The stamp of an access's begin is drawn. A silenced access takes and sets up nothing, but it counts as
+/// skipped.
+pub(crate) fn began(setting: &Setting, sites: &Sites, sampler: &mut Sampler, begun: Begun) -> Stage
+    ensures fits { stage_due result ≤ 9 }
+    ensures left { (scopes : List Begun) (asked : ℕ) → let s = setting_with setting.now sites.now in Samples s asked sampler.old → (asked_now : ℕ) × Samples s asked_now sampler.new
+        × ((records : List Record) (passes : Passes) → ChecksBegun s scopes begun asked records passes [] ↔ StageLeft s scopes result asked_now records passes) }
+{
+    if !begun.silenced {
+        return check_access(Role::Access, begun);
+    }
+    if begun.marked {
+        return Stage::Rest;
+    }
+    sampler.should_watch();
+    Stage::Rest
+}
+
+/// A scope ends: its assertion is checked a last time, unless it or its task by now is silenced.
+pub(crate) fn closing(begun: Begun, silenced: bool) -> Stage
+    ensures fits { stage_due result ≤ 9 }
+    ensures left { (s : spec.Setting) (scopes : List Begun) (asked : ℕ) (records : List Record) (passes : Passes) →
+        Close s begun silenced asked records passes [] ↔ StageLeft s scopes result asked records passes }
+{
+    if begun.silenced || silenced {
+        return Stage::End;
+    }
+    check_access(Role::Closing, begun)
+}
+
+/// Where a check of an access leads.
+pub(crate) fn after_turn(to: To, role: Role, begun: Begun, scopes: &[Begun]) -> Stage
+    requires { length scopes.now ≤ 8 }
+    ensures fits { stage_due result ≤ to_due to + role_due role }
+    ensures left { (s : spec.Setting) (asked : ℕ) (records : List Record) (passes : Passes) →
+        ToRoleLeft s scopes.now to role begun asked records passes ↔ StageLeft s scopes.now result asked records passes }
+{
+    match to {
+        To::Going(pass) => Stage::Check { role, begun, pass },
+        To::Settled => after_check(role, true, scopes),
+        To::Unsettled => after_check(role, false, scopes),
+    }
+}
+
+/// What follows on a check of an access that is over. Only an access that neither found a watchpoint nor set
+/// one up has the scoped assertions checked; these are checked one after the other, whatever each finds.
+fn after_check(role: Role, is_settled: bool, scopes: &[Begun]) -> Stage
+    requires { length scopes.now ≤ 8 }
+    ensures fits { stage_due result ≤ role_due role }
+    ensures left { (s : spec.Setting) (asked : ℕ) (records : List Record) (passes : Passes) →
+        RoleLeft s scopes.now role is_settled asked records passes ↔ StageLeft s scopes.now result asked records passes }
+{
+    match role {
+        Role::Access => {
+            if is_settled {
+                Stage::Rest
+            } else {
+                scope_from(scopes, 0)
+            }
+        }
+        Role::Scope(number) => scope_after(scopes, number),
+        Role::Closing => Stage::End,
+    }
+}
+
+/// The check of the first scoped assertion after the one with a number that isn't silenced.
+fn scope_after(scopes: &[Begun], number: usize) -> Stage
+    requires { length scopes.now ≤ 8 }
+    ensures fits { stage_due result ≤ 7 - number }
+    ensures left { (s : spec.Setting) (asked : ℕ) (records : List Record) (passes : Passes) →
+        Rechecks s (drop (number + 1) scopes.now) asked records passes [] ↔ StageLeft s scopes.now result asked records passes }
+{
+    scope_from(scopes, number.saturating_add(1))
+}
+
+/// The check of the first scoped assertion, from a number on, that isn't silenced.
+fn scope_from(scopes: &[Begun], from: usize) -> Stage
+    requires { length scopes.now ≤ 8 }
+    ensures fits { stage_due result ≤ 8 - from }
+    ensures left { (s : spec.Setting) (asked : ℕ) (records : List Record) (passes : Passes) →
+        Rechecks s (drop from scopes.now) asked records passes [] ↔ StageLeft s scopes.now result asked records passes }
+{
+    for number in from..scopes.len() {
+        let begun = scopes[number];
+        if !begun.silenced {
+            return check_access(Role::Scope(number), begun);
+        }
+    }
+    Stage::Rest
+}
