@@ -1,0 +1,12 @@
+//! Litmus programs, printed.
+#![tactic(auto)]
+
+mod expression;
+mod program;
+mod scope;
+mod statement;
+
+pub use program::print;
+
+#[cfg(test)]
+mod tests;

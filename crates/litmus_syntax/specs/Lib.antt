@@ -1,0 +1,4 @@
+pub mod Tree
+pub mod Sites
+pub mod Views
+pub mod PrintedForm
