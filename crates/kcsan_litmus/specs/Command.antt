@@ -15,6 +15,7 @@ engine_status_of (engine.Syntax line) = 65
 engine_status_of (engine.Unsupported line) = 65
 engine_status_of (engine.Limit limit) = 65
 engine_status_of engine.NotAscii = 65
+engine_status_of engine.NotStepped = 65
 engine_status_of (engine.Stuck task) = 70
 engine_status_of engine.BadSchedule = 64
 engine_status_of engine.SinkFailed = 74

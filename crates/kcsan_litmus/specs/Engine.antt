@@ -1,7 +1,7 @@
 use Rattle.std.specs.Prelude.{◌≡◌, ◌≤◌, ◌==◌, ◌↔◌, ℕ, List, [], Option, Some, Bool, All, IsTrue, length, not, take}
-use Rattle.litmus_parse.specs.declared.reader.ParseError.{ParseError}
-use Rattle.litmus_parse.specs.declared.reader.ParseError.TheVariants as parse
-use Rattle.litmus_parse.specs.declared.program.Program.{Program}
+use Rattle.litmus_syntax.specs.declared.error.ParseError.{ParseError}
+use Rattle.litmus_syntax.specs.declared.error.ParseError.TheVariants as parse
+use Rattle.two_task_program.specs.declared.program.Program.{Program}
 use Rattle.litmus_step.specs.LeadsTo.{GoesOn}
 use Rattle.litmus_step.specs.Role.{NamesTwoTasks}
 use Rattle.litmus_step.specs.Run.{RunsTo}
@@ -15,10 +15,6 @@ use Rattle.kcsan_litmus.specs.declared.engine.EngineError.{EngineError}
 use Rattle.kcsan_litmus.specs.declared.engine.EngineError.TheVariants as engine
 use Rattle.kcsan_litmus.specs.Sink.{appended}
 use Rattle.kcsan_litmus.specs.Transcript.{transcript_text}
-
--- the most bytes that a litmus file may have
-abbrev pub most_file_bytes : ℕ
-most_file_bytes = 65536
 
 -- what the engine answers for a text that is refused
 abbrev pub parse_fault : ParseError → EngineError

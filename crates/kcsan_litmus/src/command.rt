@@ -50,8 +50,8 @@ pub enum ReadFault {
 
 /// What a program stands on: standard output, which is the sink, named files, and standard error.
 pub trait Desk: Sink {
-    /// The bytes of a named file, but no more than `limit`.
-    fn read_file(&mut self, alloc: Global, path: &str, limit: u64) -> Result<Vec<u8>, ReadFault>
+    /// The bytes of a named file, or `limit` + 1 of them, which say that it has more than `limit`.
+    fn read_file(&mut self, alloc: Global, path: &str, limit: usize) -> Result<Vec<u8>, ReadFault>
         ensures sink_stays { IsSinkAsBefore (Self.written self.old) (Self.written self.new)
             (Self.failures self.old) (Self.failures self.new) };
 
@@ -127,7 +127,8 @@ fn engine_status(error: EngineError) -> u8
         EngineError::Syntax { .. }
         | EngineError::Unsupported { .. }
         | EngineError::Limit(_)
-        | EngineError::NotAscii => REFUSED,
+        | EngineError::NotAscii
+        | EngineError::NotStepped => REFUSED,
         EngineError::Stuck { .. } => STUCK,
         EngineError::BadSchedule => USAGE,
         EngineError::SinkFailed => UNWRITABLE,
@@ -193,8 +194,7 @@ fn step<D: Desk>(alloc: Global, request: Request<'_>, desk: &mut D) -> Result<bo
     let Some(schedule) = Schedule::parse(alloc, request.schedule)? else {
         return Err(Failure::BadSchedule);
     };
-    // One byte more than a litmus text can have shows that a file is too long.
-    let text = desk.read_file(alloc, request.file, FILE_BYTES as u64 + 1)?;
+    let text = desk.read_file(alloc, request.file, FILE_BYTES)?;
     Ok(step_file(alloc, &text, &schedule, desk)?)
 }
 

@@ -2,18 +2,19 @@
 
 ghost use Rattle.std.specs.Prelude.{◌≡◌, ◌≤◌, ◌<◌, ◌↔◌, Any, IfOk, IsErrOf, IsErr, IsTrue, length};
 ghost use Rattle.std.specs.String.{string_bytes};
-ghost use Rattle.litmus_parse.specs.Text.{IsTextByte};
+ghost use Rattle.litmus_parse.specs.Text.{IsTextByte, file_bytes};
 ghost use Rattle.litmus_step.specs.Schedule.{entries_of, names_stranger};
-ghost use Rattle.kcsan_litmus.specs.Engine.{IsOutput, parse_fault, world_fault, HoldsOutput, HoldsBeginningOfOutput, most_file_bytes};
+ghost use Rattle.kcsan_litmus.specs.Engine.{IsOutput, parse_fault, world_fault, HoldsOutput, HoldsBeginningOfOutput};
 ghost use Rattle.kcsan_litmus.specs.Sink.{CountsFailure};
 ghost use Rattle.kcsan_litmus.specs.declared.engine.EngineError.TheVariants.{OutOfMemory};
 
 use crate::report::transcript;
 use crate::sink::{Sink, write_all};
-use litmus_parse::{Limit, ParseError, TaskNumber, parse};
+use litmus_parse::{Limit, ParseError, parse};
 use litmus_step::{Schedule, World, WorldError};
 use std::alloc::{AllocError, Global};
 use thiserror::Error;
+use two_task_program::{Program, TaskNumber, two_task_program};
 
 /// Why a stepped run has no whole output.
 #[derive(Clone, Copy, Debug, PartialEq, Eq, Error)]
@@ -32,6 +33,9 @@ pub enum EngineError {
     /// The text has a byte that is no tab, LF, CR or 0x20..0x7E.
     #[error("not ascii")]
     NotAscii,
+    /// The text spells a program, and the stepper doesn't have what is in it.
+    #[error("not stepped: the stepper takes two tasks of plain and ONCE accesses to ints, and exists of one atom")]
+    NotStepped,
     /// A task waited in vain too often.
     #[error("task {} is stuck", .task.get())]
     Stuck { task: TaskNumber },
@@ -110,15 +114,31 @@ pub fn step_file<K: Sink>(
         IsTrue (names_stranger (entries_of schedule.now)) }
     ensures all_there { IfOk result (λ _. ¬ IsTrue (names_stranger (entries_of schedule.now))) }
     ensures file_limit { IsErrOf result (EngineError.Limit Limit.File) ↔
-        (most_file_bytes < length text.now) }
+        (file_bytes < length text.now) }
     ensures not_ascii { IsErrOf result EngineError.NotAscii ↔
-        ((length text.now ≤ most_file_bytes) × Any (λ byte. ¬ IsTextByte byte) text.now) }
+        ((length text.now ≤ file_bytes) × Any (λ byte. ¬ IsTextByte byte) text.now) }
 {
     let output = run_file(alloc, text, schedule)?;
     if write_all(sink, output.text.as_bytes()).is_err() {
         return Err(EngineError::SinkFailed);
     }
     Ok(output.raced)
+}
+
+/// The program of a litmus text, if the stepper steps it.
+fn program_of(alloc: Global, text: &[u8]) -> Result<Program, EngineError>
+    ensures unwritten { IsErrOf result EngineError.SinkFailed → ⊥ }
+    ensures bad_schedule { IsErrOf result EngineError.BadSchedule → ⊥ }
+    ensures file_limit { IsErrOf result (EngineError.Limit Limit.File) ↔
+        (file_bytes < length text.now) }
+    ensures not_ascii { IsErrOf result EngineError.NotAscii ↔
+        ((length text.now ≤ file_bytes) × Any (λ byte. ¬ IsTextByte byte) text.now) }
+{
+    let program = parse(alloc, text)?;
+    match two_task_program(alloc, &program)? {
+        Some(program) => Ok(program),
+        None => Err(EngineError::NotStepped),
+    }
 }
 
 /// Steps the program of a litmus text under a schedule to its end.
@@ -130,11 +150,11 @@ fn run_file(alloc: Global, text: &[u8], schedule: &Schedule) -> Result<Output, E
         IsTrue (names_stranger (entries_of schedule.now)) }
     ensures all_there { IfOk result (λ _. ¬ IsTrue (names_stranger (entries_of schedule.now))) }
     ensures file_limit { IsErrOf result (EngineError.Limit Limit.File) ↔
-        (most_file_bytes < length text.now) }
+        (file_bytes < length text.now) }
     ensures not_ascii { IsErrOf result EngineError.NotAscii ↔
-        ((length text.now ≤ most_file_bytes) × Any (λ byte. ¬ IsTextByte byte) text.now) }
+        ((length text.now ≤ file_bytes) × Any (λ byte. ¬ IsTextByte byte) text.now) }
 {
-    let program = parse(alloc, text)?;
+    let program = program_of(alloc, text)?;
     let mut world = World::new(alloc, program);
     world.run(schedule)?;
     let findings = world.findings();

@@ -5,10 +5,34 @@ ghost use Rattle.kcsan_litmus.specs.Sink.{CountsFailure};
 
 use crate::command::{Desk, ReadFault};
 use crate::sink::{Sink, SinkFault};
+use litmus_lex::{ReadError, Source, SourceFault, read_all};
 use std::alloc::Global;
+use std::fmt;
 use std::fs::File;
 use std::io::Read;
-use std::{fmt, io};
+
+/// An open file, which can't say what it will give.
+#[derive(Drop)]
+struct OpenFile {
+    file: File,
+    failures: u64,
+}
+
+impl Source for OpenFile {
+    ghost remaining = { λ _. None };
+
+    ghost failures = { λ source. source.failures };
+
+    fn read(&mut self, buffer: &mut [u8]) -> Result<usize, SourceFault> {
+        match self.file.read(buffer) {
+            Ok(count) => Ok(count),
+            Err(_) => {
+                self.failures = self.failures.saturating_add(1);
+                Err(SourceFault)
+            }
+        }
+    }
+}
 
 /// The process's streams and files. What it wrote is not kept.
 #[derive(Drop)]
@@ -47,16 +71,14 @@ impl Sink for System {
 }
 
 impl Desk for System {
-    fn read_file(&mut self, alloc: Global, path: &str, limit: u64) -> Result<Vec<u8>, ReadFault> {
-        let mut bytes = Vec::new(alloc);
-        let read = match File::open(&self.rt, path) {
-            Ok(file) => file.take(limit).read_to_end(&mut bytes),
-            Err(error) => Err(error),
+    fn read_file(&mut self, alloc: Global, path: &str, limit: usize) -> Result<Vec<u8>, ReadFault> {
+        let Ok(file) = File::open(&self.rt, path) else {
+            return Err(ReadFault::CannotRead);
         };
-        match read {
-            Ok(_) => Ok(bytes),
-            Err(error) if error.kind() == io::ErrorKind::OutOfMemory => Err(ReadFault::OutOfMemory),
-            Err(_) => Err(ReadFault::CannotRead),
+        match read_all(alloc, &mut OpenFile { file, failures: 0 }, limit) {
+            Ok(bytes) => Ok(bytes),
+            Err(ReadError::OutOfMemory) => Err(ReadFault::OutOfMemory),
+            Err(ReadError::SourceFailed) => Err(ReadFault::CannotRead),
         }
     }
 

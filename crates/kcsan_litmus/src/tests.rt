@@ -65,11 +65,16 @@ impl Sink for Table<'_> {
 }
 
 impl Desk for Table<'_> {
-    fn read_file(&mut self, alloc: Global, _path: &str, limit: u64) -> Result<Vec<u8>, ReadFault> {
+    fn read_file(
+        &mut self,
+        alloc: Global,
+        _path: &str,
+        limit: usize,
+    ) -> Result<Vec<u8>, ReadFault> {
         let Some(file) = self.file else {
             return Err(ReadFault::CannotRead);
         };
-        let end = file.len().min(limit as usize);
+        let end = file.len().min(limit.saturating_add(1));
         match file[..end].to_vec(alloc) {
             Ok(bytes) => Ok(bytes),
             Err(_) => Err(ReadFault::OutOfMemory),

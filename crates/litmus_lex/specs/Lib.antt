@@ -1,1 +1,9 @@
+pub mod Bytes
+pub mod Part
+pub mod Gap
+pub mod Sign
+pub mod Token
 pub mod Tokens
+pub mod Head
+pub mod Found
+pub mod Source

@@ -1,42 +1,76 @@
-use Rattle.std.specs.Prelude.{◌≡◌, ◌⊎◌, ◌+◌, ◌*◌, ◌<◌, ◌≤◌, ℕ, List, Bool, true, false, fold, length, slice_range}
-use Rattle.std.specs.Char.{digit_value}
-use Rattle.litmus_lex.specs.declared.tokens.Token.{Token}
-use Rattle.litmus_lex.specs.declared.tokens.Token.TheVariants.{Name, Word, Number, Sign, TooLarge, Stray, End, Unclosed}
-use Rattle.litmus_lex.specs.declared.tokens.Lexeme.{Lexeme}
+use Rattle.std.specs.Prelude.{◌≡◌, ◌↔◌, ◌+◌, ℕ, List, [], ◌∷◌, ◌++◌, Option, Some, None, length, drop}
+use Rattle.litmus_lex.specs.declared.sign.Sign.TheVariants.{OpenBrace, CloseBrace}
+use Rattle.litmus_lex.specs.declared.token.Part.{Part}
+use Rattle.litmus_lex.specs.declared.token.Place.{Place}
+use Rattle.litmus_lex.specs.declared.token.Lexeme.{Lexeme}
+use Rattle.litmus_lex.specs.Part.{opened, closed}
+use Rattle.litmus_lex.specs.Gap.{IsGap, IsAtToken, IsUnclosed}
+use Rattle.litmus_lex.specs.Token.{Terminal, sign, unclosed, terminal_of, Spells}
 
--- the place is in the text or at its end, and not before `from`
-abbrev pub IsFrom : ℕ → List ℕ → ℕ → Type 0
-IsFrom from text end = (from ≤ end) × (end ≤ length text)
+-- a token of a text, and how many bytes stand before it
+pub record Placed : Type 0 where
+  pub terminal : Terminal
+  pub at : ℕ
 
--- the byte separates tokens: tab, LF, CR or a blank
-abbrev pub IsBlank : ℕ → Type 0
-IsBlank byte = (byte ≡ 9) ⊎ (byte ≡ 10) ⊎ (byte ≡ 13) ⊎ (byte ≡ 32)
+-- the part of the text after a token: braces change it
+abbrev pub part_after : Part → Terminal → Part
+part_after part (sign OpenBrace) = opened part
+part_after part (sign CloseBrace) = closed part
+part_after part _ = part
 
--- the number that the digits spell
-abbrev pub value_in : ℕ → List ℕ → ℕ
-value_in radix digits = fold (λ value digit. value * radix + digit_value digit) 0 digits
+-- the part of the text behind a token, or at the end
+abbrev pub part_behind : Part → Option Terminal → Part
+part_behind part None = part
+part_behind part (Some terminal) = part_after part terminal
 
--- the token stands for the end of the text
-abbrev pub is_end : Token → Bool
-is_end End = true
-is_end Unclosed = true
-is_end (Name name) = false
-is_end (Word word) = false
-is_end (Number value) = false
-is_end (Sign sign) = false
-is_end TooLarge = false
-is_end Stray = false
+-- the token begins where no blank and no comment does, and an open comment is one
+abbrev pub StartsAt : Part → Terminal → List ℕ → Type 0
+StartsAt part unclosed bytes = IsUnclosed part bytes
+StartsAt part _ bytes = IsAtToken part bytes
 
--- a name has these bytes
-abbrev pub NameIs : Token → List ℕ → Type 0
-NameIs (Name name) bytes = name.now ≡ bytes
-NameIs token bytes = Unit {0}
+-- the place of a token: of its first byte, and of an open comment the end of the text
+abbrev pub place_of : Terminal → ℕ → List ℕ → ℕ
+place_of unclosed at spelled = at + length spelled
+place_of _ at spelled = at
 
--- the bytes of the token at `start` are in the text, and there are some unless the text ends there
-pub record IsLexeme (text : List ℕ) (start : ℕ) (lexeme : Lexeme) : Type 0 where
-  pub within : IsFrom start text lexeme.end
-  pub moves : start < length text → start < lexeme.end
-  pub token : is_end lexeme.token ≡ false → start < length text
-  pub goes_on : start < length text → is_end lexeme.token ≡ false
-  pub end : start ≡ length text → lexeme.token ≡ End
-  pub name : NameIs lexeme.token (slice_range text start lexeme.end)
+-- the first token of the bytes, which stand at a place: blanks and comments, the bytes that spell
+-- it, and the bytes after it
+pub record First (part : Part) (at : ℕ) (bytes : List ℕ) (token : Placed) : Type 0 where
+  pub gap : List ℕ
+  pub spelled : List ℕ
+  pub rest : List ℕ
+  pub whole : bytes ≡ gap ++ (spelled ++ rest)
+  pub separated : IsGap part gap (spelled ++ rest)
+  pub starts : StartsAt part token.terminal (spelled ++ rest)
+  pub spells : Spells token.terminal spelled rest
+  pub place : token.at ≡ place_of token.terminal (at + length gap) spelled
+
+-- the tokens of the bytes, which are the rest of a text and stand at a place in this part of it
+abbrev pub AreTokens : Part → ℕ → List ℕ → List Placed → Type 0
+AreTokens part at bytes [] = IsGap part bytes []
+AreTokens part at bytes (token ∷ tokens) =
+    (first : First part at bytes token)
+    × AreTokens (part_after part token.terminal)
+    (at + length first.gap + length first.spelled) first.rest tokens
+
+-- the tokens of a text from a place on, which is in this part of the text: told apart, and as one
+abbrev pub TokensAt : List ℕ → Part → ℕ → List Placed → Type 0
+TokensAt text part at tokens = AreTokens part at (drop at text) tokens
+
+abbrev pub TokensFrom : List ℕ → Place → List Placed → Type 0
+TokensFrom text place tokens = TokensAt text place.part place.at tokens
+
+-- the tokens from a place on are the terminal, which stands at its own place, and those from the
+-- place behind it on; without a terminal there are none
+abbrev pub Continues : List ℕ → Place → Option Terminal → ℕ → Part → ℕ → Type 0
+Continues text place None at part next =
+    (tokens : List Placed) → TokensFrom text place tokens ↔ (tokens ≡ [])
+Continues text place (Some terminal) at part next =
+    (tokens : List Placed) → TokensFrom text place tokens
+    ↔ ((rest : List Placed) × (tokens ≡ record { terminal = terminal; at = at } ∷ rest)
+    × TokensAt text part next rest)
+
+-- what the text goes on with from the place is this token
+abbrev pub IsNext : List ℕ → Place → Lexeme → Type 0
+IsNext text place lexeme =
+    Continues text place (terminal_of lexeme.token) lexeme.at lexeme.after.part lexeme.after.at

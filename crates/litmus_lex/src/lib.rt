@@ -1,6 +1,23 @@
-//! The tokens of litmus texts.
+//! The tokens of litmus texts, the head that stands before them, and the reading of a whole source.
 #![tactic(auto)]
 
-pub mod tokens;
+mod bytes;
+mod gap;
+mod head;
+mod laws;
+mod lines;
+mod next;
+mod sign;
+mod source;
+mod token;
 
-pub use tokens::{Lexeme, Part, Sign, Token, Word, gap_end, head_end, lexeme_at};
+pub use head::{Head, read_head};
+pub use laws::{a_text_has_one_reading, bytes_have_one_list_of_tokens};
+pub use lines::line_of;
+pub use next::next_token;
+pub use sign::Sign;
+pub use source::{ReadError, Source, SourceFault, read_all};
+pub use token::{Lexeme, Part, Place, Token};
+
+#[cfg(test)]
+mod tests;

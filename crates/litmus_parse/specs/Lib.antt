@@ -1,3 +1,5 @@
 pub mod Text
-pub mod Cursor
-pub mod Program
+pub mod Mentions
+pub mod Headers
+pub mod Conditions
+pub mod Grammar

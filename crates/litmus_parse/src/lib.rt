@@ -1,11 +1,12 @@
 //! Litmus texts, read into programs.
 #![tactic(auto)]
 
-mod cursor;
-pub mod numbers;
-pub mod program;
-pub mod reader;
+mod condition;
+mod declaration;
+mod initialization;
+pub mod limits;
+mod text;
 
-pub use numbers::{Below, REGISTERS, Register, TASKS, TaskNumber, VARIABLES, Variable};
-pub use program::{Condition, Place, Program, STATEMENTS, Statement, TaskText};
-pub use reader::{FILE_BYTES, Limit, ParseError, parse};
+pub use litmus_print::print;
+pub use litmus_syntax::{Limit, ParseError, Program};
+pub use text::{FILE_BYTES, parse};

@@ -10,10 +10,10 @@ use Rattle.access_types.specs.History.{History, Memory, after_happening, after_m
 use Rattle.access_types.specs.declared.history.Happening.{Happening}
 use Rattle.access_types.specs.declared.history.Happening.TheVariants as happenings
 use Rattle.access_types.specs.declared.history.Moment.{Moment}
-use Rattle.litmus_parse.specs.Program.{statement_at, text_of, variable_of}
-use Rattle.litmus_parse.specs.declared.numbers.TheConstants.{TASKS, VARIABLES}
-use Rattle.litmus_parse.specs.declared.program.Program.{Program}
-use Rattle.litmus_parse.specs.declared.program.Statement.{Statement}
+use Rattle.two_task_program.specs.Program.{statement_at, text_of, variable_of}
+use Rattle.two_task_program.specs.declared.numbers.TheConstants.{TASKS, VARIABLES}
+use Rattle.two_task_program.specs.declared.program.Program.{Program}
+use Rattle.two_task_program.specs.declared.program.Statement.{Statement}
 use Rattle.litmus_step.specs.Happens.{Happens, happening_at, moment_of}
 use Rattle.litmus_step.specs.LeadsTo.{GoesOn, HasDone, LeadsTo}
 use Rattle.litmus_step.specs.Machine.{Follows, FollowsAt, step_in}

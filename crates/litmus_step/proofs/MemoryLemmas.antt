@@ -8,10 +8,10 @@ use Rattle.access_types.specs.Ticket.{ticket_number}
 use Rattle.access_types.specs.History.{AreApart, Memory, after_happening, initial_memory, laid, value_from}
 use Rattle.access_types.specs.declared.history.Happening.{Happening}
 use Rattle.access_types.specs.declared.history.Happening.TheVariants as happenings
-use Rattle.litmus_parse.specs.declared.numbers.TheConstants.{VARIABLES}
-use Rattle.litmus_parse.specs.declared.program.Statement.{Statement}
-use Rattle.litmus_parse.specs.declared.program.Statement.TheVariants.{Read, Write}
-use Rattle.litmus_parse.specs.Program.{variable_of}
+use Rattle.two_task_program.specs.declared.numbers.TheConstants.{VARIABLES}
+use Rattle.two_task_program.specs.declared.program.Statement.{Statement}
+use Rattle.two_task_program.specs.declared.program.Statement.TheVariants.{Read, Write}
+use Rattle.two_task_program.specs.Program.{variable_of}
 use Rattle.litmus_step.specs.Happens.{happening_at}
 use Rattle.litmus_step.specs.Machine.{step_in}
 use Rattle.litmus_step.specs.Memory.{access_of, address, bytes_at, placed_from, with_low_half}

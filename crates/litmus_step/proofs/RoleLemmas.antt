@@ -12,11 +12,11 @@ use Rattle.slot.specs.Pair.{Halves, unnamed}
 use Rattle.slot.specs.declared.slot.TheConstants.{EMPTY, CONSUMED}
 use Rattle.watch_word.specs.Word.{Encodable, word_of}
 use Rattle.watch_word.specs.declared.layout.Layout.TheVariants.{W64}
-use Rattle.litmus_parse.specs.Program.{statement_at, variable_of}
-use Rattle.litmus_parse.specs.declared.numbers.TheConstants.{TASKS}
-use Rattle.litmus_parse.specs.declared.program.Program.{Program}
-use Rattle.litmus_parse.specs.declared.program.Statement.{Statement}
-use Rattle.litmus_parse.specs.declared.program.Statement.TheVariants as statements
+use Rattle.two_task_program.specs.Program.{statement_at, variable_of}
+use Rattle.two_task_program.specs.declared.numbers.TheConstants.{TASKS}
+use Rattle.two_task_program.specs.declared.program.Program.{Program}
+use Rattle.two_task_program.specs.declared.program.Statement.{Statement}
+use Rattle.two_task_program.specs.declared.program.Statement.TheVariants as statements
 use Rattle.litmus_step.specs.Index.{insert_after, look_after, position_of}
 use Rattle.litmus_step.specs.Machine.{Follows, FollowsAt, Hits, IsLooked, IsUnmatched, Leads, LooksOn, after_exchange, after_insertion, after_try, after_watch, counting, insert_on, next_step, phase_after_load, step_in, to, wait_on}
 use Rattle.litmus_step.specs.Memory.{access_named, access_of}

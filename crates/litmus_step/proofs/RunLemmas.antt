@@ -12,8 +12,8 @@ use Rattle.litmus_step.specs.declared.task.Phase.{Phase}
 use Rattle.litmus_step.specs.declared.task.Phase.TheVariants as phases
 use Rattle.litmus_step.specs.declared.task.TaskRun.{TaskRun}
 use Rattle.litmus_step.specs.declared.world.Stepped.TheVariants.{Ended}
-use Rattle.litmus_parse.specs.declared.program.Program.{Program}
-use Rattle.litmus_parse.specs.Program.{text_of}
+use Rattle.two_task_program.specs.declared.program.Program.{Program}
+use Rattle.two_task_program.specs.Program.{text_of}
 use Rattle.litmus_step.specs.Machine.{next_step}
 use Rattle.litmus_step.specs.declared.world.World.{World}
 

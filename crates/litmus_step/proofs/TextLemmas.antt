@@ -6,10 +6,10 @@ use Rattle.access_types.specs.Access.{Access}
 use Rattle.access_types.specs.Race.{bytes_of}
 use Rattle.access_types.specs.declared.history.Happening.{Happening}
 use Rattle.access_types.specs.declared.history.Happening.TheVariants as happenings
-use Rattle.litmus_parse.specs.Program.{statement_at, text_of}
-use Rattle.litmus_parse.specs.declared.program.Program.{Program}
-use Rattle.litmus_parse.specs.declared.program.Statement.{Statement}
-use Rattle.litmus_parse.specs.declared.program.Statement.TheVariants.{Read, Write}
+use Rattle.two_task_program.specs.Program.{statement_at, text_of}
+use Rattle.two_task_program.specs.declared.program.Program.{Program}
+use Rattle.two_task_program.specs.declared.program.Statement.{Statement}
+use Rattle.two_task_program.specs.declared.program.Statement.TheVariants.{Read, Write}
 use Rattle.litmus_step.specs.Happens.{happening_at}
 use Rattle.litmus_step.specs.LeadsTo.{HasDone, IsPhaseOf, LeftAt, LeftOf}
 use Rattle.litmus_step.specs.Machine.{FollowsAt, Hits, IsLooked, IsUnmatched, Leads, LooksOn, counting, insert_on, registers_after, site_after, to, wait_on, watch_end}
@@ -18,7 +18,7 @@ use Rattle.litmus_step.specs.Meaning.{MeansText}
 use Rattle.litmus_step.specs.Memory.{access_named, access_of, sign_extended}
 use Rattle.litmus_step.specs.RunOfProgram.{IsBeginning, MeansTask}
 use Rattle.litmus_step.specs.Work.{run_at_first}
-use Rattle.litmus_parse.specs.declared.numbers.TheConstants.{REGISTERS}
+use Rattle.two_task_program.specs.declared.numbers.TheConstants.{REGISTERS}
 use Rattle.litmus_step.specs.Verdict.{IsVerdict, counts_as_marked}
 use Rattle.watch_word.specs.Word.{Encodable}
 use Rattle.litmus_step.specs.declared.step.Answer.{Answer}

@@ -5,9 +5,9 @@ use Rattle.access_types.specs.Race.{bytes_of}
 use Rattle.access_types.specs.declared.history.Happening.{Happening}
 use Rattle.access_types.specs.declared.history.Happening.TheVariants as happenings
 use Rattle.access_types.specs.declared.history.Moment.{Moment}
-use Rattle.litmus_parse.specs.Program.{statement_at}
-use Rattle.litmus_parse.specs.declared.program.Statement.{Statement}
-use Rattle.litmus_parse.specs.declared.program.Statement.TheVariants.{Read}
+use Rattle.two_task_program.specs.Program.{statement_at}
+use Rattle.two_task_program.specs.declared.program.Statement.{Statement}
+use Rattle.two_task_program.specs.declared.program.Statement.TheVariants.{Read}
 use Rattle.litmus_step.specs.Memory.{access_of}
 use Rattle.litmus_step.specs.Run.{Turn}
 use Rattle.litmus_step.specs.StepLine.{step_line}

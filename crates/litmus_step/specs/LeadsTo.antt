@@ -3,11 +3,11 @@ use Rattle.access_types.specs.History.{History, after_moments, happenings_of, va
 use Rattle.access_types.specs.declared.history.Happening.{Happening}
 use Rattle.access_types.specs.declared.history.Happening.TheVariants as happenings
 use Rattle.access_types.specs.declared.history.Moment.{Moment}
-use Rattle.litmus_parse.specs.declared.numbers.TheConstants.{TASKS, VARIABLES}
-use Rattle.litmus_parse.specs.declared.program.Program.{Program}
-use Rattle.litmus_parse.specs.declared.program.Statement.{Statement}
-use Rattle.litmus_parse.specs.declared.program.Statement.TheVariants.{Read, Write}
-use Rattle.litmus_parse.specs.Program.{statement_at, text_of}
+use Rattle.two_task_program.specs.declared.numbers.TheConstants.{TASKS, VARIABLES}
+use Rattle.two_task_program.specs.declared.program.Program.{Program}
+use Rattle.two_task_program.specs.declared.program.Statement.{Statement}
+use Rattle.two_task_program.specs.declared.program.Statement.TheVariants.{Read, Write}
+use Rattle.two_task_program.specs.Program.{statement_at, text_of}
 use Rattle.litmus_step.specs.Happens.{Happens}
 use Rattle.litmus_step.specs.Meaning.{MeansText}
 use Rattle.litmus_step.specs.Memory.{access_of, address, memory_at_first}

@@ -6,10 +6,10 @@ use Rattle.access_types.specs.declared.report.ValueChange.{ValueChange}
 use Rattle.watch_word.specs.declared.layout.Layout.TheVariants.{W64}
 use Rattle.watch_word.specs.Match.{Matches}
 use Rattle.watch_word.specs.Word.{Encodable, IsWatchWord, watch_in, word_of}
-use Rattle.litmus_parse.specs.Program.{statement_at, variable_of}
-use Rattle.litmus_parse.specs.declared.program.Program.{Program}
-use Rattle.litmus_parse.specs.declared.program.Statement.{Statement}
-use Rattle.litmus_parse.specs.declared.program.Statement.TheVariants.{Read, Write}
+use Rattle.two_task_program.specs.Program.{statement_at, variable_of}
+use Rattle.two_task_program.specs.declared.program.Program.{Program}
+use Rattle.two_task_program.specs.declared.program.Statement.{Statement}
+use Rattle.two_task_program.specs.declared.program.Statement.TheVariants.{Read, Write}
 use Rattle.litmus_step.specs.Index.{insert_after, look_after}
 use Rattle.litmus_step.specs.Memory.{access_named, access_of, sign_extended, with_low_half}
 use Rattle.litmus_step.specs.Verdict.{IsVerdict, counts_as_marked}

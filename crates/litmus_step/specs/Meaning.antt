@@ -3,8 +3,8 @@ use Rattle.access_types.specs.Access.{Access}
 use Rattle.access_types.specs.Race.{bytes_of}
 use Rattle.access_types.specs.declared.history.Happening.{Happening}
 use Rattle.access_types.specs.declared.history.Happening.TheVariants as happenings
-use Rattle.litmus_parse.specs.declared.program.Statement.{Statement}
-use Rattle.litmus_parse.specs.declared.program.Statement.TheVariants.{Read, Write}
+use Rattle.two_task_program.specs.declared.program.Statement.{Statement}
+use Rattle.two_task_program.specs.declared.program.Statement.TheVariants.{Read, Write}
 use Rattle.litmus_step.specs.Memory.{access_of, sign_extended}
 
 -- a read begins, reads some value and ends, and the value, with its sign, is in its register

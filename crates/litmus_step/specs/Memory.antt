@@ -7,11 +7,11 @@ use Rattle.access_types.specs.declared.kind.Kind.TheVariants.{Plain, Marked}
 use Rattle.access_types.specs.declared.kind.Operation.{Operation}
 use Rattle.access_types.specs.declared.kind.Operation.TheVariants as operations
 use Rattle.access_types.specs.Ticket.{site_in, task_in}
-use Rattle.litmus_parse.specs.declared.numbers.TheConstants.{TASKS}
-use Rattle.litmus_parse.specs.declared.program.Program.{Program}
-use Rattle.litmus_parse.specs.declared.program.Statement.{Statement}
-use Rattle.litmus_parse.specs.declared.program.Statement.TheVariants.{Read, Write}
-use Rattle.litmus_parse.specs.Program.{statement_at, variable_of}
+use Rattle.two_task_program.specs.declared.numbers.TheConstants.{TASKS}
+use Rattle.two_task_program.specs.declared.program.Program.{Program}
+use Rattle.two_task_program.specs.declared.program.Statement.{Statement}
+use Rattle.two_task_program.specs.declared.program.Statement.TheVariants.{Read, Write}
+use Rattle.two_task_program.specs.Program.{statement_at, variable_of}
 use Rattle.litmus_step.specs.declared.memory.TheConstants.{SIZE}
 
 -- an operation, declared marked or not

@@ -1,6 +1,6 @@
 use Rattle.std.specs.Prelude.{◌≡◌, ◌<◌, ◌++◌, ℕ, zero, suc, List, [], ◌∷◌, Some, MatchOption, option_map, replicate, slice_get}
 use Rattle.std.specs.List.{flat_map}
-use Rattle.litmus_parse.specs.declared.numbers.TheConstants.{TASKS}
+use Rattle.two_task_program.specs.declared.numbers.TheConstants.{TASKS}
 use Rattle.litmus_step.specs.World.{MakesStep, state_of, step_of}
 use Rattle.litmus_step.specs.declared.schedule.Entry.{Entry}
 use Rattle.litmus_step.specs.declared.world.Stepped.TheVariants.{Ended}

@@ -3,9 +3,9 @@ use Rattle.access_types.specs.History.{History, Memory, content, happenings_of}
 use Rattle.access_types.specs.declared.history.Happening.{Happening}
 use Rattle.access_types.specs.declared.history.Happening.TheVariants.{Read}
 use Rattle.access_types.specs.declared.history.Moment.{Moment}
-use Rattle.litmus_parse.specs.declared.numbers.TheConstants.{REGISTERS, TASKS}
-use Rattle.litmus_parse.specs.declared.program.Program.{Program}
-use Rattle.litmus_parse.specs.Program.{text_of}
+use Rattle.two_task_program.specs.declared.numbers.TheConstants.{REGISTERS, TASKS}
+use Rattle.two_task_program.specs.declared.program.Program.{Program}
+use Rattle.two_task_program.specs.Program.{text_of}
 use Rattle.litmus_step.specs.Meaning.{MeansText}
 use Rattle.litmus_step.specs.Memory.{memory_at_first}
 

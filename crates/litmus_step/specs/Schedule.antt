@@ -2,7 +2,7 @@ use Rattle.std.specs.Prelude.{List, Bool, nat_le}
 use Rattle.std.specs.List.{list_any}
 use Rattle.litmus_step.specs.declared.schedule.Entry.{Entry}
 use Rattle.litmus_step.specs.declared.schedule.Schedule.{Schedule}
-use Rattle.litmus_parse.specs.declared.numbers.TheConstants.{TASKS}
+use Rattle.two_task_program.specs.declared.numbers.TheConstants.{TASKS}
 
 -- the entries of a schedule
 abbrev pub entries_of : Schedule → List Entry

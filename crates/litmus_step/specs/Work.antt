@@ -1,13 +1,13 @@
 use Rattle.std.specs.Prelude.{◌+◌, ◌-◌, ◌*◌, ◌<◌, ◌≢◌, ℕ, IfSome, length, replicate}
-use Rattle.litmus_parse.specs.declared.numbers.TheConstants.{REGISTERS, VARIABLES}
-use Rattle.litmus_parse.specs.declared.program.Program.{Program}
-use Rattle.litmus_parse.specs.declared.program.TheConstants.{STATEMENTS}
+use Rattle.two_task_program.specs.declared.numbers.TheConstants.{REGISTERS, VARIABLES}
+use Rattle.two_task_program.specs.declared.program.Program.{Program}
+use Rattle.two_task_program.specs.declared.program.TheConstants.{STATEMENTS}
 use Rattle.litmus_step.specs.declared.task.Phase.{Phase}
 use Rattle.litmus_step.specs.declared.task.Phase.TheVariants as phases
 use Rattle.litmus_step.specs.declared.task.TaskRun.{TaskRun}
 use Rattle.litmus_step.specs.declared.task.TheConstants.{TURNS}
 use Rattle.litmus_step.specs.Index.{inserts_left, looks_left}
-use Rattle.litmus_parse.specs.Program.{statement_at, text_of, variable_of}
+use Rattle.two_task_program.specs.Program.{statement_at, text_of, variable_of}
 
 -- a task before its first step: at its first statement, with nothing but 0 in its registers
 abbrev pub run_at_first : ℕ → TaskRun

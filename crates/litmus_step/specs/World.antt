@@ -1,10 +1,10 @@
 use Rattle.std.specs.Prelude.{◌≡◌, ◌++◌, ℕ, Bool, [], ◌∷◌, Option, Some, length, nat_le, option_and_then, option_map, option_to_list, slice_get, slice_index, slice_set, sum_by, if◌then◌else◌}
-use Rattle.litmus_parse.specs.declared.numbers.TheConstants.{VARIABLES}
-use Rattle.litmus_parse.specs.declared.program.Place.{Place}
-use Rattle.litmus_parse.specs.declared.program.Place.TheVariants.{Register, Variable}
-use Rattle.litmus_parse.specs.declared.program.Program.{Program}
+use Rattle.two_task_program.specs.declared.numbers.TheConstants.{VARIABLES}
+use Rattle.two_task_program.specs.declared.program.Place.{Place}
+use Rattle.two_task_program.specs.declared.program.Place.TheVariants.{Register, Variable}
+use Rattle.two_task_program.specs.declared.program.Program.{Program}
 use Rattle.litmus_step.specs.Memory.{sign_extended}
-use Rattle.litmus_parse.specs.Program.{text_of}
+use Rattle.two_task_program.specs.Program.{text_of}
 use Rattle.litmus_step.specs.Machine.{Follows, next_step}
 use Rattle.litmus_step.specs.Outcome.{counted, finding_of, none_counted}
 use Rattle.litmus_step.specs.StepLine.{step_line}

@@ -8,9 +8,9 @@ ghost use Rattle.litmus_step.specs.Records.{LegalTo, Record};
 ghost use Rattle.litmus_step.specs.Words.{Words, words_at_first};
 
 use crate::step::{Answer, Step};
-use litmus_parse::{VARIABLES, Variable};
 use slot::{Pair, Slot};
 use std::marker::Model;
+use two_task_program::{VARIABLES, Variable};
 
 /// The shared words.
 #[derive(Debug, Drop)]

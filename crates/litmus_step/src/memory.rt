@@ -4,7 +4,7 @@ ghost use Rattle.std.specs.Prelude.{◌≡◌, ◌%◌, ◌^◌, ◌<◌};
 ghost use Rattle.litmus_step.specs.Memory.{access_at, access_named, address, kind_of, sign_extended, with_low_half};
 
 use access_types::{Access, Kind, Operation, site_of, task_of};
-use litmus_parse::{Program, Statement, TaskNumber, Variable};
+use two_task_program::{Program, Statement, TaskNumber, Variable};
 
 /// How many bytes an `int` has.
 pub const SIZE: u64 = 4;

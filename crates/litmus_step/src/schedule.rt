@@ -4,8 +4,8 @@ ghost use Rattle.std.specs.Prelude.{◌≡◌, ◌<◌, nat_le};
 ghost use Rattle.std.specs.Option.{SomeIff};
 ghost use Rattle.litmus_step.specs.Schedule.{entries_of, names_stranger};
 
-use litmus_parse::{TASKS, TaskNumber};
 use std::alloc::{AllocError, Global};
+use two_task_program::{TASKS, TaskNumber};
 
 /// One task makes so many steps.
 #[derive(Clone, Copy, Debug, PartialEq, Eq)]

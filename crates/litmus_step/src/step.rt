@@ -5,7 +5,7 @@ ghost use Rattle.litmus_step.specs.Answer.{IsFlag, IsHalves, IsWord};
 ghost use Rattle.litmus_step.specs.Index.{insert_after, inserts_left, look_after, looks_left, position_of};
 
 use crate::watch::WatchWord;
-use litmus_parse::Variable;
+use two_task_program::Variable;
 
 /// An index of a watch word and its pair word. All variables stand on one page, so an access looks at
 /// the index of the page, `Slot16`, and at the two after it.

@@ -9,13 +9,13 @@ ghost use Rattle.litmus_step.specs.Step.{Answers};
 ghost use Rattle.litmus_step.specs.Phase.{Fits};
 ghost use Rattle.litmus_step.specs.Machine.{Follows, HearsFinder, IsLooked, IsUnmatched, Leads, after_exchange, after_insertion, after_setter, after_try, after_watch, counting, next_step, phase_after_load, registers_after, site_after, to};
 ghost use Rattle.litmus_step.specs.Verdict.{IsVerdict, Shares, counts_as_marked};
-ghost use Rattle.litmus_parse.specs.Program.{text_of};
+ghost use Rattle.two_task_program.specs.Program.{text_of};
 
 use crate::memory::{access_at, access_named, low_half, sign_extended, with_low_half};
 use crate::step::{Answer, Index, Step};
 use crate::watch::WatchWord;
 use access_types::{Access, ValueChange, overlaps, ticket};
-use litmus_parse::{Program, REGISTERS, Register, STATEMENTS, Statement, TaskNumber};
+use two_task_program::{Program, REGISTERS, Register, STATEMENTS, Statement, TaskNumber};
 use watch_word::{decode, encode, matches};
 
 /// At so many vain tries of one wait a task is stuck.

@@ -18,9 +18,9 @@ use crate::memory::sign_extended;
 use crate::outcome::{Counters, Finding};
 use crate::schedule::Schedule;
 use crate::task::{Event, TaskRun};
-use litmus_parse::{Place, Program, TASKS, TaskNumber};
 use std::alloc::{AllocError, Global};
 use thiserror::Error;
+use two_task_program::{Place, Program, TASKS, TaskNumber};
 
 /// What a task is after a step.
 #[derive(Clone, Copy, Debug, PartialEq, Eq)]

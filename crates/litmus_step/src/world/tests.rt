@@ -3,6 +3,7 @@ use access_types::{Access, Kind, Operation, ValueChange};
 use litmus_parse::parse;
 use std::process::Abort;
 use std::test::Fail;
+use two_task_program::two_task_program;
 
 /// A read and a write of one variable.
 const RACE: &str =
@@ -18,7 +19,9 @@ fn schedule(alloc: Global, text: &str) -> Result<Schedule, Fail> {
 
 /// The world before the first step of the text's program.
 fn world(alloc: Global, text: &str) -> Result<World, Fail> {
-    Ok(World::new(alloc, parse(alloc, text.as_bytes())?))
+    let program = parse(alloc, text.as_bytes())?;
+    let program = two_task_program(alloc, &program)?.ok_or("no program of the stepper")?;
+    Ok(World::new(alloc, program))
 }
 
 /// The world after a run.

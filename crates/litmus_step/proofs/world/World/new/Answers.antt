@@ -1,5 +1,5 @@
 use Rattle.std.proofs.Common.{◌≡◌, length, refl, rules}
-use Rattle.litmus_parse.specs.declared.numbers.TheConstants.{VARIABLES}
+use Rattle.two_task_program.specs.declared.numbers.TheConstants.{VARIABLES}
 use Rattle.litmus_step.proofs.HistoryLemmas.{leads-first}
 use Rattle.litmus_step.proofs.RoleLemmas.{roles-first}
 use Rattle.litmus_step.proofs.world.World.new.Goals as goal

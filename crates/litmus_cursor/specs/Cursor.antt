@@ -1,0 +1,33 @@
+use Rattle.std.specs.Prelude.{ℕ, List, [], ◌∷◌, Bool, true, false, length}
+use Rattle.litmus_lex.specs.declared.token.Token.{Token}
+use Rattle.litmus_lex.specs.declared.token.Token.TheVariants.{Name, Number, Sign, TooLarge, Stray, Unclosed, End}
+use Rattle.litmus_cursor.specs.declared.cursor.Spot.{Spot}
+use Rattle.litmus_cursor.specs.declared.cursor.Cursor.{Cursor}
+
+-- the tokens that are left, without the end
+abbrev pub spots_left : Cursor → List Spot
+spots_left cursor = cursor.left.now
+
+-- how many they are
+abbrev pub count_left : Cursor → ℕ
+count_left cursor = length cursor.left.now
+
+-- the token is the end of the text
+abbrev pub is_end : Token → Bool
+is_end (Name name) = false
+is_end (Number value) = false
+is_end (Sign sign) = false
+is_end TooLarge = false
+is_end Stray = false
+is_end Unclosed = false
+is_end End = true
+
+-- the token that is next, or the end
+abbrev pub next_of : List Spot → Token
+next_of [] = End
+next_of (spot ∷ rest) = spot.token
+
+-- what is left after it
+abbrev pub rest_of : List Spot → List Spot
+rest_of [] = []
+rest_of (spot ∷ rest) = rest

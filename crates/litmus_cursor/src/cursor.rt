@@ -1,0 +1,300 @@
+//! The tokens of a text, and the place among them that its parser has come to.
+
+ghost use Rattle.std.specs.Prelude.{◌≡◌, ◌≤◌, ◌<◌, ◌-◌, ◌^◌, length, IsSome, IsTrue, OnOk, false};
+ghost use Rattle.litmus_cursor.specs.declared.cursor.Refusal.TheVariants.{OutOfMemory};
+
+use crate::words::{Word, word_of};
+use litmus_lex::{Place, Sign, Token, next_token};
+use std::alloc::{AllocError, AllocFailed, Global};
+
+/// What a text can have too much of, beside its bytes.
+#[derive(Clone, Copy, Debug, PartialEq, Eq)]
+pub enum Excess {
+    Tasks,
+    Statements,
+    Variables,
+    Registers,
+    Nesting,
+    Operators,
+    Scoped,
+    Number,
+    Check,
+    Repeats,
+}
+
+/// Why a text is refused. `at` is where the token that offends begins.
+#[derive(Clone, Copy, Debug, PartialEq, Eq)]
+pub enum Refusal {
+    OutOfMemory,
+    Syntax { at: usize },
+    Unsupported { at: usize },
+    Limit(Excess),
+}
+
+impl From<AllocError> for Refusal {
+    ghost from_gives = { λ _ refusal. refusal ≡ OutOfMemory };
+
+    fn from(_error: AllocError) -> Refusal {
+        Refusal::OutOfMemory
+    }
+}
+
+impl<T: Drop> From<AllocFailed<T>> for Refusal {
+    ghost from_gives = { λ _ refusal. refusal ≡ OutOfMemory };
+
+    fn from(_error: AllocFailed<T>) -> Refusal {
+        Refusal::OutOfMemory
+    }
+}
+
+/// A token, and where it begins.
+#[derive(Clone, Copy, Debug)]
+pub struct Spot<'a> {
+    pub token: Token<'a>,
+    pub at: usize,
+}
+
+/// The tokens of a text from a place on, without the end.
+pub fn tokens(alloc: Global, text: &[u8], start: Place) -> Result<Vec<Spot<'_>>, AllocError>
+    requires { start.at ≤ length text.now }
+{
+    let mut spots = Vec::new(alloc);
+    let mut place = start;
+    loop {
+        let lexeme = next_token(text, place);
+        if let Token::End = lexeme.token {
+            return Ok(spots);
+        }
+        spots.push(Spot {
+            token: lexeme.token,
+            at: lexeme.at,
+        })?;
+        place = lexeme.after;
+    }
+}
+
+/// What is left of a text: its tokens, and where the text ends.
+#[derive(Clone, Copy, Debug)]
+pub struct Cursor<'a> {
+    left: &'a [Spot<'a>],
+    end: usize,
+    ghost fits: { length left.now < 2 ^ 64 - 1 },
+}
+
+impl<'a> Cursor<'a> {
+    ghost use Rattle.litmus_cursor.specs.Cursor.{count_left, is_end, next_of, rest_of, spots_left};
+
+    /// All tokens of a text with so many bytes.
+    pub fn new(spots: &'a [Spot<'a>], end: usize) -> Cursor<'a>
+        ensures { spots_left result ≡ spots.now }
+    {
+        Cursor { left: spots, end }
+    }
+
+    /// How many tokens are left.
+    pub fn left(&self) -> usize
+        ensures { result ≡ count_left self.now }
+    {
+        self.left.len()
+    }
+
+    /// The token that is next, or the end.
+    pub fn token(&self) -> Token<'a>
+        ensures value { result ≡ next_of (spots_left self.now) }
+        ensures some { is_end result ≡ false → 0 < count_left self.now }
+    {
+        match self.left {
+            [next, ..] => next.token,
+            [] => Token::End,
+        }
+    }
+
+    /// The token after it.
+    fn second(&self) -> Token<'a> {
+        match self.left {
+            [_, second, ..] => second.token,
+            _ => Token::End,
+        }
+    }
+
+    /// Where the next token begins.
+    pub fn at(&self) -> usize {
+        match self.left {
+            [next, ..] => next.at,
+            [] => self.end,
+        }
+    }
+
+    /// Goes to the token after it.
+    pub fn advance(&mut self)
+        ensures rest { spots_left self.new ≡ rest_of (spots_left self.old) }
+        ensures shorter { count_left self.new ≡ count_left self.old - 1 }
+    {
+        if let [_, rest @ ..] = self.left {
+            self.left = rest;
+        }
+    }
+
+    /// Whether the sign is next.
+    pub fn is_at(&self, sign: Sign) -> bool
+        ensures { IsTrue result → 0 < count_left self.now }
+    {
+        self.token() == Token::Sign(sign)
+    }
+
+    /// Whether a name is next, and then `(`.
+    pub fn is_at_call(&self) -> bool {
+        matches!(self.token(), Token::Name(_)) && self.second() == Token::Sign(Sign::OpenParen)
+    }
+
+    /// Whether a number is next, and then `:`.
+    pub fn is_at_label(&self) -> bool {
+        matches!(self.token(), Token::Number(_)) && self.second() == Token::Sign(Sign::Colon)
+    }
+
+    /// Whether the sign is next, and then a name.
+    pub fn is_before_name(&self, sign: Sign) -> bool {
+        self.is_at(sign) && matches!(self.second(), Token::Name(_))
+    }
+
+    /// Whether `*` is next, and then `*` again.
+    fn is_at_two_stars(&self) -> bool {
+        self.is_at(Sign::Star) && self.second() == Token::Sign(Sign::Star)
+    }
+
+    /// The word that is next.
+    pub fn word(&self) -> Option<Word>
+        ensures { IsSome result → 0 < count_left self.now }
+    {
+        match self.token() {
+            Token::Name(name) => word_of(name),
+            _ => None,
+        }
+    }
+
+    /// Takes the sign, if it is next.
+    pub fn accept(&mut self, sign: Sign) -> bool
+        ensures moves { IsTrue result → count_left self.new < count_left self.old }
+        ensures stays { count_left self.new ≤ count_left self.old }
+    {
+        let found = self.is_at(sign);
+        if found {
+            self.advance();
+        }
+        found
+    }
+
+    /// Takes the word, if it is next.
+    pub fn accept_word(&mut self, word: Word) -> bool
+        ensures moves { IsTrue result → count_left self.new < count_left self.old }
+        ensures stays { count_left self.new ≤ count_left self.old }
+    {
+        let found = self.word() == Some(word);
+        if found {
+            self.advance();
+        }
+        found
+    }
+
+    /// Takes the sign.
+    pub fn take(&mut self, sign: Sign) -> Result<(), Refusal>
+        ensures { OnOk result (count_left self.new < count_left self.old) }
+    {
+        if self.accept(sign) {
+            Ok(())
+        } else {
+            Err(self.offence())
+        }
+    }
+
+    /// Takes a number.
+    pub fn take_number(&mut self) -> Result<u64, Refusal>
+        ensures { OnOk result (count_left self.new < count_left self.old) }
+    {
+        let Token::Number(number) = self.token() else {
+            return Err(self.offence());
+        };
+        self.advance();
+        Ok(number)
+    }
+
+    /// Takes a number or its negative, modulo 2^64.
+    pub fn take_signed_number(&mut self) -> Result<u64, Refusal>
+        ensures { OnOk result (count_left self.new < count_left self.old) }
+    {
+        if self.accept(Sign::Minus) {
+            return Ok(self.take_number()?.wrapping_neg());
+        }
+        self.take_number()
+    }
+
+    /// The refusal of the next token where the grammar doesn't have it. A number that is too large and
+    /// some words are refused alike wherever they offend.
+    pub fn offence(&self) -> Refusal {
+        match self.token() {
+            Token::TooLarge => Refusal::Limit(Excess::Number),
+            Token::Name(name) => match word_of(name) {
+                Some(Word::Foreign | Word::For) => self.unsupported(),
+                _ => self.syntax(),
+            },
+            _ => self.syntax(),
+        }
+    }
+
+    /// The refusal of the next token as one that no litmus format has here.
+    pub fn syntax(&self) -> Refusal {
+        Refusal::Syntax { at: self.at() }
+    }
+
+    /// The refusal of the next token as one that this format doesn't take here.
+    pub fn unsupported(&self) -> Refusal {
+        Refusal::Unsupported { at: self.at() }
+    }
+
+    /// The refusal of the next token where a form of statement has exactly one token.
+    pub fn form_offence(&self) -> Refusal {
+        match self.token() {
+            Token::TooLarge => Refusal::Limit(Excess::Number),
+            Token::Stray | Token::Unclosed | Token::End => self.syntax(),
+            _ => self.unsupported(),
+        }
+    }
+
+    /// Takes the sign that a form of statement has.
+    pub fn take_of_form(&mut self, sign: Sign) -> Result<(), Refusal>
+        ensures { OnOk result (count_left self.new < count_left self.old) }
+    {
+        if self.accept(sign) {
+            Ok(())
+        } else {
+            Err(self.form_offence())
+        }
+    }
+
+    /// An address of a variable, where a variable may stand, is unsupported.
+    pub fn refuse_address(&self) -> Result<(), Refusal> {
+        if self.is_before_name(Sign::Ampersand) {
+            Err(self.unsupported())
+        } else {
+            Ok(())
+        }
+    }
+
+    /// A pointer, where a name is declared, is unsupported.
+    pub fn refuse_pointer(&self) -> Result<(), Refusal> {
+        if self.is_before_name(Sign::Star) || self.is_at_two_stars() {
+            Err(self.unsupported())
+        } else {
+            Ok(())
+        }
+    }
+
+    /// A call of a function that the format doesn't have is unsupported.
+    pub fn refuse_call(&self) -> Result<(), Refusal> {
+        if self.is_at_call() {
+            Err(self.unsupported())
+        } else {
+            Ok(())
+        }
+    }
+}

@@ -1,0 +1,8 @@
+//! The words of the litmus grammar, and a cursor over the tokens of a text.
+#![tactic(auto)]
+
+pub mod cursor;
+pub mod words;
+
+pub use cursor::{Cursor, Excess, Refusal, Spot, tokens};
+pub use words::{CallWord, LoadWord, StoreWord, VariableType, Word, word_of};

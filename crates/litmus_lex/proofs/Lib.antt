@@ -1,0 +1,10 @@
+mod Runs
+mod Separators
+mod Signs
+mod Values
+mod Numbers
+mod Unique
+mod UniqueTokens
+mod Following
+mod HeadPieces
+mod Heads

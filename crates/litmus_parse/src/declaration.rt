@@ -1,0 +1,205 @@
+//! The variables of a text: what its items and parameters say of them.
+
+use litmus_cursor::{Excess, Refusal, VariableType};
+use litmus_syntax::{Contents, Name, Variable};
+use std::alloc::{AllocError, Global};
+
+/// How many variables a program can have.
+pub const VARIABLES: usize = 32;
+
+/// A variable, as far as the text has been read.
+#[derive(Clone, Copy, Debug)]
+pub struct Declared<'a> {
+    pub name: &'a [u8],
+    /// The type that items and parameters give it.
+    pub variable_type: Option<VariableType>,
+    /// The last of its initial values, modulo 2^64.
+    pub value: Option<u64>,
+    /// An item without a type names it: it has the type of a parameter, else it is an int.
+    is_untyped: bool,
+    /// Such an item gives it a value.
+    is_given: bool,
+    is_parameter: bool,
+    /// Where an item gives it a second type unless a parameter has the type.
+    second_type: Option<usize>,
+}
+
+impl<'a> Declared<'a> {
+    /// A variable that nothing is known of but its name.
+    fn new(name: &'a [u8]) -> Declared<'a> {
+        Declared {
+            name,
+            variable_type: None,
+            value: None,
+            is_untyped: false,
+            is_given: false,
+            is_parameter: false,
+            second_type: None,
+        }
+    }
+
+    /// Whether the two kinds of items contradict each other where no parameter has the type.
+    fn is_at_odds(&self) -> bool {
+        match self.variable_type {
+            Some(VariableType::Int) | None => false,
+            Some(_) => self.is_untyped,
+        }
+    }
+
+    /// Notes that its items contradict each other from this place on, if they do.
+    fn note_place(&mut self, at: usize) {
+        if self.second_type.is_none() && self.is_at_odds() {
+            self.second_type = Some(at);
+        }
+    }
+
+    /// An item without a type names it at this place.
+    pub fn name_untyped(&mut self, at: usize) {
+        self.is_untyped = true;
+        self.note_place(at);
+    }
+
+    /// An item with a type names it at this place. Another type than before offends.
+    pub fn name_typed(&mut self, variable_type: VariableType, at: usize) -> Result<(), Refusal> {
+        self.settle_type(variable_type, at)?;
+        self.note_place(at);
+        Ok(())
+    }
+
+    /// A parameter names it at this place. Another type than before offends, and so does a lock's where an
+    /// item gave it a value.
+    pub fn name_parameter(
+        &mut self,
+        variable_type: VariableType,
+        at: usize,
+    ) -> Result<(), Refusal> {
+        self.settle_type(variable_type, at)?;
+        if variable_type == VariableType::Lock && self.is_given {
+            return Err(Refusal::Unsupported { at });
+        }
+        self.is_parameter = true;
+        Ok(())
+    }
+
+    /// It has the type.
+    fn settle_type(&mut self, variable_type: VariableType, at: usize) -> Result<(), Refusal> {
+        if self.variable_type.unwrap_or(variable_type) != variable_type {
+            return Err(Refusal::Unsupported { at });
+        }
+        self.variable_type = Some(variable_type);
+        Ok(())
+    }
+
+    /// An item gives it an initial value.
+    pub fn give(&mut self, value: u64, is_typed: bool) {
+        self.value = Some(value);
+        if !is_typed {
+            self.is_given = true;
+        }
+    }
+
+    /// Where it has a second type, if it does now that all parameters are known.
+    pub fn contradiction(&self) -> Option<usize> {
+        if self.is_parameter {
+            None
+        } else {
+            self.second_type
+        }
+    }
+
+    /// The variable that it is in the end.
+    pub fn variable(&self, alloc: Global) -> Result<Variable, AllocError> {
+        let value = self.value.unwrap_or(0);
+        Ok(Variable {
+            name: name_of(alloc, self.name)?,
+            contents: contents(self.variable_type.unwrap_or(VariableType::Int), value),
+        })
+    }
+}
+
+/// A value cut to the size of a type.
+fn contents(variable_type: VariableType, value: u64) -> Contents {
+    let [a, b, c, d, e, f, g, h] = value.to_le_bytes();
+    match variable_type {
+        VariableType::Char => Contents::Char(i8::from_le_bytes([a])),
+        VariableType::Short => Contents::Short(i16::from_le_bytes([a, b])),
+        VariableType::Int => Contents::Int(i32::from_le_bytes([a, b, c, d])),
+        VariableType::Long => Contents::Long(i64::from_le_bytes([a, b, c, d, e, f, g, h])),
+        VariableType::Atomic => Contents::Atomic(i32::from_le_bytes([a, b, c, d])),
+        VariableType::Lock => Contents::Lock,
+    }
+}
+
+/// A name, of ASCII bytes.
+pub fn name_of(alloc: Global, bytes: &[u8]) -> Result<Name, AllocError> {
+    let mut text = String::new(alloc);
+    for byte in bytes {
+        text.push(char::from(*byte))?;
+    }
+    Ok(Name::from_string(text))
+}
+
+/// The variables of a text, each at its number.
+#[derive(Drop)]
+pub struct Declarations<'a> {
+    variables: Vec<Declared<'a>>,
+}
+
+impl<'a> Declarations<'a> {
+    /// None.
+    pub fn new(alloc: Global) -> Declarations<'a> {
+        Declarations {
+            variables: Vec::new(alloc),
+        }
+    }
+
+    /// The number of a name that has appeared.
+    pub fn find(&self, name: &[u8]) -> Option<usize> {
+        self.variables
+            .iter()
+            .position(|declared| declared.name == name)
+    }
+
+    /// The number of a name. Its first appearance gives it the next one.
+    pub fn number(&mut self, name: &'a [u8]) -> Result<usize, Refusal> {
+        if let Some(number) = self.find(name) {
+            return Ok(number);
+        }
+        if self.variables.len() == VARIABLES {
+            return Err(Refusal::Limit(Excess::Variables));
+        }
+        let number = self.variables.len();
+        self.variables.push(Declared::new(name))?;
+        Ok(number)
+    }
+
+    /// The variable of a number.
+    pub fn get_mut(&mut self, number: usize) -> Option<&mut Declared<'a>> {
+        self.variables.get_mut(number)
+    }
+
+    /// Whether the variable of a number is a lock.
+    pub fn is_lock(&self, number: usize) -> bool {
+        match self.variables.get(number) {
+            Some(declared) => declared.variable_type == Some(VariableType::Lock),
+            None => false,
+        }
+    }
+
+    /// The first place where a variable has a second type, now that all parameters are known.
+    pub fn contradiction(&self) -> Option<usize> {
+        self.variables
+            .iter()
+            .filter_map(|declared| declared.contradiction())
+            .min()
+    }
+
+    /// The variables that they are in the end.
+    pub fn variables(&self, alloc: Global) -> Result<Vec<Variable>, AllocError> {
+        let mut variables = Vec::new(alloc);
+        for declared in &self.variables {
+            variables.push(declared.variable(alloc)?)?;
+        }
+        Ok(variables)
+    }
+}

@@ -1,0 +1,170 @@
+//! The initialization block, and the headers of processes.
+
+ghost use Rattle.std.specs.Prelude.{◌≡◌, ◌≤◌, ◌<◌, OnOk};
+ghost use Rattle.litmus_cursor.specs.Cursor.{count_left};
+
+use crate::declaration::Declarations;
+use litmus_body::Parameter;
+use litmus_cursor::{Cursor, Refusal, VariableType, Word, word_of};
+use litmus_lex::{Sign, Token};
+use std::alloc::Global;
+
+/// What stands before the bodies: a cursor, and the variables that the text has named.
+#[derive(Drop)]
+pub struct Header<'a> {
+    pub alloc: Global,
+    pub cursor: Cursor<'a>,
+    pub declarations: Declarations<'a>,
+}
+
+impl<'a> Header<'a> {
+    /// `{` items joined by `;`, and a last `;` or none, `}`.
+    pub fn initialization(&mut self) -> Result<(), Refusal> {
+        self.cursor.take(Sign::OpenBrace)?;
+        while !self.cursor.is_at(Sign::CloseBrace) {
+            self.item()?;
+            if !self.cursor.accept(Sign::Semicolon) {
+                break;
+            }
+        }
+        self.cursor.take(Sign::CloseBrace)
+    }
+
+    /// `[vtype] NAME [= value]`
+    fn item(&mut self) -> Result<(), Refusal>
+        ensures { OnOk result (count_left self.new.cursor < count_left self.old.cursor) }
+    {
+        let variable_type = self.accept_type();
+        self.cursor.refuse_pointer()?;
+        if self.cursor.is_at_label() {
+            return Err(self.cursor.unsupported());
+        }
+        let number = self.variable()?;
+        self.note_item(number, variable_type)?;
+        self.cursor.advance();
+        if !self.cursor.is_at(Sign::Assign) {
+            return Ok(());
+        }
+        if variable_type == Some(VariableType::Lock) {
+            return Err(self.cursor.unsupported());
+        }
+        self.cursor.advance();
+        let value = self.value()?;
+        if let Some(declared) = self.declarations.get_mut(number) {
+            declared.give(value, variable_type.is_some());
+        }
+        Ok(())
+    }
+
+    /// Notes that an item names the variable.
+    fn note_item(
+        &mut self,
+        number: usize,
+        variable_type: Option<VariableType>,
+    ) -> Result<(), Refusal>
+        ensures { self.new.cursor ≡ self.old.cursor }
+    {
+        let at = self.cursor.at();
+        let Some(declared) = self.declarations.get_mut(number) else {
+            return Ok(());
+        };
+        match variable_type {
+            Some(variable_type) => declared.name_typed(variable_type, at),
+            None => {
+                declared.name_untyped(at);
+                Ok(())
+            }
+        }
+    }
+
+    /// Takes a type, if one is next.
+    fn accept_type(&mut self) -> Option<VariableType>
+        ensures { count_left self.new.cursor ≤ count_left self.old.cursor }
+    {
+        match self.cursor.word() {
+            Some(Word::Type(variable_type)) => {
+                self.cursor.advance();
+                Some(variable_type)
+            }
+            _ => None,
+        }
+    }
+
+    /// The number of the variable that is next: a name that is no word.
+    fn variable(&mut self) -> Result<usize, Refusal>
+        ensures stays { self.new.cursor ≡ self.old.cursor }
+        ensures some { OnOk result (0 < count_left self.old.cursor) }
+    {
+        match self.cursor.token() {
+            Token::Name(name) if word_of(name).is_none() => self.declarations.number(name),
+            _ => Err(self.cursor.offence()),
+        }
+    }
+
+    /// `[-] NUMBER` or `ATOMIC_INIT ( [-] NUMBER )`. Another name and an address are unsupported.
+    fn value(&mut self) -> Result<u64, Refusal>
+        ensures { OnOk result (count_left self.new.cursor < count_left self.old.cursor) }
+    {
+        self.cursor.refuse_address()?;
+        if self.cursor.accept_word(Word::AtomicInit) {
+            self.cursor.take(Sign::OpenParen)?;
+            let value = self.cursor.take_signed_number()?;
+            self.cursor.take(Sign::CloseParen)?;
+            return Ok(value);
+        }
+        if let Token::Name(_) = self.cursor.token() {
+            return Err(self.cursor.unsupported());
+        }
+        self.cursor.take_signed_number()
+    }
+
+    /// `(` parameters joined by `,`, or none, `)`.
+    pub fn parameters(&mut self) -> Result<Vec<Parameter<'a>>, Refusal>
+        ensures { OnOk result (count_left self.new.cursor < count_left self.old.cursor) }
+    {
+        let mut parameters = Vec::new(self.alloc);
+        self.cursor.take(Sign::OpenParen)?;
+        if self.cursor.accept(Sign::CloseParen) {
+            return Ok(parameters);
+        }
+        parameters.push(self.parameter(&parameters)?)?;
+        while self.cursor.accept(Sign::Comma) {
+            parameters.push(self.parameter(&parameters)?)?;
+        }
+        self.cursor.take(Sign::CloseParen)?;
+        Ok(parameters)
+    }
+
+    /// `vtype * NAME`, which is no parameter of the process yet.
+    fn parameter(&mut self, before: &[Parameter<'a>]) -> Result<Parameter<'a>, Refusal>
+        ensures { OnOk result (count_left self.new.cursor < count_left self.old.cursor) }
+    {
+        let Some(variable_type) = self.accept_type() else {
+            return Err(self.cursor.offence());
+        };
+        self.cursor.take(Sign::Star)?;
+        if self.cursor.is_at(Sign::Star) {
+            return Err(self.cursor.unsupported());
+        }
+        let Token::Name(name) = self.cursor.token() else {
+            return Err(self.cursor.offence());
+        };
+        let variable = self.variable()?;
+        let at = self.cursor.at();
+        if let Some(declared) = self.declarations.get_mut(variable) {
+            declared.name_parameter(variable_type, at)?;
+        }
+        if before
+            .iter()
+            .any(|parameter| parameter.variable == variable)
+        {
+            return Err(self.cursor.offence());
+        }
+        self.cursor.advance();
+        Ok(Parameter {
+            name,
+            variable,
+            variable_type,
+        })
+    }
+}

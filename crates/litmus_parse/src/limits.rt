@@ -1,0 +1,13 @@
+//! The limits of a litmus text that no body has, as numbers.
+
+ghost use Rattle.std.specs.Prelude.{◌≡◌};
+
+use crate::declaration::VARIABLES;
+use crate::text::{FILE_BYTES, TASKS};
+
+/// Law: the limits are these numbers.
+pub fn text_limits()
+    ensures file_bytes { FILE_BYTES ≡ 65536 }
+    ensures tasks { TASKS ≡ 16 }
+    ensures variables { VARIABLES ≡ 32 }
+{}

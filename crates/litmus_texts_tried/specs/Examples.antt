@@ -1,0 +1,69 @@
+-- Small lists of symbols, and the trees that they spell.
+use Rattle.std.specs.Prelude.{List, [], ◌∷◌, codes, false, pos}
+use Rattle.litmus_lex.specs.declared.sign.Sign.TheVariants.{OpenBrace, CloseBrace, OpenParen, CloseParen, Semicolon, Colon, Assign, Plus, Minus, Star, Ampersand}
+use Rattle.litmus_lex.specs.declared.sign.Sign.TheVariants as signs
+use Rattle.litmus_syntax.specs.declared.expression.UnaryOperator.TheVariants.{Negate}
+use Rattle.litmus_syntax.specs.declared.expression.BinaryOperator.TheVariants.{Multiply, Add, Subtract, BitAnd}
+use Rattle.litmus_syntax.specs.declared.expression.BinaryOperator.TheVariants as binaries
+use Rattle.litmus_syntax.specs.declared.expression.ReadForm.TheVariants.{Plain}
+use Rattle.litmus_syntax.specs.declared.program.Contents.TheVariants as contents
+use Rattle.litmus_syntax.specs.declared.proposition.Quantifier.TheVariants.{Exists}
+use Rattle.litmus_syntax.specs.Tree as tree
+use Rattle.litmus_cursor.specs.declared.words.VariableType.TheVariants.{Int}
+use Rattle.litmus_cursor.specs.declared.words.Word.TheVariants as words
+use Rattle.litmus_cursor.specs.Words.{Symbol, word, identifier, number, sign}
+use Rattle.litmus_body.specs.Names.{Names, Parameter}
+
+-- 1 - 2 - 3 ;
+abbrev pub differences : List Symbol
+differences = number 1 ∷ sign Minus ∷ number 2 ∷ sign Minus ∷ number 3 ∷ sign Semicolon ∷ []
+
+abbrev pub differences_tree : tree.Expression
+differences_tree = tree.pure (tree.binary Subtract (tree.binary Subtract (tree.number 1) (tree.number 2)) (tree.number 3))
+
+-- 1 + 2 * ( 3 + 4 ) ;
+abbrev pub factors : List Symbol
+factors = number 1 ∷ sign Plus ∷ number 2 ∷ sign Star ∷ sign OpenParen ∷ number 3 ∷ sign Plus ∷ number 4 ∷ sign CloseParen ∷ sign Semicolon ∷ []
+
+abbrev pub factors_tree : tree.Expression
+factors_tree = tree.pure (tree.binary Add (tree.number 1) (tree.binary Multiply (tree.number 2) (tree.binary Add (tree.number 3) (tree.number 4))))
+
+-- r0 & r1 == 2 ;
+abbrev pub masks : List Symbol
+masks = identifier (codes "r0") ∷ sign Ampersand ∷ identifier (codes "r1") ∷ sign signs.Equal ∷ number 2 ∷ sign Semicolon ∷ []
+
+abbrev pub masks_tree : tree.Expression
+masks_tree = tree.pure (tree.binary BitAnd (tree.register 0) (tree.binary binaries.Equal (tree.register 1) (tree.number 2)))
+
+abbrev pub r0_r1 : Names
+r0_r1 = codes "r0" ∷ codes "r1" ∷ []
+
+-- - data_race ( * x ) ;
+abbrev pub loads : List Symbol
+loads = sign Minus ∷ word words.DataRace ∷ sign OpenParen ∷ sign Star ∷ identifier (codes "x") ∷ sign CloseParen ∷ sign Semicolon ∷ []
+
+abbrev pub loads_tree : tree.Expression
+loads_tree = tree.loading (tree.unary_of Negate (tree.load (record { data_races = 1; fetch = tree.read Plain 0 })))
+
+-- a process with one parameter, an int named x
+abbrev pub x : List Parameter
+x = record { name = codes "x"; variable = 0; type = Int } ∷ []
+
+-- { } P0 ( int * x ) { r0 = * x ; } exists ( 0 : r0 = 1 )
+abbrev pub small : List Symbol
+small = sign OpenBrace ∷ sign CloseBrace
+    ∷ identifier (codes "P0") ∷ sign OpenParen ∷ word (words.Type Int) ∷ sign Star ∷ identifier (codes "x") ∷ sign CloseParen
+    ∷ sign OpenBrace ∷ identifier (codes "r0") ∷ sign Assign ∷ sign Star ∷ identifier (codes "x") ∷ sign Semicolon ∷ sign CloseBrace
+    ∷ word words.Exists ∷ sign OpenParen ∷ number 0 ∷ sign Colon ∷ identifier (codes "r0") ∷ sign Assign ∷ number 1 ∷ sign CloseParen ∷ []
+
+abbrev pub small_body : tree.Block
+small_body = tree.first (tree.assign false (tree.to_register 0 (tree.loading (tree.load (record { data_races = 0; fetch = tree.read Plain 0 }))))) tree.empty
+
+abbrev pub small_tree : tree.Program
+small_tree = record {
+  name = codes "t";
+  variables = record { name = codes "x"; contents = contents.Int (pos 0) } ∷ [];
+  tasks = record { parameters = 0 ∷ []; registers = codes "r0" ∷ []; body = small_body } ∷ [];
+  quantifier = Exists;
+  condition = tree.register_is 0 0 1;
+}
