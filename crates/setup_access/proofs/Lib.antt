@@ -9,3 +9,4 @@ pub mod StageLemmas
 pub mod LeadsLemmas
 pub mod NextLemmas
 pub mod LawLemmas
+pub mod DisciplineLemmas

@@ -16,3 +16,4 @@ pub mod Tries
 pub mod Due
 pub mod Lending
 pub mod Laws
+pub mod MadeOfChecks

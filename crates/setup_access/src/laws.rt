@@ -1,13 +1,15 @@
 //! What is true of every check.
 
-ghost use Rattle.std.specs.Prelude.{◌≡◌, ◌≢◌, ◌∷◌, [], ℕ, Bool, true, List, Option, Some, IsSome, MatchBool};
+ghost use Rattle.std.specs.Prelude.{◌≡◌, ◌≢◌, ◌++◌, ◌∷◌, [], ℕ, Bool, true, List, Option, Some, IsSome, MatchBool, reverse};
 ghost use Rattle.access_types.specs.Access as access;
 ghost use Rattle.slot.specs.Pair.{Halves};
+ghost use Rattle.slot_table.specs.Discipline.{Discipline, IsFinished};
 ghost use Rattle.slot_table.specs.declared.records.Record.{Record};
 ghost use Rattle.access_types.specs.declared.report.ValueChange.{ValueChange};
 ghost use Rattle.setup_access.specs.Check as check;
 ghost use Rattle.setup_access.specs.Check.{Check, NoneFound, Passes};
 ghost use Rattle.setup_access.specs.Found.{FoundWatchpoint};
+ghost use Rattle.setup_access.specs.MadeOfChecks.{FreesHeldLocks, MadeOfChecks};
 ghost use Rattle.setup_access.specs.Laws.{OneStep};
 ghost use Rattle.setup_access.specs.Setting.{Setting};
 ghost use Rattle.setup_access.specs.Verdicts.{HitOutcome, SharesByte};
@@ -16,6 +18,8 @@ ghost use Rattle.setup_access.specs.declared.outcome.Outcome as outcomes;
 ghost use Rattle.setup_access.specs.declared.outcome.Watchpoint.{Watchpoint};
 
 use crate::outcome::Outcome;
+use access_types::tickets_read_back;
+use watch_word::words_are_above_one;
 
 /// Law: a reported pair is the one that was heard, and its finder shares a byte with the setter.
 pub fn reports_share_a_byte()
@@ -40,3 +44,15 @@ pub fn silenced_accesses_only_begin()
     ensures { (s : Setting) (scopes : List Begun) (begun : Begun) (asked : ℕ) (records : List Record) (passes : Passes) (rest : List Record)
         → begun.silenced ≡ true → Check s scopes begun asked records passes rest → OneStep records rest × (passes.outcomes ≡ []) }
 {}
+
+/// Law: a task that makes checks and closes, one after the other, with other steps between them, and frees only
+/// locks that it holds, keeps the discipline of watchpoints at every moment. After a whole check nothing is in
+/// its hand.
+pub fn checks_keep_the_discipline()
+    ensures keeps { (s : Setting) (records more : List Record) → MadeOfChecks s (records ++ more) → FreesHeldLocks [] (records ++ more)
+        → Discipline s.task (reverse records) }
+    ensures finished { (s : Setting) (records : List Record) → MadeOfChecks s records → IsFinished (reverse records) }
+{
+    words_are_above_one();
+    tickets_read_back();
+}
