@@ -1,5 +1,5 @@
 -- Step by step: what is in hand after each part of a check is what the next part may go on from. Each lemma is told how to go on.
-use Rattle.std.proofs.Common.{◌≡◌, ◌<◌, ◌⊎◌, ◌∙◌, ◌∷◌, ◌+◌, ◌++◌, ◌||◌, [], ℕ, Bool, IsTrue, reverse, true, false, List, Option, None, Some, MatchBool, MatchOption, ap, inl, inr, refl, subst, sym}
+use Rattle.std.proofs.Common.{◌≡◌, ◌<◌, ◌∙◌, ◌∷◌, ◌+◌, ◌++◌, ◌||◌, [], ℕ, Bool, IsTrue, reverse, true, false, List, Option, None, Some, MatchBool, MatchOption, ap, inl, inr, refl, subst, sym}
 use Rattle.std.proofs.lemmas.Bool.{eq-eqb}
 use Rattle.std.proofs.lemmas.List.{append_assoc, append-nil, reverse-append}
 use Rattle.access_types.specs.Access.{Access, IsInLimits}
@@ -7,7 +7,6 @@ use Rattle.access_types.specs.Ticket.{ReadsBack, ticket_number}
 use Rattle.slot.specs.Pair.{Halves}
 use Rattle.slot_table.specs.Discipline.{Allows, Discipline, IsFinished, HasPart, IsOwnTicket, hand_after, heard, holds, in_hand, last_load}
 use Rattle.slot_table.specs.declared.discipline.InHand.{InHand}
-use Rattle.slot_table.specs.declared.discipline.Part.{Part}
 use Rattle.slot_table.specs.declared.discipline.Part.TheVariants as parts
 use Rattle.slot_table.specs.declared.records.Record.{Record}
 use Rattle.slot_table.specs.declared.step.Answer.{Answer}
@@ -22,7 +21,8 @@ use Rattle.setup_access.specs.Check.{Check, ChecksOnce, Close, Ends, GoesOn, Non
 use Rattle.setup_access.specs.Find.{LooksUp}
 use Rattle.setup_access.specs.Found.{FoundWatchpoint, Hears, Takes, Tells, finder_half, setter_half}
 use Rattle.setup_access.specs.MadeOfChecks as shapes
-use Rattle.setup_access.specs.MadeOfChecks.{AreOwn, FreesHeldLocks, IsBesides, IsOwn, MadeOfChecks}
+use Rattle.setup_access.specs.MadeOfChecks.{FreesHeldLocks, IsBesides, MadeOfChecks}
+use Rattle.setup_access.specs.Own.{AreOwn, IsOwn}
 use Rattle.setup_access.specs.Parts.{made}
 use Rattle.setup_access.specs.Records.{MakesDone, MakesFlag, MakesWord, OnFlag, OnHalves, OnWord}
 use Rattle.setup_access.specs.Setting.{Setting, look_order, slot_of, try_order}
@@ -310,24 +310,24 @@ module _ (s : Setting) (tickets : (a : Access) → IsInLimits a → ReadsBack a)
   left_own false scopes all = all
 
   -- a whole check leaves nothing in hand
-  pub check : (scopes : List Begun) (begun : Begun) (asked : ℕ) (records : List Record) (passes : Passes) (rest earlier : List Record) → AreOwn s scopes → IsOwn s begun.access → in_hand earlier ≡ None
+  pub check : (scopes : List Begun) (begun : Begun) (asked : ℕ) (records : List Record) (passes : Passes) (rest earlier : List Record) → in_hand earlier ≡ None
       → Check s scopes begun asked records passes rest
       → ((own : List Record) → in_hand own ≡ None → Good s.task own rest) → Good s.task earlier records
-  check scopes begun asked records passes rest earlier all mine free h on =
-      step_word s.task Clock _ records earlier h free (λ stamp later got.
+  check scopes begun asked records passes rest earlier free h on =
+      step_word s.task Clock _ records earlier h.2 free (λ stamp later got.
       let own : List Record = made s.task Clock (answers.Word stamp) ∷ earlier in
       scope_next begun.silenced _ _ later own got
       (λ quiet. ends s.task own later rest quiet.1 (on own free))
-      (λ now. once begun.access mine begun.marked asked later now.0 now.1 own free now.3 (λ after none.
-      rechecks (left_to_check now.0.settled scopes) (left_own now.0.settled scopes all) now.0.asked now.1 (record { outcomes = now.2; asked = passes.asked }) rest after none now.4 on)))
+      (λ now. once begun.access h.0 begun.marked asked later now.0 now.1 own free now.3 (λ after none.
+      rechecks (left_to_check now.0.settled scopes) (left_own now.0.settled scopes h.1) now.0.asked now.1 (record { outcomes = now.2; asked = passes.asked }) rest after none now.4 on)))
 
   -- and so does a close
-  pub close : (scope : Begun) (silenced : Bool) (asked : ℕ) (records : List Record) (passes : Passes) (rest earlier : List Record) → IsOwn s scope.access → in_hand earlier ≡ None
+  pub close : (scope : Begun) (silenced : Bool) (asked : ℕ) (records : List Record) (passes : Passes) (rest earlier : List Record) → in_hand earlier ≡ None
       → Close s scope silenced asked records passes rest
       → ((own : List Record) → in_hand own ≡ None → Good s.task own rest) → Good s.task earlier records
-  close scope silenced asked records passes rest earlier mine free h on =
-      rechecks ((record scope { silenced = scope.silenced || silenced }) ∷ []) (mine, tt) asked records passes h.0 earlier free h.1 (λ own none.
-      step_word s.task Clock _ h.0 own h.2 none (λ stamp after over. ends s.task _ after rest over (on (made s.task Clock (answers.Word stamp) ∷ own) none)))
+  close scope silenced asked records passes rest earlier free h on =
+      rechecks ((record scope { silenced = scope.silenced || silenced }) ∷ []) (h.0, tt) asked records passes h.1.0 earlier free h.1.1 (λ own none.
+      step_word s.task Clock _ h.1.0 own h.1.2 none (λ stamp after over. ends s.task _ after rest over (on (made s.task Clock (answers.Word stamp) ∷ own) none)))
 
   -- another step leaves nothing in hand
   still_free : (step : Step) (answer : Answer) (hand : Option InHand) → IsBesides s.task step → hand ≡ None → hand_after step answer hand ≡ None
@@ -369,10 +369,10 @@ module _ (s : Setting) (tickets : (a : Access) → IsInLimits a → ReadsBack a)
   all_good (shapes.besides first later ok more) = λ earlier free.
       let good = all_good more (first ∷ earlier) (still_free first.step first.answer (in_hand earlier) ok free) in
       (λ held. (is_allowed first.step earlier ok free held.0, good.0 held.1), good.1)
-  all_good (shapes.checks scopes begun asked records passes rest all mine made_so more) = λ earlier free.
-      check scopes begun asked records passes rest earlier all mine free made_so (λ own none. all_good more own none)
-  all_good (shapes.closes scope silenced asked records passes rest mine made_so more) = λ earlier free.
-      close scope silenced asked records passes rest earlier mine free made_so (λ own none. all_good more own none)
+  all_good (shapes.checks scopes begun asked records passes rest made_so more) = λ earlier free.
+      check scopes begun asked records passes rest earlier free made_so (λ own none. all_good more own none)
+  all_good (shapes.closes scope silenced asked records passes rest made_so more) = λ earlier free.
+      close scope silenced asked records passes rest earlier free made_so (λ own none. all_good more own none)
 
 -- the oldest of a list is the last one of the list turned round
 turned_first : (first : Record) (later earlier : List Record) → reverse (first ∷ later) ++ earlier ≡ reverse later ++ first ∷ earlier

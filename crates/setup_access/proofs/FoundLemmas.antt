@@ -26,16 +26,16 @@ module _ (half : Halves → ℕ) (task index : ℕ) (heard : Halves) (later : Li
 
 module _ (s : Setting) (a : Access) (index : ℕ) (outcome : Outcome) (later rest : List Record) where
   -- what a finder has left after it read the pair
-  pub heard_setter_left : (setter finder : ℕ) (result : Taking)
-      → (setter ≡ 0 → (more : ℕ) × (result ≡ Going (HearSetter index more)))
+  pub heard_setter_left : (setter finder more : ℕ) (result : Taking)
+      → (setter ≡ 0 → result ≡ Going (HearSetter index more))
       → (0 < setter → result ≡ Going (Tell index setter))
       → (Tells s a index (made s.task (PairLoad index) (answers.Halves setter finder) ∷ later) outcome rest ↔ TakingLeft s a result later outcome rest)
-  heard_setter_left zero finder result vain stands =
-      rw (vain refl).1 (
+  heard_setter_left zero finder more result vain stands =
+      rw (vain refl) (
         λ h. (h.0, h.1, (hears_vain setter_half s.task index (record { setter = 0; finder = finder }) later h.0 h.1 refl).0 h.2, h.3),
         λ h. (h.0, h.1, (hears_vain setter_half s.task index (record { setter = 0; finder = finder }) later h.0 h.1 refl).1 h.2, h.3),
       )
-  heard_setter_left (suc n) finder result vain stands =
+  heard_setter_left (suc n) finder more result vain stands =
       let above : 0 < suc n = omega arith in
       let heard : Halves = record { setter = suc n; finder = finder } in
       rw (stands above) (

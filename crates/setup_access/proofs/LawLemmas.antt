@@ -53,7 +53,7 @@ silent false P Q is h = absurd (let no : false ≡ true = is in cc)
 
 pub only_begins : (s : Setting) (scopes : List Begun) (begun : Begun) (asked : ℕ) (records : List Record) (passes : Passes) (rest : List Record)
     → begun.silenced ≡ true → Check s scopes begun asked records passes rest → OneStep records rest × (passes.outcomes ≡ [])
-only_begins s scopes begun asked [] passes rest silenced h = absurd h
+only_begins s scopes begun asked [] passes rest silenced h = absurd h.2
 only_begins s scopes begun asked (first ∷ later) passes rest silenced h =
-    let quiet = silent begun.silenced _ _ silenced (on_any_word first.answer _ h.2) in
+    let quiet = silent begun.silenced _ _ silenced (on_any_word first.answer _ h.2.2) in
     (quiet.1, ap (λ (p : Passes). p.outcomes) quiet.0)

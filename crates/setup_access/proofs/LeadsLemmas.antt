@@ -1,30 +1,53 @@
 -- A record more of what is done leads to what the checker has left after its answer.
 use Rattle.std.proofs.Common.{◌≡◌, ◌↔◌, ◌∷◌, ◌++◌, [], ◌∙◌, ℕ, Bool, true, false, not, IsFalse, IsTrue, List, Option, None, Some, ap, append_assoc, refl, subst, sym}
+use Rattle.access_types.specs.Access.{Access}
+use Rattle.access_types.specs.History.{History}
+use Rattle.access_types.specs.Marked.{CountsAfter, EndsRaised, is_disable, is_enable, marks_of}
 use Rattle.access_types.specs.Sites.{AccessMap}
-use Rattle.slot_table.specs.Answer.{IsWord}
+use Rattle.slot_table.specs.Answer.{Answers, IsWord}
 use Rattle.slot_table.specs.declared.records.Record.{Record}
 use Rattle.slot_table.specs.declared.step.Answer.{Answer}
 use Rattle.slot_table.specs.declared.step.Answer.TheVariants as answers
 use Rattle.slot_table.specs.declared.step.Step.{Step}
 use Rattle.slot_table.specs.declared.step.Step.TheVariants.{Clock}
+use Rattle.task_context.specs.Context.{Context}
+use Rattle.task_context.specs.History.{LeadsTo}
 use Rattle.setup_access.specs.Check.{ChecksBegun, Passes}
-use Rattle.setup_access.specs.Checker.{Does, Doing, RoleLeft, StageLeft, ToRoleLeft}
+use Rattle.setup_access.specs.Checker.{Does, Doing, RoleLeft, StageLeft, ToRoleLeft, last_of}
 use Rattle.setup_access.specs.Due.{extended}
 use Rattle.setup_access.specs.Kept.{setting_with}
-use Rattle.setup_access.specs.Leads.{Leads, stage_step}
+use Rattle.setup_access.specs.Leads.{Leads, Says, stage_step}
+use Rattle.setup_access.specs.Own.{AreOwn, IsOwn}
 use Rattle.setup_access.specs.Parts.{made}
 use Rattle.setup_access.specs.PassLeft.{Given, PassLeft, Samples, TurnLeft, pass_step, with_outcome}
 use Rattle.setup_access.specs.Records.{OnWord}
 use Rattle.setup_access.specs.Setting.{Setting}
+use Rattle.setup_access.specs.Shown.{IsDecided}
+use Rattle.setup_access.specs.Waiting.{Counts, capped, pass_wait, stage_wait, to_wait}
+use Rattle.setup_access.specs.Waits.{wait_after, wait_on}
 use Rattle.setup_access.specs.declared.begun.Begun.{Begun}
 use Rattle.setup_access.specs.declared.checker.Checker.{Checker}
 use Rattle.setup_access.specs.declared.outcome.Outcome.{Outcome}
 use Rattle.setup_access.specs.declared.pass.Pass.{Pass}
 use Rattle.setup_access.specs.declared.pass.Turn.{Turn}
+use Rattle.setup_access.specs.declared.setting.Setting as code
 use Rattle.setup_access.specs.declared.stage.Role.{Role}
 use Rattle.setup_access.specs.declared.stage.Stage.{Stage}
 use Rattle.setup_access.specs.declared.stage.Stage.TheVariants as stages
 use Rattle.setup_access.proofs.PassLemmas.{through}
+use Rattle.setup_access.proofs.WaitLemmas.{wait_after_one}
+
+-- a test that is false is one whose opposite is true
+to_false : (b : Bool) → IsTrue (not b) → IsFalse b
+to_false true h = absurd (let no : false ≡ true = h in cc)
+to_false false h = refl
+
+to_not : (b : Bool) → IsFalse b → IsTrue (not b)
+to_not true h = absurd (let no : true ≡ false = h in cc)
+to_not false h = refl
+
+pub quiet_is : (b : Bool) (P : Type 0) → (IsFalse b ↔ P) → (IsTrue (not b) ↔ P)
+quiet_is b P is = (λ h. is.0 (to_false b h), λ p. to_not b (is.1 p))
 
 -- what is given after the outcomes so far
 abbrev pub after : List Outcome → Passes → Passes
@@ -36,12 +59,16 @@ Still s scopes stage now outcomes records passes = (more : Passes) × StageLeft 
 
 -- one record more
 pub leads_on : (s : Setting) (scopes : List Begun) (doing : Doing) (asked : ℕ) (records : List Record) (old new : Checker) (first : Record) (leads : Leads s scopes doing asked records old) (now : ℕ)
-    → new.setting ≡ old.setting → new.scopes.items ≡ old.scopes.items → Samples s now new.sampler
+    → new.setting ≡ old.setting → new.scopes.items ≡ old.scopes.items → new.last ≡ old.last → Samples s now new.sampler
+    → stage_wait new.stage ≡ capped (wait_on (wait_after records) first.step first.answer)
     → ((later : List Record) (passes : Passes) → Still s scopes old.stage leads.now old.outcomes (first ∷ later) passes ↔ Still s scopes new.stage now new.outcomes later passes)
     → Leads s scopes doing asked (records ++ first ∷ []) new
-leads_on s scopes doing asked records old new first leads now same_setting same_scopes samples step = record {
+leads_on s scopes doing asked records old new first leads now same_setting same_scopes same_last samples waits step = record {
   setting = ap (λ kept. setting_with kept s.sites) same_setting ∙ leads.setting;
   in_force = same_scopes ∙ leads.in_force;
+  own = leads.own;
+  last = same_last ∙ leads.last;
+  waits = waits ∙ ap capped (sym (wait_after_one None records first));
   now = now;
   samples = samples;
   left = λ later passes.
@@ -51,12 +78,16 @@ leads_on s scopes doing asked records old new first leads now same_setting same_
 
 -- from the beginning
 pub leads_first : (s : Setting) (scopes : List Begun) (doing : Doing) (asked : ℕ) (checker : Checker)
-    → setting_with checker.setting s.sites ≡ s → checker.scopes.items ≡ scopes → Samples s asked checker.sampler → checker.outcomes ≡ []
+    → setting_with checker.setting s.sites ≡ s → checker.scopes.items ≡ scopes → AreOwn s scopes → Samples s asked checker.sampler → checker.outcomes ≡ []
+    → checker.last ≡ last_of doing → stage_wait checker.stage ≡ None
     → ((records : List Record) (passes : Passes) → Does s scopes doing asked records passes ↔ StageLeft s scopes checker.stage asked records passes)
     → Leads s scopes doing asked [] checker
-leads_first s scopes doing asked checker setting in_force samples none does = record {
+leads_first s scopes doing asked checker setting in_force own samples none last waits does = record {
   setting = setting;
   in_force = in_force;
+  own = own;
+  last = last;
+  waits = waits;
   now = asked;
   samples = samples;
   left = λ later passes. rw none
@@ -107,6 +138,41 @@ module _ (s : Setting) (scopes : List Begun) (role : Role) (begun : Begun) (pass
 some_is : (first second : Step) → Some second ≡ Some first → first ≡ second
 some_is first second is = cc
 
+-- the step that the checker is before, in the setting that it has
+said : (s : Setting) (checker : Checker) (step : Step) → setting_with checker.setting s.sites ≡ s → Says checker step → stage_step s checker.stage ≡ Some step
+said s checker step setting says = subst (λ (t : Setting). stage_step t checker.stage ≡ Some step) setting (says s.sites)
+
+-- an answer to the step that the checker is before is of the kind of this one, if that is what its stage says
+pub said_kind : (checker : Checker) (sites : AccessMap) (stage : Stage) (step other : Step) (answer : Answer) → checker.stage ≡ stage → Says checker step → Answers step answer
+    → stage_step (setting_with checker.setting sites) stage ≡ Some other → Answers other answer
+said_kind checker sites stage step other answer is says kind here =
+    let there : stage_step (setting_with checker.setting sites) stage ≡ Some step = subst (λ x. stage_step (setting_with checker.setting sites) x ≡ Some step) is (says sites) in
+    subst (λ x. Answers x answer) (some_is step other (sym here ∙ there)) kind
+
+-- at rest it is before none
+pub rest_says_none : (checker : Checker) (sites : AccessMap) (step : Step) → checker.stage ≡ stages.Rest → Says checker step → ⊥
+rest_says_none checker sites step is says =
+    let no : None ≡ Some step = subst (λ x. stage_step (setting_with checker.setting sites) x ≡ Some step) is (says sites) in cc
+
+module _ (s : Setting) (kept : code.Setting) (context : Context) (access : Access) (setting : setting_with kept s.sites ≡ s) (task : access.task ≡ s.task) where
+  -- what is so of a setting that is kept is so of the setting
+  pub in_setting : (P : Bool → ℕ → Type 0) → P kept.rules.plain_writes_atomic access.task → P s.rules.plain_writes_atomic s.task
+  in_setting P here =
+      let plain : P s.rules.plain_writes_atomic access.task = subst (λ p. P p access.task) (ap (λ (t : Setting). t.rules.plain_writes_atomic) setting) here in
+      subst (λ n. P s.rules.plain_writes_atomic n) task plain
+
+  -- what an access counts as is what its context says
+  pub decided : (begun : Begun) (enabled : Bool) → begun.access ≡ access → begun.silenced ≡ not enabled
+      → ((moments : History) → LeadsTo kept.rules.plain_writes_atomic access.task moments context → (IsTrue begun.marked ↔ CountsAfter kept.rules.plain_writes_atomic access moments))
+      → ((plain : Bool) (whose : ℕ) (moments : History) → LeadsTo plain whose moments context → (IsFalse enabled ↔ EndsRaised is_disable is_enable (marks_of whose moments)))
+      → IsDecided s context begun
+  decided begun enabled same silenced counts quiet = record {
+    marked = subst (λ (a : Access). (moments : History) → LeadsTo s.rules.plain_writes_atomic s.task moments context → (IsTrue begun.marked ↔ CountsAfter s.rules.plain_writes_atomic a moments)) (sym same)
+        (in_setting (λ p n. (moments : History) → LeadsTo p n moments context → (IsTrue begun.marked ↔ CountsAfter p access moments)) counts);
+    silenced = λ moments leads. rw silenced
+        (quiet_is enabled (EndsRaised is_disable is_enable (marks_of s.task moments)) (quiet s.rules.plain_writes_atomic s.task moments leads));
+  }
+
 -- the answer is a word where the clock gives it
 on_word : (answer : Answer) (P : Type 0) → IsWord answer → (OnWord answer (λ word. P) ↔ P)
 on_word (answers.Word word) P is = (λ p. p, λ p. p)
@@ -116,18 +182,18 @@ on_word answers.Done P is = absurd is
 
 module _ (s : Setting) (sites : AccessMap) (scopes : List Begun) (doing : Doing) (asked : ℕ) (records : List Record) (old new : Checker) (step : Step) (answer : Answer) where
   -- the stamp of a begin was drawn
-  pub begin_on : (begun : Begun) → s.sites ≡ sites → Leads s scopes doing asked records old → old.stage ≡ stages.Begin begun → stage_step s old.stage ≡ Some step
-      → new.setting ≡ old.setting → new.scopes.items ≡ old.scopes.items → new.outcomes ≡ old.outcomes → IsWord answer
+  pub begin_on : (begun : Begun) → s.sites ≡ sites → Leads s scopes doing asked records old → old.stage ≡ stages.Begin begun → Says old step
+      → new.setting ≡ old.setting → new.scopes.items ≡ old.scopes.items → new.last ≡ old.last → new.outcomes ≡ old.outcomes → IsWord answer → stage_wait new.stage ≡ None
       → ((in_force : List Begun) (then : ℕ) → Samples (setting_with old.setting sites) then old.sampler → (now : ℕ) × Samples (setting_with old.setting sites) now new.sampler
       × ((left : List Record) (passes : Passes) → ChecksBegun (setting_with old.setting sites) in_force begun then left passes [] ↔ StageLeft (setting_with old.setting sites) in_force new.stage now left passes))
       → Leads s scopes doing asked (records ++ made s.task step answer ∷ []) new
-  begin_on begun same_sites leads stage is same_setting same_scopes same_outcomes word began =
+  begin_on begun same_sites leads stage says same_setting same_scopes same_last same_outcomes word waits began =
       let s_is : setting_with old.setting sites ≡ s = ap (λ (x : AccessMap). setting_with old.setting x) (sym same_sites) ∙ leads.setting in
       let here : Began s = subst Began s_is began in
       let goes = here scopes leads.now leads.samples in
-      let step_is : step ≡ Clock = some_is step Clock (subst (λ x. stage_step s x ≡ Some step) stage is) in
+      let step_is : step ≡ Clock = some_is step Clock (subst (λ x. stage_step s x ≡ Some step) stage (said s old step leads.setting says)) in
       rw step_is
-      (leads_on s scopes doing asked records old new (made s.task Clock answer) leads goes.0 same_setting same_scopes goes.1
+      (leads_on s scopes doing asked records old new (made s.task Clock answer) leads goes.0 same_setting same_scopes same_last goes.1 waits
       (λ later passes. rw (stage, same_outcomes) (
         λ h. (h.0, (goes.2 later h.0).0 ((on_word answer (ChecksBegun s scopes begun leads.now later h.0 []) word).0 h.1.2), h.2),
         λ h. (h.0, (refl, refl, (on_word answer (ChecksBegun s scopes begun leads.now later h.0 []) word).1 ((goes.2 later h.0).1 h.1)), h.2),
@@ -138,23 +204,28 @@ module _ (s : Setting) (sites : AccessMap) (scopes : List Begun) (doing : Doing)
           × ((left : List Record) (passes : Passes) → ChecksBegun t in_force begun then left passes [] ↔ StageLeft t in_force new.stage now left passes)
 
   -- a check of an access went on
-  pub check_on : (role : Role) (begun : Begun) (pass : Pass) (turn : Turn) → s.sites ≡ sites → Leads s scopes doing asked records old → old.stage ≡ stages.Check role begun pass → stage_step s old.stage ≡ Some step
-      → new.setting ≡ old.setting → new.scopes.items ≡ old.scopes.items → new.outcomes ≡ extended old.outcomes turn.outcome
+  pub check_on : (role : Role) (begun : Begun) (pass : Pass) (turn : Turn) → s.sites ≡ sites → Leads s scopes doing asked records old → old.stage ≡ stages.Check role begun pass → Says old step
+      → new.setting ≡ old.setting → new.scopes.items ≡ old.scopes.items → new.last ≡ old.last → new.outcomes ≡ extended old.outcomes turn.outcome
+      → Counts (pass_wait pass) (pass_step (setting_with old.setting sites) begun pass) answer (to_wait turn.to) → stage_wait new.stage ≡ to_wait turn.to
       → ((then : ℕ) → Samples (setting_with old.setting sites) then old.sampler → (now : ℕ) × Samples (setting_with old.setting sites) now new.sampler
       × ((given : Given) (later rest : List Record) → PassLeft (setting_with old.setting sites) begun pass then
       (made (setting_with old.setting sites).task (pass_step (setting_with old.setting sites) begun pass) answer ∷ later) given rest
       ↔ TurnLeft (setting_with old.setting sites) begun turn now later given rest))
       → ((t : Setting) (now : ℕ) (left : List Record) (passes : Passes) → ToRoleLeft t old.scopes.items turn.to role begun now left passes ↔ StageLeft t old.scopes.items new.stage now left passes)
       → Leads s scopes doing asked (records ++ made s.task step answer ∷ []) new
-  check_on role begun pass turn same_sites leads stage is same_setting same_scopes outcomes answered after_turn =
+  check_on role begun pass turn same_sites leads stage says same_setting same_scopes same_last outcomes counts waits answered after_turn =
       let s_is : setting_with old.setting sites ≡ s = ap (λ (x : AccessMap). setting_with old.setting x) (sym same_sites) ∙ leads.setting in
       let here : Answered s = subst Answered s_is answered in
       let goes = here leads.now leads.samples in
-      let step_is : step ≡ pass_step s begun pass = some_is step (pass_step s begun pass) (subst (λ x. stage_step s x ≡ Some step) stage is) in
+      let step_is : step ≡ pass_step s begun pass = some_is step (pass_step s begun pass) (subst (λ x. stage_step s x ≡ Some step) stage (said s old step leads.setting says)) in
+      let counted : Counts (pass_wait pass) (pass_step s begun pass) answer (to_wait turn.to) =
+      subst (λ (t : Setting). Counts (pass_wait pass) (pass_step t begun pass) answer (to_wait turn.to)) s_is counts in
+      let waited : stage_wait new.stage ≡ capped (wait_on (wait_after records) (pass_step s begun pass) answer) =
+      waits ∙ counted (wait_after records) (sym (ap stage_wait stage) ∙ leads.waits) in
       let turned : (t : Setting) (now : ℕ) (left : List Record) (passes : Passes) → ToRoleLeft t scopes turn.to role begun now left passes ↔ StageLeft t scopes new.stage now left passes =
       subst (λ (x : List Begun). (t : Setting) (now : ℕ) (left : List Record) (passes : Passes) → ToRoleLeft t x turn.to role begun now left passes ↔ StageLeft t x new.stage now left passes) leads.in_force after_turn in
       rw step_is
-      (leads_on s scopes doing asked records old new (made s.task (pass_step s begun pass) answer) leads goes.0 same_setting same_scopes goes.1
+      (leads_on s scopes doing asked records old new (made s.task (pass_step s begun pass) answer) leads goes.0 same_setting same_scopes same_last goes.1 waited
       (λ later passes. rw (stage, outcomes)
       (turn_still s scopes role begun pass turn new.stage leads.now goes.0 (made s.task (pass_step s begun pass) answer) later
       (λ given rest. goes.2 given later rest) (turned s goes.0 later) old.outcomes passes)))
@@ -163,17 +234,29 @@ module _ (s : Setting) (sites : AccessMap) (scopes : List Begun) (doing : Doing)
       Answered t = (then : ℕ) → Samples t then old.sampler → (now : ℕ) × Samples t now new.sampler
           × ((given : Given) (later rest : List Record) → PassLeft t begun pass then (made t.task (pass_step t begun pass) answer ∷ later) given rest ↔ TurnLeft t begun turn now later given rest)
 
--- a test that is false is one whose opposite is true
-to_false : (b : Bool) → IsTrue (not b) → IsFalse b
-to_false true h = absurd (let no : false ≡ true = h in cc)
-to_false false h = refl
+  -- the stamp of an end was drawn
+  pub end_on : Leads s scopes doing asked records old → old.stage ≡ stages.End → Says old step
+      → new.setting ≡ old.setting → new.scopes.items ≡ old.scopes.items → new.last ≡ old.last → new.outcomes ≡ old.outcomes → new.sampler ≡ old.sampler → new.stage ≡ stages.Rest → IsWord answer
+      → Leads s scopes doing asked (records ++ made s.task step answer ∷ []) new
+  end_on leads stage says same_setting same_scopes same_last same_outcomes same_sampler rests word =
+      let step_is : step ≡ Clock = some_is step Clock (subst (λ x. stage_step s x ≡ Some step) stage (said s old step leads.setting says)) in
+      rw step_is
+      (leads_on s scopes doing asked records old new (made s.task Clock answer) leads leads.now same_setting same_scopes same_last
+      (subst (λ x. Samples s leads.now x) (sym same_sampler) leads.samples) (ap stage_wait rests)
+      (λ later passes. rw (stage, rests, same_outcomes) (
+        λ h. (h.0, (h.1.0, (on_word answer ([] ≡ later) word).0 h.1.1.2), h.2),
+        λ h. (h.0, (h.1.0, (refl, refl, (on_word answer ([] ≡ later) word).1 h.1.1)), h.2),
+      )))
 
-to_not : (b : Bool) → IsFalse b → IsTrue (not b)
-to_not true h = absurd (let no : true ≡ false = h in cc)
-to_not false h = refl
+-- the assertion at the end of a list of own ones is own, and so are those before it
+pub own_ends : (s : Setting) (scopes : List Begun) (scope : Begun) → AreOwn s (scopes ++ scope ∷ []) → AreOwn s scopes × IsOwn s scope.access
+own_ends s [] scope h = (tt, h.0)
+own_ends s (first ∷ scopes) scope h = let more = own_ends s scopes scope h.1 in ((h.0, more.0), more.1)
 
-pub quiet_is : (b : Bool) (P : Type 0) → (IsFalse b ↔ P) → (IsTrue (not b) ↔ P)
-quiet_is b P is = (λ h. is.0 (to_false b h), λ p. to_not b (is.1 p))
+-- and one more is
+pub own_more : (s : Setting) (scopes : List Begun) (scope : Begun) → AreOwn s scopes → IsOwn s scope.access → AreOwn s (scopes ++ scope ∷ [])
+own_more s [] scope all own = (own, tt)
+own_more s (first ∷ scopes) scope all own = (all.0, own_more s scopes scope all.1 own)
 
 -- a list that ends with a value is not empty
 ends : {A : Type 0} (xs : List A) (x : A) → [] ≡ xs ++ x ∷ [] → ⊥

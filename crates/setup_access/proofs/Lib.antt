@@ -6,6 +6,7 @@ pub mod VerdictsUnique
 pub mod SetupLemmas
 pub mod PassLemmas
 pub mod StageLemmas
+pub mod WaitLemmas
 pub mod LeadsLemmas
 pub mod NextLemmas
 pub mod LawLemmas

@@ -3,7 +3,7 @@ use Rattle.std.proofs.Common.{◌≡◌, ◌<◌, ◌↔◌, ◌∷◌, ◌++◌
 use Rattle.std.proofs.Math.Seq.{drop-cons}
 use Rattle.slot_table.specs.declared.records.Record.{Record}
 use Rattle.slot_table.specs.declared.step.Step.TheVariants.{Clock}
-use Rattle.setup_access.specs.Check.{ChecksBegun, ChecksOnce, Close, Pass, Passes, Rechecks, left_to_check}
+use Rattle.setup_access.specs.Check.{ChecksBegun, ChecksLast, ChecksOnce, Pass, Passes, Rechecks, left_to_check}
 use Rattle.setup_access.specs.Checker.{RoleLeft, StageLeft}
 use Rattle.setup_access.specs.PassLeft.{Given, PassLeft, given_of, nothing_given}
 use Rattle.setup_access.specs.Records.{MakesWord}
@@ -111,7 +111,7 @@ known outcomes asked = record { outcomes = outcomes; asked = asked }
 
 module _ (s : Setting) (begun : Begun) (silenced : Bool) (scopes : List Begun) (asked : ℕ) (records : List Record) (passes : Passes) where
   -- the close of a silenced assertion is its end alone
-  pub closing_silenced : begun.silenced || silenced ≡ true → (Close s begun silenced asked records passes [] ↔ StageLeft s scopes stages.End asked records passes)
+  pub closing_silenced : begun.silenced || silenced ≡ true → (ChecksLast s begun silenced asked records passes [] ↔ StageLeft s scopes stages.End asked records passes)
   closing_silenced quiet = rw quiet (
     λ h. (h.1.0, subst (λ r. MakesWord s.task Clock (λ stamp after. [] ≡ after) r) h.1.1 h.2),
     λ h. (records, (h.0, refl), h.1),
@@ -119,7 +119,7 @@ module _ (s : Setting) (begun : Begun) (silenced : Bool) (scopes : List Begun) (
 
   -- another is checked a last time
   pub closing_heard : begun.silenced || silenced ≡ false
-      → (Close s begun silenced asked records passes [] ↔ StageLeft s scopes (stages.Check roles.Closing begun (parts.Find (record { place = First }))) asked records passes)
+      → (ChecksLast s begun silenced asked records passes [] ↔ StageLeft s scopes (stages.Check roles.Closing begun (parts.Find (record { place = First }))) asked records passes)
   closing_heard heard = rw heard (through shuffled
       (pass_then s begun asked records passes (λ settled now later more. (more ≡ record { outcomes = []; asked = now }) × MakesWord s.task Clock (λ stamp after. [] ≡ after) later)))
     where

@@ -5,6 +5,7 @@ use Rattle.slot_table.specs.declared.step.Step.TheVariants.{Clock}
 use Rattle.watch_word.specs.Word.{Encodable, word_of}
 use Rattle.setup_access.specs.Find.{Finds}
 use Rattle.setup_access.specs.Found.{FoundWatchpoint}
+use Rattle.setup_access.specs.Own.{AreOwn, IsOwn}
 use Rattle.setup_access.specs.Records.{MakesWord}
 use Rattle.setup_access.specs.Setting.{IsWatched, Setting}
 use Rattle.setup_access.specs.Setup.{Frees, Judged, SetsUp}
@@ -88,14 +89,24 @@ ChecksBegun s scopes begun asked records passes rest =
     ((passes ≡ record { outcomes = []; asked = asked_silenced begun.marked asked }) × (rest ≡ records))
     (ChecksAll s scopes begun asked records passes rest)
 
--- the records begin with the check of an access that begins while these scoped assertions are in force, the oldest first: the clock gives the stamp, then it is checked
-abbrev pub Check : Setting → List Begun → Begun → ℕ → List Record → Passes → List Record → Type 0
-Check s scopes begun asked records passes rest =
+-- the clock gives the stamp of an access that begins, then it is checked
+abbrev pub ChecksStamped : Setting → List Begun → Begun → ℕ → List Record → Passes → List Record → Type 0
+ChecksStamped s scopes begun asked records passes rest =
     MakesWord s.task Clock (λ stamp later. ChecksBegun s scopes begun asked later passes rest) records
 
--- the records begin with the close of a scoped assertion: it is checked once more unless it, or its task by now, is silenced; then the clock gives its end
-abbrev pub Close : Setting → Begun → Bool → ℕ → List Record → Passes → List Record → Type 0
-Close s scope silenced asked records passes rest =
+-- the records begin with the check of an access of the task, which begins while these scoped assertions are in force, the oldest first
+abbrev pub Check : Setting → List Begun → Begun → ℕ → List Record → Passes → List Record → Type 0
+Check s scopes begun asked records passes rest =
+    IsOwn s begun.access × AreOwn s scopes × ChecksStamped s scopes begun asked records passes rest
+
+-- a scoped assertion is checked once more unless it, or its task by now, is silenced; then the clock gives its end
+abbrev pub ChecksLast : Setting → Begun → Bool → ℕ → List Record → Passes → List Record → Type 0
+ChecksLast s scope silenced asked records passes rest =
     (later : List Record)
     × Rechecks s ((record scope { silenced = scope.silenced || silenced }) ∷ []) asked records passes later
     × MakesWord s.task Clock (λ stamp after. rest ≡ after) later
+
+-- the records begin with the close of a scoped assertion of the task
+abbrev pub Close : Setting → Begun → Bool → ℕ → List Record → Passes → List Record → Type 0
+Close s scope silenced asked records passes rest =
+    IsOwn s scope.access × ChecksLast s scope silenced asked records passes rest

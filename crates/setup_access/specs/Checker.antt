@@ -1,7 +1,7 @@
-use Rattle.std.specs.Prelude.{◌≡◌, ◌+◌, ◌-◌, ◌++◌, ℕ, List, [], Bool, drop}
+use Rattle.std.specs.Prelude.{◌≡◌, ◌+◌, ◌-◌, ◌++◌, ℕ, List, [], Bool, Option, None, Some, drop}
 use Rattle.slot_table.specs.declared.records.Record.{Record}
 use Rattle.slot_table.specs.declared.step.Step.TheVariants.{Clock}
-use Rattle.setup_access.specs.Check.{Check, Close, Passes, Rechecks, left_to_check}
+use Rattle.setup_access.specs.Check.{Check, ChecksStamped, Close, Passes, Rechecks, left_to_check}
 use Rattle.setup_access.specs.Due.{pass_due}
 use Rattle.setup_access.specs.PassLeft.{Given, PassLeft, ToLeft}
 use Rattle.setup_access.specs.Records.{MakesWord}
@@ -18,6 +18,11 @@ pub data Doing : Type 0 where
   Checks : Begun → Doing
   Closes : Begun → Bool → Doing
 
+-- the access that may be put in force as a scoped assertion afterwards
+abbrev pub last_of : Doing → Option Begun
+last_of (Checks begun) = Some begun
+last_of (Closes scope silenced) = None
+
 -- the records are those of what is done, while these scoped assertions are in force, the oldest first
 abbrev pub Does : Setting → List Begun → Doing → ℕ → List Record → Passes → Type 0
 Does s scopes (Checks begun) asked records passes = Check s scopes begun asked records passes []
@@ -33,7 +38,7 @@ RoleLeft s scopes roles.Closing settled asked records passes =
 -- the records are what is left of what is done, with what it still gives
 abbrev pub StageLeft : Setting → List Begun → Stage → ℕ → List Record → Passes → Type 0
 StageLeft s scopes stages.Rest asked records passes = (passes ≡ record { outcomes = []; asked = asked }) × ([] ≡ records)
-StageLeft s scopes (stages.Begin begun) asked records passes = Check s scopes begun asked records passes []
+StageLeft s scopes (stages.Begin begun) asked records passes = ChecksStamped s scopes begun asked records passes []
 StageLeft s scopes (stages.Check role begun pass) asked records passes =
     (given : Given) × (later : List Record) × (more : Passes) × PassLeft s begun pass asked records given later
     × RoleLeft s scopes role given.settled given.asked later more

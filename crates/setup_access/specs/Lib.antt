@@ -7,13 +7,16 @@ pub mod Found
 pub mod Values
 pub mod Verdicts
 pub mod Setup
+pub mod Own
 pub mod Check
 pub mod Parts
 pub mod PassLeft
 pub mod Checker
 pub mod Leads
-pub mod Tries
+pub mod Waits
+pub mod Waiting
 pub mod Due
 pub mod Lending
+pub mod Shown
 pub mod Laws
 pub mod MadeOfChecks

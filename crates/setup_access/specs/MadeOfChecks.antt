@@ -1,5 +1,4 @@
 use Rattle.std.specs.Prelude.{◌≡◌, ℕ, Bool, List, [], ◌∷◌, IsTrue}
-use Rattle.access_types.specs.Access.{Access, IsInLimits}
 use Rattle.slot_table.specs.Discipline.{holds}
 use Rattle.slot_table.specs.declared.records.Record.{Record}
 use Rattle.slot_table.specs.declared.step.Step.{Step}
@@ -13,16 +12,6 @@ abbrev pub FreesHeldLocks : List Record → List Record → Type 0
 FreesHeldLocks earlier [] = Unit {0}
 FreesHeldLocks earlier (first ∷ later) =
     ((lock : ℕ) → first.step ≡ LockStore lock → IsTrue (holds lock earlier)) × FreesHeldLocks (first ∷ earlier) later
-
--- the access is one of the task
-pub record IsOwn (s : Setting) (a : Access) : Type 0 where
-  pub task : a.task ≡ s.task
-  pub in_limits : IsInLimits a
-
--- so is each of these scoped assertions
-abbrev pub AreOwn : Setting → List Begun → Type 0
-AreOwn s [] = Unit {0}
-AreOwn s (scope ∷ scopes) = IsOwn s scope.access × AreOwn s scopes
 
 -- the step is one that a task makes besides its checks: a load, the clock's, or one of memory or of a lock
 abbrev pub IsBesides : ℕ → Step → Type 0
@@ -45,7 +34,7 @@ IsBesides task Clock = Unit {0}
 pub data MadeOfChecks (s : Setting) : List Record → Type 0 where
   nothing : MadeOfChecks s []
   besides : (first : Record) (later : List Record) → IsBesides s.task first.step → MadeOfChecks s later → MadeOfChecks s (first ∷ later)
-  checks : (scopes : List Begun) (begun : Begun) (asked : ℕ) (records : List Record) (passes : Passes) (rest : List Record) → AreOwn s scopes → IsOwn s begun.access
+  checks : (scopes : List Begun) (begun : Begun) (asked : ℕ) (records : List Record) (passes : Passes) (rest : List Record)
       → Check s scopes begun asked records passes rest → MadeOfChecks s rest → MadeOfChecks s records
-  closes : (scope : Begun) (silenced : Bool) (asked : ℕ) (records : List Record) (passes : Passes) (rest : List Record) → IsOwn s scope.access
+  closes : (scope : Begun) (silenced : Bool) (asked : ℕ) (records : List Record) (passes : Passes) (rest : List Record)
       → Close s scope silenced asked records passes rest → MadeOfChecks s rest → MadeOfChecks s records

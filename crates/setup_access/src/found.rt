@@ -1,11 +1,11 @@
 //! `found_watchpoint`: a watchpoint of another task matches the access.
 
-ghost use Rattle.std.specs.Prelude.{◌≡◌, ◌<◌, ◌↔◌, ◌∷◌, ℕ, List, if◌then◌else◌};
+ghost use Rattle.std.specs.Prelude.{◌≡◌, ◌+◌, ◌-◌, ◌^◌, ◌<◌, ◌↔◌, ◌∷◌, List, if◌then◌else◌, min};
 ghost use Rattle.slot_table.specs.Answer.{Answers};
 ghost use Rattle.slot_table.specs.declared.records.Record.{Record};
 ghost use Rattle.setup_access.specs.Parts.{FoundLeft, TakingLeft, found_step, made};
 ghost use Rattle.setup_access.specs.Setting as spec;
-ghost use Rattle.setup_access.specs.Tries.{found_tries};
+ghost use Rattle.setup_access.specs.Waiting.{Counts, found_wait, taking_wait, tries_of};
 ghost use Rattle.setup_access.specs.declared.outcome.Outcome.{Outcome};
 
 use crate::outcome::{Outcome, Watchpoint};
@@ -46,7 +46,8 @@ impl Found {
     /// Takes the answer.
     pub(crate) fn answer(self, access: &Access, answer: Answer) -> Taking
         requires { Answers (found_step access.now self) answer }
-        ensures { (s : spec.Setting) (outcome : Outcome) (later rest : List Record) →
+        ensures waits { Counts (found_wait self) (found_step access.now self) answer (taking_wait result) }
+        ensures left { (s : spec.Setting) (outcome : Outcome) (later rest : List Record) →
             FoundLeft s access.now self (made s.task (found_step access.now self) answer ∷ later) outcome rest ↔ TakingLeft s access.now result later outcome rest }
     {
         match (self, answer) {
@@ -63,7 +64,7 @@ impl Found {
 
     /// How many tries of its wait were in vain, if it waits.
     pub(crate) fn tries(self) -> Option<u64>
-        ensures { result ≡ found_tries self }
+        ensures { result ≡ tries_of (found_wait self) }
     {
         match self {
             Found::HearSetter { tries, .. } => Some(tries),
@@ -87,7 +88,7 @@ fn tried(found: Watchpoint, taken: bool) -> Taking
 
 /// The setter's half of the pair was read.
 fn heard_setter(index: usize, tries: u64, setter: u32) -> Taking
-    ensures vain { setter ≡ 0 → (more : ℕ) × (result ≡ Taking.Going (Found.HearSetter index more)) }
+    ensures vain { setter ≡ 0 → result ≡ Taking.Going (Found.HearSetter index (min (tries + 1) (2 ^ 64 - 1))) }
     ensures stands { 0 < setter → result ≡ Taking.Going (Found.Tell index setter) }
 {
     if setter == 0 {

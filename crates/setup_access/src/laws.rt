@@ -11,12 +11,18 @@ ghost use Rattle.setup_access.specs.Check.{Check, NoneFound, Passes};
 ghost use Rattle.setup_access.specs.Found.{FoundWatchpoint};
 ghost use Rattle.setup_access.specs.MadeOfChecks.{FreesHeldLocks, MadeOfChecks};
 ghost use Rattle.setup_access.specs.Laws.{OneStep};
+ghost use Rattle.setup_access.specs.Checker.{Doing};
+ghost use Rattle.setup_access.specs.Leads.{Leads, Rests};
+ghost use Rattle.setup_access.specs.Lending.{with_context};
+ghost use Rattle.setup_access.specs.Shown.{context_of};
+ghost use Rattle.task_context.specs.Context.{Context};
 ghost use Rattle.setup_access.specs.Setting.{Setting};
 ghost use Rattle.setup_access.specs.Verdicts.{HitOutcome, SharesByte};
 ghost use Rattle.setup_access.specs.declared.begun.Begun.{Begun};
 ghost use Rattle.setup_access.specs.declared.outcome.Outcome as outcomes;
 ghost use Rattle.setup_access.specs.declared.outcome.Watchpoint.{Watchpoint};
 
+use crate::checker::Checker;
 use crate::outcome::Outcome;
 use access_types::tickets_read_back;
 use watch_word::words_are_above_one;
@@ -56,3 +62,12 @@ pub fn checks_keep_the_discipline()
     words_are_above_one();
     tickets_read_back();
 }
+
+/// Law: the calls of a task's context change nothing of what its checker does, or has in force.
+pub fn context_is_apart()
+    ensures context { (checker : Checker) (context : Context) → context_of (with_context checker context) ≡ context }
+    ensures rests { (s : Setting) (scopes : List Begun) (asked : ℕ) (last : Option Begun) (checker : Checker) (context : Context)
+        → Rests s scopes asked last checker → Rests s scopes asked last (with_context checker context) }
+    ensures leads { (s : Setting) (scopes : List Begun) (doing : Doing) (asked : ℕ) (records : List Record) (checker : Checker) (context : Context)
+        → Leads s scopes doing asked records checker → Leads s scopes doing asked records (with_context checker context) }
+{}

@@ -1,6 +1,6 @@
 //! The outcomes of a check, in a fixed array.
 
-ghost use Rattle.std.specs.Prelude.{◌≡◌, ◌+◌, ◌≤◌, ◌<◌, [], ◌∷◌, ◌++◌, length, take};
+ghost use Rattle.std.specs.Prelude.{◌≡◌, ◌+◌, ◌≤◌, [], length};
 ghost use Rattle.setup_access.specs.Due.{extended, given_now};
 
 use crate::outcome::Outcome;
@@ -38,22 +38,14 @@ impl Outcomes {
         }
     }
 
-    /// One more.
-    pub(crate) fn push(&mut self, outcome: Outcome)
-        requires { length self.old < 9 }
-        ensures { self.new ≡ self.old ++ outcome ∷ [] }
-    {
-        self.outcomes[self.count] = outcome;
-        self.count += 1;
-    }
-
     /// One more, if there is one.
     pub(crate) fn extend(&mut self, outcome: Option<Outcome>)
         requires { length self.old + given_now outcome ≤ 9 }
         ensures { self.new ≡ extended self.old outcome }
     {
         if let Some(outcome) = outcome {
-            self.push(outcome);
+            self.outcomes[self.count] = outcome;
+            self.count += 1;
         }
     }
 

@@ -8,8 +8,7 @@ ghost use Rattle.setup_access.specs.Kept.{setting_with};
 ghost use Rattle.setup_access.specs.Parts.{found_step, made, setup_step};
 ghost use Rattle.setup_access.specs.PassLeft.{Given, GoesOnGiven, PassLeft, Samples, TurnLeft, pass_step};
 ghost use Rattle.setup_access.specs.Setting as spec;
-ghost use Rattle.setup_access.specs.Tries.{pass_tries};
-ghost use Rattle.setup_access.specs.Setting.{IsWatched};
+ghost use Rattle.setup_access.specs.Waiting.{Counts, found_wait, pass_wait, setup_wait, to_wait, tries_of};
 ghost use Rattle.access_types.specs.Sites.{AccessMap};
 
 use crate::begun::Begun;
@@ -85,6 +84,7 @@ impl Pass {
     ) -> Turn
         requires { Answers (pass_step (setting_with setting.now sites.now) begun.now self) answer }
         ensures fits { given_now result.outcome + to_due result.to ≤ pass_due self }
+        ensures waits { Counts (pass_wait self) (pass_step (setting_with setting.now sites.now) begun.now self) answer (to_wait result.to) }
         ensures left { (asked : ℕ) → let s = setting_with setting.now sites.now in Samples s asked sampler.old → (asked_now : ℕ) × Samples s asked_now sampler.new
             × ((given : Given) (later rest : List Record) →
             PassLeft s begun.now self asked (made s.task (pass_step s begun.now self) answer ∷ later) given rest ↔ TurnLeft s begun.now result asked_now later given rest) }
@@ -103,7 +103,7 @@ impl Pass {
 
     /// How many tries of its wait were in vain, if it waits.
     pub(crate) fn tries(self) -> Option<u64>
-        ensures { result ≡ pass_tries self }
+        ensures { result ≡ tries_of (pass_wait self) }
     {
         match self {
             Pass::Found(found) => found.tries(),
@@ -146,6 +146,7 @@ fn looked(
 ) -> Turn
     requires { Answers (pass_step (setting_with setting.now sites.now) begun.now (Pass.Find find)) answer }
     ensures fits { given_now result.outcome + to_due result.to ≤ 1 }
+    ensures waits { to_wait result.to ≡ None }
     ensures left { (asked : ℕ) → let s = setting_with setting.now sites.now in Samples s asked sampler.old → (asked_now : ℕ) × Samples s asked_now sampler.new
         × ((given : Given) (later rest : List Record) →
         PassLeft s begun.now (Pass.Find find) asked (made s.task (pass_step s begun.now (Pass.Find find)) answer ∷ later) given rest ↔ TurnLeft s begun.now result asked_now later given rest) }
@@ -164,6 +165,7 @@ fn looked(
 fn took(found: Found, begun: &Begun, answer: Answer) -> Turn
     requires { Answers (found_step begun.now.access found) answer }
     ensures fits { given_now result.outcome + to_due result.to ≤ 1 }
+    ensures waits { Counts (found_wait found) (found_step begun.now.access found) answer (to_wait result.to) }
     ensures left { (s : spec.Setting) (asked : ℕ) (given : Given) (later rest : List Record) →
         PassLeft s begun.now (Pass.Found found) asked (made s.task (found_step begun.now.access found) answer ∷ later) given rest ↔ TurnLeft s begun.now result asked later given rest }
 {
@@ -177,6 +179,7 @@ fn took(found: Found, begun: &Begun, answer: Answer) -> Turn
 fn watched(setup: Setup, setting: &Setting, sites: &Sites, begun: &Begun, answer: Answer) -> Turn
     requires { Answers (setup_step (setting_with setting.now sites.now) begun.now.access setup) answer }
     ensures fits { given_now result.outcome + to_due result.to ≤ 1 }
+    ensures waits { Counts (setup_wait setup) (setup_step (setting_with setting.now sites.now) begun.now.access setup) answer (to_wait result.to) }
     ensures left { (asked : ℕ) (given : Given) (later rest : List Record) → let s = setting_with setting.now sites.now in
         PassLeft s begun.now (Pass.Setup setup) asked (made s.task (setup_step s begun.now.access setup) answer ∷ later) given rest ↔ TurnLeft s begun.now result asked later given rest }
 {
@@ -193,6 +196,7 @@ fn watched(setup: Setup, setting: &Setting, sites: &Sites, begun: &Begun, answer
 /// could tell.
 fn found_watchpoint(begun: &Begun, found: Watchpoint) -> Turn
     ensures fits { given_now result.outcome + to_due result.to ≤ 1 }
+    ensures waits { to_wait result.to ≡ None }
     ensures left { (s : spec.Setting) (asked : ℕ) (given : Given) (later rest : List Record) →
         GoesOnGiven s begun.now asked (Some found) later given rest ↔ TurnLeft s begun.now result asked later given rest }
 {
@@ -205,6 +209,7 @@ fn found_watchpoint(begun: &Begun, found: Watchpoint) -> Turn
 /// No watchpoint matches: one is set up, if the access is to be watched and a word can stand for it.
 fn setup_watchpoint(setting: &Setting, sites: &Sites, sampler: &mut Sampler, begun: &Begun) -> Turn
     ensures fits { given_now result.outcome + to_due result.to ≤ 1 }
+    ensures waits { to_wait result.to ≡ None }
     ensures left { (asked : ℕ) → let s = setting_with setting.now sites.now in Samples s asked sampler.old → (asked_now : ℕ) × Samples s asked_now sampler.new
         × ((given : Given) (later rest : List Record) → GoesOnGiven s begun.now asked None later given rest ↔ TurnLeft s begun.now result asked_now later given rest) }
 {
@@ -226,7 +231,7 @@ fn should_watch(setting: &Setting, sites: &Sites, sampler: &mut Sampler, begun: 
     ensures marked { begun.now.marked ≡ true → result ≡ false }
     ensures kept { begun.now.marked ≡ true → sampler.new ≡ sampler.old }
     ensures watched { (asked : ℕ) → begun.now.marked ≡ false → Samples (setting_with setting.now sites.now) asked sampler.old
-        → (IsTrue result ↔ IsWatched (setting_with setting.now sites.now) asked) }
+        → (IsTrue result ↔ spec.IsWatched (setting_with setting.now sites.now) asked) }
     ensures asked { (asked : ℕ) → begun.now.marked ≡ false → Samples (setting_with setting.now sites.now) asked sampler.old
         → Samples (setting_with setting.now sites.now) (asked + 1) sampler.new }
 {

@@ -1,13 +1,14 @@
 //! What a checker does next, and what follows on the check of one access.
 
-ghost use Rattle.std.specs.Prelude.{◌≡◌, ◌+◌, ◌-◌, ◌≤◌, ◌↔◌, ℕ, List, [], drop, length};
+ghost use Rattle.std.specs.Prelude.{◌≡◌, ◌+◌, ◌-◌, ◌≤◌, ◌↔◌, ℕ, List, [], None, drop, length};
 ghost use Rattle.slot_table.specs.declared.records.Record.{Record};
-ghost use Rattle.setup_access.specs.Check.{ChecksBegun, Close, Passes, Rechecks};
+ghost use Rattle.setup_access.specs.Check.{ChecksBegun, ChecksLast, Passes, Rechecks};
 ghost use Rattle.setup_access.specs.Checker.{RoleLeft, StageLeft, ToRoleLeft, role_due, stage_due};
 ghost use Rattle.setup_access.specs.Due.{to_due};
 ghost use Rattle.setup_access.specs.Kept.{setting_with};
 ghost use Rattle.setup_access.specs.PassLeft.{Samples};
 ghost use Rattle.setup_access.specs.Setting as spec;
+ghost use Rattle.setup_access.specs.Waiting.{stage_wait, to_wait};
 
 use crate::begun::Begun;
 use crate::pass::{Pass, To};
@@ -59,6 +60,7 @@ pub(crate) fn check_access(role: Role, begun: Begun) -> Stage
 /// skipped.
 pub(crate) fn began(setting: &Setting, sites: &Sites, sampler: &mut Sampler, begun: Begun) -> Stage
     ensures fits { stage_due result ≤ 9 }
+    ensures waits { stage_wait result ≡ None }
     ensures left { (scopes : List Begun) (asked : ℕ) → let s = setting_with setting.now sites.now in Samples s asked sampler.old → (asked_now : ℕ) × Samples s asked_now sampler.new
         × ((records : List Record) (passes : Passes) → ChecksBegun s scopes begun asked records passes [] ↔ StageLeft s scopes result asked_now records passes) }
 {
@@ -75,8 +77,9 @@ pub(crate) fn began(setting: &Setting, sites: &Sites, sampler: &mut Sampler, beg
 /// A scope ends: its assertion is checked a last time, unless it or its task by now is silenced.
 pub(crate) fn closing(begun: Begun, silenced: bool) -> Stage
     ensures fits { stage_due result ≤ 9 }
+    ensures waits { stage_wait result ≡ None }
     ensures left { (s : spec.Setting) (scopes : List Begun) (asked : ℕ) (records : List Record) (passes : Passes) →
-        Close s begun silenced asked records passes [] ↔ StageLeft s scopes result asked records passes }
+        ChecksLast s begun silenced asked records passes [] ↔ StageLeft s scopes result asked records passes }
 {
     if begun.silenced || silenced {
         return Stage::End;
@@ -88,6 +91,7 @@ pub(crate) fn closing(begun: Begun, silenced: bool) -> Stage
 pub(crate) fn after_turn(to: To, role: Role, begun: Begun, scopes: &[Begun]) -> Stage
     requires { length scopes.now ≤ 8 }
     ensures fits { stage_due result ≤ to_due to + role_due role }
+    ensures waits { stage_wait result ≡ to_wait to }
     ensures left { (s : spec.Setting) (asked : ℕ) (records : List Record) (passes : Passes) →
         ToRoleLeft s scopes.now to role begun asked records passes ↔ StageLeft s scopes.now result asked records passes }
 {
@@ -103,6 +107,7 @@ pub(crate) fn after_turn(to: To, role: Role, begun: Begun, scopes: &[Begun]) -> 
 fn after_check(role: Role, is_settled: bool, scopes: &[Begun]) -> Stage
     requires { length scopes.now ≤ 8 }
     ensures fits { stage_due result ≤ role_due role }
+    ensures waits { stage_wait result ≡ None }
     ensures left { (s : spec.Setting) (asked : ℕ) (records : List Record) (passes : Passes) →
         RoleLeft s scopes.now role is_settled asked records passes ↔ StageLeft s scopes.now result asked records passes }
 {
@@ -114,25 +119,16 @@ fn after_check(role: Role, is_settled: bool, scopes: &[Begun]) -> Stage
                 scope_from(scopes, 0)
             }
         }
-        Role::Scope(number) => scope_after(scopes, number),
+        Role::Scope(number) => scope_from(scopes, number.saturating_add(1)),
         Role::Closing => Stage::End,
     }
-}
-
-/// The check of the first scoped assertion after the one with a number that isn't silenced.
-fn scope_after(scopes: &[Begun], number: usize) -> Stage
-    requires { length scopes.now ≤ 8 }
-    ensures fits { stage_due result ≤ 7 - number }
-    ensures left { (s : spec.Setting) (asked : ℕ) (records : List Record) (passes : Passes) →
-        Rechecks s (drop (number + 1) scopes.now) asked records passes [] ↔ StageLeft s scopes.now result asked records passes }
-{
-    scope_from(scopes, number.saturating_add(1))
 }
 
 /// The check of the first scoped assertion, from a number on, that isn't silenced.
 fn scope_from(scopes: &[Begun], from: usize) -> Stage
     requires { length scopes.now ≤ 8 }
     ensures fits { stage_due result ≤ 8 - from }
+    ensures waits { stage_wait result ≡ None }
     ensures left { (s : spec.Setting) (asked : ℕ) (records : List Record) (passes : Passes) →
         Rechecks s (drop from scopes.now) asked records passes [] ↔ StageLeft s scopes.now result asked records passes }
 {

@@ -2,6 +2,4 @@
 use Rattle.checks_tried.proofs.tests.make_step.Goals as goal
 
 pub answer-requires : goal.answer-requires
-answer-requires g c =
-    let says = rw c.expect-step.ensures at (c.next.ensures.step c.args.sites.now) in
-    rw says c.step-answer.ensures.kind
+answer-requires g c = (_, rw c.expect-step.ensures at c.next.ensures.says, c.step-answer.ensures.kind)
