@@ -181,13 +181,9 @@ fn scoped_assertions_are_8(rt: HostRuntime) -> Result<(), Fail> {
             "",
         ],
     )?;
-    expect_bodies(
-        &rt,
-        &[(
-            "ASSERT_EXCLUSIVE_WRITER(*x); ASSERT_EXCLUSIVE_WRITER(*x); ASSERT_EXCLUSIVE_WRITER(*x); ASSERT_EXCLUSIVE_WRITER(*x); ASSERT_EXCLUSIVE_WRITER(*x); ASSERT_EXCLUSIVE_WRITER(*x); ASSERT_EXCLUSIVE_WRITER(*x); ASSERT_EXCLUSIVE_WRITER(*x); ASSERT_EXCLUSIVE_WRITER(*x);",
-            None,
-        )],
-    )
+    // One without a scope counts for nothing.
+    let unscoped = repeated(rt.alloc(), "ASSERT_EXCLUSIVE_WRITER(*x);", 9)?;
+    expect_bodies(&rt, &[(unscoped.as_str(), None)])
 }
 
 #[test]
