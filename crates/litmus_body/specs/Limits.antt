@@ -1,6 +1,18 @@
 -- How much a litmus text can have.
 use Rattle.std.specs.Prelude.{ℕ}
 
+-- bytes of a file
+abbrev pub file_bytes : ℕ
+file_bytes = 65536
+
+-- variables of a program
+abbrev pub variables_limit : ℕ
+variables_limit = 32
+
+-- tasks of a program
+abbrev pub tasks_limit : ℕ
+tasks_limit = 16
+
 -- registers of a task
 abbrev pub registers_limit : ℕ
 registers_limit = 32

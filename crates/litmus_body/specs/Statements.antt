@@ -18,64 +18,70 @@ use Rattle.litmus_body.specs.Expressions.{Load, Pure, Expression, enclosed_once}
 use Rattle.litmus_body.specs.Limits.{check_limit, nesting_limit}
 use Rattle.litmus_body.specs.Names.{Names, Parameter, IsVariable, IsInteger, IsAtomic, IsLock, HasBytes, IsChanged}
 
+-- a load or an assignment, which may stand alone or inside data_race( )
+pub data Enclosable : Type 0 where
+  load : tree.Load → Enclosable
+  assignment : tree.Assignment → Enclosable
+
+-- the statement that it is alone
+abbrev pub alone : Enclosable → tree.Statement
+alone (load l) = tree.load_only l
+alone (assignment a) = tree.assign false a
+
+-- the statement that it is inside data_race( )
+abbrev pub raced : Enclosable → tree.Statement
+raced (load l) = tree.load_only (enclosed_once l)
+raced (assignment a) = tree.assign true a
+
 -- a simple statement, without what ends it
-pub data Simple (parameters : List Parameter) (depth : ℕ) (counters : List ℕ) : (before : Names) → List Symbol → tree.Statement → List Symbol → (after : Names) → Type 0 where
+pub data Simple (parameters : List Parameter) (depth : ℕ) (counters : List ℕ) : (before : Names) → List Symbol → Enclosable → List Symbol → (after : Names) → Type 0 where
   to_register : {register : ℕ} {before between after : Names} {symbols rest : List Symbol} {name : List ℕ} {value : tree.Expression}
       → IsChanged parameters counters before name register between
       → Expression parameters depth between symbols value rest after
-      → Simple parameters depth counters before (identifier name ∷ sign Assign ∷ symbols) (tree.assign false (tree.to_register register value)) rest after
+      → Simple parameters depth counters before (identifier name ∷ sign Assign ∷ symbols) (assignment (tree.to_register register value)) rest after
   a_load : {before after : Names} {symbols rest : List Symbol} {l : tree.Load}
       → Load parameters depth before symbols l rest after
-      → Simple parameters depth counters before symbols (tree.load_only l) rest after
+      → Simple parameters depth counters before symbols (load l) rest after
   write : {variable : ℕ} {before after : Names} {symbols rest : List Symbol} {name : List ℕ} {value : tree.Pure}
       → IsVariable parameters IsInteger name variable
       → Pure parameters depth before symbols value rest after
-      → Simple parameters depth counters before (sign Star ∷ identifier name ∷ sign Assign ∷ symbols) (tree.assign false (tree.write writes.Plain variable value)) rest after
+      → Simple parameters depth counters before (sign Star ∷ identifier name ∷ sign Assign ∷ symbols) (assignment (tree.write writes.Plain variable value)) rest after
   add : {variable : ℕ} {before after : Names} {symbols rest : List Symbol} {name : List ℕ} {value : tree.Pure}
       → IsVariable parameters IsInteger name variable
       → Pure parameters depth before symbols value rest after
-      → Simple parameters depth counters before (sign Star ∷ identifier name ∷ sign AddAssign ∷ symbols) (tree.assign false (tree.add variable value)) rest after
+      → Simple parameters depth counters before (sign Star ∷ identifier name ∷ sign AddAssign ∷ symbols) (assignment (tree.add variable value)) rest after
   increment : {variable : ℕ} {before : Names} {rest : List Symbol} {name : List ℕ}
       → IsVariable parameters IsInteger name variable
       → Simple parameters depth counters before (sign OpenParen ∷ sign Star ∷ identifier name ∷ sign CloseParen ∷ sign Increment ∷ rest)
-      (tree.assign false (tree.increment variable)) rest before
+      (assignment (tree.increment variable)) rest before
   write_once : {variable : ℕ} {before after : Names} {symbols rest : List Symbol} {name : List ℕ} {value : tree.Pure}
       → IsVariable parameters IsInteger name variable
       → Pure parameters depth before symbols value (sign CloseParen ∷ rest) after
       → Simple parameters depth counters before (word (words.Store (stores.Write writes.Once)) ∷ sign OpenParen ∷ sign Star ∷ identifier name ∷ sign Comma ∷ symbols)
-      (tree.assign false (tree.write writes.Once variable value)) rest after
+      (assignment (tree.write writes.Once variable value)) rest after
   release : {variable : ℕ} {before after : Names} {symbols rest : List Symbol} {name : List ℕ} {value : tree.Pure}
       → IsVariable parameters IsInteger name variable
       → Pure parameters depth before symbols value (sign CloseParen ∷ rest) after
       → Simple parameters depth counters before (word (words.Store (stores.Write writes.Release)) ∷ sign OpenParen ∷ identifier name ∷ sign Comma ∷ symbols)
-      (tree.assign false (tree.write writes.Release variable value)) rest after
+      (assignment (tree.write writes.Release variable value)) rest after
   atomic_set : {variable : ℕ} {before after : Names} {symbols rest : List Symbol} {name : List ℕ} {value : tree.Pure}
       → IsVariable parameters IsAtomic name variable
       → Pure parameters depth before symbols value (sign CloseParen ∷ rest) after
       → Simple parameters depth counters before (word (words.Store (stores.Write writes.Atomic)) ∷ sign OpenParen ∷ identifier name ∷ sign Comma ∷ symbols)
-      (tree.assign false (tree.write writes.Atomic variable value)) rest after
+      (assignment (tree.write writes.Atomic variable value)) rest after
   atomic_add : {variable : ℕ} {before after : Names} {symbols rest : List Symbol} {name : List ℕ} {value : tree.Pure}
       → Pure parameters depth before symbols value (sign Comma ∷ identifier name ∷ sign CloseParen ∷ rest) after
       → IsVariable parameters IsAtomic name variable
       → Simple parameters depth counters before (word (words.Store stores.Add) ∷ sign OpenParen ∷ symbols)
-      (tree.assign false (tree.atomic_add value variable)) rest after
+      (assignment (tree.atomic_add value variable)) rest after
   atomic_increment : {variable : ℕ} {before : Names} {rest : List Symbol} {name : List ℕ}
       → IsVariable parameters IsAtomic name variable
       → Simple parameters depth counters before (word (words.Store stores.Increment) ∷ sign OpenParen ∷ identifier name ∷ sign CloseParen ∷ rest)
-      (tree.assign false (tree.atomic_increment variable)) rest before
+      (assignment (tree.atomic_increment variable)) rest before
   atomic_decrement : {variable : ℕ} {before : Names} {rest : List Symbol} {name : List ℕ}
       → IsVariable parameters IsAtomic name variable
       → Simple parameters depth counters before (word (words.Store stores.Decrement) ∷ sign OpenParen ∷ identifier name ∷ sign CloseParen ∷ rest)
-      (tree.assign false (tree.atomic_decrement variable)) rest before
-
--- a simple statement inside data_race( )
-abbrev pub raced : tree.Statement → tree.Statement
-raced (tree.load_only l) = tree.load_only (enclosed_once l)
-raced (tree.assign data_race a) = tree.assign true a
-raced (tree.call c) = tree.call c
-raced (tree.if_block condition body) = tree.if_block condition body
-raced (tree.if_else condition body otherwise) = tree.if_else condition body otherwise
-raced (tree.for_turns register turns body) = tree.for_turns register turns body
+      (assignment (tree.atomic_decrement variable)) rest before
 
 -- the mark is one that a word names
 abbrev pub IsPlainMark : Mark → Type 0
@@ -129,6 +135,10 @@ abbrev pub kept : Option tree.Statement → tree.Block → tree.Block
 kept None block = block
 kept (Some s) block = tree.first s block
 
+-- the symbols don't begin with `data_race`
+abbrev pub IsNoDataRace : List Symbol → Type 0
+IsNoDataRace symbols = (rest : List Symbol) → ¬ (symbols ≡ word words.DataRace ∷ rest)
+
 -- no `else` follows
 abbrev pub IsNoElse : List Symbol → Type 0
 IsNoElse symbols = (rest : List Symbol) → ¬ (symbols ≡ word words.Else ∷ rest)
@@ -148,10 +158,11 @@ mutual
         → Expression parameters depth between symbols value (sign Semicolon ∷ rest) after
         → Statement parameters depth counters before (word (words.Type type) ∷ identifier name ∷ sign Assign ∷ symbols)
         (Some (tree.assign false (tree.to_register register value))) rest after
-    simple : {depth : ℕ} {counters : List ℕ} {before after : Names} {symbols rest : List Symbol} {s : tree.Statement}
+    simple : {depth : ℕ} {counters : List ℕ} {before after : Names} {symbols rest : List Symbol} {s : Enclosable}
+        → IsNoDataRace symbols
         → Simple parameters depth counters before symbols s (sign Semicolon ∷ rest) after
-        → Statement parameters depth counters before symbols (Some s) rest after
-    data_race : {depth : ℕ} {counters : List ℕ} {before after : Names} {symbols rest : List Symbol} {s : tree.Statement}
+        → Statement parameters depth counters before symbols (Some (alone s)) rest after
+    data_race : {depth : ℕ} {counters : List ℕ} {before after : Names} {symbols rest : List Symbol} {s : Enclosable}
         → Simple parameters depth counters before symbols s (sign CloseParen ∷ sign Semicolon ∷ rest) after
         → Statement parameters depth counters before (word words.DataRace ∷ sign OpenParen ∷ symbols) (Some (raced s)) rest after
     a_call : {depth : ℕ} {counters : List ℕ} {before : Names} {symbols rest : List Symbol} {c : Call}

@@ -6,12 +6,12 @@ use Rattle.litmus_lex.specs.Tokens.{Placed}
 use Rattle.litmus_syntax.specs.Tree.{Program, Task}
 use Rattle.litmus_cursor.specs.Words.{Symbol, sign, symbol_of}
 use Rattle.litmus_body.specs.Counts.{connectives}
-use Rattle.litmus_body.specs.Limits.{operators_limit}
+use Rattle.litmus_body.specs.Limits.{file_bytes, operators_limit}
 use Rattle.litmus_body.specs.Names.{Names, Parameter}
 use Rattle.litmus_parse.specs.Conditions.{Disjoined, Quantifies}
 use Rattle.litmus_parse.specs.Headers.{Items, Process, Processes, mention_of}
 use Rattle.litmus_parse.specs.Mentions.{AreDeclared, AreNumbered, Mention}
-use Rattle.litmus_parse.specs.Text.{file_bytes, IsTextByte}
+use Rattle.litmus_parse.specs.Text.{IsTextByte}
 
 -- the number of a parameter's variable
 abbrev pub variable_of : Parameter → ℕ
@@ -24,6 +24,10 @@ task_of process = record { parameters = map variable_of process.parameters; regi
 -- what a process's parameters say
 abbrev pub mentions_of : Process → List Mention
 mentions_of process = map mention_of process.parameters
+
+-- what items and then the parameters of processes say
+abbrev pub said_by : List Mention → List Process → List Mention
+said_by items processes = items ++ flat_map mentions_of processes
 
 -- the symbols of a text behind its head spell a program: its initialization block, its processes and its
 -- condition, behind which nothing stands
@@ -42,9 +46,9 @@ pub record Grammar (symbols : List Symbol) (program : Program) : Type 0 where
   pub numbered : AreNumbered [] items item_names
   pub bodies : Processes 0 item_names after_items processes after_processes names
   pub quantifier : Quantifies after_processes program.quantifier after_quantifier
-  pub condition : Disjoined (items ++ flat_map mentions_of processes) names 0 processes after_quantifier program.condition [] later
+  pub condition : Disjoined (said_by items processes) names 0 processes after_quantifier program.condition [] later
   pub operators : connectives program.condition ≤ operators_limit
-  pub declared : AreDeclared (items ++ flat_map mentions_of processes) names program.variables
+  pub declared : AreDeclared (said_by items processes) names program.variables
   pub tasks : program.tasks ≡ map task_of later
 
 -- the symbol of a token at its place
@@ -52,7 +56,7 @@ abbrev pub symbol_at : Placed → Symbol
 symbol_at token = symbol_of token.terminal
 
 -- a text spells a program: its head has the program's name, and the tokens after it spell the rest
-pub record Spells (text : List ℕ) (program : Program) : Type 0 where
+pub record SpellsProgram (text : List ℕ) (program : Program) : Type 0 where
   pub tokens : List Placed
   pub size : length text ≤ file_bytes
   pub bytes : All IsTextByte text

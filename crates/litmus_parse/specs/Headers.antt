@@ -8,13 +8,10 @@ use Rattle.litmus_cursor.specs.declared.words.VariableType.{VariableType}
 use Rattle.litmus_cursor.specs.declared.words.Word.TheVariants as words
 use Rattle.litmus_cursor.specs.Words.{Symbol, word, identifier, number, sign}
 use Rattle.litmus_body.specs.Counts.{KeepsLimits}
+use Rattle.litmus_body.specs.Limits.{tasks_limit, variables_limit}
 use Rattle.litmus_body.specs.Names.{Names, Numbered, Parameter}
 use Rattle.litmus_body.specs.Statements.{Statements}
-use Rattle.litmus_parse.specs.Mentions.{Mention, item, parameter, variables_limit}
-
--- how many tasks a program can have
-abbrev pub tasks_limit : ℕ
-tasks_limit = 16
+use Rattle.litmus_parse.specs.Mentions.{Mention, item, parameter}
 
 -- [-] NUMBER, modulo 2^64
 pub data Signed : List Symbol → ℕ → List Symbol → Type 0 where

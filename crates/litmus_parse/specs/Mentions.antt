@@ -7,11 +7,8 @@ use Rattle.litmus_syntax.specs.declared.program.Variable.{Variable}
 use Rattle.litmus_cursor.specs.declared.words.VariableType.{VariableType}
 use Rattle.litmus_cursor.specs.declared.words.VariableType.TheVariants.{Char, Short, Int, Long, Atomic, Lock}
 use Rattle.litmus_cursor.specs.Words.{is_same}
+use Rattle.litmus_body.specs.Limits.{variables_limit}
 use Rattle.litmus_body.specs.Names.{Names, Numbered}
-
--- how many variables a program can have
-abbrev pub variables_limit : ℕ
-variables_limit = 32
 
 -- an item with or without a type and a value, which counts modulo 2^64, or a parameter with its type
 pub data Said : Type 0 where

@@ -1,8 +1,5 @@
 use Rattle.std.specs.Prelude.{◌≡◌, ◌≤◌, ◌⊎◌, ℕ}
-
--- how many bytes a litmus text can have
-abbrev pub file_bytes : ℕ
-file_bytes = 65536
+pub use Rattle.litmus_body.specs.Limits.{file_bytes}
 
 -- a byte that a litmus text may have: tab, LF, CR, or a blank to `~`
 abbrev pub IsTextByte : ℕ → Type 0

@@ -67,7 +67,7 @@ body-spelled : Statements x 1 [] [] (drop 9 small) small_body (drop 15 small) (c
 body-spelled =
     let changed : IsChanged x [] [] (codes "r0") 0 (codes "r0" ∷ []) = record { is = r0-new; counts_none = λ (k, lt, e). omega arith } in
     let loads = stronger (stronger (stronger (stronger (stronger (stronger (stronger (operand (a_load (plain x-is))))))))) in
-    next (simple (to_register changed (record { level = loads; limit = lit≤ tt }))) end
+    next (simple (λ more e. cc) (to_register changed (record { level = loads; limit = lit≤ tt }))) end
 
 keeps : KeepsLimits small_body
 keeps = record { statements = lit≤ tt; turns = (tt, tt); repeats = lit≤ tt; scopes = (tt, tt) }
