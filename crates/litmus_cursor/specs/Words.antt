@@ -1,5 +1,5 @@
 -- The words of the grammar, and the symbols that it is over.
-use Rattle.std.specs.Prelude.{ℕ, List, [], ◌∷◌, ◌==◌, Option, Some, None, Bool, true, false, codes, find, option_map}
+use Rattle.std.specs.Prelude.{ℕ, List, [], ◌∷◌, ◌==◌, Option, Some, None, Bool, true, false, codes, if◌then◌else◌}
 use Rattle.std.specs.Cmp.Lexicographic.{pointwise}
 use Rattle.litmus_lex.specs.declared.sign.Sign.{Sign}
 use Rattle.litmus_lex.specs.Token.{Terminal}
@@ -81,9 +81,14 @@ table =
 abbrev pub is_same : List ℕ → List ℕ → Bool
 is_same a b = pointwise ◌==◌ a b
 
+-- the word that a name is, in a table
+abbrev pub look_up : List (List ℕ × Word) → List ℕ → Option Word
+look_up [] name = None
+look_up (entry ∷ entries) name = if is_same entry.0 name then Some entry.1 else look_up entries name
+
 -- the word that a name is
-abbrev pub word_of : List ℕ → Option Word
-word_of name = option_map (λ (entry : List ℕ × Word). entry.1) (find (λ (entry : List ℕ × Word). is_same entry.0 name) table)
+unfoldable pub word_of : List ℕ → Option Word
+word_of = look_up table
 
 -- what the grammar sees of a token: a word, a name that is no word, a number, a sign, or what no rule takes
 pub data Symbol : Type 0 where

@@ -1,5 +1,8 @@
 //! The words of the grammar: names that no variable and no register has.
 
+ghost use Rattle.std.specs.Prelude.{◌≡◌, map};
+ghost use Rattle.litmus_cursor.specs.Words as words;
+
 use litmus_syntax::{Barrier, Mark, ReadForm, WriteForm};
 
 /// The type of a variable, as the text has it.
@@ -216,12 +219,22 @@ const WORDS: [(&str, Word); 57] = [
     ("volatile", Word::Foreign),
 ];
 
-/// The word that a name is.
-pub fn word_of(name: &[u8]) -> Option<Word> {
-    for (text, word) in WORDS {
+/// The word that a name is, in a table.
+fn look_up(mut table: &[(&str, Word)], name: &[u8]) -> Option<Word>
+    ensures { result ≡ words.look_up (map (λ entry. (entry.0.now, entry.1)) table.entry.now) name.now }
+{
+    while let [(text, word), rest @ ..] = table {
         if text.as_bytes() == name {
-            return Some(word);
+            return Some(*word);
         }
+        table = rest;
     }
     None
+}
+
+/// The word that a name is.
+pub fn word_of(name: &[u8]) -> Option<Word>
+    ensures { result ≡ words.word_of name.now }
+{
+    look_up(&WORDS, name)
 }
