@@ -1,2 +1,4 @@
 mod Spelled
 mod SmallProgram
+mod Refused
+mod RefusedOutside
