@@ -1,0 +1,9 @@
+pub mod Values
+pub mod Expressions
+pub mod Layout
+pub mod Task
+pub mod Loads
+pub mod Assignments
+pub mod Calls
+pub mod Meaning
+pub mod RunOfProgram

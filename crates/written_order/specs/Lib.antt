@@ -1,0 +1,5 @@
+pub mod Operations
+pub mod Standing
+pub mod Access
+pub mod WrittenOrder
+pub mod Waits
