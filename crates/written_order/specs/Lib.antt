@@ -1,4 +1,3 @@
-pub mod Operations
 pub mod Standing
 pub mod Access
 pub mod WrittenOrder

@@ -22,14 +22,18 @@ use Rattle.litmus_meaning.specs.Expressions.{loading_value, pure_value}
 use Rattle.litmus_meaning.specs.Loads.{exchange_kind, load_in, read_kind, variable_of}
 use Rattle.litmus_meaning.specs.Meaning.{Chooses, after_condition}
 use Rattle.litmus_meaning.specs.Task.{access_now, bytes_in, has_lock}
-use Rattle.litmus_meaning.specs.Values.{cut, sign_extended}
+use Rattle.litmus_meaning.specs.Values.{sign_extended}
+use Rattle.memory_operation.specs.Locks.{TakesLock}
+use Rattle.memory_operation.specs.declared.effect.Effect.{Effect}
+use Rattle.memory_operation.specs.declared.operation.Change.TheVariants as changes
+use Rattle.memory_operation.specs.declared.operation.Operation.{Operation}
+use Rattle.memory_operation.specs.declared.operation.Operation.TheVariants as operations
 use Rattle.setup_access.specs.Check.{Check, Close, Passes}
 use Rattle.setup_access.specs.Records.{MakesDone}
 use Rattle.setup_access.specs.declared.begun.Begun.{Begun}
 use Rattle.slot_table.specs.declared.records.Record.{Record}
 use Rattle.slot_table.specs.declared.step.Step.TheVariants.{LockStore}
-use Rattle.written_order.specs.Access.{Makes, Operation, adds, compares, leaves, loads, sum_in, updates, writes}
-use Rattle.written_order.specs.Operations.{TakesLock}
+use Rattle.written_order.specs.Access.{Makes}
 use Rattle.written_order.specs.Standing.{BeginsNow, EndsNothing, IsDisabled, IsLockAt, Point, Setting, Standing, checks_of, coming, counting, doing, lock_number, point_by, registered}
 
 -- what the records from here on are, up to those that are left, of a part of a text
@@ -37,11 +41,11 @@ abbrev pub Steps : Type 1
 Steps = Standing → List Record → Standing → List Record → Type 0
 
 -- the records begin with an access to a variable
-abbrev pub MakesTo : Setting → ℕ → ℕ → Kind → Operation → Standing → List Record → ℕ → Standing
-    → List Record → Type 0
-MakesTo s site x kind operation before records old after rest =
-    Makes s before (access_now s.text site before.progress (bytes_in s.text x) kind None) operation
-    records old after rest
+abbrev pub MakesTo : Setting → ℕ → ℕ → Kind → Operation → Standing → List Record → Effect
+    → Standing → List Record → Type 0
+MakesTo s site x kind operation before records effect after rest =
+    Makes s before (access_now s.text site before.progress (bytes_in s.text x) kind None)
+    (Some operation) records effect after rest
 
 -- how a load is made: the kind of its access, and its operation
 abbrev pub fetch_kind : Fetch → Kind
@@ -49,12 +53,12 @@ fetch_kind (tree.read form x) = read_kind form
 fetch_kind (tree.exchange x e) = exchange_kind
 fetch_kind (tree.compare_exchange x e f) = exchange_kind
 
-abbrev pub fetch_operation : List ℕ → ℕ → Fetch → Operation
-fetch_operation registers size (tree.read form x) = loads
-fetch_operation registers size (tree.exchange x e) =
-    updates (λ before. cut size (pure_value registers e))
-fetch_operation registers size (tree.compare_exchange x e f) =
-    compares (cut size (pure_value registers e)) (cut size (pure_value registers f))
+abbrev pub fetch_operation : List ℕ → Fetch → Operation
+fetch_operation registers (tree.read form x) = operations.Load
+fetch_operation registers (tree.exchange x e) =
+    operations.Change (changes.Exchange (pure_value registers e))
+fetch_operation registers (tree.compare_exchange x e f) =
+    operations.Change (changes.CompareExchange (pure_value registers e) (pure_value registers f))
 
 -- data_race( ) makes no step
 abbrev pub marked_so_often : ℕ → Happening → Standing → List Record → Standing
@@ -65,13 +69,13 @@ abbrev pub StepsOfLoad : Setting → ℕ → Load → Standing → List Record �
     → Type 0
 StepsOfLoad s site load before records loaded after rest =
     let x = variable_of load.fetch in
-    let size = (bytes_in s.text x).size in
-    (old : ℕ) × (between : Standing)
+    (old : ℕ) × (effect : Effect) × (between : Standing)
     × MakesTo s site x (fetch_kind load.fetch)
-    (fetch_operation before.progress.registers size load.fetch)
+    (fetch_operation before.progress.registers load.fetch)
     (marked_so_often load.data_races (happenings.Mark marks.Disable) before records) records
-    old between rest
-    × (loaded ≡ sign_extended size old)
+    effect between rest
+    × (effect.read ≡ Some old)
+    × (loaded ≡ sign_extended (bytes_in s.text x).size old)
     × (after ≡ marked_so_often load.data_races (happenings.Mark marks.Enable) between rest)
 
 -- the records begin with the load of an expression, if it has one; then its value is this
@@ -83,10 +87,6 @@ StepsOfExpression s site (tree.loading e) before records value after rest =
     (loaded : ℕ) × StepsOfLoad s site (load_in e) before records loaded after rest
     × (value ≡ loading_value before.progress.registers loaded e)
 
--- the sum is made anew from each word that an exchange starts from
-abbrev pub atomic_sum : Setting → ℕ → ℕ → Operation
-atomic_sum s x amount = updates (λ old. sum_in (bytes_in s.text x).size old amount)
-
 -- the records begin with an assignment
 abbrev pub StepsOfAssignment : Setting → ℕ → Assignment → Standing → List Record → Standing
     → List Record → Type 0
@@ -95,22 +95,26 @@ StepsOfAssignment s site (tree.to_register r e) before records after rest =
     × StepsOfExpression s site e before records value between rest
     × (after ≡ registered between rest r value)
 StepsOfAssignment s site (tree.write form x e) before records after rest =
-    (old : ℕ) × MakesTo s site x (write_kind form)
-    (writes (cut (bytes_in s.text x).size (pure_value before.progress.registers e)))
-    before records old after rest
+    (effect : Effect) × MakesTo s site x (write_kind form)
+    (operations.Change (changes.Write (pure_value before.progress.registers e)))
+    before records effect after rest
 StepsOfAssignment s site (tree.add x e) before records after rest =
-    (old : ℕ) × MakesTo s site x compound_kind (adds (pure_value before.progress.registers e))
-    before records old after rest
+    (effect : Effect) × MakesTo s site x compound_kind
+    (operations.Add (pure_value before.progress.registers e)) before records effect after rest
 StepsOfAssignment s site (tree.increment x) before records after rest =
-    (old : ℕ) × MakesTo s site x compound_kind (adds 1) before records old after rest
+    (effect : Effect) × MakesTo s site x compound_kind (operations.Add 1)
+    before records effect after rest
 StepsOfAssignment s site (tree.atomic_add e x) before records after rest =
-    (old : ℕ) × MakesTo s site x exchange_kind
-    (atomic_sum s x (pure_value before.progress.registers e)) before records old after rest
+    (effect : Effect) × MakesTo s site x exchange_kind
+    (operations.Change (changes.AtomicAdd (pure_value before.progress.registers e)))
+    before records effect after rest
 StepsOfAssignment s site (tree.atomic_increment x) before records after rest =
-    (old : ℕ) × MakesTo s site x exchange_kind (atomic_sum s x 1) before records old after rest
+    (effect : Effect) × MakesTo s site x exchange_kind
+    (operations.Change (changes.AtomicAdd 1)) before records effect after rest
+-- to take 1 away is to add the number of 64 bits that is -1
 StepsOfAssignment s site (tree.atomic_decrement x) before records after rest =
-    (old : ℕ) × MakesTo s site x exchange_kind (atomic_sum s x (2 ^ 64 - 1))
-    before records old after rest
+    (effect : Effect) × MakesTo s site x exchange_kind
+    (operations.Change (changes.AtomicAdd (2 ^ 64 - 1))) before records effect after rest
 
 -- the same inside data_race( ) or not
 abbrev pub StepsInDataRace : Setting → ℕ → Bool → Assignment → Standing → List Record → Standing
@@ -136,8 +140,8 @@ MakesMark s m before records after rest =
 abbrev pub ChecksAt : Setting → ℕ → Bytes → Kind → Option ℕ → Standing → List Record → Standing
     → List Record → Type 0
 ChecksAt s site bytes kind mask before records after rest =
-    (old : ℕ) × Makes s before (access_now s.text site before.progress bytes kind mask) leaves
-    records old after rest
+    (effect : Effect) × Makes s before (access_now s.text site before.progress bytes kind mask)
+    None records effect after rest
 
 -- the records begin with a call that gives no value; a scoped assertion is its block's
 abbrev pub StepsOfCall : Setting → ℕ → Call → Standing → List Record → Standing → List Record

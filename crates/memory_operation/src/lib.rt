@@ -1,0 +1,10 @@
+//! The steps that an access makes on memory, between its check and its end, and the tries of a
+//! lock. Both are machines that say the next step and take its answer. They know no check, no
+//! program and no thread: only bytes, the cell that holds them, and what is done to them.
+#![tactic(auto)]
+
+pub mod effect;
+pub mod operation;
+
+pub use effect::Effect;
+pub use operation::{Change, Operation};
