@@ -11,3 +11,4 @@ pub mod LeadsLemmas
 pub mod NextLemmas
 pub mod LawLemmas
 pub mod DisciplineLemmas
+pub mod LocksLemmas
