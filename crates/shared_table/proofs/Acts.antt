@@ -1,0 +1,34 @@
+-- Each kind of step acts on one word of the row.
+use Rattle.std.proofs.Common.{◌≡◌, ℕ, ◌<◌, List, length, map, set, get_or, ap, ◌∙◌, arith}
+use Rattle.std.proofs.lemmas.List.{get_or-set_other}
+use Rattle.slot.specs.Line.{Line}
+use Rattle.slot_table.specs.StepLine.{watch_word_line}
+use Rattle.slot_table.specs.Words.{Words}
+use Rattle.slot_table.specs.declared.step.Answer.{Answer}
+use Rattle.shared_table.specs.Given.{Given}
+use Rattle.shared_table.specs.Row.{cells_from, clock_at, halves_in, indices, locks_from, pairs_from, row_length, section, words_in}
+use Rattle.shared_table.proofs.Sections.{section_at, section_before, section_here}
+
+-- one list of words in place of another
+abbrev pub words_path : (a b : Words) → a.watch_words ≡ b.watch_words → a.pair_words ≡ b.pair_words → a.cells ≡ b.cells → a.locks ≡ b.locks → a.clock ≡ b.clock → a ≡ b
+words_path a b watch pair cell lock clock = λ i. record { watch_words = watch i; pair_words = pair i; cells = cell i; locks = lock i; clock = clock i }
+
+module _ (given : Given) (row : List ℕ) (counts : length row ≡ row_length given) where
+  -- a line of a watch word acts on the word at its index
+  module _ {A : Type 0} (line : ℕ → Line A ℕ) (answer : A → Answer) (index : ℕ) (within : index < indices given) where
+    abbrev watch_at : get_or row index 0 ≡ get_or (section 0 (indices given) row) index 0
+    watch_at = section_at 0 (indices given) row index index (omega arith) within
+
+    pub watch_after : words_in given (set row index (line (get_or row index 0)).after) ≡ (watch_word_line line answer (words_in given row) index).after
+    watch_after =
+        let new : ℕ = (line (get_or row index 0)).after in
+        words_path (words_in given (set row index new)) (watch_word_line line answer (words_in given row) index).after
+        (section_here 0 (indices given) row index index new (omega arith) within
+        ∙ ap (λ (old : ℕ). set (section 0 (indices given) row) index (line old).after) watch_at)
+        (ap (λ (words : List ℕ). map halves_in words) (section_before (pairs_from given) (indices given) row index new within))
+        (section_before (cells_from given) (length given.cells) row index new (omega arith))
+        (section_before (locks_from given) given.locks row index new (omega arith))
+        (get_or-set_other row index (clock_at given) new 0 (λ same. omega arith))
+
+    pub watch_answers : answer (line (get_or row index 0)).answer ≡ (watch_word_line line answer (words_in given row) index).answer
+    watch_answers = ap (λ (old : ℕ). answer (line old).answer) watch_at

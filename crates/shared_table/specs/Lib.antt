@@ -1,0 +1,6 @@
+pub mod Given
+pub mod Row
+pub mod Views
+pub mod RunningWords
+pub mod Plays
+pub mod Seats

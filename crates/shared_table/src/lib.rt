@@ -1,0 +1,15 @@
+//! The shared words: all words of a run as one row of atomic words, on which many threads make
+//! their steps at once, without a lock. Each task has a seat, the token of all that it has seen.
+//! Between any two steps the words stand as after some legal list of steps, whose records of each
+//! task are those that the task's seat holds.
+#![tactic(auto)]
+
+mod opening;
+mod plays;
+mod rule;
+pub mod seat;
+pub mod table;
+mod view;
+
+pub use seat::TaskSeat;
+pub use table::SharedTable;

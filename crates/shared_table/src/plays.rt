@@ -1,0 +1,48 @@
+//! What each kind of step tells the seat that makes it: that it has noted this step, with the
+//! answer that the word found gives. And how a seat of all tasks is cut into one seat a task.
+
+ghost use Rattle.shared_table.specs.Plays.{Consumes, Inserts, Loads, Removes, TriesToConsume};
+
+use crate::view::View;
+use atomic_table::{Play, Split};
+
+pub struct Load;
+
+impl Play<(), View> for Load {
+    ghost then = { Loads };
+}
+
+pub struct Insert;
+
+impl Play<(), View> for Insert {
+    ghost then = { Inserts };
+}
+
+pub struct TryConsume;
+
+impl Play<(), View> for TryConsume {
+    ghost then = { TriesToConsume };
+}
+
+pub struct Consume;
+
+impl Play<(), View> for Consume {
+    ghost then = { Consumes };
+}
+
+pub struct Remove;
+
+impl Play<(), View> for Remove {
+    ghost then = { Removes };
+}
+
+/// The first task of a seat gets a seat of its own.
+pub struct FirstTask;
+
+impl Split<View> for FirstTask {
+    ghost use Rattle.shared_table.specs.Views.{first_of, without_first};
+
+    ghost left = { λ v. record v { held = without_first v.held } };
+
+    ghost right = { λ v. record v { held = first_of v.held } };
+}

@@ -1,0 +1,133 @@
+//! A task's seat: the token of what the task has seen. Each step on the shared words needs it and
+//! keeps it.
+
+ghost use Rattle.std.specs.Prelude.{◌≡◌, ◌<◌, []};
+ghost use Rattle.slot_table.specs.Answer.{Answers};
+ghost use Rattle.slot_table.specs.declared.step.Step.TheVariants as steps;
+ghost use Rattle.shared_table.specs.Seats.{MayMake, seat_after};
+ghost use Rattle.shared_table.specs.Views.{alone};
+
+use crate::plays;
+use crate::table::SharedTable;
+use crate::view::View;
+use atomic_table::Seat;
+use slot::CONSUMED;
+use slot_table::Answer;
+use std::marker::Model;
+
+/// The token of what a task has seen.
+#[derive(Drop)]
+pub struct TaskSeat {
+    task: u32,
+    /// Whether a handshake is in hand.
+    is_open: bool,
+    seat: Seat<(), View>,
+}
+
+impl Model for TaskSeat {
+    ghost use Rattle.std.specs.Prelude.{◌≡◌, ◌<◌, ◌≤◌, [], is_some};
+    ghost use Rattle.slot_table.specs.Discipline.{in_hand};
+    ghost use Rattle.shared_table.specs.Seats.{Sitting};
+    ghost use Rattle.shared_table.specs.Views.{alone, own_records};
+
+    ghost Value = { Sitting };
+
+    ghost view = { λ s. record {
+      table = record { id = s.seat.table_id; given = s.seat.me.0.opening };
+      task = s.task;
+      records = own_records s.seat.me.0.held;
+    } };
+
+    ghost invariant = { λ s.
+        (s.seat.me ≡ (alone s.seat.me.0.opening s.task (own_records s.seat.me.0.held), []))
+        × (s.is_open ≡ is_some (in_hand (own_records s.seat.me.0.held)))
+        × (s.task < s.seat.me.0.opening.tasks) };
+}
+
+impl TaskSeat {
+    /// A seat of a task that has made no step.
+    pub(crate) fn new(task: u32, seat: Seat<(), View>) -> TaskSeat
+        requires alone { seat.me ≡ (alone seat.me.0.opening task [], []) }
+        requires below { task < seat.me.0.opening.tasks }
+        ensures { result ≡ record {
+          table = record { id = seat.table_id; given = seat.me.0.opening };
+          task = task;
+          records = [];
+        } }
+    {
+        TaskSeat {
+            task,
+            is_open: false,
+            seat,
+        }
+    }
+
+    /// Reads the watch word at an index.
+    pub(crate) fn load(&mut self, table: &SharedTable, index: usize) -> Answer
+        requires table { self.old.table ≡ table.now }
+        requires may { MayMake self.old (steps.Load index) }
+        ensures kind { Answers (steps.Load index) result }
+        ensures made { self.new ≡ seat_after self.old (steps.Load index) result }
+    {
+        Answer::Word(table.row.shared.load::<plays::Load>(&mut self.seat, index))
+    }
+
+    /// Sets up a watchpoint at an index, if there is none.
+    pub(crate) fn insert(&mut self, table: &SharedTable, index: usize, word: u64) -> Answer
+        requires table { self.old.table ≡ table.now }
+        requires may { MayMake self.old (steps.Insert index word) }
+        ensures kind { Answers (steps.Insert index word) result }
+        ensures made { self.new ≡ seat_after self.old (steps.Insert index word) result }
+    {
+        let shared = &table.row.shared;
+        let found = shared.compare_exchange::<plays::Insert>(&mut self.seat, index, 0, word);
+        self.is_open = found == 0;
+        Answer::Flag(self.is_open)
+    }
+
+    /// Claims the watchpoint at an index, if it is still this word.
+    pub(crate) fn try_consume(&mut self, table: &SharedTable, index: usize, word: u64) -> Answer
+        requires table { self.old.table ≡ table.now }
+        requires may { MayMake self.old (steps.TryConsume index word) }
+        ensures kind { Answers (steps.TryConsume index word) result }
+        ensures made { self.new ≡ seat_after self.old (steps.TryConsume index word) result }
+    {
+        let shared = &table.row.shared;
+        let found = shared.compare_exchange::<plays::TryConsume>(
+            &mut self.seat,
+            index,
+            word,
+            CONSUMED,
+        );
+        self.is_open = found == word;
+        Answer::Flag(self.is_open)
+    }
+
+    /// Ends the watch at an index.
+    pub(crate) fn consume(&mut self, table: &SharedTable, index: usize) -> Answer
+        requires table { self.old.table ≡ table.now }
+        requires may { MayMake self.old (steps.Consume index) }
+        ensures kind { Answers (steps.Consume index) result }
+        ensures made { self.new ≡ seat_after self.old (steps.Consume index) result }
+    {
+        let shared = &table.row.shared;
+        let found = shared.swap::<plays::Consume>(&mut self.seat, index, CONSUMED);
+        self.is_open = true;
+        Answer::Flag(found != 0 && found != CONSUMED)
+    }
+
+    /// Frees an index.
+    pub(crate) fn remove(&mut self, table: &SharedTable, index: usize) -> Answer
+        requires table { self.old.table ≡ table.now }
+        requires may { MayMake self.old (steps.Remove index) }
+        ensures kind { Answers (steps.Remove index) result }
+        ensures made { self.new ≡ seat_after self.old (steps.Remove index) result }
+    {
+        table
+            .row
+            .shared
+            .store::<plays::Remove>(&mut self.seat, index, 0);
+        self.is_open = false;
+        Answer::Done
+    }
+}
