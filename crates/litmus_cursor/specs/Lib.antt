@@ -1,3 +1,4 @@
 pub mod Cursor
 pub mod Words
 pub mod Spots
+pub mod Front

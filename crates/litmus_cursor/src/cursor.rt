@@ -84,7 +84,12 @@ pub struct Cursor<'a> {
 }
 
 impl<'a> Cursor<'a> {
+    ghost use Rattle.std.specs.Prelude.{true, IfSome, OnErr, if◌then◌else◌, option_map};
+    ghost use Rattle.litmus_lex.specs.declared.sign.Sign.TheVariants.{Ampersand, Star};
     ghost use Rattle.litmus_cursor.specs.Cursor.{count_left, is_end, next_of, rest_of, spots_left};
+    ghost use Rattle.litmus_cursor.specs.Front.{Answers, begins_call, first, is_sign, others, symbol_of_token, symbols_left, take_sign, take_signed, word_at, identifier_at, now};
+    ghost use Rattle.litmus_cursor.specs.Words as words;
+    ghost use Rattle.litmus_cursor.specs.Front as front;
 
     /// All tokens of a text with so many bytes.
     pub fn new(spots: &'a [Spot<'a>], end: usize) -> Cursor<'a>
@@ -103,6 +108,7 @@ impl<'a> Cursor<'a> {
     /// The token that is next, or the end.
     pub fn token(&self) -> Token<'a>
         ensures value { result ≡ next_of (spots_left self.now) }
+        ensures symbol { symbol_of_token result ≡ first (symbols_left self.now) }
         ensures some { is_end result ≡ false → 0 < count_left self.now }
     {
         match self.left {
@@ -112,7 +118,9 @@ impl<'a> Cursor<'a> {
     }
 
     /// The token after it.
-    fn second(&self) -> Token<'a> {
+    fn second(&self) -> Token<'a>
+        ensures { symbol_of_token result ≡ first (others (symbols_left self.now)) }
+    {
         match self.left {
             [_, second, ..] => second.token,
             _ => Token::End,
@@ -131,6 +139,7 @@ impl<'a> Cursor<'a> {
     pub fn advance(&mut self)
         ensures rest { spots_left self.new ≡ rest_of (spots_left self.old) }
         ensures shorter { count_left self.new ≡ count_left self.old - 1 }
+        ensures symbols { symbols_left self.new ≡ others (symbols_left self.old) }
     {
         if let [_, rest @ ..] = self.left {
             self.left = rest;
@@ -139,14 +148,21 @@ impl<'a> Cursor<'a> {
 
     /// Whether the sign is next.
     pub fn is_at(&self, sign: Sign) -> bool
-        ensures { IsTrue result → 0 < count_left self.now }
+        ensures exact { result ≡ is_sign sign (first (symbols_left self.now)) }
+        ensures some { IsTrue result → 0 < count_left self.now }
     {
-        self.token() == Token::Sign(sign)
+        match self.token() {
+            Token::Sign(found) => found == sign,
+            _ => false,
+        }
     }
 
     /// Whether a name is next, and then `(`.
-    pub fn is_at_call(&self) -> bool {
-        matches!(self.token(), Token::Name(_)) && self.second() == Token::Sign(Sign::OpenParen)
+    pub fn is_at_call(&self) -> bool
+        ensures { result ≡ begins_call (symbols_left self.now) }
+    {
+        matches!(self.token(), Token::Name(_))
+            && matches!(self.second(), Token::Sign(Sign::OpenParen))
     }
 
     /// Whether a number is next, and then `:`.
@@ -155,18 +171,24 @@ impl<'a> Cursor<'a> {
     }
 
     /// Whether the sign is next, and then a name.
-    pub fn is_before_name(&self, sign: Sign) -> bool {
+    pub fn is_before_name(&self, sign: Sign) -> bool
+        ensures { IsTrue result → IsTrue (is_sign sign (first (symbols_left self.now))) }
+    {
         self.is_at(sign) && matches!(self.second(), Token::Name(_))
     }
 
     /// Whether `*` is next, and then `*` again.
-    fn is_at_two_stars(&self) -> bool {
+    fn is_at_two_stars(&self) -> bool
+        ensures { IsTrue result → IsTrue (is_sign Star (first (symbols_left self.now))) }
+    {
         self.is_at(Sign::Star) && self.second() == Token::Sign(Sign::Star)
     }
 
     /// The word that is next.
     pub fn word(&self) -> Option<Word>
-        ensures { IsSome result → 0 < count_left self.now }
+        ensures exact { result ≡ word_at (first (symbols_left self.now)) }
+        ensures found { IfSome result (λ found. first (symbols_left self.now) ≡ words.word found) }
+        ensures some { IsSome result → 0 < count_left self.now }
     {
         match self.token() {
             Token::Name(name) => word_of(name),
@@ -174,8 +196,22 @@ impl<'a> Cursor<'a> {
         }
     }
 
+    /// The name that is next, if it is no word.
+    pub fn identifier(&self) -> Option<&'a [u8]>
+        ensures exact { option_map now result ≡ identifier_at (first (symbols_left self.now)) }
+        ensures found { IfSome result (λ name. first (symbols_left self.now) ≡ words.identifier name.now) }
+        ensures some { IsSome result → 0 < count_left self.now }
+    {
+        match self.token() {
+            Token::Name(name) if word_of(name).is_none() => Some(name),
+            _ => None,
+        }
+    }
+
     /// Takes the sign, if it is next.
     pub fn accept(&mut self, sign: Sign) -> bool
+        ensures exact { result ≡ is_sign sign (first (symbols_left self.old)) }
+        ensures symbols { symbols_left self.new ≡ (if result then others (symbols_left self.old) else symbols_left self.old) }
         ensures moves { IsTrue result → count_left self.new < count_left self.old }
         ensures stays { count_left self.new ≤ count_left self.old }
     {
@@ -199,8 +235,10 @@ impl<'a> Cursor<'a> {
     }
 
     /// Takes the sign.
+    #[tactic(auto, unfolding(crate::specs::Front::take_sign))]
     pub fn take(&mut self, sign: Sign) -> Result<(), Refusal>
-        ensures { OnOk result (count_left self.new < count_left self.old) }
+        ensures moves { OnOk result (count_left self.new < count_left self.old) }
+        ensures reads { Answers result (λ _. symbols_left self.new) (take_sign sign (symbols_left self.old)) }
     {
         if self.accept(sign) {
             Ok(())
@@ -210,8 +248,10 @@ impl<'a> Cursor<'a> {
     }
 
     /// Takes a number.
+    #[tactic(auto, unfolding(crate::specs::Front::take_number))]
     pub fn take_number(&mut self) -> Result<u64, Refusal>
-        ensures { OnOk result (count_left self.new < count_left self.old) }
+        ensures moves { OnOk result (count_left self.new < count_left self.old) }
+        ensures reads { Answers result (λ value. (value, symbols_left self.new)) (front.take_number (symbols_left self.old)) }
     {
         let Token::Number(number) = self.token() else {
             return Err(self.offence());
@@ -221,8 +261,10 @@ impl<'a> Cursor<'a> {
     }
 
     /// Takes a number or its negative, modulo 2^64.
+    #[tactic(auto, unfolding(crate::specs::Front::take_signed))]
     pub fn take_signed_number(&mut self) -> Result<u64, Refusal>
-        ensures { OnOk result (count_left self.new < count_left self.old) }
+        ensures moves { OnOk result (count_left self.new < count_left self.old) }
+        ensures reads { Answers result (λ value. (value, symbols_left self.new)) (take_signed (symbols_left self.old)) }
     {
         if self.accept(Sign::Minus) {
             return Ok(self.take_number()?.wrapping_neg());
@@ -263,8 +305,10 @@ impl<'a> Cursor<'a> {
     }
 
     /// Takes the sign that a form of statement has.
+    #[tactic(auto, unfolding(crate::specs::Front::take_sign))]
     pub fn take_of_form(&mut self, sign: Sign) -> Result<(), Refusal>
-        ensures { OnOk result (count_left self.new < count_left self.old) }
+        ensures moves { OnOk result (count_left self.new < count_left self.old) }
+        ensures reads { Answers result (λ _. symbols_left self.new) (take_sign sign (symbols_left self.old)) }
     {
         if self.accept(sign) {
             Ok(())
@@ -274,7 +318,9 @@ impl<'a> Cursor<'a> {
     }
 
     /// An address of a variable, where a variable may stand, is unsupported.
-    pub fn refuse_address(&self) -> Result<(), Refusal> {
+    pub fn refuse_address(&self) -> Result<(), Refusal>
+        ensures { OnErr result (IsTrue (is_sign Ampersand (first (symbols_left self.now)))) }
+    {
         if self.is_before_name(Sign::Ampersand) {
             Err(self.unsupported())
         } else {
@@ -283,7 +329,9 @@ impl<'a> Cursor<'a> {
     }
 
     /// A pointer, where a name is declared, is unsupported.
-    pub fn refuse_pointer(&self) -> Result<(), Refusal> {
+    pub fn refuse_pointer(&self) -> Result<(), Refusal>
+        ensures { OnErr result (IsTrue (is_sign Star (first (symbols_left self.now)))) }
+    {
         if self.is_before_name(Sign::Star) || self.is_at_two_stars() {
             Err(self.unsupported())
         } else {
@@ -292,7 +340,10 @@ impl<'a> Cursor<'a> {
     }
 
     /// A call of a function that the format doesn't have is unsupported.
-    pub fn refuse_call(&self) -> Result<(), Refusal> {
+    pub fn refuse_call(&self) -> Result<(), Refusal>
+        ensures ok { OnOk result (begins_call (symbols_left self.now) ≡ false) }
+        ensures err { OnErr result (begins_call (symbols_left self.now) ≡ true) }
+    {
         if self.is_at_call() {
             Err(self.unsupported())
         } else {
