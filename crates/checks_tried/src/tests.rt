@@ -1,6 +1,7 @@
 //! Checkers of some tasks over one board. The steps of each row are written out, and so is what comes of
 //! them; the steps of memory, and the end that follows them, are the test's own.
 
+use crate::reading::{Reading, read_check, read_on};
 use access_types::{Access, AccessError, Claim, Kind, Operation, Sites, ValueChange};
 use setup_access::{Checker, CheckerError, Outcome, Rules};
 use slot::Pair;
@@ -9,7 +10,7 @@ use slot_table::Step::{
     CellExchange, CellLoad, Clear, Clock, Consume, Insert, Load, Name, PairLoad, Remove, Tell,
     TryConsume,
 };
-use slot_table::{Answer, Board, PlainBoard, Shape, Step};
+use slot_table::{Answer, Board, PlainBoard, Record, Shape, Step};
 use std::alloc::Global;
 use std::process::Abort;
 use std::test::Fail;
@@ -70,13 +71,15 @@ enum Move {
     Makes(Step, Answer),
     /// The test makes the step for it.
     Memory(Step, Answer),
+    /// So many outcomes have come of its check so far.
+    Has(usize),
     /// The outcome with this number is this one.
     Gives(usize, Outcome),
     /// A finder told.
     Told(usize, u32, u32),
     /// A setter reports two sides.
     Reports(usize, u32, u32, Option<(u64, u64)>),
-    /// Its check is over, with so many outcomes.
+    /// Its check is over, with so many outcomes, and its records are all of what is done.
     Over(usize),
     /// Its wait had as many vain tries as the rules allow.
     Stuck,
@@ -84,7 +87,7 @@ enum Move {
     Closes,
 }
 
-use Move::{Begin, Closes, Gives, Makes, Memory, Opens, Over, Reports, Stuck, Told};
+use Move::{Begin, Closes, Gives, Has, Makes, Memory, Opens, Over, Reports, Stuck, Told};
 
 const READ: Spot = Spot {
     kind: Kind::Plain(Operation::Read),
@@ -136,6 +139,16 @@ const RACE: [(u32, Move); 20] = [
     (0, Memory(CellLoad(0), Word(1))),
 ];
 
+/// A task of a row.
+#[derive(Debug, Drop)]
+struct Player {
+    checker: Checker,
+    /// Reads the records that the checker has made.
+    reader: Checker,
+    /// The records since the task's access began or its scope ended.
+    made: Vec<Record>,
+}
+
 /// Makes the step that a checker says, and gives it the answer.
 fn make_step(
     rt: &impl Abort,
@@ -155,10 +168,11 @@ fn make(
     rt: &impl Abort,
     board: &mut PlainBoard,
     sites: &Sites,
-    checker: &mut Checker,
+    player: &mut Player,
     task: u32,
     made: Move,
 ) {
+    let checker = &mut player.checker;
     match made {
         Begin(spot) => {
             assert!(rt; task < 16);
@@ -166,11 +180,16 @@ fn make(
             let access = access.expect(rt, "an access");
             assert!(rt; access.size() > 0);
             checker.begin(&access);
+            player.reader.begin(&access);
+            player.made.clear();
         }
         Makes(step, answer) => {
             let made = make_step(rt, board, sites, checker);
             assert_eq!(rt; made, (step, answer));
+            let pushed = player.made.push(Record { task, step, answer });
+            assert!(rt; pushed.is_ok());
         }
+        Has(count) => assert_eq!(rt; checker.outcomes().len(), count),
         Memory(step, answer) => {
             assert!(rt; board.has(step));
             assert_eq!(rt; board.step(step), answer, "at {step:?}");
@@ -193,13 +212,23 @@ fn make(
             assert_eq!(rt; checker.next(), None);
             assert!(rt; !checker.stuck());
             assert_eq!(rt; checker.outcomes().len(), count);
+            let reading = read_on(&mut player.reader, sites, task, &player.made);
+            assert_eq!(rt; reading, Reading::Whole);
+            assert_eq!(rt; player.reader.outcomes(), checker.outcomes());
         }
         Stuck => {
             assert_eq!(rt; checker.next(), None);
             assert!(rt; checker.stuck());
         }
-        Opens => checker.open_scoped(),
-        Closes => checker.close_scoped(),
+        Opens => {
+            checker.open_scoped();
+            player.reader.open_scoped();
+        }
+        Closes => {
+            checker.close_scoped();
+            player.reader.close_scoped();
+            player.made.clear();
+        }
     }
 }
 
@@ -237,22 +266,29 @@ fn play_with(
         assert!(rt; sites.get(access_types::ticket(&access)).is_none());
         sites.add(&access)?;
     }
-    let mut checkers = Vec::new(alloc);
+    let mut players = Vec::new(alloc);
     for task in 0..4 {
         let mut checker = Checker::new(alloc, task, &rules, &CELLS)?;
+        let mut reader = Checker::new(alloc, task, &rules, &CELLS)?;
         if task == silenced {
             checker.context().disable();
+            reader.context().disable();
         }
-        checkers.push(checker)?;
+        let made = Vec::new(alloc);
+        players.push(Player {
+            checker,
+            reader,
+            made,
+        })?;
     }
     for part in moves {
         for (task, made) in *part {
-            assert!(rt; (*task as usize) < checkers.len());
+            assert!(rt; (*task as usize) < players.len());
             make(
                 rt,
                 &mut board,
                 &sites,
-                &mut checkers[*task as usize],
+                &mut players[*task as usize],
                 *task,
                 *made,
             );
@@ -644,6 +680,95 @@ fn range_past_the_mask(rt: HostRuntime) -> Result<(), Fail> {
     play(&rt, rt.alloc(), rules, &accesses, &moves)
 }
 
+/// Task 3 reads the fourth variable of a page on which three watchpoints stand.
+#[test]
+fn full_slots(rt: HostRuntime) -> Result<(), Fail> {
+    let d = Spot {
+        addr: 0x100c0,
+        ..READ
+    };
+    let words: [u64; 3] = [R, 0x0008_0000_0001_0040, 0x0008_0000_0001_0080];
+    let tried: u64 = 0x0008_0000_0001_00c0;
+    let moves = [
+        (0, Memory(Insert(17, words[0]), Flag(true))),
+        (1, Memory(Insert(18, words[1]), Flag(true))),
+        (2, Memory(Insert(16, words[2]), Flag(true))),
+        (3, Begin(d)),
+        (3, Makes(Clock, Word(0))),
+        (3, Makes(Load(16), Word(words[2]))),
+        (3, Makes(Load(17), Word(words[0]))),
+        (3, Makes(Load(18), Word(words[1]))),
+        (3, Makes(Insert(17, tried), Flag(false))),
+        (3, Makes(Insert(18, tried), Flag(false))),
+        (3, Has(0)),
+        (3, Makes(Insert(16, tried), Flag(false))),
+        (3, Has(1)),
+        (3, Gives(0, Outcome::Capacity)),
+        (3, Over(1)),
+    ];
+    play(&rt, rt.alloc(), RULES, &[(3, d)], &[&moves])
+}
+
+/// Records that aren't all of a check: one is missing or too many, a step or the task is another, or
+/// an answer is of another kind.
+#[test]
+fn other_records_are_no_check(rt: HostRuntime) -> Result<(), Fail> {
+    let of = |step, answer| Record {
+        task: 1,
+        step,
+        answer,
+    };
+    let loads = [
+        of(Clock, Word(1)),
+        of(Load(16), Word(0)),
+        of(Load(17), Word(R)),
+    ];
+    let lost = [
+        loads[0],
+        loads[1],
+        loads[2],
+        of(TryConsume(17, R), Flag(false)),
+    ];
+    let waits = of(PairLoad(17), Halves(0, 0));
+    let told = [
+        loads[0],
+        loads[1],
+        loads[2],
+        of(TryConsume(17, R), Flag(true)),
+        waits,
+        of(PairLoad(17), Halves(T0, 0)),
+        of(Tell(17, T1), Done),
+    ];
+    let stuck = [told[0], told[1], told[2], told[3], waits, waits, waits];
+    let mut one_more = [told[0]; 8];
+    one_more[..7].copy_from_slice(&told);
+    let mut other_step = told;
+    other_step[1] = of(Load(18), Word(0));
+    let mut other_task = lost;
+    other_task[3].task = 2;
+    let mut other_kind = lost;
+    other_kind[3].answer = Word(0);
+    let rows: [(&[Record], Reading); 8] = [
+        (&lost, Reading::Whole),
+        (&told, Reading::Whole),
+        (&loads, Reading::Other),
+        (&one_more, Reading::Other),
+        (&other_step, Reading::Other),
+        (&other_task, Reading::Other),
+        (&other_kind, Reading::Other),
+        (&stuck, Reading::Stuck),
+    ];
+    let sites = Sites::new(rt.alloc());
+    let write = Access::new(1, 0, WRITE.addr, WRITE.size, WRITE.kind, None)?;
+    assert!(rt; write.size() > 0 && write.task() < 16);
+    let rules = Rules { turns: 2, ..RULES };
+    for (number, (records, reading)) in rows.iter().enumerate() {
+        let (read, _) = read_check(rt.alloc(), &rules, &CELLS, &sites, &write, records)?;
+        assert_eq!(rt; read, *reading, "at {number}");
+    }
+    Ok(())
+}
+
 /// Makes so many steps of a checker.
 fn run(rt: &impl Abort, board: &mut PlainBoard, sites: &Sites, checker: &mut Checker, steps: u64) {
     for _ in 0..steps {
@@ -710,5 +835,18 @@ fn limits_of_slots(rt: HostRuntime) {
     for slots in [3, 1024] {
         let rules = Rules { slots, ..RULES };
         assert!(rt; Checker::new(rt.alloc(), 0, &rules, &CELLS).is_ok());
+    }
+}
+
+#[test]
+fn a_new_checker_or_no_memory(rt: HostRuntime) {
+    // Each growth refused in turn, by `rt try --test --fail-alloc N`, is answered so.
+    match Checker::new(rt.alloc(), 0, &RULES, &CELLS) {
+        Ok(checker) => {
+            assert_eq!(rt; checker.next(), None);
+            assert!(rt; !checker.stuck());
+            assert_eq!(rt; checker.outcomes().len(), 0);
+        }
+        Err(error) => assert_eq!(rt; error, CheckerError::OutOfMemory),
     }
 }
