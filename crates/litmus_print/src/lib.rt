@@ -7,6 +7,3 @@ mod scope;
 mod statement;
 
 pub use program::print;
-
-#[cfg(test)]
-mod tests;
