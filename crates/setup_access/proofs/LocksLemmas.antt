@@ -1,5 +1,5 @@
 -- A check touches no lock: what holds of the records after it, and of a list with one more step in front that is none of a lock, holds of its records.
-use Rattle.std.proofs.Common.{◌≡◌, ◌⊎◌, ◌<◌, ◌||◌, [], ◌∷◌, ◌+◌, ℕ, Bool, true, false, List, Option, None, Some, MatchBool, MatchOption, inl, inr, subst, sym}
+use Rattle.std.proofs.Common.{◌≡◌, ◌||◌, [], ◌∷◌, ◌+◌, ℕ, Bool, true, false, List, Option, None, Some, MatchBool, MatchOption, inl, inr, subst, sym}
 use Rattle.access_types.specs.Access.{Access}
 use Rattle.access_types.specs.Ticket.{ticket_number}
 use Rattle.slot.specs.Pair.{Halves}
@@ -12,15 +12,14 @@ use Rattle.watch_word.specs.Word.{word_of}
 use Rattle.setup_access.specs.Check as cases
 use Rattle.setup_access.specs.Check.{Check, ChecksOnce, Close, Ends, GoesOn, NoneFound, Pass, Passes, Rechecks, left_to_check}
 use Rattle.setup_access.specs.Find.{LooksUp}
-use Rattle.setup_access.specs.Found.{FoundWatchpoint, Hears, Takes, Tells, finder_half, setter_half}
+use Rattle.setup_access.specs.Found.{Hears, Takes, Tells, finder_half, setter_half}
 use Rattle.setup_access.specs.Records.{MakesDone, MakesFlag, MakesWord, OnFlag, OnHalves, OnWord}
 use Rattle.setup_access.specs.Setting.{Setting, look_order, slot_of, try_order}
-use Rattle.setup_access.specs.Setup.{Arms, Frees, Judged, Judges, JudgesHit, SetsUp, TriesInsert, Watches, WatchesAt}
+use Rattle.setup_access.specs.Setup.{Arms, Frees, Judged, Judges, TriesInsert, WatchesAt}
 use Rattle.setup_access.specs.Values.{LoadsFrom, both_values, source_of}
-use Rattle.setup_access.specs.Verdicts.{UntouchedOutcome}
 use Rattle.setup_access.specs.declared.begun.Begun.{Begun}
 use Rattle.setup_access.specs.declared.outcome.Outcome.{Outcome}
-use Rattle.setup_access.specs.declared.outcome.Outcome.TheVariants.{Lost, Nothing}
+use Rattle.setup_access.specs.declared.outcome.Outcome.TheVariants.{Nothing}
 use Rattle.setup_access.specs.declared.outcome.Watchpoint.{Watchpoint}
 use Rattle.setup_access.specs.declared.source.Source.{Source}
 

@@ -1,12 +1,20 @@
 -- The steps of a text are checks one after the other, with steps of memory and of locks between them, and free only locks that the task holds.
-use Rattle.std.proofs.Common.{◌≡◌, ◌⊎◌, ◌∙◌, ◌+◌, ◌++◌, ℕ, Bool, true, false, List, [], ◌∷◌, IsTrue, None, Option, Some, MatchBool, ap, cond, drop, inl, inr, refl, replicate, subst, sym, if◌then◌else◌}
-use Rattle.std.proofs.lemmas.List.{append_assoc}
+use Rattle.std.proofs.Common.{◌≡◌, ◌∙◌, ◌++◌, ℕ, Bool, true, false, List, [], ◌∷◌, IsTrue, None, Option, Some, MatchBool, ap, refl, replicate, subst, sym}
 use Rattle.access_types.specs.Access as access
-use Rattle.access_types.specs.Race.{bytes_of}
 use Rattle.access_types.specs.declared.history.Happening.{Happening}
 use Rattle.access_types.specs.declared.history.Happening.TheVariants as happenings
-use Rattle.access_types.specs.declared.history.Mark.{Mark}
 use Rattle.litmus_meaning.specs.Task.{has_lock}
+use Rattle.litmus_meaning.specs.Task as meaning
+use Rattle.litmus_syntax.specs.Tree.{Block}
+use Rattle.memory_operation.specs.Locks.{TakesLock}
+use Rattle.memory_operation.specs.Operations.{Changes, Exchanges, OnExchange, Operates, OperatesIn}
+use Rattle.memory_operation.specs.Values.{is_wanted, new_value, sum_of, with_value}
+use Rattle.memory_operation.specs.declared.effect.Effect.{Effect}
+use Rattle.memory_operation.specs.declared.operation.Change.{Change}
+use Rattle.memory_operation.specs.declared.operation.Change.TheVariants as changes
+use Rattle.memory_operation.specs.declared.operation.Operation.{Operation}
+use Rattle.memory_operation.specs.declared.operation.Operation.TheVariants as operations
+use Rattle.setup_access.specs.Values.{value_in}
 use Rattle.setup_access.proofs.LocksLemmas.{TouchesNoLock, check_leaves_locks, close_leaves_locks}
 use Rattle.setup_access.specs.Check.{Check, Close, Passes}
 use Rattle.setup_access.specs.MadeOfChecks as shapes
@@ -20,14 +28,13 @@ use Rattle.slot_table.specs.declared.step.Answer.{Answer}
 use Rattle.slot_table.specs.declared.step.Answer.TheVariants as answers
 use Rattle.slot_table.specs.declared.step.Step.{Step}
 use Rattle.slot_table.specs.declared.step.Step.TheVariants.{CellExchange, CellLoad, Clear, Clock, Consume, Insert, Load, LockStore, LockTry, Name, PairLoad, Remove, Tell, TryConsume}
-use Rattle.written_order.specs.Access.{Makes, Operates, OperatesIn, Operation, adds, compares, leaves, loads, operated, sum_in, updates, writes}
-use Rattle.written_order.specs.Operations.{Compares, Exchanges, OnExchange, Replaces, Shows, TakesLock, with_value}
-use Rattle.written_order.specs.Standing.{IsLockAt, Setting, Standing, checks_of, coming, counting, doing, lock_number, registered}
-use Rattle.written_order.specs.WrittenOrder.{ClosesScope, OpensScope}
-use Rattle.written_order.proofs.AccessLemmas.{makes_did, operates_quiet, quiet_append}
+use Rattle.written_order.specs.Access.{Makes}
+use Rattle.written_order.specs.Standing.{IsLockAt, Setting, Standing, checks_of, lock_number}
+use Rattle.written_order.specs.WrittenOrder.{ClosesScope, OpensScope, SpellsAll, at_first}
+use Rattle.written_order.proofs.AccessLemmas.{access_does, access_quiet, counting_progress, makes_did}
 use Rattle.written_order.proofs.HeldLocks.{Agree, AreQuiet, agree_freed, agree_quiet, agree_refused, agree_step, agree_taken, frees_none, marks_quiet, same_store}
-use Rattle.written_order.proofs.Induction.{Kept}
-use Rattle.written_order.proofs.ScopesLemmas.{counting_scopes, kept_scopes}
+use Rattle.written_order.proofs.Induction.{Kept, by_block}
+use Rattle.written_order.proofs.ScopesLemmas.{SameScopes, kept_scopes}
 
 -- what goes on, where the task did this, is made of checks, and frees only what it holds
 abbrev pub Goes : Setting → List Happening → List Record → Type 0
@@ -99,52 +106,39 @@ module _ (s : Setting) where
   word_step did step Next (first ∷ later) ok h on =
       plain did first later step h.1 ok (on_word first.answer _ _ h.2 (λ word got. on word later got))
 
-  shows : (did : List Happening) (source : Source) (records : List Record) (seen : ℕ) (rest : List Record) → Shows s.text.task source records seen rest → Goes s did rest → Goes s did records
-  shows did source records seen rest h goes =
+  pick : (b : Bool) (AtTrue AtFalse : Type 0) (Goal : Type 0) → MatchBool b AtTrue AtFalse → (AtTrue → Goal) → (AtFalse → Goal) → Goal
+  pick true AtTrue AtFalse Goal h at_true at_false = at_true h
+  pick false AtTrue AtFalse Goal h at_true at_false = at_false h
+
+  exchanges : (did : List Happening) (a : access.Access) (source : Source) (change : Change) (seen : ℕ) (records : List Record) (effect : Effect) (rest : List Record)
+      → Exchanges s.text.task a source change seen records effect rest → Goes s did rest → Goes s did records
+  exchanges did a source change seen [] effect rest h goes =
+      pick (is_wanted a.size change (value_in a source seen)) _ _ _ h (λ none. absurd none) (λ over. ends did [] rest over.1 goes)
+  exchanges did a source change seen (first ∷ later) effect rest h goes =
+      pick (is_wanted a.size change (value_in a source seen)) _ _ _ h
+      (λ now. plain did first later (CellExchange source.cell seen (with_value a source seen (new_value a.size change (value_in a source seen)))) now.0.1 tt
+      (on_exchange first.answer _ _ _ now.1 (λ done. ends did later rest done.1 goes)
+      (λ word again. exchanges did a source change word later effect rest again goes)))
+      (λ over. ends did (first ∷ later) rest over.1 goes)
+
+  makes_changes : (did : List Happening) (a : access.Access) (source : Source) (change : Change) (records : List Record) (effect : Effect) (rest : List Record)
+      → Changes s.text.task a source change records effect rest → Goes s did rest → Goes s did records
+  makes_changes did a source change records effect rest h goes =
+      word_step did (CellLoad source.cell) _ records tt h (λ seen later got. exchanges did a source change seen later effect rest got goes)
+
+  operates_in : (did : List Happening) (a : access.Access) (source : Source) (operation : Operation) (records : List Record) (effect : Effect) (rest : List Record)
+      → OperatesIn s.text.task a source operation records effect rest → Goes s did rest → Goes s did records
+  operates_in did a source operations.Load records effect rest h goes =
       word_step did (CellLoad source.cell) _ records tt h (λ word later got. ends did later rest got.1 goes)
+  operates_in did a source (operations.Add amount) records effect rest h goes =
+      word_step did (CellLoad source.cell) _ records tt h (λ word later got.
+      makes_changes did a source (changes.Write (sum_of a.size (value_in a source word) amount)) later got.0 rest got.1 goes)
+  operates_in did a source (operations.Change change) records effect rest h goes = makes_changes did a source change records effect rest h goes
 
-  exchanges : (did : List Happening) (a : access.Access) (source : Source) (new : ℕ → ℕ) (seen : ℕ) (records : List Record) (old : ℕ) (rest : List Record)
-      → Exchanges s.text.task a source new seen records old rest → Goes s did rest → Goes s did records
-  exchanges did a source new seen [] old rest h goes = absurd h
-  exchanges did a source new seen (first ∷ later) old rest h goes =
-      plain did first later (CellExchange source.cell seen (with_value a source seen (new _))) h.0.1 tt
-      (on_exchange first.answer _ _ _ h.1 (λ done. ends did later rest done.1 goes)
-      (λ word again. exchanges did a source new word later old rest again goes))
-
-  replaces : (did : List Happening) (a : access.Access) (source : Source) (new : ℕ → ℕ) (records : List Record) (old : ℕ) (rest : List Record)
-      → Replaces s.text.task a source new records old rest → Goes s did rest → Goes s did records
-  replaces did a source new records old rest h goes =
-      shows did source records h.0 h.1 h.2 (exchanges did a source new h.0 h.1 old rest h.3 goes)
-
-  comparing : (did : List Happening) (a : access.Access) (source : Source) (expected replacement seen : ℕ) (records : List Record) (old : ℕ) (written : Bool) (rest : List Record)
-      → Compares s.text.task a source expected replacement seen records old written rest → Goes s did rest → Goes s did records
-  comparing did a source expected replacement seen [] old written rest h goes = ends did [] rest h.3 goes
-  comparing did a source expected replacement seen (first ∷ later) old written rest h goes = elim h [
-    | inl other ↦ ends did (first ∷ later) rest other.3 goes
-    | inr same ↦ plain did first later (CellExchange source.cell seen (with_value a source seen replacement)) same.1.1 tt
-        (on_exchange first.answer _ _ _ same.2 (λ done. ends did later rest done.2 goes)
-        (λ word again. comparing did a source expected replacement word later old written rest again goes))
-  ]
-
-  operates_in : (did : List Happening) (a : access.Access) (source : Source) (operation : Operation) (records : List Record) (old : ℕ) (does : List Happening) (rest : List Record)
-      → OperatesIn s.text.task a source operation records old does rest → Goes s did rest → Goes s did records
-  operates_in did a source leaves records old does rest h goes = ends did records rest h.2 goes
-  operates_in did a source loads records old does rest h goes = shows did source records h.0 rest h.1 goes
-  operates_in did a source (writes value) records old does rest h goes = replaces did a source (λ before. value) records old rest h.0 goes
-  operates_in did a source (adds amount) records old does rest h goes =
-      shows did source records h.0 h.2 h.3 (replaces did a source (λ before. sum_in a.size old amount) h.2 h.1 rest h.5 goes)
-  operates_in did a source (updates new) records old does rest h goes = replaces did a source new records old rest h.0 goes
-  operates_in did a source (compares expected replacement) records old does rest h goes =
-      shows did source records h.0 h.1 h.3 (comparing did a source expected replacement h.0 h.1 old h.2 rest h.4 goes)
-
-  operates : (did : List Happening) (a : access.Access) (operation : Operation) (records : List Record) (old : ℕ) (does : List Happening) (rest : List Record)
-      → Operates s a operation records old does rest → Goes s did rest → Goes s did records
-  operates did a leaves records old does rest h goes = ends did records rest h.2 goes
-  operates did a loads records old does rest h goes = operates_in did a h.0 loads records old does rest h.2 goes
-  operates did a (writes value) records old does rest h goes = operates_in did a h.0 (writes value) records old does rest h.2 goes
-  operates did a (adds amount) records old does rest h goes = operates_in did a h.0 (adds amount) records old does rest h.2 goes
-  operates did a (updates new) records old does rest h goes = operates_in did a h.0 (updates new) records old does rest h.2 goes
-  operates did a (compares expected replacement) records old does rest h goes = operates_in did a h.0 (compares expected replacement) records old does rest h.2 goes
+  operates : (did : List Happening) (a : access.Access) (operation : Option Operation) (records : List Record) (effect : Effect) (rest : List Record)
+      → Operates (checks_of s) a operation records effect rest → Goes s did rest → Goes s did records
+  operates did a None records effect rest h goes = ends did records rest h.1 goes
+  operates did a (Some operation) records effect rest h goes = operates_in did a h.0 operation records effect rest h.2 goes
 
   -- the check of an access
   checked : (did : List Happening) (begun : Begun) (scopes : List Begun) (asked : ℕ) (records : List Record) (passes : Passes) (rest : List Record)
@@ -183,15 +177,14 @@ module _ (s : Setting) where
   ends_frees later rest own same frees = subst (λ (r : List Record). FreesHeldLocks own r) same frees
 
   -- an access
-  one_access : (a : access.Access) (operation : Operation) (old : ℕ) (before : Standing) (records : List Record) (after : Standing) (rest : List Record)
-      → Makes s before a operation records old after rest → AreOwn (checks_of s) before.scopes → Goes s after.progress.did rest → Goes s before.progress.did records
-  one_access a operation old before records after rest h scopes goes =
+  one_access : (a : access.Access) (operation : Option Operation) (effect : Effect) (before : Standing) (records : List Record) (after : Standing) (rest : List Record)
+      → Makes s before a operation records effect after rest → AreOwn (checks_of s) before.scopes → Goes s after.progress.did rest → Goes s before.progress.did records
+  one_access a operation effect before records after rest h scopes goes =
       let did : List Happening = before.progress.did in
-      let does : List Happening = happenings.Begin a ∷ (h.does ++ happenings.End a ∷ []) in
-      let all : Goes s (did ++ does) rest = subst (λ (d : List Happening). Goes s d rest) (makes_did s a operation old before records after rest h) goes in
-      let quiet : AreQuiet does = (tt, quiet_append h.does (happenings.End a ∷ []) (operates_quiet s a operation h.checked old h.does h.done h.operates) (tt, tt)) in
-      let ended : Goes s did h.done = word_step did Clock _ h.done tt h.ends (λ stamp later got. ends did later rest got (quietly did does rest quiet all)) in
-      let operated : Goes s did h.checked = operates did a operation h.checked old h.does h.done h.operates ended in
+      let does : List Happening = access_does a effect in
+      let all : Goes s (did ++ does) rest = subst (λ (d : List Happening). Goes s d rest) (makes_did s a operation effect before records after rest h) goes in
+      let ended : Goes s did h.done = word_step did Clock _ h.done tt h.ends (λ stamp later got. ends did later rest got (quietly did does rest (access_quiet a effect) all)) in
+      let operated : Goes s did h.checked = operates did a operation h.checked effect h.done h.operates ended in
       checked did h.begun before.scopes before.asked records h.passes h.checked scopes
       (subst (λ (b : access.Access). IsOwn (checks_of s) b) (sym h.begins.access) h.begins.own) h.check operated
 
@@ -212,3 +205,75 @@ module _ (s : Setting) where
         shapes.besides first later (besides_try lock first h.1) more.0,
         λ own agree. (no_store lock first own h.1, more.1 (first ∷ own) (agree_refused s did own first (lock_number s lock) s.text.task h.1 answer agree)),
       ))
+
+  -- the task does what keeps its scopes, and goes on as it should if what follows does
+  abbrev pub KeepsOn : Standing → List Record → Standing → List Record → Type 0
+  KeepsOn before records after rest =
+      (after.scopes ≡ before.scopes)
+      × (AreOwn (checks_of s) before.scopes → Goes s after.progress.did rest → Goes s before.progress.did records)
+
+  own_more : (scopes : List Begun) (scope : Begun) → AreOwn (checks_of s) scopes → IsOwn (checks_of s) scope.access → AreOwn (checks_of s) (scopes ++ scope ∷ [])
+  own_more [] scope all own = (own, tt)
+  own_more (first ∷ scopes) scope all own = (all.0, own_more scopes scope all.1 own)
+
+  one_store : (lock : ℕ) (did : List Happening) (records rest : List Record) → IsTrue (has_lock lock did)
+      → MakesDone s.text.task (LockStore (lock_number s lock)) (λ later. rest ≡ later) records
+      → Goes s (did ++ happenings.Unlock lock ∷ []) rest → Goes s did records
+  one_store lock did [] rest has h goes = absurd h
+  one_store lock did (first ∷ later) rest has h goes = (
+    shapes.besides first later (subst (IsBesides s.text.task) (sym h.1) tt) (ends_made later rest h.2.1 goes.0),
+    λ own agree. (
+      (λ other store. subst (λ (l : ℕ). IsTrue (holds l own)) (same_store (lock_number s lock) other (sym h.1 ∙ store)) (agree lock has).1),
+      ends_frees later rest (first ∷ own) h.2.1 (goes.1 (first ∷ own) (agree_freed s did own first lock has h.1 agree)),
+    ),
+  )
+
+  one_scope : (a : access.Access) (begun : Begun) (before opened closing after : Standing) (records inside later rest : List Record)
+      → OpensScope s before a records begun opened inside → KeepsOn opened inside closing later
+      → ClosesScope s closing begun before.scopes later after rest
+      → AreOwn (checks_of s) before.scopes → Goes s after.progress.did rest → Goes s before.progress.did records
+  one_scope a begun before opened closing after records inside later rest opens inner closes scopes goes =
+      let own : IsOwn (checks_of s) begun.access = subst (λ (b : access.Access). IsOwn (checks_of s) b) (sym opens.begins.access) opens.begins.own in
+      let ended : Goes s (closing.progress.did ++ happenings.End begun.access ∷ []) rest = subst (λ (st : Standing). Goes s st.progress.did rest) closes.comes_to goes in
+      let close : Goes s closing.progress.did later =
+      closed closing.progress.did begun closes.silenced closing.asked later closes.passes rest own closes.close
+      (quietly closing.progress.did (happenings.End begun.access ∷ []) rest (tt, tt) ended) in
+      let all : AreOwn (checks_of s) opened.scopes =
+      subst (λ (b : List Begun). AreOwn (checks_of s) b) (sym (ap (λ (st : Standing). st.scopes) opens.comes_to)) (own_more before.scopes begun scopes own) in
+      let began : Goes s (before.progress.did ++ happenings.Begin a ∷ []) inside =
+      subst (λ (st : Standing). Goes s st.progress.did inside) opens.comes_to (inner.1 all close) in
+      checked before.progress.did begun before.scopes before.asked records opens.passes inside scopes own opens.check
+      (quietly before.progress.did (happenings.Begin a ∷ []) inside (tt, tt) began)
+
+  pub keeps_on : Kept s KeepsOn
+  keeps_on =
+      let scopes : Kept s SameScopes = kept_scopes s in
+      record {
+        still = λ before records. (refl, λ own goes. goes);
+        joins = λ before between after records later rest p q.
+            (q.0 ∙ p.0, λ own goes. p.1 own (q.1 (subst (λ (b : List Begun). AreOwn (checks_of s) b) (sym p.0) own) goes));
+        marked = λ ends_nothing count m before records. (
+          scopes.marked ends_nothing count m before records,
+          λ own goes.
+              let does : List Happening = replicate count (happenings.Mark m) in
+              let same : Goes s (before.progress.did ++ does) records =
+              subst (λ (p : meaning.Progress). Goes s (p.did ++ does) records) (counting_progress ends_nothing before) goes in
+              quietly before.progress.did does records (marks_quiet count (happenings.Mark m) tt) same,
+        );
+        lost = λ before records. (refl, λ own goes. goes);
+        assigned = λ before records register value. (refl, λ own goes. goes);
+        makes = λ a operation effect before records after rest h.
+            (scopes.makes a operation effect before records after rest h, one_access a operation effect before records after rest h);
+        locks = λ lock before records rest is takes. (refl, λ own goes. locks lock before.progress.did records rest is takes goes);
+        unlocks = λ lock before records rest has stores. (refl, λ own goes. one_store lock before.progress.did records rest has stores goes);
+        scoped = λ a begun before opened closing after records inside later rest opens inner closes.
+            (ap (λ (st : Standing). st.scopes) closes.comes_to, one_scope a begun before opened closing after records inside later rest opens inner closes);
+      }
+
+  -- the records of a whole text are checks with other steps between them, and free only what the task holds
+  pub whole_text : (registers : ℕ) (body : Block) (records : List Record) → SpellsAll s registers body records
+      → MadeOfChecks (checks_of s) records × FreesHeldLocks [] records
+  whole_text registers body records h =
+      let goes : Goes s [] records =
+      (by_block s KeepsOn keeps_on 0 body (at_first registers) records h.end [] h.steps).1 tt (shapes.nothing, λ own agree. tt) in
+      (goes.0, goes.1 [] (λ lock has. let no : false ≡ true = has in cc))

@@ -1,5 +1,5 @@
 -- What a task holds by its records is what it holds by what it did.
-use Rattle.std.proofs.Common.{◌≡◌, ◌≢◌, ◌⊎◌, ◌∙◌, ◌+◌, ◌++◌, ◌==◌, ℕ, zero, suc, Bool, true, false, List, [], ◌∷◌, IsSomeAnd, IsTrue, None, Some, ap, arith, cond, count_by, eqb, fold, inl, inr, length, refl, replicate, slice_get, subst, sum_by, sym, take, if◌then◌else◌}
+use Rattle.std.proofs.Common.{◌≡◌, ◌≢◌, ◌⊎◌, ◌∙◌, ◌+◌, ◌++◌, ◌==◌, ℕ, zero, suc, Bool, true, false, List, [], ◌∷◌, IsSomeAnd, IsTrue, ap, arith, cond, count_by, fold, inl, inr, refl, replicate, slice_get, subst, sym, take, if◌then◌else◌}
 use Rattle.std.proofs.lemmas.Bool.{eq-eqb}
 use Rattle.std.proofs.lemmas.Bool.Decides.{eqb_tells}
 use Rattle.std.proofs.lemmas.List.Sums.{fold-append, sum_by-cons}
@@ -8,7 +8,6 @@ use Rattle.access_types.specs.declared.history.Happening.TheVariants as happenin
 use Rattle.litmus_meaning.specs.Task.{has_after, has_lock}
 use Rattle.litmus_syntax.specs.declared.program.Variable.{Variable}
 use Rattle.setup_access.proofs.LocksLemmas.{TouchesNoLock}
-use Rattle.setup_access.specs.MadeOfChecks.{FreesHeldLocks}
 use Rattle.slot_table.specs.Discipline.{holds, holds_after}
 use Rattle.slot_table.specs.declared.records.Record.{Record}
 use Rattle.slot_table.specs.declared.step.Answer.{Answer}

@@ -1,29 +1,29 @@
 -- What each part of a text keeps, the whole text keeps.
-use Rattle.std.proofs.Common.{◌≡◌, ◌⊎◌, ◌+◌, ℕ, zero, suc, Bool, true, false, List, [], ◌∷◌, IsTrue, Option, None, Some, MatchBool, drop, inl, inr, length, replicate, refl, subst, sym, if◌then◌else◌}
+use Rattle.std.proofs.Common.{◌≡◌, ◌+◌, ℕ, zero, suc, Bool, true, false, List, [], ◌∷◌, IsTrue, Option, None, Some, MatchBool, inl, inr, length, replicate, refl, subst, sym, if◌then◌else◌}
 use Rattle.access_types.specs.Access as access
 use Rattle.access_types.specs.Access.{proper_mask}
 use Rattle.access_types.specs.declared.history.Bytes.{Bytes}
 use Rattle.access_types.specs.declared.history.Happening.TheVariants as happenings
 use Rattle.access_types.specs.declared.history.Mark.{Mark}
 use Rattle.access_types.specs.declared.history.Mark.TheVariants as marks
-use Rattle.access_types.specs.declared.kind.Claim.TheVariants.{NoAccesses, NoWrites}
 use Rattle.access_types.specs.declared.kind.Kind.{Kind}
-use Rattle.access_types.specs.declared.kind.Kind.TheVariants as kinds
 use Rattle.litmus_syntax.specs.Sites.{accesses_of, sites_of}
 use Rattle.litmus_syntax.specs.Tree.{Assignment, Block, Expression, Load, Statement}
 use Rattle.litmus_syntax.specs.Tree as tree
 use Rattle.litmus_syntax.specs.declared.statement.Call.{Call}
 use Rattle.litmus_syntax.specs.declared.statement.Call.TheVariants as calls
-use Rattle.litmus_meaning.specs.Calls.{Scoped, check_kind, checked_bytes, scoped_access, scoped_assertion}
+use Rattle.litmus_meaning.specs.Calls.{Scoped, check_kind, checked_bytes, scoped_assertion}
 use Rattle.litmus_meaning.specs.Loads.{load_in}
 use Rattle.litmus_meaning.specs.Meaning.{Chooses, after_condition}
-use Rattle.litmus_meaning.specs.Task.{bytes_in, has_lock}
+use Rattle.litmus_meaning.specs.Task.{has_lock}
+use Rattle.memory_operation.specs.Locks.{TakesLock}
+use Rattle.memory_operation.specs.declared.effect.Effect.{Effect}
+use Rattle.memory_operation.specs.declared.operation.Operation.{Operation}
 use Rattle.setup_access.specs.Records.{MakesDone}
 use Rattle.setup_access.specs.declared.begun.Begun.{Begun}
 use Rattle.slot_table.specs.declared.records.Record.{Record}
 use Rattle.slot_table.specs.declared.step.Step.TheVariants.{LockStore}
-use Rattle.written_order.specs.Access.{Makes, Operation}
-use Rattle.written_order.specs.Operations.{TakesLock}
+use Rattle.written_order.specs.Access.{Makes}
 use Rattle.written_order.specs.Standing.{IsLockAt, Setting, Standing, coming, counting, doing, lock_number, registered}
 use Rattle.written_order.specs.WrittenOrder.{ChecksAt, ClosesScope, MakesMark, Only, OpensScope, StepsInBlock, StepsInDataRace, StepsOf, StepsOfAssignment, StepsOfBlock, StepsOfCall, StepsOfExpression, StepsOfLoad, StepsOfTurns}
 
@@ -38,8 +38,8 @@ pub record Kept (s : Setting) (Q : Standing → List Record → Standing → Lis
       → Q before records (coming (counting true before) records before.progress) records
   pub assigned : (before : Standing) (records : List Record) (register value : ℕ)
       → Q before records (registered before records register value) records
-  pub makes : (a : access.Access) (operation : Operation) (old : ℕ) (before : Standing) (records : List Record)
-      (after : Standing) (rest : List Record) → Makes s before a operation records old after rest
+  pub makes : (a : access.Access) (operation : Option Operation) (effect : Effect) (before : Standing) (records : List Record)
+      (after : Standing) (rest : List Record) → Makes s before a operation records effect after rest
       → Q before records after rest
   pub locks : (lock : ℕ) (before : Standing) (records rest : List Record) → IsLockAt s lock
       → TakesLock s.text.task (lock_number s lock) records rest
@@ -68,11 +68,11 @@ module _ (s : Setting) (Q : Standing → List Record → Standing → List Recor
       → StepsOfLoad s site l before records loaded after rest → Q before records after rest
   by_load site l before records loaded after rest h =
       let off : Standing = doing before records (replicate l.data_races (happenings.Mark marks.Disable)) in
-      let on : Standing = doing h.1 rest (replicate l.data_races (happenings.Mark marks.Enable)) in
-      to_this before after on records rest h.4
+      let on : Standing = doing h.2 rest (replicate l.data_races (happenings.Mark marks.Enable)) in
+      to_this before after on records rest h.6
       (going_on before off on records records rest (kept.marked false l.data_races marks.Disable before records)
-      (going_on off h.1 on records rest rest (kept.makes _ _ h.0 off records h.1 rest h.2)
-      (kept.marked false l.data_races marks.Enable h.1 rest)))
+      (going_on off h.2 on records rest rest (kept.makes _ _ h.1 off records h.2 rest h.3)
+      (kept.marked false l.data_races marks.Enable h.2 rest)))
 
   by_expression : (site : ℕ) (e : Expression) (before : Standing) (records : List Record) (value : ℕ) (after : Standing) (rest : List Record)
       → StepsOfExpression s site e before records value after rest → Q before records after rest

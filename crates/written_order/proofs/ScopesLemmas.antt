@@ -1,11 +1,13 @@
 -- A part of a text leaves the scoped assertions in force as they were.
-use Rattle.std.proofs.Common.{◌≡◌, ◌∙◌, ℕ, Bool, true, false, List, [], ◌∷◌, ap, drop, refl, sym}
-use Rattle.access_types.specs.declared.history.Happening.{Happening}
+use Rattle.std.proofs.Common.{◌≡◌, ◌∙◌, ℕ, Bool, true, false, List, [], ◌∷◌, None, Option, Some, ap, drop, refl}
+use Rattle.access_types.specs.Access as access
 use Rattle.access_types.specs.declared.history.Happening.TheVariants as happenings
 use Rattle.litmus_syntax.specs.Tree.{Block}
-use Rattle.setup_access.specs.declared.begun.Begun.{Begun}
+use Rattle.memory_operation.specs.declared.effect.Effect.{Effect}
+use Rattle.memory_operation.specs.declared.operation.Operation.{Operation}
+use Rattle.memory_operation.specs.declared.operation.Operation.TheVariants as operations
 use Rattle.slot_table.specs.declared.records.Record.{Record}
-use Rattle.written_order.specs.Access.{Operation, adds, compares, leaves, loads, operated, updates, writes}
+use Rattle.written_order.specs.Access.{operated}
 use Rattle.written_order.specs.Standing.{Setting, Standing, counting, doing}
 use Rattle.written_order.specs.WrittenOrder.{StepsOfBlock}
 use Rattle.written_order.proofs.Induction.{Kept, by_block}
@@ -18,15 +20,12 @@ pub counting_scopes : (ends_nothing : Bool) (before : Standing) → (counting en
 counting_scopes true before = refl
 counting_scopes false before = refl
 
-pub operated_scopes : (operation : Operation) (before : Standing) (records : List Record) (does : List Happening) (rest : List Record)
-    → (operated operation before records does rest).scopes ≡ before.scopes
-operated_scopes leaves before records does rest = refl
-operated_scopes loads before records does rest = refl
-operated_scopes (writes value) before records does rest = refl
-operated_scopes (adds amount) before records [] rest = refl
-operated_scopes (adds amount) before records (read ∷ wrote) rest = refl
-operated_scopes (updates new) before records does rest = refl
-operated_scopes (compares expected replacement) before records does rest = refl
+pub operated_scopes : (a : access.Access) (operation : Option Operation) (before : Standing) (records : List Record) (effect : Effect) (rest : List Record)
+    → (operated a operation before records effect rest).scopes ≡ before.scopes
+operated_scopes a None before records effect rest = refl
+operated_scopes a (Some operations.Load) before records effect rest = refl
+operated_scopes a (Some (operations.Add amount)) before records effect rest = refl
+operated_scopes a (Some (operations.Change change)) before records effect rest = refl
 
 pub kept_scopes : (s : Setting) → Kept s SameScopes
 kept_scopes s = record {
@@ -35,9 +34,9 @@ kept_scopes s = record {
   marked = λ ends_nothing count m before records. counting_scopes ends_nothing before;
   lost = λ before records. refl;
   assigned = λ before records register value. refl;
-  makes = λ a operation old before records after rest h.
+  makes = λ a operation effect before records after rest h.
       ap (λ (st : Standing). st.scopes) h.comes_to
-      ∙ operated_scopes operation (doing before (drop 1 records) (happenings.Begin a ∷ [])) h.checked h.does h.done;
+      ∙ operated_scopes a operation (doing before (drop 1 records) (happenings.Begin a ∷ [])) h.checked effect h.done;
   locks = λ lock before records rest is takes. refl;
   unlocks = λ lock before records rest has stores. refl;
   scoped = λ a begun before opened closing after records inside later rest opens p closes. ap (λ (st : Standing). st.scopes) closes.comes_to;

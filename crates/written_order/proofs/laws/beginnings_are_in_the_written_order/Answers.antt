@@ -2,7 +2,7 @@
 use Rattle.std.proofs.Common.{List, ◌++◌, append_assoc, subst}
 use Rattle.slot_table.specs.declared.records.Record.{Record}
 use Rattle.written_order.specs.WrittenOrder.{SpellsAll}
-use Rattle.written_order.proofs.beginnings_are_in_the_written_order.Goals as goal
+use Rattle.written_order.proofs.laws.beginnings_are_in_the_written_order.Goals as goal
 
 pub returns : goal.returns
 returns c = λ s registers body records more written.

@@ -1,0 +1,33 @@
+//! What is true of the written order.
+
+ghost use Rattle.std.specs.Prelude.{◌++◌, ◌≡◌, ℕ, List, reverse};
+ghost use Rattle.litmus_syntax.specs.Tree.{Block};
+ghost use Rattle.slot_table.specs.Discipline.{Discipline, IsFinished};
+ghost use Rattle.slot_table.specs.declared.records.Record.{Record};
+ghost use Rattle.written_order.specs.Standing.{Setting, Standing};
+ghost use Rattle.written_order.specs.WrittenOrder.{SpellsAll, StepsOfBlock, WrittenOrder};
+
+use setup_access::laws::checks_keep_the_discipline;
+
+/// Law: a beginning of records in the written order is in the written order.
+pub fn beginnings_are_in_the_written_order()
+    ensures { (s : Setting) (registers : ℕ) (body : Block) (records more : List Record)
+        → WrittenOrder s registers body (records ++ more) → WrittenOrder s registers body records }
+{}
+
+/// Law: the scoped assertions in force after a block are those in force before it.
+pub fn parts_of_a_text_leave_the_scopes()
+    ensures { (s : Setting) (site : ℕ) (body : Block) (before : Standing) (records : List Record) (after : Standing) (rest : List Record)
+        → StepsOfBlock s site body before records after rest → after.scopes ≡ before.scopes }
+{}
+
+/// Law: what a task does in the written order keeps the discipline of watchpoints at every moment. After its
+/// whole text it has no arming without its remove and no taking without its tell.
+pub fn the_written_order_keeps_the_discipline()
+    ensures keeps { (s : Setting) (registers : ℕ) (body : Block) (records : List Record)
+        → WrittenOrder s registers body records → Discipline s.text.task (reverse records) }
+    ensures finished { (s : Setting) (registers : ℕ) (body : Block) (records : List Record)
+        → SpellsAll s registers body records → IsFinished (reverse records) }
+{
+    checks_keep_the_discipline();
+}
