@@ -1,1 +1,6 @@
 pub mod Tried
+pub mod WordLemmas
+pub mod EffectLemmas
+pub mod TurnLemmas
+pub mod LeadsLemmas
+pub mod LockLemmas

@@ -3,3 +3,6 @@ pub mod Effects
 pub mod Operations
 pub mod Locks
 pub mod Waits
+pub mod Stages
+pub mod Leads
+pub mod LockLeads

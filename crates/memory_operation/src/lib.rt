@@ -4,7 +4,13 @@
 #![tactic(auto)]
 
 pub mod effect;
+pub mod lock;
 pub mod operation;
+pub mod run;
+pub mod stage;
+pub mod values;
 
 pub use effect::Effect;
+pub use lock::LockWait;
 pub use operation::{Change, Operation};
+pub use run::OperationRun;

@@ -37,7 +37,7 @@ fn lies_in(access: &Access, cell: u64) -> bool
 }
 
 /// The bytes of the access in the word of its cell, the lowest first.
-pub(crate) fn value_in(access: &Access, source: Source, word: u64) -> u64
+pub fn value_in(access: &Access, source: Source, word: u64) -> u64
     ensures { result ≡ spec.value_in access.now source word }
 {
     if source.first > 7 {
