@@ -1,13 +1,15 @@
 -- Each kind of step acts on one word of the row.
-use Rattle.std.proofs.Common.{◌≡◌, ℕ, ◌<◌, List, length, map, set, get_or, ap, ◌∙◌, arith}
-use Rattle.std.proofs.lemmas.List.{get_or-set_other}
+use Rattle.slot.specs.Pair.{Halves, unnamed}
+use Rattle.std.proofs.Common.{◌≡◌, ℕ, ◌<◌, List, length, map, set, get_or, ap, ◌∙◌, arith, ◌+◌, sym}
+use Rattle.std.proofs.lemmas.List.{get_or-set_other, map-set}
+use Rattle.std.proofs.Math.ListN.{get_or-map}
 use Rattle.slot.specs.Line.{Line}
-use Rattle.slot_table.specs.StepLine.{watch_word_line}
+use Rattle.slot_table.specs.StepLine.{pair_word_line, watch_word_line}
 use Rattle.slot_table.specs.Words.{Words}
 use Rattle.slot_table.specs.declared.step.Answer.{Answer}
 use Rattle.shared_table.specs.Given.{Given}
 use Rattle.shared_table.specs.Row.{cells_from, clock_at, halves_in, indices, locks_from, pairs_from, row_length, section, words_in}
-use Rattle.shared_table.proofs.Sections.{section_at, section_before, section_here}
+use Rattle.shared_table.proofs.Sections.{section_at, section_before, section_here, section_past}
 
 -- one list of words in place of another
 abbrev pub words_path : (a b : Words) → a.watch_words ≡ b.watch_words → a.pair_words ≡ b.pair_words → a.cells ≡ b.cells → a.locks ≡ b.locks → a.clock ≡ b.clock → a ≡ b
@@ -32,3 +34,28 @@ module _ (given : Given) (row : List ℕ) (counts : length row ≡ row_length gi
 
     pub watch_answers : answer (line (get_or row index 0)).answer ≡ (watch_word_line line answer (words_in given row) index).answer
     watch_answers = ap (λ (old : ℕ). answer (line old).answer) watch_at
+
+  -- a line of a pair word acts on the word at its place
+  module _ {A : Type 0} (line : Halves → Line A Halves) (answer : A → Answer) (index place : ℕ)
+      (is : pairs_from given + index ≡ place) (within : index < indices given) (new : ℕ)
+      (new_is : halves_in new ≡ (line (halves_in (get_or row place 0))).after) where
+    abbrev pairs : List ℕ
+    pairs = section (pairs_from given) (indices given) row
+
+    pair_at : halves_in (get_or row place 0) ≡ get_or (map halves_in pairs) index unnamed
+    pair_at = ap halves_in (section_at (pairs_from given) (indices given) row index place is within) ∙ sym (get_or-map halves_in pairs index 0)
+
+    pub pair_after : words_in given (set row place new) ≡ (pair_word_line line answer (words_in given row) index).after
+    pair_after =
+        words_path (words_in given (set row place new)) (pair_word_line line answer (words_in given row) index).after
+        (section_past 0 (indices given) row place new (omega arith))
+        (ap (λ (words : List ℕ). map halves_in words) (section_here (pairs_from given) (indices given) row index place new is within)
+        ∙ map-set halves_in pairs index new
+        ∙ ap (λ (halves : Halves). set (map halves_in pairs) index halves) new_is
+        ∙ ap (λ (old : Halves). set (map halves_in pairs) index (line old).after) pair_at)
+        (section_before (cells_from given) (length given.cells) row place new (omega arith))
+        (section_before (locks_from given) given.locks row place new (omega arith))
+        (get_or-set_other row place (clock_at given) new 0 (λ same. omega arith))
+
+    pub pair_answers : answer (line (halves_in (get_or row place 0))).answer ≡ (pair_word_line line answer (words_in given row) index).answer
+    pair_answers = ap (λ (old : Halves). answer (line old).answer) pair_at

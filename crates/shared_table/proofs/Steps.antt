@@ -1,18 +1,21 @@
 -- Each kind of step as it acts on the row.
-use Rattle.std.proofs.Common.{◌≡◌, ℕ, ◌<◌, Bool, true, false, cond, eqb, not, ◌||◌, List, length, get_or, set, refl, sym, ap, ◌∙◌, arith}
+use Rattle.std.specs.Int.Bits.{bit_or, or_zero_r}
+use Rattle.std.proofs.lemmas.Nat.{or_mod, or_shr}
+use Rattle.std.proofs.Common.{◌*◌, ◌/◌, ◌%◌, ◌≡◌, ℕ, ◌<◌, Bool, true, false, cond, eqb, not, ◌||◌, List, length, get_or, set, refl, sym, ap, ◌∙◌, arith, ◌+◌, ◌^◌}
 use Rattle.std.proofs.lemmas.List.{length-replicate}
 use prog.Atomic.{either}
 use Rattle.slot.specs.Line.{Line}
+use Rattle.slot.specs.Pair.{Halves, clear_line, halves_line, name_line, tell_line, unnamed}
 use Rattle.slot.specs.Slot.{consume_line, insert_line, load_line, remove_line, try_consume_line}
-use Rattle.slot_table.specs.StepLine.{Names, step_line, watch_word_line}
+use Rattle.slot_table.specs.StepLine.{Names, pair_word_line, step_line, watch_word_line}
 use Rattle.slot_table.specs.declared.step.Answer.{Answer}
 use Rattle.slot_table.specs.declared.step.Answer.TheVariants as answers
 use Rattle.slot_table.specs.declared.step.Step.{Step}
 use Rattle.slot_table.specs.declared.step.Step.TheVariants.{Load, Insert, TryConsume, Consume}
-use Rattle.slot_table.specs.declared.step.Step.TheVariants.{Remove}
+use Rattle.slot_table.specs.declared.step.Step.TheVariants.{Remove, PairLoad, Name, Tell, Clear}
 use Rattle.shared_table.specs.Given.{Given, first_words}
-use Rattle.shared_table.specs.Row.{indices, words_in}
-use Rattle.shared_table.proofs.Acts.{watch_after, watch_answers}
+use Rattle.shared_table.specs.Row.{indices, words_in, halves_in, pairs_from}
+use Rattle.shared_table.proofs.Acts.{pair_after, pair_answers, watch_after, watch_answers}
 use Rattle.shared_table.proofs.Keeps.{ActsAs}
 
 -- a compare-exchange writes where it found what was expected
@@ -45,6 +48,48 @@ watch_acts given step line tells index change answer names is changes says =
           ∙ sym (ap (λ (l : Line Answer _). l.answer) (is row));
     }
 
+pub pair_within : (given : Given) (index : ℕ) → index < length (first_words given).pair_words → index < indices given
+pair_within given index names =
+    let is : length (first_words given).pair_words ≡ indices given = length-replicate (indices given) unnamed in omega arith
+
+-- a step on a pair word
+pair_acts : {A : Type 0} (given : Given) (step : Step) (line : Halves → Line A Halves) (tells : A → Answer) (index place : ℕ)
+    (change : ℕ → ℕ) (answer : ℕ → Answer)
+    → place ≡ pairs_from given + index → index < length (first_words given).pair_words
+    → ((row : List ℕ) → step_line (words_in given row) step ≡ pair_word_line line tells (words_in given row) index)
+    → ((old : ℕ) → old < 2 ^ 64 → halves_in (change old) ≡ (line (halves_in old)).after)
+    → ((old : ℕ) → answer old ≡ tells (line (halves_in old)).answer)
+    → ActsAs given step place change answer
+pair_acts given step line tells index place change answer at names is changes says =
+    let here = pair_within given index names in
+    record {
+      within = omega arith;
+      after = λ row counts fits.
+          let new : ℕ = change (get_or row place 0) in
+          pair_after given row counts line tells index place (sym at) here new (changes (get_or row place 0) fits)
+          ∙ sym (ap (λ (l : Line Answer _). l.after) (is row));
+      answers = λ row counts fits.
+          says (get_or row place 0)
+          ∙ pair_answers given row counts line tells index place (sym at) here (change (get_or row place 0)) (changes (get_or row place 0) fits)
+          ∙ sym (ap (λ (l : Line Answer _). l.answer) (is row));
+    }
+
+abbrev halves_path : (a b : Halves) → a.setter ≡ b.setter → a.finder ≡ b.finder → a ≡ b
+halves_path a b setter finder = λ i. record { setter = setter i; finder = finder i }
+
+-- the upper half alone, or the lower
+named : (old ticket : ℕ) → halves_in (bit_or old (ticket * 2 ^ 32)) ≡ (name_line (halves_in old) ticket).after
+named old ticket =
+    halves_path (halves_in (bit_or old (ticket * 2 ^ 32))) (name_line (halves_in old) ticket).after
+    (or_shr old (ticket * 2 ^ 32) 32 ∙ ap (λ (t : ℕ). bit_or (old / 2 ^ 32) t) (omega arith))
+    (or_mod old (ticket * 2 ^ 32) 32 ∙ ap (λ (t : ℕ). bit_or (old % 2 ^ 32) t) (omega arith) ∙ or_zero_r (old % 2 ^ 32))
+
+told : (old ticket : ℕ) → ticket < 2 ^ 32 → halves_in (bit_or old ticket) ≡ (tell_line (halves_in old) ticket).after
+told old ticket fits =
+    halves_path (halves_in (bit_or old ticket)) (tell_line (halves_in old) ticket).after
+    (or_shr old ticket 32 ∙ ap (λ (t : ℕ). bit_or (old / 2 ^ 32) t) (omega arith) ∙ or_zero_r (old / 2 ^ 32))
+    (or_mod old ticket 32 ∙ ap (λ (t : ℕ). bit_or (old % 2 ^ 32) t) (omega arith))
+
 module _ (given : Given) (index : ℕ) where
   pub loads : Names (first_words given) (Load index) → ActsAs given (Load index) index (λ n. n) answers.Word
   loads names =
@@ -75,3 +120,33 @@ module _ (given : Given) (index : ℕ) where
   removes names =
       watch_acts given (Remove index) remove_line (λ _. answers.Done) index (λ n. 0) (λ n. answers.Done) names
       (λ row. refl) (λ old. refl) (λ old. refl)
+
+module _ (given : Given) (index place : ℕ) (at : place ≡ pairs_from given + index) where
+  pub loads_pair : Names (first_words given) (PairLoad index)
+      → ActsAs given (PairLoad index) place (λ n. n) (λ n. answers.Halves (halves_in n).setter (halves_in n).finder)
+  loads_pair names =
+      pair_acts given (PairLoad index) halves_line (λ both. answers.Halves both.setter both.finder) index place (λ n. n)
+      (λ n. answers.Halves (halves_in n).setter (halves_in n).finder) at names (λ row. refl) (λ old fits. refl) (λ old. refl)
+
+  pub names_setter : (ticket half : ℕ) → half ≡ ticket * 2 ^ 32 → Names (first_words given) (Name index ticket)
+      → ActsAs given (Name index ticket) place (λ n. bit_or n half) (λ n. answers.Done)
+  names_setter ticket half is names =
+      pair_acts given (Name index ticket) (λ old. name_line old ticket) (λ _. answers.Done) index place
+      (λ n. bit_or n half) (λ n. answers.Done) at names (λ row. refl)
+      (λ old fits. ap (λ (k : ℕ). halves_in (bit_or old k)) is ∙ named old ticket) (λ old. refl)
+
+  pub tells_setter : (ticket half : ℕ) → half ≡ ticket → ticket < 2 ^ 32 → Names (first_words given) (Tell index ticket)
+      → ActsAs given (Tell index ticket) place (λ n. bit_or n half) (λ n. answers.Done)
+  tells_setter ticket half is below names =
+      pair_acts given (Tell index ticket) (λ old. tell_line old ticket) (λ _. answers.Done) index place
+      (λ n. bit_or n half) (λ n. answers.Done) at names (λ row. refl)
+      (λ old fits. ap (λ (k : ℕ). halves_in (bit_or old k)) is ∙ told old ticket below) (λ old. refl)
+
+  pub clears : Names (first_words given) (Clear index) → ActsAs given (Clear index) place (λ n. 0) (λ n. answers.Done)
+  clears names =
+      pair_acts given (Clear index) clear_line (λ _. answers.Done) index place (λ n. 0) (λ n. answers.Done) at names
+      (λ row. refl) (λ old fits. refl) (λ old. refl)
+
+-- a ticket is found again in the upper half
+pub ticket_of : (ticket half : ℕ) → half ≡ ticket * 2 ^ 32 → ticket ≡ half / 2 ^ 32
+ticket_of ticket half is = omega arith

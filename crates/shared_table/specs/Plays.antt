@@ -1,10 +1,11 @@
-use Rattle.std.specs.Prelude.{◌≡◌, ◌==◌, ◌||◌, ℕ, not}
+use Rattle.std.specs.Prelude.{◌≡◌, ◌==◌, ◌||◌, ℕ, not, ◌^◌, ◌-◌, ◌/◌}
 use Rattle.atomic_table.specs.Table as table
 use Rattle.slot_table.specs.declared.step.Answer.{Answer}
 use Rattle.slot_table.specs.declared.step.Answer.TheVariants as answers
 use Rattle.slot_table.specs.declared.step.Step.{Step}
 use Rattle.slot_table.specs.declared.step.Step.TheVariants.{Load, Insert, TryConsume, Consume}
-use Rattle.slot_table.specs.declared.step.Step.TheVariants.{Remove}
+use Rattle.slot_table.specs.declared.step.Step.TheVariants.{Remove, PairLoad, Name, Tell, Clear}
+use Rattle.shared_table.specs.Row.{halves_in, pairs_from}
 use Rattle.shared_table.specs.Views.{noted}
 use Rattle.shared_table.specs.declared.view.View.{View}
 
@@ -36,3 +37,24 @@ Consumes on before found after =
 
 abbrev pub Removes : Operation → Me → ℕ → Me → Type 0
 Removes on before found after = Notes (Remove on.word) answers.Done before after
+
+-- the pair words stand behind the watch words
+abbrev pub pair_index : Operation → Me → ℕ
+pair_index on before = on.word - pairs_from before.0.opening
+
+abbrev pub LoadsPair : Operation → Me → ℕ → Me → Type 0
+LoadsPair on before found after =
+    Notes (PairLoad (pair_index on before))
+    (answers.Halves (halves_in found).setter (halves_in found).finder) before after
+
+-- the setter's half is the upper one
+abbrev pub Names : Operation → Me → ℕ → Me → Type 0
+Names on before found after =
+    Notes (Name (pair_index on before) (on.first / 2 ^ 32)) answers.Done before after
+
+abbrev pub Tells : Operation → Me → ℕ → Me → Type 0
+Tells on before found after =
+    Notes (Tell (pair_index on before) on.first) answers.Done before after
+
+abbrev pub Clears : Operation → Me → ℕ → Me → Type 0
+Clears on before found after = Notes (Clear (pair_index on before)) answers.Done before after

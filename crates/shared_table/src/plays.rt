@@ -1,7 +1,8 @@
 //! What each kind of step tells the seat that makes it: that it has noted this step, with the
 //! answer that the word found gives. And how a seat of all tasks is cut into one seat a task.
 
-ghost use Rattle.shared_table.specs.Plays.{Consumes, Inserts, Loads, Removes, TriesToConsume};
+ghost use Rattle.shared_table.specs.Plays.{Clears, Consumes, Inserts, Loads, LoadsPair, Names};
+ghost use Rattle.shared_table.specs.Plays.{Removes, Tells, TriesToConsume};
 
 use crate::view::View;
 use atomic_table::{Play, Split};
@@ -34,6 +35,30 @@ pub struct Remove;
 
 impl Play<(), View> for Remove {
     ghost then = { Removes };
+}
+
+pub struct PairLoad;
+
+impl Play<(), View> for PairLoad {
+    ghost then = { LoadsPair };
+}
+
+pub struct Name;
+
+impl Play<(), View> for Name {
+    ghost then = { Names };
+}
+
+pub struct Tell;
+
+impl Play<(), View> for Tell {
+    ghost then = { Tells };
+}
+
+pub struct Clear;
+
+impl Play<(), View> for Clear {
+    ghost then = { Clears };
 }
 
 /// The first task of a seat gets a seat of its own.

@@ -1,7 +1,7 @@
 //! A task's seat: the token of what the task has seen. Each step on the shared words needs it and
 //! keeps it.
 
-ghost use Rattle.std.specs.Prelude.{◌≡◌, ◌<◌, []};
+ghost use Rattle.std.specs.Prelude.{◌≡◌, ◌<◌, ◌*◌, ◌^◌, []};
 ghost use Rattle.slot_table.specs.Answer.{Answers};
 ghost use Rattle.slot_table.specs.declared.step.Step.TheVariants as steps;
 ghost use Rattle.shared_table.specs.Seats.{MayMake, seat_after};
@@ -14,6 +14,12 @@ use atomic_table::Seat;
 use slot::CONSUMED;
 use slot_table::Answer;
 use std::marker::Model;
+
+/// The setter's half of a pair word is above so many bits, and the finder's below.
+const HALF: u32 = 32;
+
+/// The bits of the finder's half.
+const LOWER_HALF: u64 = 0xFFFF_FFFF;
 
 /// The token of what a task has seen.
 #[derive(Drop)]
@@ -130,4 +136,74 @@ impl TaskSeat {
         self.is_open = false;
         Answer::Done
     }
+
+    /// Reads both halves of the pair word at an index.
+    pub(crate) fn pair_load(&mut self, table: &SharedTable, index: usize) -> Answer
+        requires table { self.old.table ≡ table.now }
+        requires may { MayMake self.old (steps.PairLoad index) }
+        ensures kind { Answers (steps.PairLoad index) result }
+        ensures made { self.new ≡ seat_after self.old (steps.PairLoad index) result }
+    {
+        let place = table.pair_at(index);
+        let both = table
+            .row
+            .shared
+            .load::<plays::PairLoad>(&mut self.seat, place);
+        Answer::Halves((both >> HALF) as u32, (both & LOWER_HALF) as u32)
+    }
+
+    /// Names the setter at an index by its ticket.
+    pub(crate) fn name(&mut self, table: &SharedTable, index: usize, ticket: u32) -> Answer
+        requires table { self.old.table ≡ table.now }
+        requires may { MayMake self.old (steps.Name index ticket) }
+        ensures kind { Answers (steps.Name index ticket) result }
+        ensures made { self.new ≡ seat_after self.old (steps.Name index ticket) result }
+    {
+        let place = table.pair_at(index);
+        let half = setters_half(ticket);
+        table
+            .row
+            .shared
+            .fetch_or::<plays::Name>(&mut self.seat, place, half);
+        self.is_open = true;
+        Answer::Done
+    }
+
+    /// Tells the setter at an index who took its watchpoint, by the finder's ticket.
+    pub(crate) fn tell(&mut self, table: &SharedTable, index: usize, ticket: u32) -> Answer
+        requires table { self.old.table ≡ table.now }
+        requires may { MayMake self.old (steps.Tell index ticket) }
+        ensures kind { Answers (steps.Tell index ticket) result }
+        ensures made { self.new ≡ seat_after self.old (steps.Tell index ticket) result }
+    {
+        let place = table.pair_at(index);
+        let half = u64::from(ticket);
+        let shared = &table.row.shared;
+        shared.fetch_or::<plays::Tell>(&mut self.seat, place, half);
+        self.is_open = false;
+        Answer::Done
+    }
+
+    /// Empties both halves of the pair word at an index.
+    pub(crate) fn clear(&mut self, table: &SharedTable, index: usize) -> Answer
+        requires table { self.old.table ≡ table.now }
+        requires may { MayMake self.old (steps.Clear index) }
+        ensures kind { Answers (steps.Clear index) result }
+        ensures made { self.new ≡ seat_after self.old (steps.Clear index) result }
+    {
+        let place = table.pair_at(index);
+        table
+            .row
+            .shared
+            .store::<plays::Clear>(&mut self.seat, place, 0);
+        self.is_open = true;
+        Answer::Done
+    }
+}
+
+/// A pair word with this ticket in the setter's half, and nothing in the finder's.
+fn setters_half(ticket: u32) -> u64
+    ensures { result ≡ ticket * 2 ^ 32 }
+{
+    u64::from(ticket) << HALF
 }

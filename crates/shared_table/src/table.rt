@@ -1,7 +1,8 @@
 //! The table of the shared words.
 
-ghost use Rattle.std.specs.Prelude.{◌≡◌, ◌≤◌, ◌<◌, ◌⊎◌, ◌↔◌, [], IfOk, IsErrOf};
+ghost use Rattle.std.specs.Prelude.{◌≡◌, ◌+◌, ◌≤◌, ◌<◌, ◌⊎◌, ◌↔◌, [], IfOk, IsErrOf};
 ghost use Rattle.slot_table.specs.declared.board.BoardError.TheVariants.{BadSlots};
+ghost use Rattle.shared_table.specs.Row.{indices, pairs_from};
 ghost use Rattle.shared_table.specs.Seats.{new_seats};
 ghost use Rattle.shared_table.specs.Views.{everyone};
 
@@ -28,7 +29,7 @@ pub struct SharedTable {
 }
 
 impl Model for SharedTable {
-    ghost use Rattle.std.specs.Prelude.{◌≡◌, length, vec_len};
+    ghost use Rattle.std.specs.Prelude.{◌≡◌, ◌<◌, ◌^◌, length, vec_len};
     ghost use Rattle.shared_table.specs.Row.{row_length};
     ghost use Rattle.shared_table.specs.Seats.{Opened};
 
@@ -39,6 +40,7 @@ impl Model for SharedTable {
     ghost invariant = { λ t. (t.row.shared.key ≡ t.opening)
         × (t.row.shared.table_id.words ≡ row_length t.opening)
         × (t.row.shared.table_id.slots ≡ 0)
+        × (row_length t.opening < 2 ^ 64)
         × (vec_len t.room ≡ length t.opening.cells) };
 }
 
@@ -71,6 +73,16 @@ impl SharedTable {
         let seats = deal(alloc, &row, first, shape.tasks)?;
         let table = SharedTable { row, opening, room };
         Ok((table, seats))
+    }
+}
+
+impl SharedTable {
+    /// Where in the row the pair word of an index stands.
+    pub(crate) fn pair_at(&self, index: usize) -> usize
+        requires { index < indices self.now.given }
+        ensures { result ≡ pairs_from self.now.given + index }
+    {
+        self.opening.slots + 2 + index
     }
 }
 
