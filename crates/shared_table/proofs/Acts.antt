@@ -1,10 +1,10 @@
 -- Each kind of step acts on one word of the row.
 use Rattle.slot.specs.Pair.{Halves, unnamed}
-use Rattle.std.proofs.Common.{◌≡◌, ℕ, ◌<◌, List, length, map, set, get_or, ap, ◌∙◌, arith, ◌+◌, sym}
-use Rattle.std.proofs.lemmas.List.{get_or-set_other, map-set}
+use Rattle.std.proofs.Common.{◌≡◌, ℕ, ◌<◌, List, length, map, set, get_or, ap, ◌∙◌, arith, ◌+◌, sym, ◌%◌, ◌^◌}
+use Rattle.std.proofs.lemmas.List.{get_or-set_other, map-set, get_or-set_same}
 use Rattle.std.proofs.Math.ListN.{get_or-map}
 use Rattle.slot.specs.Line.{Line}
-use Rattle.slot_table.specs.StepLine.{pair_word_line, watch_word_line}
+use Rattle.slot_table.specs.StepLine.{pair_word_line, watch_word_line, cell_line, clock_line, lock_line}
 use Rattle.slot_table.specs.Words.{Words}
 use Rattle.slot_table.specs.declared.step.Answer.{Answer}
 use Rattle.shared_table.specs.Given.{Given}
@@ -59,3 +59,54 @@ module _ (given : Given) (row : List ℕ) (counts : length row ≡ row_length gi
 
     pub pair_answers : answer (line (halves_in (get_or row place 0))).answer ≡ (pair_word_line line answer (words_in given row) index).answer
     pair_answers = ap (λ (old : Halves). answer (line old).answer) pair_at
+
+  -- a line of a cell acts on the word at its place
+  module _ (line : ℕ → Line Answer ℕ) (index place : ℕ) (is : cells_from given + index ≡ place) (within : index < length given.cells) (new : ℕ)
+      (new_is : new ≡ (line (get_or row place 0)).after) where
+    cell_at : get_or row place 0 ≡ get_or (section (cells_from given) (length given.cells) row) index 0
+    cell_at = section_at (cells_from given) (length given.cells) row index place is within
+
+    pub cell_after : words_in given (set row place new) ≡ (cell_line line (words_in given row) index).after
+    cell_after =
+        words_path (words_in given (set row place new)) (cell_line line (words_in given row) index).after
+        (section_past 0 (indices given) row place new (omega arith))
+        (ap (λ (words : List ℕ). map halves_in words) (section_past (pairs_from given) (indices given) row place new (omega arith)))
+        (section_here (cells_from given) (length given.cells) row index place new is within
+        ∙ ap (λ (k : ℕ). set (section (cells_from given) (length given.cells) row) index k)
+        (new_is ∙ ap (λ (old : ℕ). (line old).after) cell_at))
+        (section_before (locks_from given) given.locks row place new (omega arith))
+        (get_or-set_other row place (clock_at given) new 0 (λ same. omega arith))
+
+    pub cell_answers : (line (get_or row place 0)).answer ≡ (cell_line line (words_in given row) index).answer
+    cell_answers = ap (λ (old : ℕ). (line old).answer) cell_at
+
+  -- a line of a lock word acts on the word at its place
+  module _ (line : ℕ → Line Answer ℕ) (index place : ℕ) (is : locks_from given + index ≡ place) (within : index < given.locks) (new : ℕ)
+      (new_is : new ≡ (line (get_or row place 0)).after) where
+    lock_at : get_or row place 0 ≡ get_or (section (locks_from given) given.locks row) index 0
+    lock_at = section_at (locks_from given) given.locks row index place is within
+
+    pub lock_after : words_in given (set row place new) ≡ (lock_line line (words_in given row) index).after
+    lock_after =
+        words_path (words_in given (set row place new)) (lock_line line (words_in given row) index).after
+        (section_past 0 (indices given) row place new (omega arith))
+        (ap (λ (words : List ℕ). map halves_in words) (section_past (pairs_from given) (indices given) row place new (omega arith)))
+        (section_past (cells_from given) (length given.cells) row place new (omega arith))
+        (section_here (locks_from given) given.locks row index place new is within
+        ∙ ap (λ (k : ℕ). set (section (locks_from given) given.locks row) index k)
+        (new_is ∙ ap (λ (old : ℕ). (line old).after) lock_at))
+        (get_or-set_other row place (clock_at given) new 0 (λ same. omega arith))
+
+    pub lock_answers : (line (get_or row place 0)).answer ≡ (lock_line line (words_in given row) index).answer
+    lock_answers = ap (λ (old : ℕ). (line old).answer) lock_at
+
+  -- the clock is the last word
+  pub clock_after : (new : ℕ) → new ≡ (get_or row (clock_at given) 0 + 1) % 2 ^ 64
+      → words_in given (set row (clock_at given) new) ≡ (clock_line (words_in given row)).after
+  clock_after new new_is =
+      words_path (words_in given (set row (clock_at given) new)) (clock_line (words_in given row)).after
+      (section_past 0 (indices given) row (clock_at given) new (omega arith))
+      (ap (λ (words : List ℕ). map halves_in words) (section_past (pairs_from given) (indices given) row (clock_at given) new (omega arith)))
+      (section_past (cells_from given) (length given.cells) row (clock_at given) new (omega arith))
+      (section_past (locks_from given) given.locks row (clock_at given) new (omega arith))
+      (get_or-set_same row (clock_at given) new 0 (omega arith) ∙ new_is)

@@ -1,21 +1,22 @@
 -- Each kind of step as it acts on the row.
 use Rattle.std.specs.Int.Bits.{bit_or, or_zero_r}
 use Rattle.std.proofs.lemmas.Nat.{or_mod, or_shr}
-use Rattle.std.proofs.Common.{◌*◌, ◌/◌, ◌%◌, ◌≡◌, ℕ, ◌<◌, Bool, true, false, cond, eqb, not, ◌||◌, List, length, get_or, set, refl, sym, ap, ◌∙◌, arith, ◌+◌, ◌^◌}
+use Rattle.std.proofs.Common.{◌*◌, ◌/◌, ◌%◌, ◌≡◌, ℕ, ◌<◌, Bool, true, false, cond, eqb, not, ◌||◌, List, length, get_or, set, refl, sym, ap, ◌∙◌, arith, ◌+◌, ◌^◌, subst, ◌-◌}
 use Rattle.std.proofs.lemmas.List.{length-replicate}
 use prog.Atomic.{either}
 use Rattle.slot.specs.Line.{Line}
 use Rattle.slot.specs.Pair.{Halves, clear_line, halves_line, name_line, tell_line, unnamed}
 use Rattle.slot.specs.Slot.{consume_line, insert_line, load_line, remove_line, try_consume_line}
-use Rattle.slot_table.specs.StepLine.{Names, pair_word_line, step_line, watch_word_line}
+use Rattle.slot_table.specs.StepLine.{Names, pair_word_line, step_line, watch_word_line, cell_line, exchange_line, lock_line, lock_store_line, lock_try_line}
 use Rattle.slot_table.specs.declared.step.Answer.{Answer}
 use Rattle.slot_table.specs.declared.step.Answer.TheVariants as answers
 use Rattle.slot_table.specs.declared.step.Step.{Step}
 use Rattle.slot_table.specs.declared.step.Step.TheVariants.{Load, Insert, TryConsume, Consume}
 use Rattle.slot_table.specs.declared.step.Step.TheVariants.{Remove, PairLoad, Name, Tell, Clear}
+use Rattle.slot_table.specs.declared.step.Step.TheVariants.{CellLoad, CellExchange, LockTry, LockStore, Clock}
 use Rattle.shared_table.specs.Given.{Given, first_words}
-use Rattle.shared_table.specs.Row.{indices, words_in, halves_in, pairs_from}
-use Rattle.shared_table.proofs.Acts.{pair_after, pair_answers, watch_after, watch_answers}
+use Rattle.shared_table.specs.Row.{indices, words_in, halves_in, pairs_from, cells_from, clock_at, locks_from}
+use Rattle.shared_table.proofs.Acts.{pair_after, pair_answers, watch_after, watch_answers, cell_after, cell_answers, clock_after, lock_after, lock_answers}
 use Rattle.shared_table.proofs.Keeps.{ActsAs}
 
 -- a compare-exchange writes where it found what was expected
@@ -150,3 +151,81 @@ module _ (given : Given) (index place : ℕ) (at : place ≡ pairs_from given + 
 -- a ticket is found again in the upper half
 pub ticket_of : (ticket half : ℕ) → half ≡ ticket * 2 ^ 32 → ticket ≡ half / 2 ^ 32
 ticket_of ticket half is = omega arith
+
+-- a step on a cell
+cell_acts : (given : Given) (step : Step) (line : ℕ → Line Answer ℕ) (index place : ℕ) (change : ℕ → ℕ) (answer : ℕ → Answer)
+    → place ≡ cells_from given + index → index < length given.cells
+    → ((row : List ℕ) → step_line (words_in given row) step ≡ cell_line line (words_in given row) index)
+    → ((old : ℕ) → change old ≡ (line old).after) → ((old : ℕ) → answer old ≡ (line old).answer)
+    → ActsAs given step place change answer
+cell_acts given step line index place change answer at here is changes says = record {
+  within = omega arith;
+  after = λ row counts fits.
+      cell_after given row counts line index place (sym at) here (change (get_or row place 0)) (changes (get_or row place 0))
+      ∙ sym (ap (λ (l : Line Answer _). l.after) (is row));
+  answers = λ row counts fits.
+      says (get_or row place 0)
+      ∙ cell_answers given row counts line index place (sym at) here (change (get_or row place 0)) (changes (get_or row place 0))
+      ∙ sym (ap (λ (l : Line Answer _). l.answer) (is row));
+}
+
+-- a step on a lock word
+lock_acts : (given : Given) (step : Step) (line : ℕ → Line Answer ℕ) (index place : ℕ) (change : ℕ → ℕ) (answer : ℕ → Answer)
+    → place ≡ locks_from given + index → index < length (first_words given).locks
+    → ((row : List ℕ) → step_line (words_in given row) step ≡ lock_line line (words_in given row) index)
+    → ((old : ℕ) → change old ≡ (line old).after) → ((old : ℕ) → answer old ≡ (line old).answer)
+    → ActsAs given step place change answer
+lock_acts given step line index place change answer at names is changes says =
+    let counts_is : length (first_words given).locks ≡ given.locks = length-replicate given.locks 0 in
+    let here : index < given.locks = omega arith in
+    record {
+      within = omega arith;
+      after = λ row counts fits.
+          lock_after given row counts line index place (sym at) here (change (get_or row place 0)) (changes (get_or row place 0))
+          ∙ sym (ap (λ (l : Line Answer _). l.after) (is row));
+      answers = λ row counts fits.
+          says (get_or row place 0)
+          ∙ lock_answers given row counts line index place (sym at) here (change (get_or row place 0)) (changes (get_or row place 0))
+          ∙ sym (ap (λ (l : Line Answer _). l.answer) (is row));
+    }
+
+module _ (given : Given) (index place : ℕ) (at : place ≡ cells_from given + index) where
+  pub loads_cell : Names (first_words given) (CellLoad index) → ActsAs given (CellLoad index) place (λ n. n) answers.Word
+  loads_cell names =
+      cell_acts given (CellLoad index) (λ old. record { answer = answers.Word old; after = old }) index place (λ n. n)
+      answers.Word at names (λ row. refl) (λ old. refl) (λ old. refl)
+
+  pub exchanges_cell : (expected new : ℕ) → Names (first_words given) (CellExchange index expected new)
+      → ActsAs given (CellExchange index expected new) place (λ n. either (eqb n expected) new n)
+      (λ n. cond (eqb n expected) (answers.Flag true) (answers.Word n))
+  exchanges_cell expected new names =
+      cell_acts given (CellExchange index expected new) (exchange_line expected new) index place
+      (λ n. either (eqb n expected) new n) (λ n. cond (eqb n expected) (answers.Flag true) (answers.Word n)) at names
+      (λ row. refl) (λ old. either_is_cond (eqb old expected) new old) (λ old. refl)
+
+module _ (given : Given) (index place : ℕ) (at : place ≡ locks_from given + index) where
+  pub tries_lock : (task holder : ℕ) → holder ≡ 1 + task → Names (first_words given) (LockTry index task)
+      → ActsAs given (LockTry index task) place (λ n. either (eqb n 0) holder n) (λ n. answers.Flag (eqb n 0))
+  tries_lock task holder is names =
+      lock_acts given (LockTry index task) (lock_try_line task) index place (λ n. either (eqb n 0) holder n)
+      (λ n. answers.Flag (eqb n 0)) at names (λ row. refl)
+      (λ old. either_is_cond (eqb old 0) holder old ∙ ap (λ (k : ℕ). cond (eqb old 0) k old) is) (λ old. refl)
+
+  pub stores_lock : Names (first_words given) (LockStore index) → ActsAs given (LockStore index) place (λ n. 0) (λ n. answers.Done)
+  stores_lock names =
+      lock_acts given (LockStore index) lock_store_line index place (λ n. 0) (λ n. answers.Done) at names (λ row. refl)
+      (λ old. refl) (λ old. refl)
+
+pub ticks : (given : Given) (place : ℕ) → place ≡ clock_at given → ActsAs given Clock place (λ n. (n + 1) % 2 ^ 64) answers.Word
+ticks given place at =
+    let P : ℕ → Type 0 = λ k. ActsAs given Clock k (λ n. (n + 1) % 2 ^ 64) answers.Word in
+    subst P (sym at)
+    (record {
+      within = omega arith;
+      after = λ row counts fits. clock_after given row counts ((get_or row (clock_at given) 0 + 1) % 2 ^ 64) refl;
+      answers = λ row counts fits. refl;
+    })
+
+-- a task is found again in the word of a lock that it holds
+pub holder_of : (task holder : ℕ) → holder ≡ 1 + task → task ≡ holder - 1
+holder_of task holder is = omega arith

@@ -1,11 +1,13 @@
-use Rattle.std.specs.Prelude.{◌≡◌, ◌==◌, ◌||◌, ℕ, not, ◌^◌, ◌-◌, ◌/◌}
+use Rattle.std.specs.Prelude.{◌≡◌, ◌==◌, ◌||◌, ℕ, not, ◌^◌, ◌-◌, ◌/◌, true, if◌then◌else◌}
 use Rattle.atomic_table.specs.Table as table
 use Rattle.slot_table.specs.declared.step.Answer.{Answer}
 use Rattle.slot_table.specs.declared.step.Answer.TheVariants as answers
 use Rattle.slot_table.specs.declared.step.Step.{Step}
 use Rattle.slot_table.specs.declared.step.Step.TheVariants.{Load, Insert, TryConsume, Consume}
 use Rattle.slot_table.specs.declared.step.Step.TheVariants.{Remove, PairLoad, Name, Tell, Clear}
-use Rattle.shared_table.specs.Row.{halves_in, pairs_from}
+use Rattle.slot_table.specs.declared.step.Step.TheVariants.{CellLoad, CellExchange, LockTry}
+use Rattle.slot_table.specs.declared.step.Step.TheVariants.{LockStore, Clock}
+use Rattle.shared_table.specs.Row.{halves_in, pairs_from, cells_from, locks_from}
 use Rattle.shared_table.specs.Views.{noted}
 use Rattle.shared_table.specs.declared.view.View.{View}
 
@@ -58,3 +60,31 @@ Tells on before found after =
 
 abbrev pub Clears : Operation → Me → ℕ → Me → Type 0
 Clears on before found after = Notes (Clear (pair_index on before)) answers.Done before after
+
+-- the cells stand behind the pair words
+abbrev pub cell_index : Operation → Me → ℕ
+cell_index on before = on.word - cells_from before.0.opening
+
+abbrev pub LoadsCell : Operation → Me → ℕ → Me → Type 0
+LoadsCell on before found after =
+    Notes (CellLoad (cell_index on before)) (answers.Word found) before after
+
+abbrev pub ExchangesCell : Operation → Me → ℕ → Me → Type 0
+ExchangesCell on before found after =
+    Notes (CellExchange (cell_index on before) on.first on.second)
+    (if found == on.first then answers.Flag true else answers.Word found) before after
+
+-- the locks stand behind the cells
+abbrev pub lock_index : Operation → Me → ℕ
+lock_index on before = on.word - locks_from before.0.opening
+
+abbrev pub TriesLock : Operation → Me → ℕ → Me → Type 0
+TriesLock on before found after =
+    Notes (LockTry (lock_index on before) (on.second - 1)) (answers.Flag (found == 0)) before after
+
+abbrev pub StoresLock : Operation → Me → ℕ → Me → Type 0
+StoresLock on before found after =
+    Notes (LockStore (lock_index on before)) answers.Done before after
+
+abbrev pub Ticks : Operation → Me → ℕ → Me → Type 0
+Ticks on before found after = Notes Clock (answers.Word found) before after

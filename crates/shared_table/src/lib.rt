@@ -4,6 +4,7 @@
 //! task are those that the task's seat holds.
 #![tactic(auto)]
 
+pub mod board;
 mod opening;
 mod plays;
 mod rule;
@@ -11,5 +12,6 @@ pub mod seat;
 pub mod table;
 mod view;
 
+pub use board::SharedBoard;
 pub use seat::TaskSeat;
 pub use table::SharedTable;

@@ -1,8 +1,9 @@
 //! What each kind of step tells the seat that makes it: that it has noted this step, with the
 //! answer that the word found gives. And how a seat of all tasks is cut into one seat a task.
 
-ghost use Rattle.shared_table.specs.Plays.{Clears, Consumes, Inserts, Loads, LoadsPair, Names};
-ghost use Rattle.shared_table.specs.Plays.{Removes, Tells, TriesToConsume};
+ghost use Rattle.shared_table.specs.Plays.{Clears, Consumes, ExchangesCell, Inserts, Loads};
+ghost use Rattle.shared_table.specs.Plays.{LoadsCell, LoadsPair, Names, Removes, StoresLock, Tells};
+ghost use Rattle.shared_table.specs.Plays.{Ticks, TriesLock, TriesToConsume};
 
 use crate::view::View;
 use atomic_table::{Play, Split};
@@ -59,6 +60,36 @@ pub struct Clear;
 
 impl Play<(), View> for Clear {
     ghost then = { Clears };
+}
+
+pub struct CellLoad;
+
+impl Play<(), View> for CellLoad {
+    ghost then = { LoadsCell };
+}
+
+pub struct CellExchange;
+
+impl Play<(), View> for CellExchange {
+    ghost then = { ExchangesCell };
+}
+
+pub struct LockTry;
+
+impl Play<(), View> for LockTry {
+    ghost then = { TriesLock };
+}
+
+pub struct LockStore;
+
+impl Play<(), View> for LockStore {
+    ghost then = { StoresLock };
+}
+
+pub struct Clock;
+
+impl Play<(), View> for Clock {
+    ghost then = { Ticks };
 }
 
 /// The first task of a seat gets a seat of its own.

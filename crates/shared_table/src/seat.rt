@@ -1,7 +1,8 @@
 //! A task's seat: the token of what the task has seen. Each step on the shared words needs it and
 //! keeps it.
 
-ghost use Rattle.std.specs.Prelude.{◌≡◌, ◌<◌, ◌*◌, ◌^◌, []};
+ghost use Rattle.std.specs.Prelude.{◌≡◌, ◌==◌, ◌<◌, ◌*◌, ◌^◌, ℕ, true, [], if◌then◌else◌};
+ghost use Rattle.slot_table.specs.declared.step.Answer.TheVariants as answers;
 ghost use Rattle.slot_table.specs.Answer.{Answers};
 ghost use Rattle.slot_table.specs.declared.step.Step.TheVariants as steps;
 ghost use Rattle.shared_table.specs.Seats.{MayMake, seat_after};
@@ -199,6 +200,91 @@ impl TaskSeat {
         self.is_open = true;
         Answer::Done
     }
+
+    /// Reads a cell.
+    pub(crate) fn cell_load(&mut self, table: &SharedTable, cell: usize) -> Answer
+        requires table { self.old.table ≡ table.now }
+        requires may { MayMake self.old (steps.CellLoad cell) }
+        ensures kind { Answers (steps.CellLoad cell) result }
+        ensures made { self.new ≡ seat_after self.old (steps.CellLoad cell) result }
+    {
+        let place = table.cell_at(cell);
+        Answer::Word(
+            table
+                .row
+                .shared
+                .load::<plays::CellLoad>(&mut self.seat, place),
+        )
+    }
+
+    /// Puts a new value into a cell, if it holds the expected one.
+    pub(crate) fn cell_exchange(
+        &mut self,
+        table: &SharedTable,
+        cell: usize,
+        expected: u64,
+        new: u64,
+    ) -> Answer
+        requires table { self.old.table ≡ table.now }
+        requires may { MayMake self.old (steps.CellExchange cell expected new) }
+        ensures kind { Answers (steps.CellExchange cell expected new) result }
+        ensures made { self.new ≡ seat_after self.old (steps.CellExchange cell expected new) result }
+    {
+        let place = table.cell_at(cell);
+        let shared = &table.row.shared;
+        let found = shared.compare_exchange::<plays::CellExchange>(
+            &mut self.seat,
+            place,
+            expected,
+            new,
+        );
+        exchanged(found, expected)
+    }
+
+    /// Takes a lock for a task, if it is free.
+    pub(crate) fn lock_try(&mut self, table: &SharedTable, lock: usize, task: u32) -> Answer
+        requires table { self.old.table ≡ table.now }
+        requires may { MayMake self.old (steps.LockTry lock task) }
+        ensures kind { Answers (steps.LockTry lock task) result }
+        ensures made { self.new ≡ seat_after self.old (steps.LockTry lock task) result }
+    {
+        let place = table.lock_at(lock);
+        let holder = 1 + u64::from(task);
+        let shared = &table.row.shared;
+        let found = shared.compare_exchange::<plays::LockTry>(&mut self.seat, place, 0, holder);
+        Answer::Flag(found == 0)
+    }
+
+    /// Frees a lock.
+    pub(crate) fn lock_store(&mut self, table: &SharedTable, lock: usize) -> Answer
+        requires table { self.old.table ≡ table.now }
+        requires may { MayMake self.old (steps.LockStore lock) }
+        ensures kind { Answers (steps.LockStore lock) result }
+        ensures made { self.new ≡ seat_after self.old (steps.LockStore lock) result }
+    {
+        let place = table.lock_at(lock);
+        table
+            .row
+            .shared
+            .store::<plays::LockStore>(&mut self.seat, place, 0);
+        Answer::Done
+    }
+
+    /// Advances the clock.
+    pub(crate) fn tick(&mut self, table: &SharedTable) -> Answer
+        requires table { self.old.table ≡ table.now }
+        requires may { MayMake self.old (steps.Clock) }
+        ensures kind { Answers (steps.Clock) result }
+        ensures made { self.new ≡ seat_after self.old (steps.Clock) result }
+    {
+        let place = table.clock_at();
+        Answer::Word(
+            table
+                .row
+                .shared
+                .fetch_add::<plays::Clock>(&mut self.seat, place, 1),
+        )
+    }
 }
 
 /// A pair word with this ticket in the setter's half, and nothing in the finder's.
@@ -206,4 +292,17 @@ fn setters_half(ticket: u32) -> u64
     ensures { result ≡ ticket * 2 ^ 32 }
 {
     u64::from(ticket) << HALF
+}
+
+/// What an exchange of a cell answers, by what it found there.
+fn exchanged(found: u64, expected: u64) -> Answer
+    ensures kind { (cell new : ℕ) → Answers (steps.CellExchange cell expected new) result }
+    ensures value { result
+        ≡ (if found == expected then answers.Flag true else answers.Word found) }
+{
+    if found == expected {
+        Answer::Flag(true)
+    } else {
+        Answer::Word(found)
+    }
 }
