@@ -1,0 +1,3 @@
+pub mod SinkSteps
+pub mod HexDigits
+pub mod Written

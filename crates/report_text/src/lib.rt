@@ -1,0 +1,15 @@
+//! The texts that a run leaves: reports as KCSAN prints them, equal reports counted, and traces,
+//! which a person who trusts neither the run nor its author can check.
+#![tactic(auto)]
+
+mod hex;
+pub mod line;
+mod pieces;
+pub mod report;
+pub mod sink;
+pub mod trace;
+
+pub use line::Line;
+pub use report::write_report;
+pub use sink::{Sink, SinkFault, WriteError, write_all};
+pub use trace::write_trace;
