@@ -3,3 +3,6 @@ pub mod ScopesLemmas
 pub mod HeldLocks
 pub mod AccessLemmas
 pub mod DisciplineKept
+pub mod EffectLemmas
+pub mod MeaningLemmas
+pub mod WayLemmas

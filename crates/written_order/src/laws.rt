@@ -1,11 +1,13 @@
 //! What is true of the written order.
 
 ghost use Rattle.std.specs.Prelude.{◌++◌, ◌≡◌, ℕ, List, reverse};
+ghost use Rattle.access_types.specs.declared.history.Happening.{Happening};
+ghost use Rattle.litmus_meaning.specs.Meaning.{MeansBlock};
 ghost use Rattle.litmus_syntax.specs.Tree.{Block};
 ghost use Rattle.slot_table.specs.Discipline.{Discipline, IsFinished};
 ghost use Rattle.slot_table.specs.declared.records.Record.{Record};
 ghost use Rattle.written_order.specs.Standing.{Setting, Standing};
-ghost use Rattle.written_order.specs.WrittenOrder.{SpellsAll, StepsOfBlock, WrittenOrder};
+ghost use Rattle.written_order.specs.WrittenOrder.{SpellsAll, StepsOfBlock, WrittenOrder, at_first, stands_after};
 
 use setup_access::laws::checks_keep_the_discipline;
 
@@ -31,3 +33,12 @@ pub fn the_written_order_keeps_the_discipline()
 {
     checks_keep_the_discipline();
 }
+
+/// Law: what a task did is a beginning of what its text means, with the values that the records' answers hold.
+/// What it did by some records is a beginning of what it does in its whole text.
+pub fn what_is_done_is_meant()
+    ensures whole { (s : Setting) (registers : ℕ) (body : Block) (records : List Record) → (spells : SpellsAll s registers body records)
+        → MeansBlock s.text 0 body (at_first registers).progress spells.end.progress }
+    ensures by_then { (s : Setting) (registers : ℕ) (body : Block) (records : List Record) → (written : WrittenOrder s registers body records)
+        → (rest : List Happening) × (written.whole.end.progress.did ≡ (stands_after written).progress.did ++ rest) }
+{}

@@ -6,5 +6,5 @@ pub mod laws;
 
 pub use laws::{
     beginnings_are_in_the_written_order, parts_of_a_text_leave_the_scopes,
-    the_written_order_keeps_the_discipline,
+    the_written_order_keeps_the_discipline, what_is_done_is_meant,
 };
