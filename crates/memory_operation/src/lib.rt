@@ -14,3 +14,6 @@ pub use effect::Effect;
 pub use lock::LockWait;
 pub use operation::{Change, Operation};
 pub use run::OperationRun;
+
+#[cfg(test)]
+mod tests;
