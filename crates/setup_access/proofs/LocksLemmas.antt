@@ -170,7 +170,7 @@ module _ (P : List Record → Type 0) (before : (first : Record) (later : List R
   -- a check
   pub check_leaves_locks : (s : Setting) (scopes : List Begun) (begun : Begun) (asked : ℕ) (records : List Record) (passes : Passes) (rest : List Record)
       → Check s scopes begun asked records passes rest → P rest → P records
-  check_leaves_locks s scopes begun asked records passes rest h p = step_word s.task Clock _ records tt h (λ stamp later got.
+  check_leaves_locks s scopes begun asked records passes rest h p = step_word s.task Clock _ records tt h.2 (λ stamp later got.
       pick begun.silenced _ _ _ got (λ quiet. ends later rest quiet.1 p)
       (λ now. once s begun.access begun.marked asked later now.0 now.1 now.3
       (rechecks s (left_to_check now.0.settled scopes) now.0.asked now.1 (record { outcomes = now.2; asked = passes.asked }) rest now.4 p)))
@@ -179,5 +179,5 @@ module _ (P : List Record → Type 0) (before : (first : Record) (later : List R
   pub close_leaves_locks : (s : Setting) (scope : Begun) (silenced : Bool) (asked : ℕ) (records : List Record) (passes : Passes) (rest : List Record)
       → Close s scope silenced asked records passes rest → P rest → P records
   close_leaves_locks s scope silenced asked records passes rest h p =
-      rechecks s ((record scope { silenced = scope.silenced || silenced }) ∷ []) asked records passes h.0 h.1
-      (step_word s.task Clock _ h.0 tt h.2 (λ stamp after over. ends after rest over p))
+      rechecks s ((record scope { silenced = scope.silenced || silenced }) ∷ []) asked records passes h.1.0 h.1.1
+      (step_word s.task Clock _ h.1.0 tt h.1.2 (λ stamp after over. ends after rest over p))
