@@ -54,19 +54,19 @@ Good task earlier records = (FreesHeldLocks earlier records → KeepsFrom task e
 good_on : (task : ℕ) (earlier later : List Record) (first : Record) → Allows task earlier first.step → Good task (first ∷ earlier) later → Good task earlier (first ∷ later)
 good_on task earlier later first ok good = (λ held. (ok, good.0 held.1), good.1)
 
-on_word : (answer : Answer) (P : ℕ → Type 0) → OnWord answer P → (word : ℕ) × (answer ≡ answers.Word word) × P word
+pub on_word : (answer : Answer) (P : ℕ → Type 0) → OnWord answer P → (word : ℕ) × (answer ≡ answers.Word word) × P word
 on_word (answers.Word word) P h = (word, refl, h)
 on_word (answers.Flag flag) P h = absurd h
 on_word (answers.Halves setter finder) P h = absurd h
 on_word answers.Done P h = absurd h
 
-on_flag : (answer : Answer) (P : Bool → Type 0) → OnFlag answer P → (flag : Bool) × (answer ≡ answers.Flag flag) × P flag
+pub on_flag : (answer : Answer) (P : Bool → Type 0) → OnFlag answer P → (flag : Bool) × (answer ≡ answers.Flag flag) × P flag
 on_flag (answers.Word word) P h = absurd h
 on_flag (answers.Flag flag) P h = (flag, refl, h)
 on_flag (answers.Halves setter finder) P h = absurd h
 on_flag answers.Done P h = absurd h
 
-on_halves : (answer : Answer) (P : Halves → Type 0) → OnHalves answer P
+pub on_halves : (answer : Answer) (P : Halves → Type 0) → OnHalves answer P
     → (both : Halves) × (answer ≡ answers.Halves both.setter both.finder) × P both
 on_halves (answers.Word word) P h = absurd h
 on_halves (answers.Flag flag) P h = absurd h
@@ -74,7 +74,7 @@ on_halves (answers.Halves setter finder) P h = (record { setter = setter; finder
 on_halves answers.Done P h = absurd h
 
 -- a record with this task, step and answer is this one
-record_is : (first : Record) (task : ℕ) (step : Step) (answer : Answer) → first.task ≡ task → first.step ≡ step → first.answer ≡ answer → first ≡ made task step answer
+pub record_is : (first : Record) (task : ℕ) (step : Step) (answer : Answer) → first.task ≡ task → first.step ≡ step → first.answer ≡ answer → first ≡ made task step answer
 record_is first task step answer p q r =
     ap (λ t. made t first.step first.answer) p ∙ ap (λ t. made task t first.answer) q ∙ ap (λ t. made task step t) r
 
@@ -276,7 +276,7 @@ module _ (s : Setting) (a : Access) (own_ticket : IsOwnTicket s.task (ticket_num
     goes_on : (marked : Bool) (asked : ℕ) (found : Option Watchpoint) (records : List Record) (pass : Pass) (rest earlier : List Record) → in_hand earlier ≡ None → HasRead earlier found
         → GoesOn s a marked asked found records pass rest → ((own : List Record) → in_hand own ≡ None → Good s.task own rest) → Good s.task earlier records
     goes_on marked asked None records pass rest earlier free read h on = none_found marked asked records pass rest earlier free h on
-    goes_on marked asked (Some found) records pass rest earlier free read h on = found_watchpoint found records pass.outcome rest earlier free read h.2 on
+    goes_on marked asked (Some found) records pass rest earlier free read h on = found_watchpoint found records pass.outcome rest earlier free read h.3 on
 
     -- a check of an access leaves nothing in hand
     pub checks_once : (marked : Bool) (asked : ℕ) (records : List Record) (pass : Pass) (rest earlier : List Record) → in_hand earlier ≡ None → ChecksOnce s a marked asked records pass rest

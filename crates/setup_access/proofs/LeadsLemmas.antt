@@ -12,14 +12,16 @@ use Rattle.slot_table.specs.declared.step.Step.{Step}
 use Rattle.slot_table.specs.declared.step.Step.TheVariants.{Clock}
 use Rattle.task_context.specs.Context.{Context}
 use Rattle.task_context.specs.History.{LeadsTo}
-use Rattle.setup_access.specs.Check.{ChecksBegun, Passes}
+use Rattle.setup_access.specs.Check.{ChecksBegun, Fallen, Passes}
 use Rattle.setup_access.specs.Checker.{Does, Doing, RoleLeft, StageLeft, ToRoleLeft, last_of}
 use Rattle.setup_access.specs.Due.{extended}
+use Rattle.setup_access.specs.Fallen.{followed, outcomes_in}
+use Rattle.setup_access.specs.FallsAt.{AllFallIn, GivesAt}
 use Rattle.setup_access.specs.Kept.{setting_with}
 use Rattle.setup_access.specs.Leads.{Leads, Says, stage_step}
 use Rattle.setup_access.specs.Own.{AreOwn, IsOwn}
 use Rattle.setup_access.specs.Parts.{made}
-use Rattle.setup_access.specs.PassLeft.{Given, PassLeft, Samples, TurnLeft, pass_step, with_outcome}
+use Rattle.setup_access.specs.PassLeft.{Given, PassLeft, Samples, TurnLeft, falls_before, pass_step, with_outcome}
 use Rattle.setup_access.specs.Records.{OnWord}
 use Rattle.setup_access.specs.Setting.{Setting}
 use Rattle.setup_access.specs.Shown.{IsDecided}
@@ -34,6 +36,7 @@ use Rattle.setup_access.specs.declared.setting.Setting as code
 use Rattle.setup_access.specs.declared.stage.Role.{Role}
 use Rattle.setup_access.specs.declared.stage.Stage.{Stage}
 use Rattle.setup_access.specs.declared.stage.Stage.TheVariants as stages
+use Rattle.setup_access.proofs.FallLemmas.{falls_extended, falls_followed}
 use Rattle.setup_access.proofs.PassLemmas.{through}
 use Rattle.setup_access.proofs.WaitLemmas.{wait_after_one}
 
@@ -50,20 +53,53 @@ pub quiet_is : (b : Bool) (P : Type 0) → (IsFalse b ↔ P) → (IsTrue (not b)
 quiet_is b P is = (λ h. is.0 (to_false b h), λ p. to_not b (is.1 p))
 
 -- what is given after the outcomes so far
-abbrev pub after : List Outcome → Passes → Passes
+abbrev pub after : List Fallen → Passes → Passes
 after outcomes more = record { outcomes = outcomes ++ more.outcomes; asked = more.asked }
 
 -- what a stage still gives, after the outcomes so far
-abbrev pub Still : Setting → List Begun → Stage → ℕ → List Outcome → List Record → Passes → Type 0
+abbrev pub Still : Setting → List Begun → Stage → ℕ → List Fallen → List Record → Passes → Type 0
 Still s scopes stage now outcomes records passes = (more : Passes) × StageLeft s scopes stage now records more × (passes ≡ after outcomes more)
+
+-- what has fallen, where more records follow
+pub outcomes_followed : (records : List Record) (fallen : List Fallen) → outcomes_in (followed records fallen) ≡ outcomes_in fallen
+outcomes_followed records [] = refl
+outcomes_followed records (first ∷ others) = ap (λ (o : List Outcome). first.outcome ∷ o) (outcomes_followed records others)
+
+followed_twice : (first : Record) (later : List Record) (fallen : List Fallen) → followed later (followed (first ∷ []) fallen) ≡ followed (first ∷ later) fallen
+followed_twice first later [] = refl
+followed_twice first later (one ∷ others) =
+    ap (λ (r : List Record). record one { later = r } ∷ followed later (followed (first ∷ []) others)) (append_assoc one.later (first ∷ []) later)
+    ∙ ap (λ (fs : List Fallen). record one { later = one.later ++ (first ∷ later) } ∷ fs) (followed_twice first later others)
+
+followed_more : (later : List Record) (fallen : List Fallen) (one : Fallen) → followed later (fallen ++ one ∷ []) ≡ followed later fallen ++ record one { later = one.later ++ later } ∷ []
+followed_more later [] one = refl
+followed_more later (first ∷ others) one = ap (λ (fs : List Fallen). record first { later = first.later ++ later } ∷ fs) (followed_more later others one)
+
+outcomes_more : (fallen : List Fallen) (one : Fallen) → outcomes_in (fallen ++ one ∷ []) ≡ outcomes_in fallen ++ one.outcome ∷ []
+outcomes_more [] one = refl
+outcomes_more (first ∷ others) one = ap (λ (o : List Outcome). first.outcome ∷ o) (outcomes_more others one)
+
+-- and one more, if there is one
+followed_extended : (begun : Begun) (later : List Record) (fallen : List Fallen) (outcome : Option Outcome)
+    → followed later (extended fallen (falls_before begun [] outcome)) ≡ extended (followed later fallen) (falls_before begun later outcome)
+followed_extended begun later fallen None = refl
+followed_extended begun later fallen (Some outcome) = followed_more later fallen (record { access = begun.access; outcome = outcome; later = [] })
+
+outcomes_extended : (begun : Begun) (later : List Record) (fallen : List Fallen) (outcome : Option Outcome)
+    → outcomes_in (extended fallen (falls_before begun later outcome)) ≡ extended (outcomes_in fallen) outcome
+outcomes_extended begun later fallen None = refl
+outcomes_extended begun later fallen (Some outcome) = outcomes_more fallen (record { access = begun.access; outcome = outcome; later = later })
 
 -- one record more
 pub leads_on : (s : Setting) (scopes : List Begun) (doing : Doing) (asked : ℕ) (records : List Record) (old new : Checker) (first : Record) (leads : Leads s scopes doing asked records old) (now : ℕ)
     → new.setting ≡ old.setting → new.scopes.items ≡ old.scopes.items → new.last ≡ old.last → Samples s now new.sampler
-    → stage_wait new.stage ≡ capped (wait_on (wait_after records) first.step first.answer)
-    → ((later : List Record) (passes : Passes) → Still s scopes old.stage leads.now old.outcomes (first ∷ later) passes ↔ Still s scopes new.stage now new.outcomes later passes)
+    → stage_wait new.stage ≡ capped (wait_on (wait_after records) first.step first.answer) → (fallen : List Fallen) → new.outcomes ≡ outcomes_in fallen → AllFallIn s (records ++ first ∷ []) fallen
+    → ((later : List Record) (passes : Passes) → Still s scopes old.stage leads.now (followed (first ∷ later) leads.fallen) (first ∷ later) passes ↔ Still s scopes new.stage now (followed later fallen) later passes)
     → Leads s scopes doing asked (records ++ first ∷ []) new
-leads_on s scopes doing asked records old new first leads now same_setting same_scopes same_last samples waits step = record {
+leads_on s scopes doing asked records old new first leads now same_setting same_scopes same_last samples waits fallen outcomes falls step = record {
+  falls = falls;
+  fallen = fallen;
+  outcomes = outcomes;
   setting = ap (λ kept. setting_with kept s.sites) same_setting ∙ leads.setting;
   in_force = same_scopes ∙ leads.in_force;
   own = leads.own;
@@ -88,9 +124,12 @@ leads_first s scopes doing asked checker setting in_force own samples none last 
   own = own;
   last = last;
   waits = waits;
+  fallen = [];
+  outcomes = none;
+  falls = tt;
   now = asked;
   samples = samples;
-  left = λ later passes. rw none
+  left = λ later passes.
       (λ h. (passes, (does later passes).0 h, refl), λ h. subst (λ p. Does s scopes doing asked later p) (sym h.2) ((does later h.0).1 h.1));
 }
 
@@ -98,39 +137,42 @@ module _ (s : Setting) (scopes : List Begun) (role : Role) (begun : Begun) (pass
     (left : (given : Given) (rest : List Record) → PassLeft s begun pass then (first ∷ later) given rest ↔ TurnLeft s begun turn now later given rest)
     (leads : (passes : Passes) → ToRoleLeft s scopes turn.to role begun now later passes ↔ StageLeft s scopes stage now later passes) where
   -- an outcome that a turn gives goes to those so far
-  joined : (outcomes : List Outcome) (outcome : Option Outcome) (given : Given) (more : Passes)
+  joined : (outcomes : List Fallen) (outcome : Option Fallen) (given : Given) (more : Passes)
       → after outcomes (record { outcomes = (with_outcome outcome given).outcomes ++ more.outcomes; asked = more.asked })
       ≡ after (extended outcomes outcome) (record { outcomes = given.outcomes ++ more.outcomes; asked = more.asked })
   joined outcomes None given more = refl
   joined outcomes (Some outcome) given more =
-      ap (λ (list : List Outcome). record { outcomes = list; asked = more.asked }) (sym (append_assoc outcomes (outcome ∷ []) (given.outcomes ++ more.outcomes)))
+      ap (λ (list : List Fallen). record { outcomes = list; asked = more.asked }) (sym (append_assoc outcomes (outcome ∷ []) (given.outcomes ++ more.outcomes)))
 
-  settled_is : (outcome : Option Outcome) (given : Given) → ((with_outcome outcome given).settled ≡ given.settled) × ((with_outcome outcome given).asked ≡ given.asked)
+  settled_is : (outcome : Option Fallen) (given : Given) → ((with_outcome outcome given).settled ≡ given.settled) × ((with_outcome outcome given).asked ≡ given.asked)
   settled_is None given = (refl, refl)
   settled_is (Some outcome) given = (refl, refl)
 
-  pub turn_still : (outcomes : List Outcome) (passes : Passes)
-      → (Still s scopes (stages.Check role begun pass) then outcomes (first ∷ later) passes ↔ Still s scopes stage now (extended outcomes turn.outcome) later passes)
+  abbrev fell : Option Fallen
+  fell = falls_before begun later turn.outcome
+
+  pub turn_still : (outcomes : List Fallen) (passes : Passes)
+      → (Still s scopes (stages.Check role begun pass) then outcomes (first ∷ later) passes ↔ Still s scopes stage now (extended outcomes fell) later passes)
   turn_still outcomes passes = (
     λ h. let check = h.1 in
         let turned = (left check.0 check.1).0 check.3 in
-        let role_at : RoleLeft s scopes role (with_outcome turn.outcome turned.0).settled (with_outcome turn.outcome turned.0).asked check.1 check.2 =
+        let role_at : RoleLeft s scopes role (with_outcome fell turned.0).settled (with_outcome fell turned.0).asked check.1 check.2 =
         subst (λ (g : Given). RoleLeft s scopes role g.settled g.asked check.1 check.2) turned.2 check.4 in
         let role_here : RoleLeft s scopes role turned.0.settled turned.0.asked check.1 check.2 =
-        subst (λ a. RoleLeft s scopes role turned.0.settled a check.1 check.2) (settled_is turn.outcome turned.0).1
-        (subst (λ b. RoleLeft s scopes role b (with_outcome turn.outcome turned.0).asked check.1 check.2) (settled_is turn.outcome turned.0).0 role_at) in
+        subst (λ a. RoleLeft s scopes role turned.0.settled a check.1 check.2) (settled_is fell turned.0).1
+        (subst (λ b. RoleLeft s scopes role b (with_outcome fell turned.0).asked check.1 check.2) (settled_is fell turned.0).0 role_at) in
         let still : Passes = record { outcomes = turned.0.outcomes ++ check.2.outcomes; asked = check.2.asked } in
-        let is : passes ≡ after outcomes (record { outcomes = (with_outcome turn.outcome turned.0).outcomes ++ check.2.outcomes; asked = check.2.asked }) =
+        let is : passes ≡ after outcomes (record { outcomes = (with_outcome fell turned.0).outcomes ++ check.2.outcomes; asked = check.2.asked }) =
         h.2 ∙ ap (after outcomes) (check.5 ∙ ap (λ (g : Given). record { outcomes = g.outcomes ++ check.2.outcomes; asked = check.2.asked }) turned.2) in
-        (still, (leads still).0 (turned.0, check.1, check.2, turned.1, role_here, refl), is ∙ joined outcomes turn.outcome turned.0 check.2),
+        (still, (leads still).0 (turned.0, check.1, check.2, turned.1, role_here, refl), is ∙ joined outcomes fell turned.0 check.2),
     λ h. let to = (leads h.0).1 h.1 in
-        let given : Given = with_outcome turn.outcome to.0 in
+        let given : Given = with_outcome fell to.0 in
         let role_here : RoleLeft s scopes role given.settled given.asked to.1 to.2 =
-        subst (λ a. RoleLeft s scopes role given.settled a to.1 to.2) (sym (settled_is turn.outcome to.0).1)
-        (subst (λ b. RoleLeft s scopes role b to.0.asked to.1 to.2) (sym (settled_is turn.outcome to.0).0) to.4) in (
+        subst (λ a. RoleLeft s scopes role given.settled a to.1 to.2) (sym (settled_is fell to.0).1)
+        (subst (λ b. RoleLeft s scopes role b to.0.asked to.1 to.2) (sym (settled_is fell to.0).0) to.4) in (
           record { outcomes = given.outcomes ++ to.2.outcomes; asked = to.2.asked },
           (given, to.1, to.2, (left given to.1).1 (to.0, to.3, refl), role_here, refl),
-          h.2 ∙ (ap (after (extended outcomes turn.outcome)) to.5 ∙ sym (joined outcomes turn.outcome to.0 to.2)),
+          h.2 ∙ (ap (after (extended outcomes fell)) to.5 ∙ sym (joined outcomes fell to.0 to.2)),
         ),
   )
 
@@ -193,8 +235,10 @@ module _ (s : Setting) (sites : AccessMap) (scopes : List Begun) (doing : Doing)
       let goes = here scopes leads.now leads.samples in
       let step_is : step ≡ Clock = some_is step Clock (subst (λ x. stage_step s x ≡ Some step) stage (said s old step leads.setting says)) in
       rw step_is
-      (leads_on s scopes doing asked records old new (made s.task Clock answer) leads goes.0 same_setting same_scopes same_last goes.1 waits
-      (λ later passes. rw (stage, same_outcomes) (
+      (leads_on s scopes doing asked records old new (made s.task Clock answer) leads goes.0 same_setting same_scopes same_last goes.1 waits (followed (made s.task Clock answer ∷ []) leads.fallen)
+      (same_outcomes ∙ (leads.outcomes ∙ sym (outcomes_followed (made s.task Clock answer ∷ []) leads.fallen)))
+      (falls_followed s records (made s.task Clock answer ∷ []) leads.fallen leads.falls)
+      (λ later passes. rw (stage, followed_twice (made s.task Clock answer) later leads.fallen) (
         λ h. (h.0, (goes.2 later h.0).0 ((on_word answer (ChecksBegun s scopes begun leads.now later h.0 []) word).0 h.1.2), h.2),
         λ h. (h.0, (refl, refl, (on_word answer (ChecksBegun s scopes begun leads.now later h.0 []) word).1 ((goes.2 later h.0).1 h.1)), h.2),
       )))
@@ -207,28 +251,40 @@ module _ (s : Setting) (sites : AccessMap) (scopes : List Begun) (doing : Doing)
   pub check_on : (role : Role) (begun : Begun) (pass : Pass) (turn : Turn) → s.sites ≡ sites → Leads s scopes doing asked records old → old.stage ≡ stages.Check role begun pass → Says old step
       → new.setting ≡ old.setting → new.scopes.items ≡ old.scopes.items → new.last ≡ old.last → new.outcomes ≡ extended old.outcomes turn.outcome
       → Counts (pass_wait pass) (pass_step (setting_with old.setting sites) begun pass) answer (to_wait turn.to) → stage_wait new.stage ≡ to_wait turn.to
+      → GivesAt (setting_with old.setting sites) begun.access turn.outcome (made (setting_with old.setting sites).task (pass_step (setting_with old.setting sites) begun pass) answer)
       → ((then : ℕ) → Samples (setting_with old.setting sites) then old.sampler → (now : ℕ) × Samples (setting_with old.setting sites) now new.sampler
       × ((given : Given) (later rest : List Record) → PassLeft (setting_with old.setting sites) begun pass then
       (made (setting_with old.setting sites).task (pass_step (setting_with old.setting sites) begun pass) answer ∷ later) given rest
       ↔ TurnLeft (setting_with old.setting sites) begun turn now later given rest))
       → ((t : Setting) (now : ℕ) (left : List Record) (passes : Passes) → ToRoleLeft t old.scopes.items turn.to role begun now left passes ↔ StageLeft t old.scopes.items new.stage now left passes)
       → Leads s scopes doing asked (records ++ made s.task step answer ∷ []) new
-  check_on role begun pass turn same_sites leads stage says same_setting same_scopes same_last outcomes counts waits answered after_turn =
+  check_on role begun pass turn same_sites leads stage says same_setting same_scopes same_last outcomes counts waits gives answered after_turn =
       let s_is : setting_with old.setting sites ≡ s = ap (λ (x : AccessMap). setting_with old.setting x) (sym same_sites) ∙ leads.setting in
       let here : Answered s = subst Answered s_is answered in
       let goes = here leads.now leads.samples in
       let step_is : step ≡ pass_step s begun pass = some_is step (pass_step s begun pass) (subst (λ x. stage_step s x ≡ Some step) stage (said s old step leads.setting says)) in
       let counted : Counts (pass_wait pass) (pass_step s begun pass) answer (to_wait turn.to) =
       subst (λ (t : Setting). Counts (pass_wait pass) (pass_step t begun pass) answer (to_wait turn.to)) s_is counts in
+      let gives_here : GivesAt s begun.access turn.outcome (made s.task (pass_step s begun pass) answer) =
+      subst (λ (t : Setting). GivesAt t begun.access turn.outcome (made t.task (pass_step t begun pass) answer)) s_is gives in
       let waited : stage_wait new.stage ≡ capped (wait_on (wait_after records) (pass_step s begun pass) answer) =
       waits ∙ counted (wait_after records) (sym (ap stage_wait stage) ∙ leads.waits) in
       let turned : (t : Setting) (now : ℕ) (left : List Record) (passes : Passes) → ToRoleLeft t scopes turn.to role begun now left passes ↔ StageLeft t scopes new.stage now left passes =
       subst (λ (x : List Begun). (t : Setting) (now : ℕ) (left : List Record) (passes : Passes) → ToRoleLeft t x turn.to role begun now left passes ↔ StageLeft t x new.stage now left passes) leads.in_force after_turn in
       rw step_is
       (leads_on s scopes doing asked records old new (made s.task (pass_step s begun pass) answer) leads goes.0 same_setting same_scopes same_last goes.1 waited
-      (λ later passes. rw (stage, outcomes)
+      (extended (followed (made s.task (pass_step s begun pass) answer ∷ []) leads.fallen) (falls_before begun [] turn.outcome))
+      (outcomes ∙ (ap (λ (o : List Outcome). extended o turn.outcome) (leads.outcomes ∙ sym (outcomes_followed (made s.task (pass_step s begun pass) answer ∷ []) leads.fallen))
+      ∙ sym (outcomes_extended begun [] (followed (made s.task (pass_step s begun pass) answer ∷ []) leads.fallen) turn.outcome)))
+      (falls_extended s begun records (made s.task (pass_step s begun pass) answer) _ turn.outcome
+      (falls_followed s records (made s.task (pass_step s begun pass) answer ∷ []) leads.fallen leads.falls) gives_here)
+      (λ later passes. rw (
+        stage,
+        followed_extended begun later (followed (made s.task (pass_step s begun pass) answer ∷ []) leads.fallen) turn.outcome,
+        followed_twice (made s.task (pass_step s begun pass) answer) later leads.fallen,
+      )
       (turn_still s scopes role begun pass turn new.stage leads.now goes.0 (made s.task (pass_step s begun pass) answer) later
-      (λ given rest. goes.2 given later rest) (turned s goes.0 later) old.outcomes passes)))
+      (λ given rest. goes.2 given later rest) (turned s goes.0 later) (followed (made s.task (pass_step s begun pass) answer ∷ later) leads.fallen) passes)))
     where
       Answered : Setting → Type 0
       Answered t = (then : ℕ) → Samples t then old.sampler → (now : ℕ) × Samples t now new.sampler
@@ -242,8 +298,10 @@ module _ (s : Setting) (sites : AccessMap) (scopes : List Begun) (doing : Doing)
       let step_is : step ≡ Clock = some_is step Clock (subst (λ x. stage_step s x ≡ Some step) stage (said s old step leads.setting says)) in
       rw step_is
       (leads_on s scopes doing asked records old new (made s.task Clock answer) leads leads.now same_setting same_scopes same_last
-      (subst (λ x. Samples s leads.now x) (sym same_sampler) leads.samples) (ap stage_wait rests)
-      (λ later passes. rw (stage, rests, same_outcomes) (
+      (subst (λ x. Samples s leads.now x) (sym same_sampler) leads.samples) (ap stage_wait rests) (followed (made s.task Clock answer ∷ []) leads.fallen)
+      (same_outcomes ∙ (leads.outcomes ∙ sym (outcomes_followed (made s.task Clock answer ∷ []) leads.fallen)))
+      (falls_followed s records (made s.task Clock answer ∷ []) leads.fallen leads.falls)
+      (λ later passes. rw (stage, rests, followed_twice (made s.task Clock answer) later leads.fallen) (
         λ h. (h.0, (h.1.0, (on_word answer ([] ≡ later) word).0 h.1.1.2), h.2),
         λ h. (h.0, (h.1.0, (refl, refl, (on_word answer ([] ≡ later) word).1 h.1.1)), h.2),
       )))

@@ -12,3 +12,4 @@ pub mod NextLemmas
 pub mod LawLemmas
 pub mod DisciplineLemmas
 pub mod LocksLemmas
+pub mod FallLemmas

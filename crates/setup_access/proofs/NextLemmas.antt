@@ -9,8 +9,9 @@ use Rattle.slot_table.specs.declared.step.Answer.{Answer}
 use Rattle.slot_table.specs.declared.step.Answer.TheVariants as answers
 use Rattle.slot_table.specs.declared.step.Step.{Step}
 use Rattle.slot_table.specs.declared.step.Step.TheVariants.{Clock}
-use Rattle.setup_access.specs.Check.{Passes}
+use Rattle.setup_access.specs.Check.{Fallen, Passes}
 use Rattle.setup_access.specs.Checker.{Does, Doing, StageLeft}
+use Rattle.setup_access.specs.Fallen.{followed}
 use Rattle.setup_access.specs.Kept.{setting_with}
 use Rattle.setup_access.specs.Leads.{GoOn, IsComplete, IsDone, IsOver, Leads, OnlyStep, Rests, stage_step}
 use Rattle.setup_access.specs.Parts.{FindLeft, FoundLeft, SetupLeft, find_step, found_step, setup_step}
@@ -33,6 +34,7 @@ use Rattle.setup_access.specs.declared.setup.Setup.{Setup}
 use Rattle.setup_access.specs.declared.setup.Setup.TheVariants as setups
 use Rattle.setup_access.specs.declared.stage.Stage.{Stage}
 use Rattle.setup_access.specs.declared.stage.Stage.TheVariants as stages
+use Rattle.setup_access.proofs.LeadsLemmas.{outcomes_followed}
 
 -- the kind of an answer of which something holds
 word_kind : (answer : Answer) (P : ℕ → Type 0) → OnWord answer P → IsWord answer
@@ -126,11 +128,14 @@ complete_at_rest : (s : Setting) (scopes : List Begun) (doing : Doing) (asked : 
     → Leads s scopes doing asked records checker → checker.stage ≡ stages.Rest → IsComplete s scopes doing asked records checker
 complete_at_rest s scopes doing asked records checker leads rests =
     let none : Passes = record { outcomes = []; asked = leads.now } in
-    let all : Passes = record { outcomes = checker.outcomes; asked = leads.now } in
+    let fallen : List Fallen = followed [] leads.fallen in
+    let all : Passes = record { outcomes = fallen; asked = leads.now } in
     let rest_left : StageLeft s scopes checker.stage leads.now [] none = rw rests (refl, refl) in
-    let outcomes : all ≡ record { outcomes = checker.outcomes ++ []; asked = leads.now } = ap (λ (o : List Outcome). record { outcomes = o; asked = leads.now }) (sym (append-nil checker.outcomes)) in
+    let outcomes : all ≡ record { outcomes = fallen ++ []; asked = leads.now } = ap (λ (o : List Fallen). record { outcomes = o; asked = leads.now }) (sym (append-nil fallen)) in
     record {
       now = leads.now;
+      fallen = fallen;
+      outcomes = leads.outcomes ∙ sym (outcomes_followed [] leads.fallen);
       does = rw append-nil at ((leads.left [] all).1 (none, rest_left, outcomes));
       ends = λ later passes does.
           let left = (leads.left later passes).0 does in

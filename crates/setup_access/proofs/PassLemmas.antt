@@ -6,7 +6,7 @@ use Rattle.slot_table.specs.declared.step.Answer.{Answer}
 use Rattle.slot_table.specs.declared.step.Answer.TheVariants.{Done}
 use Rattle.slot_table.specs.declared.step.Step.TheVariants.{Clear}
 use Rattle.watch_word.specs.Word.{Encodable, word_of}
-use Rattle.setup_access.specs.Check.{NoneFound, Pass}
+use Rattle.setup_access.specs.Check.{Fallen, NoneFound, Pass}
 use Rattle.setup_access.specs.Check as checks
 use Rattle.setup_access.specs.Found.{Takes}
 use Rattle.setup_access.specs.Parts.{FindLeft, FoundLeft, SetupLeft, made}
@@ -50,6 +50,10 @@ match_none None P Q h = (λ p. p, λ p. p)
 match_none (Some x) P Q h = absurd (let no : true ≡ false = h in cc)
 
 module _ (s : Setting) (begun : Begun) (asked : ℕ) (later : List Record) (given : Given) (rest : List Record) where
+  -- an outcome that falls now
+  abbrev here : Outcome → Fallen
+  here outcome = record { access = begun.access; outcome = outcome; later = later }
+
   -- the check goes on
   pub going_left : (turn : Turn) (pass : code.Pass) → turn ≡ record { outcome = None; to = Going pass }
       → (PassLeft s begun pass asked later given rest ↔ TurnLeft s begun turn asked later given rest)
@@ -58,34 +62,34 @@ module _ (s : Setting) (begun : Begun) (asked : ℕ) (later : List Record) (give
 
   -- it is over with an outcome, and has found a watchpoint
   pub settled_left : (turn : Turn) (outcome : Outcome) → turn ≡ record { outcome = Some outcome; to = Settled }
-      → (((given ≡ record { outcomes = outcome ∷ []; settled = true; asked = asked }) × (rest ≡ later)) ↔ TurnLeft s begun turn asked later given rest)
+      → (((given ≡ record { outcomes = here outcome ∷ []; settled = true; asked = asked }) × (rest ≡ later)) ↔ TurnLeft s begun turn asked later given rest)
   settled_left turn outcome is = rw is
-      (λ h. (nothing_given true asked, (refl, h.1), h.0), λ h. (h.2 ∙ ap (with_outcome (Some outcome)) h.1.0, h.1.1))
+      (λ h. (nothing_given true asked, (refl, h.1), h.0), λ h. (h.2 ∙ ap (with_outcome (Some (here outcome))) h.1.0, h.1.1))
 
   -- it is over with an outcome, and has neither found a watchpoint nor set one up
   pub unsettled_left : (turn : Turn) (outcome : Outcome) → turn ≡ record { outcome = Some outcome; to = Unsettled }
-      → (((given ≡ record { outcomes = outcome ∷ []; settled = false; asked = asked }) × (rest ≡ later)) ↔ TurnLeft s begun turn asked later given rest)
+      → (((given ≡ record { outcomes = here outcome ∷ []; settled = false; asked = asked }) × (rest ≡ later)) ↔ TurnLeft s begun turn asked later given rest)
   unsettled_left turn outcome is = rw is
-      (λ h. (nothing_given false asked, (refl, h.1), h.0), λ h. (h.2 ∙ ap (with_outcome (Some outcome)) h.1.0, h.1.1))
+      (λ h. (nothing_given false asked, (refl, h.1), h.0), λ h. (h.2 ∙ ap (with_outcome (Some (here outcome))) h.1.0, h.1.1))
 
   -- a pass that is known
-  pass_is : (outcome : Outcome) (settled : Bool) (at : ℕ) (P : Pass → Type 0) → ((pass : Pass) → P pass ↔ ((pass ≡ record { outcome = outcome; settled = settled; asked = at }) × (rest ≡ later)))
-      → (((pass : Pass) × P pass × (given ≡ given_of pass)) ↔ ((given ≡ record { outcomes = outcome ∷ []; settled = settled; asked = at }) × (rest ≡ later)))
+  pass_is : (outcome : Outcome) (settled : Bool) (at : ℕ) (P : Pass → Type 0) → ((pass : Pass) → P pass ↔ ((pass ≡ record { outcome = outcome; later = later; settled = settled; asked = at }) × (rest ≡ later)))
+      → (((pass : Pass) × P pass × (given ≡ given_of begun pass)) ↔ ((given ≡ record { outcomes = here outcome ∷ []; settled = settled; asked = at }) × (rest ≡ later)))
   pass_is outcome settled at P is = (
-    λ h. let known = (is h.0).0 h.1 in (h.2 ∙ ap given_of known.0, known.1),
-    λ h. let pass : Pass = record { outcome = outcome; settled = settled; asked = at } in (pass, (is pass).1 (refl, h.1), h.0),
+    λ h. let known = (is h.0).0 h.1 in (h.2 ∙ ap (given_of begun) known.0, known.1),
+    λ h. let pass : Pass = record { outcome = outcome; later = later; settled = settled; asked = at } in (pass, (is pass).1 (refl, h.1), h.0),
   )
 
   -- an access with a mask takes nothing
   pub masked_left : (found : Watchpoint) → is_some begun.access.mask ≡ true
-      → (GoesOnGiven s begun asked (Some found) later given rest ↔ ((given ≡ record { outcomes = Nothing ∷ []; settled = true; asked = asked }) × (rest ≡ later)))
+      → (GoesOnGiven s begun asked (Some found) later given rest ↔ ((given ≡ record { outcomes = here Nothing ∷ []; settled = true; asked = asked }) × (rest ≡ later)))
   masked_left found mask = (
-    λ h. let nothing = (match_some begun.access.mask (Takes s begun.access found later h.0.outcome rest) ((h.0.outcome ≡ Nothing) × (rest ≡ later)) mask).0 h.1.2 in
-        let settled = h.1.0 in let same = h.1.1 in let outcome = nothing.0 in let is = h.2 in
+    λ h. let nothing = (match_some begun.access.mask (Takes s begun.access found later h.0.outcome rest) ((h.0.outcome ≡ Nothing) × (rest ≡ later)) mask).0 h.1.3 in
+        let settled = h.1.0 in let same = h.1.1 in let falls = h.1.2 in let over = nothing.1 in let outcome = nothing.0 in let is = h.2 in
         (cc, nothing.1),
     λ h. (
-      record { outcome = Nothing; settled = true; asked = asked },
-      (refl, refl, (match_some begun.access.mask (Takes s begun.access found later Nothing rest) ((Nothing ≡ Nothing) × (rest ≡ later)) mask).1 (refl, h.1)),
+      record { outcome = Nothing; later = later; settled = true; asked = asked },
+      (refl, refl, sym h.1, (match_some begun.access.mask (Takes s begun.access found later Nothing rest) ((Nothing ≡ Nothing) × (rest ≡ later)) mask).1 (refl, h.1)),
       h.0,
     ),
   )
@@ -94,12 +98,12 @@ module _ (s : Setting) (begun : Begun) (asked : ℕ) (later : List Record) (give
   pub unmasked_left : (found : Watchpoint) → is_some begun.access.mask ≡ false
       → (GoesOnGiven s begun asked (Some found) later given rest ↔ PassLeft s begun (passes.Found (TryConsume found)) asked later given rest)
   unmasked_left found mask = (
-    λ h. let takes = (match_none begun.access.mask (Takes s begun.access found later h.0.outcome rest) ((h.0.outcome ≡ Nothing) × (rest ≡ later)) mask).0 h.1.2 in
-        let settled = h.1.0 in let same = h.1.1 in let is = h.2 in
+    λ h. let takes = (match_none begun.access.mask (Takes s begun.access found later h.0.outcome rest) ((h.0.outcome ≡ Nothing) × (rest ≡ later)) mask).0 h.1.3 in
+        let settled = h.1.0 in let same = h.1.1 in let falls = h.1.2 in let is = h.2 in
         (h.0.outcome, takes, cc),
     λ h. (
-      record { outcome = h.0; settled = true; asked = asked },
-      (refl, refl, (match_none begun.access.mask (Takes s begun.access found later h.0 rest) ((h.0 ≡ Nothing) × (rest ≡ later)) mask).1 h.1),
+      record { outcome = h.0; later = rest; settled = true; asked = asked },
+      (refl, refl, refl, (match_none begun.access.mask (Takes s begun.access found later h.0 rest) ((h.0 ≡ Nothing) × (rest ≡ later)) mask).1 h.1),
       h.2,
     ),
   )
@@ -110,11 +114,12 @@ module _ (s : Setting) (begun : Begun) (asked : ℕ) (later : List Record) (give
   taking_goes found next records is = (λ h. (h.0, (is h.0).0 h.1, h.2), λ h. (h.0, (is h.0).1 h.1, h.2))
 
   pub taking_over : (found : Found) (records : List Record) (over : Outcome) → ((outcome : Outcome) → FoundLeft s begun.access found records outcome rest ↔ ((outcome ≡ over) × (rest ≡ later)))
-      → (PassLeft s begun (passes.Found found) asked records given rest ↔ ((given ≡ record { outcomes = over ∷ []; settled = true; asked = asked }) × (rest ≡ later)))
+      → (PassLeft s begun (passes.Found found) asked records given rest ↔ ((given ≡ record { outcomes = here over ∷ []; settled = true; asked = asked }) × (rest ≡ later)))
   taking_over found records over is = (
     λ h. let known = (is h.0).0 h.1 in
-        (subst (λ o. given ≡ record { outcomes = o ∷ []; settled = true; asked = asked }) known.0 h.2, known.1),
-    λ h. (over, (is over).1 (refl, h.1), h.0),
+        let outcome = known.0 in let ends = known.1 in let gives = h.2 in
+        (cc, known.1),
+    λ h. (over, (is over).1 (refl, h.1), h.0 ∙ ap (λ (r : List Record). record { outcomes = record { access = begun.access; outcome = over; later = r } ∷ []; settled = true; asked = asked }) (sym h.1)),
   )
 
   -- a watch has made a step
@@ -123,29 +128,29 @@ module _ (s : Setting) (begun : Begun) (asked : ℕ) (later : List Record) (give
   watch_goes setup next records is = (λ h. (h.0, h.1, (is h.0 h.1).0 h.2, h.3), λ h. (h.0, h.1, (is h.0 h.1).1 h.2, h.3))
 
   pub watch_full : (setup : Setup) (records : List Record) → ((judged : Option Judged) (mid : List Record) → SetupLeft s begun.access setup records judged mid ↔ ((judged ≡ None) × (mid ≡ later)))
-      → (PassLeft s begun (passes.Setup setup) asked records given rest ↔ ((given ≡ record { outcomes = Capacity ∷ []; settled = false; asked = asked }) × (rest ≡ later)))
+      → (PassLeft s begun (passes.Setup setup) asked records given rest ↔ ((given ≡ record { outcomes = here Capacity ∷ []; settled = false; asked = asked }) × (rest ≡ later)))
   watch_full setup records is =
-      through (at_point (λ judged mid. SetupLeft s begun.access setup records judged mid) (λ judged mid. EndsGiven s asked judged mid given rest) None later is)
-      (pass_is Capacity false asked (λ pass. (pass ≡ record { outcome = Capacity; settled = false; asked = asked }) × (rest ≡ later)) (λ pass. (λ h. h, λ h. h)))
+      through (at_point (λ judged mid. SetupLeft s begun.access setup records judged mid) (λ judged mid. EndsGiven s begun asked judged mid given rest) None later is)
+      (pass_is Capacity false asked (λ pass. (pass ≡ record { outcome = Capacity; later = later; settled = false; asked = asked }) × (rest ≡ later)) (λ pass. (λ h. h, λ h. h)))
 
   pub watch_over : (setup : Setup) (records : List Record) (index : ℕ) (outcome : Outcome) (turn : Turn)
       → ((judged : Option Judged) (mid : List Record) → SetupLeft s begun.access setup records judged mid ↔ ((judged ≡ Some (record { index = index; outcome = outcome })) × (mid ≡ later)))
       → turn ≡ record { outcome = Some outcome; to = Going (passes.Clear index) }
       → (PassLeft s begun (passes.Setup setup) asked records given rest ↔ TurnLeft s begun turn asked later given rest)
   watch_over setup records index outcome turn is turned = rw turned
-      (through (at_point (λ judged mid. SetupLeft s begun.access setup records judged mid) (λ judged mid. EndsGiven s asked judged mid given rest) (Some (record { index = index; outcome = outcome })) later is) (
-        λ h. (nothing_given true asked, (h.1.1, refl), h.2 ∙ ap given_of h.1.0),
-        λ h. (record { outcome = outcome; settled = true; asked = asked }, (refl, h.1.0), h.2 ∙ ap (with_outcome (Some outcome)) h.1.1),
+      (through (at_point (λ judged mid. SetupLeft s begun.access setup records judged mid) (λ judged mid. EndsGiven s begun asked judged mid given rest) (Some (record { index = index; outcome = outcome })) later is) (
+        λ h. (nothing_given true asked, (h.1.1, refl), h.2 ∙ ap (given_of begun) h.1.0),
+        λ h. (record { outcome = outcome; later = later; settled = true; asked = asked }, (refl, h.1.0), h.2 ∙ ap (with_outcome (Some (here outcome))) h.1.1),
       ))
 
   -- an access that counts as marked is not watched
   pub marked_left : begun.marked ≡ true
-      → (GoesOnGiven s begun asked None later given rest ↔ ((given ≡ record { outcomes = Nothing ∷ []; settled = false; asked = asked }) × (rest ≡ later)))
+      → (GoesOnGiven s begun asked None later given rest ↔ ((given ≡ record { outcomes = here Nothing ∷ []; settled = false; asked = asked }) × (rest ≡ later)))
   marked_left marked = pass_is Nothing false asked (λ pass. NoneFound s begun.access begun.marked asked later pass rest)
       (λ pass. (none_marked pass marked, λ h. checks.counts_as_marked marked h.0 h.1))
     where
       none_marked : (pass : Pass) → begun.marked ≡ true → NoneFound s begun.access begun.marked asked later pass rest
-          → ((pass ≡ record { outcome = Nothing; settled = false; asked = asked }) × (rest ≡ later))
+          → ((pass ≡ record { outcome = Nothing; later = later; settled = false; asked = asked }) × (rest ≡ later))
       none_marked pass marked (checks.counts_as_marked m is r) = (is, r)
       none_marked pass marked (checks.skipped m n is r) = absurd (let no : true ≡ false = sym marked ∙ m in cc)
       none_marked pass marked (checks.unencodable m w n is r) = absurd (let no : true ≡ false = sym marked ∙ m in cc)
@@ -153,12 +158,12 @@ module _ (s : Setting) (begun : Begun) (asked : ℕ) (later : List Record) (give
 
   -- an access that is skipped is not
   pub skipped_left : begun.marked ≡ false → ¬ IsWatched s asked
-      → (GoesOnGiven s begun asked None later given rest ↔ ((given ≡ record { outcomes = Nothing ∷ []; settled = false; asked = asked + 1 }) × (rest ≡ later)))
+      → (GoesOnGiven s begun asked None later given rest ↔ ((given ≡ record { outcomes = here Nothing ∷ []; settled = false; asked = asked + 1 }) × (rest ≡ later)))
   skipped_left unmarked skipped = pass_is Nothing false (asked + 1) (λ pass. NoneFound s begun.access begun.marked asked later pass rest)
       (λ pass. (none_skipped pass, λ h. checks.skipped unmarked skipped h.0 h.1))
     where
       none_skipped : (pass : Pass) → NoneFound s begun.access begun.marked asked later pass rest
-          → ((pass ≡ record { outcome = Nothing; settled = false; asked = asked + 1 }) × (rest ≡ later))
+          → ((pass ≡ record { outcome = Nothing; later = later; settled = false; asked = asked + 1 }) × (rest ≡ later))
       none_skipped pass (checks.counts_as_marked m is r) = absurd (let no : true ≡ false = sym m ∙ unmarked in cc)
       none_skipped pass (checks.skipped m n is r) = (is, r)
       none_skipped pass (checks.unencodable m w n is r) = absurd (skipped w)
@@ -166,12 +171,12 @@ module _ (s : Setting) (begun : Begun) (asked : ℕ) (later : List Record) (give
 
   -- nor is one that no word can stand for
   pub unencodable_left : begun.marked ≡ false → IsWatched s asked → ¬ Encodable begun.access
-      → (GoesOnGiven s begun asked None later given rest ↔ ((given ≡ record { outcomes = Unencodable ∷ []; settled = false; asked = asked + 1 }) × (rest ≡ later)))
+      → (GoesOnGiven s begun asked None later given rest ↔ ((given ≡ record { outcomes = here Unencodable ∷ []; settled = false; asked = asked + 1 }) × (rest ≡ later)))
   unencodable_left unmarked watched none = pass_is Unencodable false (asked + 1) (λ pass. NoneFound s begun.access begun.marked asked later pass rest)
       (λ pass. (none_word pass, λ h. checks.unencodable unmarked watched none h.0 h.1))
     where
       none_word : (pass : Pass) → NoneFound s begun.access begun.marked asked later pass rest
-          → ((pass ≡ record { outcome = Unencodable; settled = false; asked = asked + 1 }) × (rest ≡ later))
+          → ((pass ≡ record { outcome = Unencodable; later = later; settled = false; asked = asked + 1 }) × (rest ≡ later))
       none_word pass (checks.counts_as_marked m is r) = absurd (let no : true ≡ false = sym m ∙ unmarked in cc)
       none_word pass (checks.skipped m n is r) = absurd (n watched)
       none_word pass (checks.unencodable m w n is r) = (is, r)
@@ -183,7 +188,7 @@ module _ (s : Setting) (begun : Begun) (asked : ℕ) (later : List Record) (give
   watched_left word unmarked watched encodable is = rw is
       (λ h. set_up h.0 h.1 h.2, λ h. (h.3.0, checks.watched h.0 h.1 unmarked watched encodable h.2 h.3.1, h.3.2))
     where
-      set_up : (pass : Pass) → NoneFound s begun.access begun.marked asked later pass rest → given ≡ given_of pass
+      set_up : (pass : Pass) → NoneFound s begun.access begun.marked asked later pass rest → given ≡ given_of begun pass
           → PassLeft s begun (passes.Setup (Insert First (word_of s.rules.layout begun.access))) (asked + 1) later given rest
       set_up pass (checks.counts_as_marked m is r) e = absurd (let no : true ≡ false = sym m ∙ unmarked in cc)
       set_up pass (checks.skipped m n is r) e = absurd (n watched)

@@ -3,13 +3,12 @@ use Rattle.std.proofs.Common.{◌≡◌, ◌<◌, ◌↔◌, ◌∷◌, ◌++◌
 use Rattle.std.proofs.Math.Seq.{drop-cons}
 use Rattle.slot_table.specs.declared.records.Record.{Record}
 use Rattle.slot_table.specs.declared.step.Step.TheVariants.{Clock}
-use Rattle.setup_access.specs.Check.{ChecksBegun, ChecksLast, ChecksOnce, Pass, Passes, Rechecks, left_to_check}
+use Rattle.setup_access.specs.Check.{ChecksBegun, ChecksLast, ChecksOnce, Fallen, Pass, Passes, Rechecks, fallen_of, left_to_check}
 use Rattle.setup_access.specs.Checker.{RoleLeft, StageLeft}
 use Rattle.setup_access.specs.PassLeft.{Given, PassLeft, given_of, nothing_given}
 use Rattle.setup_access.specs.Records.{MakesWord}
 use Rattle.setup_access.specs.Setting.{Setting}
 use Rattle.setup_access.specs.declared.begun.Begun.{Begun}
-use Rattle.setup_access.specs.declared.outcome.Outcome.{Outcome}
 use Rattle.setup_access.specs.declared.pass.Pass.TheVariants as parts
 use Rattle.setup_access.specs.declared.place.Place.TheVariants.{First}
 use Rattle.setup_access.specs.declared.stage.Role.{Role}
@@ -34,23 +33,23 @@ at_number scopes number begun below is =
 module _ (s : Setting) (begun : Begun) (asked : ℕ) (records : List Record) (passes : Passes) where
   -- a check of an access from its look-up on, and whatever follows on it
   pub pass_then : (K : Bool → ℕ → List Record → Passes → Type 0)
-      → (((pass : Pass) × (later : List Record) × (more : List Outcome) × ChecksOnce s begun.access begun.marked asked records pass later
-      × K pass.settled pass.asked later (record { outcomes = more; asked = passes.asked }) × (passes.outcomes ≡ pass.outcome ∷ more))
+      → (((pass : Pass) × (later : List Record) × (more : List Fallen) × ChecksOnce s begun.access begun.marked asked records pass later
+      × K pass.settled pass.asked later (record { outcomes = more; asked = passes.asked }) × (passes.outcomes ≡ fallen_of begun.access pass ∷ more))
       ↔ ((given : Given) × (later : List Record) × (more : Passes) × PassLeft s begun (parts.Find (record { place = First })) asked records given later
       × K given.settled given.asked later more × (passes ≡ record { outcomes = given.outcomes ++ more.outcomes; asked = more.asked })))
   pass_then K = (
-    λ h. let outcomes : passes.outcomes ≡ h.0.outcome ∷ h.2 = h.5 in (
-      given_of h.0,
+    λ h. let outcomes : passes.outcomes ≡ fallen_of begun.access h.0 ∷ h.2 = h.5 in (
+      given_of begun h.0,
       h.1,
       record { outcomes = h.2; asked = passes.asked },
       (h.3.0, h.3.1, h.3.2, (h.0, h.3.3, refl)),
       h.4,
-      ap (λ (o : List Outcome). record { outcomes = o; asked = passes.asked }) outcomes,
+      ap (λ (o : List Fallen). record { outcomes = o; asked = passes.asked }) outcomes,
     ),
     λ h. let pass : Pass = h.3.3.0 in
-        let is : h.0 ≡ given_of pass = h.3.3.2 in
+        let is : h.0 ≡ given_of begun pass = h.3.3.2 in
         let follows : K pass.settled pass.asked h.1 h.2 = subst (λ (g : Given). K g.settled g.asked h.1 h.2) is h.4 in
-        let made : passes ≡ record { outcomes = pass.outcome ∷ h.2.outcomes; asked = h.2.asked } =
+        let made : passes ≡ record { outcomes = fallen_of begun.access pass ∷ h.2.outcomes; asked = h.2.asked } =
         h.5 ∙ ap (λ (g : Given). record { outcomes = g.outcomes ++ h.2.outcomes; asked = h.2.asked }) is in (
           pass,
           h.1,
@@ -106,7 +105,7 @@ module _ (s : Setting) (scopes : List Begun) (asked : ℕ) (records : List Recor
   )
 
 -- outcomes and askings
-abbrev known : List Outcome → ℕ → Passes
+abbrev known : List Fallen → ℕ → Passes
 known outcomes asked = record { outcomes = outcomes; asked = asked }
 
 module _ (s : Setting) (begun : Begun) (silenced : Bool) (scopes : List Begun) (asked : ℕ) (records : List Record) (passes : Passes) where
@@ -124,12 +123,12 @@ module _ (s : Setting) (begun : Begun) (silenced : Bool) (scopes : List Begun) (
       (pass_then s begun asked records passes (λ settled now later more. (more ≡ record { outcomes = []; asked = now }) × MakesWord s.task Clock (λ stamp after. [] ≡ after) later)))
     where
       shuffled : ((later : List Record)
-          × ((pass : Pass) × (mid : List Record) × (more : List Outcome) × ChecksOnce s begun.access begun.marked asked records pass mid
-          × ((known more passes.asked ≡ known [] pass.asked) × (later ≡ mid)) × (passes.outcomes ≡ pass.outcome ∷ more))
+          × ((pass : Pass) × (mid : List Record) × (more : List Fallen) × ChecksOnce s begun.access begun.marked asked records pass mid
+          × ((known more passes.asked ≡ known [] pass.asked) × (later ≡ mid)) × (passes.outcomes ≡ fallen_of begun.access pass ∷ more))
           × MakesWord s.task Clock (λ stamp after. [] ≡ after) later)
-          ↔ ((pass : Pass) × (later : List Record) × (more : List Outcome) × ChecksOnce s begun.access begun.marked asked records pass later
+          ↔ ((pass : Pass) × (later : List Record) × (more : List Fallen) × ChecksOnce s begun.access begun.marked asked records pass later
           × ((known more passes.asked ≡ known [] pass.asked) × MakesWord s.task Clock (λ stamp after. [] ≡ after) later)
-          × (passes.outcomes ≡ pass.outcome ∷ more))
+          × (passes.outcomes ≡ fallen_of begun.access pass ∷ more))
       shuffled = (
         λ h. (h.1.0, h.1.1, h.1.2, h.1.3, (h.1.4.0, subst (λ r. MakesWord s.task Clock (λ stamp after. [] ≡ after) r) h.1.4.1 h.2), h.1.5),
         λ h. (h.1, (h.0, h.1, h.2, h.3, (h.4.0, refl), h.5), h.4.1),

@@ -25,6 +25,6 @@ given_now None = 0
 given_now (Some outcome) = 1
 
 -- the outcomes so far, and one more if there is one
-abbrev pub extended : List Outcome → Option Outcome → List Outcome
+abbrev pub extended : {A : Type 0} → List A → Option A → List A
 extended outcomes None = outcomes
 extended outcomes (Some outcome) = outcomes ++ outcome ∷ []

@@ -4,8 +4,10 @@ use Rattle.slot_table.specs.Answer.{Answers}
 use Rattle.slot_table.specs.declared.records.Record.{Record}
 use Rattle.slot_table.specs.declared.step.Step.{Step}
 use Rattle.slot_table.specs.declared.step.Step.TheVariants.{Clock}
-use Rattle.setup_access.specs.Check.{Passes}
+use Rattle.setup_access.specs.Check.{Fallen, Passes}
 use Rattle.setup_access.specs.Checker.{Does, Doing, StageLeft, last_of}
+use Rattle.setup_access.specs.Fallen.{followed, outcomes_in}
+use Rattle.setup_access.specs.FallsAt.{AllFallIn}
 use Rattle.setup_access.specs.Kept.{setting_with}
 use Rattle.setup_access.specs.Own.{AreOwn}
 use Rattle.setup_access.specs.PassLeft.{Samples, pass_step}
@@ -37,7 +39,7 @@ pub record Rests (s : Setting) (scopes : List Begun) (asked : ℕ) (last : Optio
   pub may_open : checker.last ≡ last
   pub stage : checker.stage ≡ stages.Rest
 
--- what is done leads, by these records so far, to the checker: whatever completes the records completes what the checker has left, after the outcomes that it has given; and it has counted the vain tries of their last wait
+-- what is done leads, by these records so far, to the checker: whatever completes the records completes what the checker has left, after the outcomes that have fallen, which it has; and it has counted the vain tries of their last wait
 pub record Leads (s : Setting) (scopes : List Begun) (doing : Doing) (asked : ℕ) (records : List Record) (checker : Checker) : Type 0 where
   pub setting : setting_with checker.setting s.sites ≡ s
   pub in_force : checker.scopes.items ≡ scopes
@@ -46,8 +48,11 @@ pub record Leads (s : Setting) (scopes : List Begun) (doing : Doing) (asked : �
   pub now : ℕ
   pub samples : Samples s now checker.sampler
   pub waits : stage_wait checker.stage ≡ capped (wait_after records)
+  pub fallen : List Fallen
+  pub outcomes : checker.outcomes ≡ outcomes_in fallen
+  pub falls : AllFallIn s records fallen
   pub left : (later : List Record) (passes : Passes) → Does s scopes doing asked (records ++ later) passes
-      ↔ ((more : Passes) × StageLeft s scopes checker.stage now later more × (passes ≡ record { outcomes = checker.outcomes ++ more.outcomes; asked = more.asked }))
+      ↔ ((more : Passes) × StageLeft s scopes checker.stage now later more × (passes ≡ record { outcomes = followed later fallen ++ more.outcomes; asked = more.asked }))
 
 -- the records go on with this step of the task, and whatever answer it may have
 abbrev pub GoOn : ℕ → Step → List Record → Type 0
@@ -69,6 +74,8 @@ IsOver s scopes doing asked records = IsDone s scopes doing asked records ⊎ Is
 -- the records are complete, nothing goes on with them, and the checker rests with their outcomes
 pub record IsComplete (s : Setting) (scopes : List Begun) (doing : Doing) (asked : ℕ) (records : List Record) (checker : Checker) : Type 0 where
   pub now : ℕ
-  pub does : Does s scopes doing asked records (record { outcomes = checker.outcomes; asked = now })
+  pub fallen : List Fallen
+  pub outcomes : checker.outcomes ≡ outcomes_in fallen
+  pub does : Does s scopes doing asked records (record { outcomes = fallen; asked = now })
   pub ends : (later : List Record) (passes : Passes) → Does s scopes doing asked (records ++ later) passes → later ≡ []
   pub rests : Rests s scopes now (last_of doing) checker

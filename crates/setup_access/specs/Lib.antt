@@ -12,6 +12,8 @@ pub mod Check
 pub mod Parts
 pub mod PassLeft
 pub mod Checker
+pub mod FallsAt
+pub mod Fallen
 pub mod Leads
 pub mod Waits
 pub mod Waiting

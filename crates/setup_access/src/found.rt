@@ -3,9 +3,10 @@
 ghost use Rattle.std.specs.Prelude.{◌≡◌, ◌+◌, ◌-◌, ◌^◌, ◌<◌, ◌↔◌, ◌∷◌, List, if◌then◌else◌, min};
 ghost use Rattle.slot_table.specs.Answer.{Answers};
 ghost use Rattle.slot_table.specs.declared.records.Record.{Record};
+ghost use Rattle.setup_access.specs.FallsAt.{TakingFalls};
 ghost use Rattle.setup_access.specs.Parts.{FoundLeft, TakingLeft, found_step, made};
 ghost use Rattle.setup_access.specs.Setting as spec;
-ghost use Rattle.setup_access.specs.Waiting.{Counts, found_wait, taking_wait, tries_of};
+ghost use Rattle.setup_access.specs.Waiting.{Counts, found_wait, taking_wait};
 ghost use Rattle.setup_access.specs.declared.outcome.Outcome.{Outcome};
 
 use crate::outcome::{Outcome, Watchpoint};
@@ -47,6 +48,7 @@ impl Found {
     pub(crate) fn answer(self, access: &Access, answer: Answer) -> Taking
         requires { Answers (found_step access.now self) answer }
         ensures waits { Counts (found_wait self) (found_step access.now self) answer (taking_wait result) }
+        ensures falls { (s : spec.Setting) → TakingFalls s access.now result (made s.task (found_step access.now self) answer) }
         ensures left { (s : spec.Setting) (outcome : Outcome) (later rest : List Record) →
             FoundLeft s access.now self (made s.task (found_step access.now self) answer ∷ later) outcome rest ↔ TakingLeft s access.now result later outcome rest }
     {
@@ -59,16 +61,6 @@ impl Found {
                 pair: pair_of(setter, ticket(access)),
             }),
             _ => unreachable!(),
-        }
-    }
-
-    /// How many tries of its wait were in vain, if it waits.
-    pub(crate) fn tries(self) -> Option<u64>
-        ensures { result ≡ tries_of (found_wait self) }
-    {
-        match self {
-            Found::HearSetter { tries, .. } => Some(tries),
-            _ => None,
         }
     }
 }

@@ -8,6 +8,7 @@ ghost use Rattle.slot_table.specs.declared.records.Record.{Record};
 ghost use Rattle.access_types.specs.declared.report.ValueChange.{ValueChange};
 ghost use Rattle.setup_access.specs.Check as check;
 ghost use Rattle.setup_access.specs.Check.{Check, NoneFound, Passes};
+ghost use Rattle.setup_access.specs.FallsAt.{AllFallIn};
 ghost use Rattle.setup_access.specs.Found.{FoundWatchpoint};
 ghost use Rattle.setup_access.specs.MadeOfChecks.{FreesHeldLocks, MadeOfChecks};
 ghost use Rattle.setup_access.specs.Laws.{OneStep};
@@ -49,6 +50,15 @@ pub fn marked_accesses_set_nothing_up()
 pub fn silenced_accesses_only_begin()
     ensures { (s : Setting) (scopes : List Begun) (begun : Begun) (asked : ℕ) (records : List Record) (passes : Passes) (rest : List Record)
         → begun.silenced ≡ true → Check s scopes begun asked records passes rest → OneStep records rest × (passes.outcomes ≡ []) }
+{}
+
+/// Law: each outcome of a check, and of a close, is of one access and falls at one of the records, of its own
+/// kind: told at the tell, a verdict for two sides at the load of the pair that it names, and so on.
+pub fn outcomes_fall_at_records()
+    ensures check { (s : Setting) (scopes : List Begun) (begun : Begun) (asked : ℕ) (records : List Record) (passes : Passes) (rest : List Record)
+        → Check s scopes begun asked records passes rest → AllFallIn s records passes.outcomes }
+    ensures close { (s : Setting) (scope : Begun) (silenced : Bool) (asked : ℕ) (records : List Record) (passes : Passes) (rest : List Record)
+        → check.Close s scope silenced asked records passes rest → AllFallIn s records passes.outcomes }
 {}
 
 /// Law: a task that makes checks and closes, one after the other, with other steps between them, and frees only

@@ -4,6 +4,7 @@ ghost use Rattle.std.specs.Prelude.{◌≡◌, ◌+◌, ◌≤◌, ◌↔◌, �
 ghost use Rattle.slot_table.specs.Answer.{Answers};
 ghost use Rattle.slot_table.specs.declared.records.Record.{Record};
 ghost use Rattle.setup_access.specs.Due.{given_now, pass_due, to_due};
+ghost use Rattle.setup_access.specs.FallsAt.{FallsAt, GivesAt};
 ghost use Rattle.setup_access.specs.Kept.{setting_with};
 ghost use Rattle.setup_access.specs.Parts.{found_step, made, setup_step};
 ghost use Rattle.setup_access.specs.PassLeft.{Given, GoesOnGiven, PassLeft, Samples, TurnLeft, pass_step};
@@ -85,6 +86,7 @@ impl Pass {
         requires { Answers (pass_step (setting_with setting.now sites.now) begun.now self) answer }
         ensures fits { given_now result.outcome + to_due result.to ≤ pass_due self }
         ensures waits { Counts (pass_wait self) (pass_step (setting_with setting.now sites.now) begun.now self) answer (to_wait result.to) }
+        ensures falls { let s = setting_with setting.now sites.now in GivesAt s begun.now.access result.outcome (made s.task (pass_step s begun.now self) answer) }
         ensures left { (asked : ℕ) → let s = setting_with setting.now sites.now in Samples s asked sampler.old → (asked_now : ℕ) × Samples s asked_now sampler.new
             × ((given : Given) (later rest : List Record) →
             PassLeft s begun.now self asked (made s.task (pass_step s begun.now self) answer ∷ later) given rest ↔ TurnLeft s begun.now result asked_now later given rest) }
@@ -106,8 +108,8 @@ impl Pass {
         ensures { result ≡ tries_of (pass_wait self) }
     {
         match self {
-            Pass::Found(found) => found.tries(),
-            Pass::Setup(setup) => setup.tries(),
+            Pass::Found(Found::HearSetter { tries, .. })
+            | Pass::Setup(Setup::HearFinder { tries, .. }) => Some(tries),
             _ => None,
         }
     }
@@ -147,6 +149,7 @@ fn looked(
     requires { Answers (pass_step (setting_with setting.now sites.now) begun.now (Pass.Find find)) answer }
     ensures fits { given_now result.outcome + to_due result.to ≤ 1 }
     ensures waits { to_wait result.to ≡ None }
+    ensures falls { let s = setting_with setting.now sites.now in GivesAt s begun.now.access result.outcome (made s.task (pass_step s begun.now (Pass.Find find)) answer) }
     ensures left { (asked : ℕ) → let s = setting_with setting.now sites.now in Samples s asked sampler.old → (asked_now : ℕ) × Samples s asked_now sampler.new
         × ((given : Given) (later rest : List Record) →
         PassLeft s begun.now (Pass.Find find) asked (made s.task (pass_step s begun.now (Pass.Find find)) answer ∷ later) given rest ↔ TurnLeft s begun.now result asked_now later given rest) }
@@ -166,6 +169,7 @@ fn took(found: Found, begun: &Begun, answer: Answer) -> Turn
     requires { Answers (found_step begun.now.access found) answer }
     ensures fits { given_now result.outcome + to_due result.to ≤ 1 }
     ensures waits { Counts (found_wait found) (found_step begun.now.access found) answer (to_wait result.to) }
+    ensures falls { (s : spec.Setting) → GivesAt s begun.now.access result.outcome (made s.task (found_step begun.now.access found) answer) }
     ensures left { (s : spec.Setting) (asked : ℕ) (given : Given) (later rest : List Record) →
         PassLeft s begun.now (Pass.Found found) asked (made s.task (found_step begun.now.access found) answer ∷ later) given rest ↔ TurnLeft s begun.now result asked later given rest }
 {
@@ -180,6 +184,7 @@ fn watched(setup: Setup, setting: &Setting, sites: &Sites, begun: &Begun, answer
     requires { Answers (setup_step (setting_with setting.now sites.now) begun.now.access setup) answer }
     ensures fits { given_now result.outcome + to_due result.to ≤ 1 }
     ensures waits { Counts (setup_wait setup) (setup_step (setting_with setting.now sites.now) begun.now.access setup) answer (to_wait result.to) }
+    ensures falls { let s = setting_with setting.now sites.now in GivesAt s begun.now.access result.outcome (made s.task (setup_step s begun.now.access setup) answer) }
     ensures left { (asked : ℕ) (given : Given) (later rest : List Record) → let s = setting_with setting.now sites.now in
         PassLeft s begun.now (Pass.Setup setup) asked (made s.task (setup_step s begun.now.access setup) answer ∷ later) given rest ↔ TurnLeft s begun.now result asked later given rest }
 {
@@ -197,6 +202,7 @@ fn watched(setup: Setup, setting: &Setting, sites: &Sites, begun: &Begun, answer
 fn found_watchpoint(begun: &Begun, found: Watchpoint) -> Turn
     ensures fits { given_now result.outcome + to_due result.to ≤ 1 }
     ensures waits { to_wait result.to ≡ None }
+    ensures falls { (s : spec.Setting) (last : Record) → FallsAt s begun.now.access Outcome.Nothing last → GivesAt s begun.now.access result.outcome last }
     ensures left { (s : spec.Setting) (asked : ℕ) (given : Given) (later rest : List Record) →
         GoesOnGiven s begun.now asked (Some found) later given rest ↔ TurnLeft s begun.now result asked later given rest }
 {
@@ -210,6 +216,7 @@ fn found_watchpoint(begun: &Begun, found: Watchpoint) -> Turn
 fn setup_watchpoint(setting: &Setting, sites: &Sites, sampler: &mut Sampler, begun: &Begun) -> Turn
     ensures fits { given_now result.outcome + to_due result.to ≤ 1 }
     ensures waits { to_wait result.to ≡ None }
+    ensures falls { (s : spec.Setting) (last : Record) → FallsAt s begun.now.access Outcome.Nothing last → GivesAt s begun.now.access result.outcome last }
     ensures left { (asked : ℕ) → let s = setting_with setting.now sites.now in Samples s asked sampler.old → (asked_now : ℕ) × Samples s asked_now sampler.new
         × ((given : Given) (later rest : List Record) → GoesOnGiven s begun.now asked None later given rest ↔ TurnLeft s begun.now result asked_now later given rest) }
 {

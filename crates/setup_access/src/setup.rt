@@ -4,11 +4,12 @@ ghost use Rattle.std.specs.Prelude.{◌≡◌, ◌≤◌, ◌<◌, ◌↔◌, �
 ghost use Rattle.access_types.specs.Sites.{AccessMap};
 ghost use Rattle.slot_table.specs.Answer.{Answers};
 ghost use Rattle.slot_table.specs.declared.records.Record.{Record};
+ghost use Rattle.setup_access.specs.FallsAt.{WatchingFalls};
 ghost use Rattle.setup_access.specs.Kept.{setting_with};
 ghost use Rattle.setup_access.specs.Parts.{SetupLeft, WatchingLeft, after_name, after_refusal, made, place_after, setup_step, try_index};
 ghost use Rattle.setup_access.specs.Setting.{slot_of};
 ghost use Rattle.setup_access.specs.Setup.{Judged};
-ghost use Rattle.setup_access.specs.Waiting.{Counts, setup_wait, tries_of, watching_wait};
+ghost use Rattle.setup_access.specs.Waiting.{Counts, setup_wait, watching_wait};
 ghost use Rattle.setup_access.specs.Values as values;
 ghost use Rattle.setup_access.specs.Verdicts.{UntouchedOutcome};
 ghost use Rattle.setup_access.specs.declared.outcome.Outcome.{Outcome};
@@ -97,6 +98,7 @@ impl Setup {
         requires has_bytes { 0 < access.now.size }
         requires answers { Answers (setup_step (setting_with setting.now sites.now) access.now self) answer }
         ensures waits { Counts (setup_wait self) (setup_step (setting_with setting.now sites.now) access.now self) answer (watching_wait result) }
+        ensures falls { let s = setting_with setting.now sites.now in WatchingFalls s access.now result (made s.task (setup_step s access.now self) answer) }
         ensures left { (judged : Option Judged) (later rest : List Record) → let s = setting_with setting.now sites.now in
             SetupLeft s access.now self (made s.task (setup_step s access.now self) answer ∷ later) judged rest ↔ WatchingLeft s access.now result later judged rest }
     {
@@ -138,16 +140,6 @@ impl Setup {
                 Watching::Judged { index, outcome }
             }
             _ => unreachable!(),
-        }
-    }
-
-    /// How many tries of its wait were in vain, if it waits.
-    pub(crate) fn tries(self) -> Option<u64>
-        ensures { result ≡ tries_of (setup_wait self) }
-    {
-        match self {
-            Setup::HearFinder { tries, .. } => Some(tries),
-            _ => None,
         }
     }
 }

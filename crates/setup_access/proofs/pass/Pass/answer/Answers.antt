@@ -25,3 +25,6 @@ returns-in-Clear-clause-left c = λ asked samples.
           through (cleared_left s c.args.begun.now asked later given rest c.in-Clear.index c.args.answer (rw c.in-Clear.is at c.requires))
           (going_left s c.args.begun.now asked later given rest c.going.result (passes.Remove c.in-Clear.index) c.going.ensures),
     )
+
+pub returns-in-Found-clause-falls : goal.returns-in-Found-clause-falls
+returns-in-Found-clause-falls c = rw c.in-Found.is (c.took.ensures.falls (setting_with c.args.setting.now c.args.sites.now))

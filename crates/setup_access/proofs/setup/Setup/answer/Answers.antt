@@ -1,6 +1,7 @@
 -- Each answer leaves what the lemma of its state says.
-use Rattle.std.proofs.Common.{arith}
+use Rattle.std.proofs.Common.{arith, refl}
 use Rattle.setup_access.specs.Kept.{setting_with}
+use Rattle.setup_access.proofs.FallLemmas.{consumed_falls, hit_falls, inserted_falls}
 use Rattle.setup_access.proofs.SetupLemmas.{consumed_left, hit_left, inserted_left, named_left, new_left, old_left, vain_left}
 use Rattle.setup_access.specs.Found.{finder_half}
 use Rattle.setup_access.specs.Parts.{try_index}
@@ -78,3 +79,24 @@ returns-else-finder-eq0-clause-waits c = λ wait before.
     rw (c.in-HearFinder-Halves.is-0, c.in-HearFinder-Halves.is-1)
     (heard_counts finder_half c.in-HearFinder-Halves.tries c.in-HearFinder-Halves.setter c.in-HearFinder-Halves.finder wait
     (rw c.in-HearFinder-Halves.is-0 at before) (omega arith))
+
+pub returns-in-Insert-Flag-clause-falls : goal.returns-in-Insert-Flag-clause-falls
+returns-in-Insert-Flag-clause-falls c =
+    rw (c.in-Insert-Flag.is-0, c.in-Insert-Flag.is-1)
+    (inserted_falls (setting_with c.args.setting.now c.args.sites.now) c.args.access.now c.in-Insert-Flag.place c.in-Insert-Flag.word _ c.in-Insert-Flag.accepted c.inserted.result
+    (c.inserted.ensures.accepted c.args.sites.now) c.inserted.ensures.refused _)
+
+pub returns-in-Consume-Flag-clause-falls : goal.returns-in-Consume-Flag-clause-falls
+returns-in-Consume-Flag-clause-falls c =
+    rw (c.in-Consume-Flag.is-0, c.in-Consume-Flag.is-1)
+    (consumed_falls (setting_with c.args.setting.now c.args.sites.now) c.args.access.now c.in-Consume-Flag.index c.in-Consume-Flag.values c.in-Consume-Flag.is_untouched c.consumed.result
+    (c.consumed.ensures.untouched c.args.sites.now) c.consumed.ensures.hit)
+
+pub returns-else-finder-eq0-clause-falls : goal.returns-else-finder-eq0-clause-falls
+returns-else-finder-eq0-clause-falls c =
+    rw (c.in-HearFinder-Halves.is-0, c.in-HearFinder-Halves.is-1)
+    (hit_falls (setting_with c.args.setting.now c.args.sites.now) c.args.access.now c.hit-outcome.result c.in-HearFinder-Halves.index c.in-HearFinder-Halves.values
+    (record { setter = c.in-HearFinder-Halves.setter; finder = c.in-HearFinder-Halves.finder }) _ refl (rw c.pair_of.ensures at c.hit-outcome.ensures))
+
+pub returns-in-Name-Done-clause-falls : goal.returns-in-Name-Done-clause-falls
+returns-in-Name-Done-clause-falls c = rw (c.named.ensures c.args.sites.now) tt
