@@ -1,5 +1,6 @@
 -- What one record more says of the records read so far.
-use Rattle.std.proofs.Common.{◌≡◌, ◌<◌, ◌↔◌, ◌+◌, ◌++◌, ◌∷◌, ◌∙◌, [], ℕ, suc, Bool, false, true, IfSome, IsTrue, List, None, Option, Some, add-one, ap, drop, get_or, inl, inr, is_some, length, subst, sym, take}
+use Rattle.std.proofs.Common.{◌≡◌, ◌<◌, ◌↔◌, ◌+◌, ◌++◌, ◌∷◌, ◌∙◌, [], ℕ, suc, Bool, false, true, IfSome, IsTrue}
+use Rattle.std.proofs.Common.{List, None, Option, Some, add-one, ap, drop, get_or, inl, inr, is_some, length, subst, sym, take}
 use Rattle.std.proofs.Math.Seq.{drop-cons, take-length, take-suc}
 use Rattle.std.proofs.lemmas.List.{append-nil, take-append-drop}
 use Rattle.slot_table.specs.declared.records.Record.{Record}

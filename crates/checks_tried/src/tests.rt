@@ -24,11 +24,11 @@ const R: u64 = 0x0008_0000_0001_0000;
 const W: u64 = 0x8008_0000_0001_0000;
 
 /// The tickets of the first accesses of tasks 0 to 2.
-const T0: u32 = 1;
+const TICKET_0: u32 = 1;
 
-const T1: u32 = 65537;
+const TICKET_1: u32 = 65537;
 
-const T2: u32 = 131073;
+const TICKET_2: u32 = 131073;
 
 /// The cells of the variables x, y, z and w, and of the two of a range that passes the address field of
 /// short words.
@@ -111,7 +111,7 @@ const ARMED: [(u32, Move); 8] = [
     (0, Makes(Load(17), Word(0))),
     (0, Makes(Load(18), Word(0))),
     (0, Makes(Insert(17, R), Flag(true))),
-    (0, Makes(Name(17, T0), Done)),
+    (0, Makes(Name(17, TICKET_0), Done)),
     (0, Makes(CellLoad(0), Word(0))),
 ];
 
@@ -122,17 +122,17 @@ const RACE: [(u32, Move); 20] = [
     (1, Makes(Load(16), Word(0))),
     (1, Makes(Load(17), Word(R))),
     (1, Makes(TryConsume(17, R), Flag(true))),
-    (1, Makes(PairLoad(17), Halves(T0, 0))),
-    (1, Makes(Tell(17, T1), Done)),
-    (1, Told(0, T0, T1)),
+    (1, Makes(PairLoad(17), Halves(TICKET_0, 0))),
+    (1, Makes(Tell(17, TICKET_1), Done)),
+    (1, Told(0, TICKET_0, TICKET_1)),
     (1, Over(1)),
     (1, Memory(CellLoad(0), Word(0))),
     (1, Memory(CellExchange(0, 0, 1), Flag(true))),
     (1, Memory(Clock, Word(2))),
     (0, Makes(CellLoad(0), Word(1))),
     (0, Makes(Consume(17), Flag(false))),
-    (0, Makes(PairLoad(17), Halves(T0, T1))),
-    (0, Reports(0, T0, T1, Some((0, 1)))),
+    (0, Makes(PairLoad(17), Halves(TICKET_0, TICKET_1))),
+    (0, Reports(0, TICKET_0, TICKET_1, Some((0, 1)))),
     (0, Makes(Clear(17), Done)),
     (0, Makes(Remove(17), Done)),
     (0, Over(1)),
@@ -324,9 +324,9 @@ fn two_finders_one_lost(rt: HostRuntime) -> Result<(), Fail> {
         (2, Makes(Load(16), Word(0))),
         (2, Makes(Load(17), Word(R))),
         (1, Makes(TryConsume(17, R), Flag(true))),
-        (1, Makes(PairLoad(17), Halves(T0, 0))),
-        (1, Makes(Tell(17, T1), Done)),
-        (1, Told(0, T0, T1)),
+        (1, Makes(PairLoad(17), Halves(TICKET_0, 0))),
+        (1, Makes(Tell(17, TICKET_1), Done)),
+        (1, Told(0, TICKET_0, TICKET_1)),
         (1, Over(1)),
         (1, Memory(CellLoad(0), Word(0))),
         (1, Memory(CellExchange(0, 0, 1), Flag(true))),
@@ -339,8 +339,8 @@ fn two_finders_one_lost(rt: HostRuntime) -> Result<(), Fail> {
         (2, Memory(Clock, Word(4))),
         (0, Makes(CellLoad(0), Word(2))),
         (0, Makes(Consume(17), Flag(false))),
-        (0, Makes(PairLoad(17), Halves(T0, T1))),
-        (0, Reports(0, T0, T1, Some((0, 2)))),
+        (0, Makes(PairLoad(17), Halves(TICKET_0, TICKET_1))),
+        (0, Reports(0, TICKET_0, TICKET_1, Some((0, 2)))),
         (0, Makes(Clear(17), Done)),
         (0, Makes(Remove(17), Done)),
         (0, Over(1)),
@@ -366,20 +366,20 @@ fn equal_word_of_later_setter(rt: HostRuntime) -> Result<(), Fail> {
         (2, Makes(Load(17), Word(0))),
         (2, Makes(Load(18), Word(0))),
         (2, Makes(Insert(17, R), Flag(true))),
-        (2, Makes(Name(17, T2), Done)),
+        (2, Makes(Name(17, TICKET_2), Done)),
         (2, Makes(CellLoad(0), Word(0))),
         (1, Makes(TryConsume(17, R), Flag(true))),
-        (1, Makes(PairLoad(17), Halves(T2, 0))),
-        (1, Makes(Tell(17, T1), Done)),
-        (1, Told(0, T2, T1)),
+        (1, Makes(PairLoad(17), Halves(TICKET_2, 0))),
+        (1, Makes(Tell(17, TICKET_1), Done)),
+        (1, Told(0, TICKET_2, TICKET_1)),
         (1, Over(1)),
         (1, Memory(CellLoad(0), Word(0))),
         (1, Memory(CellExchange(0, 0, 1), Flag(true))),
         (1, Memory(Clock, Word(4))),
         (2, Makes(CellLoad(0), Word(1))),
         (2, Makes(Consume(17), Flag(false))),
-        (2, Makes(PairLoad(17), Halves(T2, T1))),
-        (2, Reports(0, T2, T1, Some((0, 1)))),
+        (2, Makes(PairLoad(17), Halves(TICKET_2, TICKET_1))),
+        (2, Reports(0, TICKET_2, TICKET_1, Some((0, 1)))),
         (2, Makes(Clear(17), Done)),
         (2, Makes(Remove(17), Done)),
         (2, Over(1)),
@@ -394,17 +394,17 @@ fn setter_waits_for_finder(rt: HostRuntime) -> Result<(), Fail> {
         (1, Makes(TryConsume(17, R), Flag(true))),
         (0, Makes(CellLoad(0), Word(0))),
         (0, Makes(Consume(17), Flag(false))),
-        (0, Makes(PairLoad(17), Halves(T0, 0))),
-        (0, Makes(PairLoad(17), Halves(T0, 0))),
-        (0, Makes(PairLoad(17), Halves(T0, 0))),
-        (1, Makes(PairLoad(17), Halves(T0, 0))),
-        (1, Makes(Tell(17, T1), Done)),
+        (0, Makes(PairLoad(17), Halves(TICKET_0, 0))),
+        (0, Makes(PairLoad(17), Halves(TICKET_0, 0))),
+        (0, Makes(PairLoad(17), Halves(TICKET_0, 0))),
+        (1, Makes(PairLoad(17), Halves(TICKET_0, 0))),
+        (1, Makes(Tell(17, TICKET_1), Done)),
         (1, Over(1)),
         (1, Memory(CellLoad(0), Word(0))),
         (1, Memory(CellExchange(0, 0, 1), Flag(true))),
         (1, Memory(Clock, Word(2))),
-        (0, Makes(PairLoad(17), Halves(T0, T1))),
-        (0, Reports(0, T0, T1, None)),
+        (0, Makes(PairLoad(17), Halves(TICKET_0, TICKET_1))),
+        (0, Reports(0, TICKET_0, TICKET_1, None)),
         (0, Makes(Clear(17), Done)),
         (0, Makes(Remove(17), Done)),
         (0, Over(1)),
@@ -424,11 +424,11 @@ fn a_task_is_stuck_after_so_many_vain_tries(rt: HostRuntime) -> Result<(), Fail>
         (1, Makes(TryConsume(17, R), Flag(true))),
         (0, Makes(CellLoad(0), Word(0))),
         (0, Makes(Consume(17), Flag(false))),
-        (0, Makes(PairLoad(17), Halves(T0, 0))),
-        (0, Makes(PairLoad(17), Halves(T0, 0))),
+        (0, Makes(PairLoad(17), Halves(TICKET_0, 0))),
+        (0, Makes(PairLoad(17), Halves(TICKET_0, 0))),
         (0, Stuck),
-        (1, Makes(PairLoad(17), Halves(T0, 0))),
-        (1, Makes(Tell(17, T1), Done)),
+        (1, Makes(PairLoad(17), Halves(TICKET_0, 0))),
+        (1, Makes(Tell(17, TICKET_1), Done)),
         (1, Over(1)),
     ];
     let rules = Rules { turns: 2, ..RULES };
@@ -486,14 +486,14 @@ const BITS_ARMED: [(u32, Move); 8] = [
     (0, Makes(Load(17), Word(0))),
     (0, Makes(Load(18), Word(0))),
     (0, Makes(Insert(17, R), Flag(true))),
-    (0, Makes(Name(17, T0), Done)),
+    (0, Makes(Name(17, TICKET_0), Done)),
     (0, Makes(CellLoad(0), Word(0))),
 ];
 
 #[test]
 fn exclusive_bits(rt: HostRuntime) -> Result<(), Fail> {
     let dropped = Gives(0, Outcome::Dropped(Reason::MaskedBits));
-    let reported = Reports(0, T0, T1, Some((0, 1)));
+    let reported = Reports(0, TICKET_0, TICKET_1, Some((0, 1)));
     for (value, outcome) in [(16, dropped), (1, reported)] {
         let rest = [
             (1, Begin(WRITE_ONCE)),
@@ -501,15 +501,15 @@ fn exclusive_bits(rt: HostRuntime) -> Result<(), Fail> {
             (1, Makes(Load(16), Word(0))),
             (1, Makes(Load(17), Word(R))),
             (1, Makes(TryConsume(17, R), Flag(true))),
-            (1, Makes(PairLoad(17), Halves(T0, 0))),
-            (1, Makes(Tell(17, T1), Done)),
+            (1, Makes(PairLoad(17), Halves(TICKET_0, 0))),
+            (1, Makes(Tell(17, TICKET_1), Done)),
             (1, Over(1)),
             (1, Memory(CellLoad(0), Word(0))),
             (1, Memory(CellExchange(0, 0, value), Flag(true))),
             (1, Memory(Clock, Word(2))),
             (0, Makes(CellLoad(0), Word(value))),
             (0, Makes(Consume(17), Flag(false))),
-            (0, Makes(PairLoad(17), Halves(T0, T1))),
+            (0, Makes(PairLoad(17), Halves(TICKET_0, TICKET_1))),
             (0, outcome),
             (0, Makes(Clear(17), Done)),
             (0, Makes(Remove(17), Done)),
@@ -530,7 +530,7 @@ fn an_access_with_a_mask_takes_nothing(rt: HostRuntime) -> Result<(), Fail> {
         (1, Makes(Load(17), Word(0))),
         (1, Makes(Load(18), Word(0))),
         (1, Makes(Insert(17, W), Flag(true))),
-        (1, Makes(Name(17, T1), Done)),
+        (1, Makes(Name(17, TICKET_1), Done)),
         (1, Makes(CellLoad(0), Word(0))),
         (0, Begin(BITS)),
         (0, Makes(Clock, Word(1))),
@@ -576,22 +576,22 @@ fn scoped_writer(rt: HostRuntime) -> Result<(), Fail> {
     ];
     let arms = [
         (0, Makes(Insert(17, R), Flag(true))),
-        (0, Makes(Name(17, T0), Done)),
+        (0, Makes(Name(17, TICKET_0), Done)),
         (0, Makes(CellLoad(0), Word(0))),
         (1, Begin(WRITE_ONCE)),
         (1, Makes(Clock, Word(4))),
         (1, Makes(Load(16), Word(0))),
         (1, Makes(Load(17), Word(R))),
         (1, Makes(TryConsume(17, R), Flag(true))),
-        (1, Makes(PairLoad(17), Halves(T0, 0))),
-        (1, Makes(Tell(17, T1), Done)),
+        (1, Makes(PairLoad(17), Halves(TICKET_0, 0))),
+        (1, Makes(Tell(17, TICKET_1), Done)),
         (1, Memory(CellLoad(0), Word(0))),
         (1, Memory(CellExchange(0, 0, 1), Flag(true))),
         (1, Memory(Clock, Word(5))),
         (0, Makes(CellLoad(0), Word(1))),
         (0, Makes(Consume(17), Flag(false))),
-        (0, Makes(PairLoad(17), Halves(T0, T1))),
-        (0, Reports(1, T0, T1, Some((0, 1)))),
+        (0, Makes(PairLoad(17), Halves(TICKET_0, TICKET_1))),
+        (0, Reports(1, TICKET_0, TICKET_1, Some((0, 1)))),
         (0, Makes(Clear(17), Done)),
         (0, Makes(Remove(17), Done)),
         (0, Gives(0, Outcome::Nothing)),
@@ -648,7 +648,7 @@ fn range_past_the_mask(rt: HostRuntime) -> Result<(), Fail> {
             (0, Makes(Load(32), Word(0))),
             (0, Makes(Load(33), Word(0))),
             (0, Makes(Insert(32, word), Flag(true))),
-            (0, Makes(Name(32, T0), Done)),
+            (0, Makes(Name(32, TICKET_0), Done)),
             (1, Begin(read_once)),
             (1, Makes(Clock, Word(1))),
             (1, Makes(Load(32), Word(word))),
@@ -656,11 +656,16 @@ fn range_past_the_mask(rt: HostRuntime) -> Result<(), Fail> {
     };
     let wide = [
         (1, Makes(TryConsume(32, 0x8020_0000_0001_fffc), Flag(true))),
-        (1, Makes(PairLoad(32), Halves(T0, 0))),
-        (1, Makes(Tell(32, T1), Done)),
+        (1, Makes(PairLoad(32), Halves(TICKET_0, 0))),
+        (1, Makes(Tell(32, TICKET_1), Done)),
+        (1, Over(1)),
         (0, Makes(Consume(32), Flag(false))),
-        (0, Makes(PairLoad(32), Halves(T0, T1))),
-        (0, Reports(0, T0, T1, None)),
+        (0, Has(0)),
+        (0, Makes(PairLoad(32), Halves(TICKET_0, TICKET_1))),
+        (0, Reports(0, TICKET_0, TICKET_1, None)),
+        (0, Makes(Clear(32), Done)),
+        (0, Makes(Remove(32), Done)),
+        (0, Over(1)),
     ];
     let moves: [&[(u32, Move)]; 2] = [&arms(0x8020_0000_0001_fffc), &wide];
     play(&rt, rt.alloc(), RULES, &accesses, &moves)?;
@@ -671,6 +676,9 @@ fn range_past_the_mask(rt: HostRuntime) -> Result<(), Fail> {
         (1, Over(1)),
         (0, Makes(Consume(32), Flag(true))),
         (0, Gives(0, Outcome::Quiet)),
+        (0, Makes(Clear(32), Done)),
+        (0, Makes(Remove(32), Done)),
+        (0, Over(1)),
     ];
     let rules = Rules {
         layout: Layout::W32,
@@ -736,8 +744,8 @@ fn other_records_are_no_check(rt: HostRuntime) -> Result<(), Fail> {
         loads[2],
         of(TryConsume(17, R), Flag(true)),
         waits,
-        of(PairLoad(17), Halves(T0, 0)),
-        of(Tell(17, T1), Done),
+        of(PairLoad(17), Halves(TICKET_0, 0)),
+        of(Tell(17, TICKET_1), Done),
     ];
     let stuck = [told[0], told[1], told[2], told[3], waits, waits, waits];
     let mut one_more = [told[0]; 8];

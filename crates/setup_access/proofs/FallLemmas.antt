@@ -1,5 +1,6 @@
 -- Each outcome falls at one of the records: each part of a check reads a beginning of them, and its outcome falls at the last record that it reads.
-use Rattle.std.proofs.Common.{◌≡◌, ◌∙◌, ◌∷◌, ◌+◌, ◌++◌, ◌||◌, [], ℕ, Bool, true, false, List, Option, None, Some, MatchBool, MatchOption, ap, append_assoc, drop, inl, inr, refl, subst, sym, ◌<◌, zero, suc, arith, if◌then◌else◌}
+use Rattle.std.proofs.Common.{◌≡◌, ◌∙◌, ◌∷◌, ◌+◌, ◌++◌, ◌||◌, [], ℕ, Bool, true, false, List, Option, None, Some}
+use Rattle.std.proofs.Common.{MatchBool, MatchOption, ap, append_assoc, drop, inl, inr, refl, subst, sym, ◌<◌, zero, suc, arith, if◌then◌else◌}
 use Rattle.access_types.specs.Access.{Access}
 use Rattle.access_types.specs.Ticket.{ticket_number}
 use Rattle.slot.specs.Pair.{Halves}

@@ -13,3 +13,4 @@ pub mod LawLemmas
 pub mod DisciplineLemmas
 pub mod LocksLemmas
 pub mod FallLemmas
+pub mod FallenUnique

@@ -1,5 +1,6 @@
 -- What an answer makes of a wait, in the definition and in the code's count of vain tries.
-use Rattle.std.proofs.Common.{◌≡◌, ◌<◌, ◌≤◌, ◌+◌, ◌-◌, ◌^◌, ◌↔◌, ◌∷◌, ◌++◌, ◌∙◌, [], ℕ, zero, suc, Bool, true, false, List, Option, None, Some, IsSomeAnd, min, ap, refl, subst, sym, arith, if◌then◌else◌}
+use Rattle.std.proofs.Common.{◌≡◌, ◌<◌, ◌≤◌, ◌+◌, ◌-◌, ◌^◌, ◌↔◌, ◌∷◌, ◌++◌, ◌∙◌, [], ℕ, zero, suc}
+use Rattle.std.proofs.Common.{Bool, true, false, List, Option, None, Some, IsSomeAnd, min, ap, refl, subst, sym, arith, if◌then◌else◌}
 use Rattle.slot.specs.Pair.{Halves}
 use Rattle.slot_table.specs.declared.records.Record.{Record}
 use Rattle.slot_table.specs.declared.step.Answer.TheVariants.{Flag, Halves as Heard}

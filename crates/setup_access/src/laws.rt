@@ -6,13 +6,13 @@ ghost use Rattle.slot.specs.Pair.{Halves};
 ghost use Rattle.slot_table.specs.Discipline.{Discipline, IsFinished};
 ghost use Rattle.slot_table.specs.declared.records.Record.{Record};
 ghost use Rattle.access_types.specs.declared.report.ValueChange.{ValueChange};
-ghost use Rattle.setup_access.specs.Check as check;
-ghost use Rattle.setup_access.specs.Check.{Check, NoneFound, Passes};
+ghost use Rattle.setup_access.specs.Check.{Check, Close, Fallen, NoneFound, Pass, Passes};
+ghost use Rattle.setup_access.specs.Fallen.{HaveFallen};
 ghost use Rattle.setup_access.specs.FallsAt.{AllFallIn};
 ghost use Rattle.setup_access.specs.Found.{FoundWatchpoint};
 ghost use Rattle.setup_access.specs.MadeOfChecks.{FreesHeldLocks, MadeOfChecks};
 ghost use Rattle.setup_access.specs.Laws.{OneStep};
-ghost use Rattle.setup_access.specs.Checker.{Doing};
+ghost use Rattle.setup_access.specs.Checker.{Does, Doing};
 ghost use Rattle.setup_access.specs.Leads.{Leads, Rests};
 ghost use Rattle.setup_access.specs.Lending.{with_context};
 ghost use Rattle.setup_access.specs.Shown.{context_of};
@@ -42,7 +42,7 @@ pub fn masked_accesses_take_nothing()
 
 /// Law: an access that counts as marked makes no step where it found none, so it sets nothing up.
 pub fn marked_accesses_set_nothing_up()
-    ensures { (s : Setting) (a : access.Access) (asked : ℕ) (records : List Record) (pass : check.Pass) (rest : List Record)
+    ensures { (s : Setting) (a : access.Access) (asked : ℕ) (records : List Record) (pass : Pass) (rest : List Record)
         → NoneFound s a true asked records pass rest → rest ≡ records }
 {}
 
@@ -58,7 +58,13 @@ pub fn outcomes_fall_at_records()
     ensures check { (s : Setting) (scopes : List Begun) (begun : Begun) (asked : ℕ) (records : List Record) (passes : Passes) (rest : List Record)
         → Check s scopes begun asked records passes rest → AllFallIn s records passes.outcomes }
     ensures close { (s : Setting) (scope : Begun) (silenced : Bool) (asked : ℕ) (records : List Record) (passes : Passes) (rest : List Record)
-        → check.Close s scope silenced asked records passes rest → AllFallIn s records passes.outcomes }
+        → Close s scope silenced asked records passes rest → AllFallIn s records passes.outcomes }
+{}
+
+/// Law: by records that can be completed one list of outcomes has fallen, and no other.
+pub fn fallen_outcomes_are_known()
+    ensures { (s : Setting) (scopes : List Begun) (doing : Doing) (asked : ℕ) (records later : List Record) (passes : Passes) (first second : List Fallen)
+        → Does s scopes doing asked (records ++ later) passes → HaveFallen s scopes doing asked records first → HaveFallen s scopes doing asked records second → first ≡ second }
 {}
 
 /// Law: a task that makes checks and closes, one after the other, with other steps between them, and frees only

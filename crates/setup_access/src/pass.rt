@@ -54,13 +54,6 @@ pub struct Turn {
 }
 
 impl Pass {
-    /// A check that has made no step yet: it begins with the look-up.
-    pub(crate) fn new() -> Pass
-        ensures { result ≡ Pass.Find (record { place = Place.First }) }
-    {
-        Pass::Find(Find::new())
-    }
-
     /// The step that it makes next.
     pub(crate) fn next(self, setting: &Setting, begun: &Begun) -> Step
         ensures { (sites : AccessMap) → result ≡ pass_step (setting_with setting.now sites) begun.now self }

@@ -11,6 +11,7 @@ ghost use Rattle.setup_access.specs.Setting as spec;
 ghost use Rattle.setup_access.specs.Waiting.{stage_wait, to_wait};
 
 use crate::begun::Begun;
+use crate::find::Find;
 use crate::pass::{Pass, To};
 use crate::place::Place;
 use crate::setting::Setting;
@@ -45,14 +46,14 @@ pub enum Stage {
     End,
 }
 
-/// The check of an access from its look-up on.
+/// The check of an access from its look-up on: it has made no step yet.
 pub(crate) fn check_access(role: Role, begun: Begun) -> Stage
     ensures { result ≡ Stage.Check role begun (Pass.Find (record { place = Place.First })) }
 {
     Stage::Check {
         role,
         begun,
-        pass: Pass::new(),
+        pass: Pass::Find(Find::new()),
     }
 }
 

@@ -10,13 +10,15 @@ use Rattle.setup_access.proofs.pass.watched.Goals as goal
 pub returns-in-Going-clause-left : goal.returns-in-Going-clause-left
 returns-in-Going-clause-left c = λ asked given later rest.
     let s = setting_with c.args.setting.now c.args.sites.now in
-    through (watch_goes s c.args.begun.now asked later given rest c.args.setup c.in-Going.setup (made s.task (setup_step s c.args.begun.now.access c.args.setup) c.args.answer ∷ later) (λ judged mid. c.in-Going.ensures.left judged later mid))
+    through (watch_goes s c.args.begun.now asked later given rest c.args.setup c.in-Going.setup (made s.task (setup_step s c.args.begun.now.access c.args.setup) c.args.answer ∷ later)
+    (λ judged mid. c.in-Going.ensures.left judged later mid))
     (going_left s c.args.begun.now asked later given rest c.going.result (passes.Setup c.in-Going.setup) c.going.ensures)
 
 pub returns-in-Full-clause-left : goal.returns-in-Full-clause-left
 returns-in-Full-clause-left c = λ asked given later rest.
     let s = setting_with c.args.setting.now c.args.sites.now in
-    through (watch_full s c.args.begun.now asked later given rest c.args.setup (made s.task (setup_step s c.args.begun.now.access c.args.setup) c.args.answer ∷ later) (λ judged mid. c.in-Full.ensures.left judged later mid))
+    through (watch_full s c.args.begun.now asked later given rest c.args.setup (made s.task (setup_step s c.args.begun.now.access c.args.setup) c.args.answer ∷ later)
+    (λ judged mid. c.in-Full.ensures.left judged later mid))
     (unsettled_left s c.args.begun.now asked later given rest c.over.result Capacity c.over.ensures)
 
 pub returns-in-Judged-clause-left : goal.returns-in-Judged-clause-left
