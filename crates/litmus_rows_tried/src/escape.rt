@@ -1,4 +1,5 @@
-//! Escapes in the texts of rows: `\n`, `\t`, `\r`, `\\`, and `\15[..]` for a piece fifteen times.
+//! Escapes in the texts of rows: `\n`, `\t`, `\r`, `\\`, `\x7f` for a character by its number, and `\15[..]` for a
+//! piece fifteen times.
 
 use std::alloc::{AllocError, Global};
 
@@ -9,6 +10,8 @@ enum State {
     Plain,
     /// It follows a `\`.
     Escaped,
+    /// It is the first or, after this one, the second digit of a character's number.
+    Digit(Option<u32>),
     /// It follows a number of repetitions.
     Counted(u32),
     /// It belongs to a piece that is repeated so often.
@@ -31,6 +34,15 @@ fn after(alloc: Global, whole: &mut String, state: State, next: char) -> Result<
         State::Plain if next == '\\' => Ok(State::Escaped),
         State::Plain => {
             whole.push(next)?;
+            Ok(State::Plain)
+        }
+        State::Escaped if next == 'x' => Ok(State::Digit(None)),
+        State::Digit(None) => Ok(State::Digit(next.to_digit(16))),
+        State::Digit(Some(first)) => {
+            let number = first
+                .saturating_mul(16)
+                .saturating_add(next.to_digit(16).unwrap_or(0));
+            whole.push(char::from_u32(number).unwrap_or(next))?;
             Ok(State::Plain)
         }
         State::Escaped => match next.to_digit(10) {

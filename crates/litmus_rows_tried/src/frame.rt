@@ -9,13 +9,15 @@ pub struct Frame {
     after: &'static str,
 }
 
-/// What a row says of its text, and the frames of the two.
+/// What a row says of its text, and what stands round it, and round what is printed.
 #[derive(Clone, Copy)]
 pub enum Kind {
     /// It reads, or is refused so.
     Reads(Frame),
     /// It is printed so, and that reads back as the same program.
     Prints(Frame, Frame),
+    /// The statements with an access are of these kinds, in their order.
+    Sites(Frame),
 }
 
 impl Frame {
@@ -87,6 +89,7 @@ pub fn kind_of(word: &str) -> Option<Kind> {
         "program" => Some(Kind::Prints(WHOLE, WHOLE)),
         "statements" => Some(Kind::Prints(BODY, LINES)),
         "expression" => Some(Kind::Prints(EXPRESSION, VALUE)),
+        "sites" => Some(Kind::Sites(BODY)),
         _ => None,
     }
 }

@@ -1,7 +1,4 @@
-//! Litmus texts that were worked out by hand: how they read, print, and are refused; and the grammar, tried on
-//! small lists of symbols.
+//! The grammar of litmus texts, tried on small lists of symbols that were worked out by hand.
 #![tactic(auto)]
 
 pub mod laws;
-#[cfg(test)]
-mod tests;
