@@ -1,2 +1,4 @@
 pub mod Ranges
 pub mod Tried
+pub mod TextSitesLemmas
+pub mod TicketLemmas

@@ -258,7 +258,7 @@ exclusive_bits :
 exclusive_bits =
     let one : Progress = progress (happenings.Begin (record bits { site = 0 }) ∷ happenings.End (record bits { site = 0 }) ∷ happenings.Mark (marks.Next 1) ∷ []) [] in
     let two : Progress = progress (happenings.Begin (record bits { site = 0 }) ∷ happenings.End (record bits { site = 0 }) ∷ happenings.Mark (marks.Next 1)
-        ∷ happenings.Begin (record bits { site = 1; mask = None }) ∷ happenings.End (record bits { site = 1; mask = None }) ∷ happenings.Mark (marks.Next 1) ∷ []) [] in
+    ∷ happenings.Begin (record bits { site = 1; mask = None }) ∷ happenings.End (record bits { site = 1; mask = None }) ∷ happenings.Mark (marks.Next 1) ∷ []) [] in
     (one, refl, (two, refl, refl))
 
 -- int x and char c = -1 in its third byte, and a lock: one cell, 0x00ff0000 at first

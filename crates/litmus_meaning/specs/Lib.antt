@@ -7,3 +7,4 @@ pub mod Assignments
 pub mod Calls
 pub mod Meaning
 pub mod RunOfProgram
+pub mod TextSites

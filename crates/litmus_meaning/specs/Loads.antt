@@ -27,6 +27,12 @@ read_kind reads.Atomic = kinds.Marked operations.Read
 abbrev pub exchange_kind : Kind
 exchange_kind = kinds.Marked operations.ReadWrite
 
+-- the kind of the access that a load makes
+abbrev pub fetch_kind : Fetch → Kind
+fetch_kind (tree.read form x) = read_kind form
+fetch_kind (tree.exchange x e) = exchange_kind
+fetch_kind (tree.compare_exchange x e f) = exchange_kind
+
 -- an access reads a value
 abbrev pub reading : Access → ℕ → List Happening
 reading a value =

@@ -6,3 +6,4 @@ pub mod DisciplineKept
 pub mod EffectLemmas
 pub mod MeaningLemmas
 pub mod WayLemmas
+pub mod Tried

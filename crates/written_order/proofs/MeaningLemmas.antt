@@ -21,7 +21,7 @@ use Rattle.litmus_syntax.specs.declared.statement.Call.TheVariants as calls
 use Rattle.litmus_meaning.specs.Assignments.{Adds, Assigns, AssignsIn, Writes, compound_kind, write_kind}
 use Rattle.litmus_meaning.specs.Calls.{Scoped, call_does, check_kind, checked_bytes, checking, scoped_access, scoped_assertion}
 use Rattle.litmus_meaning.specs.Expressions.{pure_value}
-use Rattle.litmus_meaning.specs.Loads.{ComparesAndWrites, Evaluates, Fetches, Loads, exchange_kind, in_data_races, load_in, other, reading, same, updating, variable_of}
+use Rattle.litmus_meaning.specs.Loads.{ComparesAndWrites, Evaluates, Fetches, Loads, exchange_kind, fetch_kind, in_data_races, load_in, other, reading, same, updating, variable_of}
 use Rattle.litmus_meaning.specs.Meaning.{Chooses, InBlock, Means, MeansBlock, Turns, after_condition}
 use Rattle.litmus_meaning.specs.Task as meaning
 use Rattle.litmus_meaning.specs.Task.{Progress, access_now, assigning, begins_at, bytes_in, has_lock}
@@ -37,7 +37,7 @@ use Rattle.slot_table.specs.declared.records.Record.{Record}
 use Rattle.slot_table.specs.declared.step.Step.TheVariants.{LockStore}
 use Rattle.written_order.specs.Access.{Makes}
 use Rattle.written_order.specs.Standing.{Setting, Standing, checks_of, coming, counting, doing, lock_number, registered}
-use Rattle.written_order.specs.WrittenOrder.{ChecksAt, Only, SpellsAll, StepsInBlock, StepsInDataRace, StepsOf, StepsOfAssignment, StepsOfBlock, StepsOfCall, StepsOfExpression, StepsOfLoad, StepsOfTurns, at_first, fetch_kind, fetch_operation}
+use Rattle.written_order.specs.WrittenOrder.{ChecksAt, Only, SpellsAll, StepsInBlock, StepsInDataRace, StepsOf, StepsOfAssignment, StepsOfBlock, StepsOfCall, StepsOfExpression, StepsOfLoad, StepsOfTurns, at_first, fetch_operation}
 use Rattle.written_order.proofs.AccessLemmas.{access_does, counting_progress, makes_did, makes_registers, progress_is}
 use Rattle.written_order.proofs.EffectLemmas.{ChangeGives, operation_gives}
 

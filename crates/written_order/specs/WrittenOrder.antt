@@ -19,7 +19,7 @@ use Rattle.litmus_syntax.specs.declared.statement.Call.TheVariants as calls
 use Rattle.litmus_meaning.specs.Assignments.{compound_kind, write_kind}
 use Rattle.litmus_meaning.specs.Calls.{Scoped, check_kind, checked_bytes, scoped_access, scoped_assertion}
 use Rattle.litmus_meaning.specs.Expressions.{loading_value, pure_value}
-use Rattle.litmus_meaning.specs.Loads.{exchange_kind, load_in, read_kind, variable_of}
+use Rattle.litmus_meaning.specs.Loads.{exchange_kind, fetch_kind, load_in, variable_of}
 use Rattle.litmus_meaning.specs.Meaning.{Chooses, after_condition}
 use Rattle.litmus_meaning.specs.Task.{access_now, bytes_in, has_lock}
 use Rattle.litmus_meaning.specs.Values.{sign_extended}
@@ -47,12 +47,7 @@ MakesTo s site x kind operation before records effect after rest =
     Makes s before (access_now s.text site before.progress (bytes_in s.text x) kind None)
     (Some operation) records effect after rest
 
--- how a load is made: the kind of its access, and its operation
-abbrev pub fetch_kind : Fetch → Kind
-fetch_kind (tree.read form x) = read_kind form
-fetch_kind (tree.exchange x e) = exchange_kind
-fetch_kind (tree.compare_exchange x e f) = exchange_kind
-
+-- the operation of a load
 abbrev pub fetch_operation : List ℕ → Fetch → Operation
 fetch_operation registers (tree.read form x) = operations.Load
 fetch_operation registers (tree.exchange x e) =
