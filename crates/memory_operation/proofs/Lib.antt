@@ -4,3 +4,5 @@ pub mod EffectLemmas
 pub mod TurnLemmas
 pub mod LeadsLemmas
 pub mod LockLemmas
+pub mod Fronts
+pub mod FrameLemmas

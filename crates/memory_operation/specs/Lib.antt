@@ -6,3 +6,4 @@ pub mod Waits
 pub mod Stages
 pub mod Leads
 pub mod LockLeads
+pub mod Frames

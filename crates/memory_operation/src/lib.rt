@@ -4,6 +4,7 @@
 #![tactic(auto)]
 
 pub mod effect;
+pub mod laws;
 pub mod lock;
 pub mod operation;
 pub mod run;

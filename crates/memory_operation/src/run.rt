@@ -58,6 +58,15 @@ impl OperationRun {
         }
     }
 
+    /// It is over.
+    pub fn is_over(&self) -> bool
+        ensures { (task : ℕ) (a : accesses.Access) (source : Source) (operation : Operation) (records : List Record)
+            → Leads task a source operation records self.now
+            → (IsTrue result ↔ IsDone task a source operation records) }
+    {
+        matches!(self.stage, Stage::Over)
+    }
+
     /// The step that the task makes next; none where the operation is over or stuck.
     pub fn next(&self, turns: u64) -> Option<Step>
         ensures says { IfSome result (λ step. Says self.now step) }

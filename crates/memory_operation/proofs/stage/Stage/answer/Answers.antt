@@ -18,6 +18,5 @@ returns-in-Exchange-Flag c = λ task step says ready.
 
 pub returns-in-Exchange-Word : goal.returns-in-Exchange-Word
 returns-in-Exchange-Word c = λ task step says ready.
-    refused_on task c.args.access.now c.args.source c.args.self step c.args.answer c.shown.result
-    c.in-Exchange-Word.change c.in-Exchange-Word.seen-0 c.in-Exchange-Word.tries c.in-Exchange-Word.word c.saturating_add.result
+    refused_on task c.args.access.now c.args.source c.args.self step c.args.answer c.shown.result _ _ _ _ _
     c.in-Exchange-Word.is-0 c.in-Exchange-Word.is-1 c.shown.ensures c.saturating_add.ensures says ready
