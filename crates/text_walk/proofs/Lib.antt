@@ -1,0 +1,6 @@
+pub mod CountLemmas
+pub mod FormLemmas
+pub mod StackLemmas
+pub mod StepsLemmas
+pub mod LeftLemmas
+pub mod BeginsLemmas

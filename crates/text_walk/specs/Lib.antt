@@ -1,0 +1,4 @@
+pub mod Depth
+pub mod Cost
+pub mod Room
+pub mod Left

@@ -1,0 +1,10 @@
+//! Where a task stands in its text: which statement comes next.
+#![tactic(auto)]
+
+mod block;
+pub mod count;
+pub mod due;
+pub mod walk;
+
+pub use due::Due;
+pub use walk::Walk;
