@@ -8,3 +8,6 @@ pub mod walk;
 
 pub use due::Due;
 pub use walk::Walk;
+
+#[cfg(test)]
+mod tests;
