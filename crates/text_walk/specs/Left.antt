@@ -82,6 +82,10 @@ WalkLeft s walk before records after rest =
     (OutsideLeft s walk before records after rest)
     (λ choice. OpenLeft s choice.otherwise (OutsideLeft s walk) before records after rest)
 
+-- nothing is left of the text, whatever a task goes by
+abbrev pub IsOver : Walk → Type 0
+IsOver walk = (s : Setting) → Same (WalkLeft s walk) NothingLeft
+
 -- what is left where a condition holds that it has come to
 abbrev pub BodyLeft : Setting → Walk → Steps
 BodyLeft s walk before records after rest =

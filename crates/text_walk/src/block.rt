@@ -6,7 +6,7 @@ ghost use Rattle.litmus_syntax.specs.Views.{block_of};
 
 use litmus_syntax::Statement;
 
-/// A loop.
+/// A loop, whose register is the number of the turn.
 #[derive(Clone, Copy, Debug)]
 pub(crate) struct Loop<'a> {
     pub(crate) register: usize,
