@@ -1,0 +1,113 @@
+//! Variables at their default addresses and at places.
+
+use crate::layout::{Layout, LayoutError};
+use crate::place::Place;
+use access_types::Bytes;
+use litmus_syntax::{Contents, Name, Variable};
+use std::alloc::{AllocError, Global};
+use std::test::Fail;
+
+/// A name of one letter.
+fn named(alloc: Global, letter: &str) -> Result<Name, AllocError> {
+    let mut text = String::new(alloc);
+    text.push_str(letter)?;
+    Ok(Name::from_string(text))
+}
+
+/// A char c, an int x, a lock l and a long y.
+fn variables(alloc: Global) -> Result<Vec<Variable>, AllocError> {
+    let mut variables = Vec::new(alloc);
+    for (letter, contents) in [
+        ("c", Contents::Char(0)),
+        ("x", Contents::Int(0)),
+        ("l", Contents::Lock),
+        ("y", Contents::Long(0)),
+    ] {
+        let name = named(alloc, letter)?;
+        if let Err(e) = variables.push(Variable { name, contents }) {
+            return Err(AllocError::from(e));
+        }
+    }
+    Ok(variables)
+}
+
+/// One place.
+fn placed(alloc: Global, letter: &str, addr: u64) -> Result<Place, AllocError> {
+    Ok(Place {
+        name: named(alloc, letter)?,
+        addr,
+    })
+}
+
+#[test]
+fn variables_stand_64_bytes_apart_unless_they_are_placed(rt: HostRuntime) -> Result<(), Fail> {
+    let variables = variables(rt.alloc())?;
+    let places = [
+        placed(rt.alloc(), "x", 0x1004)?,
+        placed(rt.alloc(), "c", 0x1003)?,
+    ];
+    let layout = Layout::new(rt.alloc(), variables.as_slice(), &places)?;
+    assert_eq!(rt;
+        layout.bytes_in(0),
+        Bytes {
+            addr: 0x1003,
+            size: 1
+        }
+    );
+    assert_eq!(rt;
+        layout.bytes_in(1),
+        Bytes {
+            addr: 0x1004,
+            size: 4
+        }
+    );
+    assert_eq!(rt;
+        layout.bytes_in(2),
+        Bytes {
+            addr: 0x10080,
+            size: 0
+        }
+    );
+    assert_eq!(rt;
+        layout.bytes_in(3),
+        Bytes {
+            addr: 0x100c0,
+            size: 8
+        }
+    );
+    assert_eq!(rt; layout.bytes_in(4), Bytes { addr: 0, size: 0 });
+    Ok(())
+}
+
+#[test]
+fn bad_places_are_refused(rt: HostRuntime) -> Result<(), Fail> {
+    let variables = variables(rt.alloc())?;
+    for (letter, addr) in [
+        ("x", 0x1002),
+        ("y", 0x4000_0000_0000_0008),
+        ("z", 0x1000),
+        ("l", 0x1000),
+    ] {
+        let places = [placed(rt.alloc(), letter, addr)?];
+        assert!(rt;
+            matches!(
+                Layout::new(rt.alloc(), variables.as_slice(), &places),
+                Err(LayoutError::BadPlace)
+            ),
+            "{letter} {addr}"
+        );
+    }
+    let twice = [
+        placed(rt.alloc(), "x", 0x1000)?,
+        placed(rt.alloc(), "x", 0x1000)?,
+    ];
+    assert!(rt;
+        matches!(
+            Layout::new(rt.alloc(), variables.as_slice(), &twice),
+            Err(LayoutError::BadPlace)
+        )
+    );
+    let highest = [placed(rt.alloc(), "y", 0x4000_0000_0000_0000)?];
+    assert!(rt; Layout::new(rt.alloc(), variables.as_slice(), &highest).is_ok());
+    Ok(())
+}
