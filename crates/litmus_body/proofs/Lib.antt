@@ -1,0 +1,6 @@
+pub mod Found
+pub mod Taken
+pub mod Shorter
+pub mod Named
+pub mod Races
+pub mod Unrolled

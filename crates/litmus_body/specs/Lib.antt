@@ -4,3 +4,6 @@ pub mod Names
 pub mod Counts
 pub mod Expressions
 pub mod Statements
+pub mod States
+pub mod NameReader
+pub mod ExpressionReader

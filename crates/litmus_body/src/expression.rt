@@ -1,10 +1,15 @@
 //! Expressions of a process: operators by strength, operands, and the one load.
 
-ghost use Rattle.std.specs.Prelude.{◌≡◌, ◌≤◌, ◌<◌, ◌+◌, false, IfOk, IsSome, OnOk};
+ghost use Rattle.std.specs.Prelude.{◌≡◌, ◌≤◌, ◌<◌, ◌+◌, false, IfOk, IsSome, OnErr, OnOk, IsTrue, option_map};
+ghost use Rattle.litmus_syntax.specs.Views.{expression_of, fetch_of, load_of, pure_of};
+ghost use Rattle.litmus_cursor.specs.Front.{Answers, first, symbol_of_token, symbols_left};
+ghost use Rattle.litmus_body.specs.Expressions.{level_of};
+ghost use Rattle.litmus_body.specs.ExpressionReader as reader;
+ghost use Rattle.litmus_body.specs.States.{state_of};
 ghost use Rattle.litmus_cursor.specs.Cursor.{count_left, is_end};
 
 use crate::process::{Process, Surroundings, Takes};
-use litmus_cursor::{Excess, LoadWord, Refusal, Word};
+use litmus_cursor::{Cursor, Excess, LoadWord, Refusal, Word};
 use litmus_lex::{Sign, Token};
 use litmus_syntax::{
     BinaryOperator, Expression, Fetch, Load, Loading, Pure, ReadForm, UnaryOperator,
@@ -25,8 +30,13 @@ struct Rest {
 }
 
 impl Rest {
+    ghost use Rattle.litmus_cursor.specs.Front.{Answers};
+    ghost use Rattle.litmus_body.specs.ExpressionReader as reader;
+
     /// Counts an operator.
-    fn take_operator(&mut self) -> Result<(), Refusal> {
+    fn take_operator(&mut self) -> Result<(), Refusal>
+        ensures { Answers result (λ _. self.new) (reader.take_operator self.old) }
+    {
         if self.operators == 0 {
             return Err(Refusal::Limit(Excess::Operators));
         }
@@ -37,7 +47,8 @@ impl Rest {
 
 /// The unary operator of a token.
 fn unary_operator(token: Token<'_>) -> Option<UnaryOperator>
-    ensures { IsSome result → is_end token.entry ≡ false }
+    ensures exact { result ≡ reader.unary_at (symbol_of_token token.entry) }
+    ensures some { IsSome result → is_end token.entry ≡ false }
 {
     match token {
         Token::Sign(Sign::Minus) => Some(UnaryOperator::Negate),
@@ -48,7 +59,9 @@ fn unary_operator(token: Token<'_>) -> Option<UnaryOperator>
 }
 
 /// The binary operator of a token, with its level: the higher it is, the weaker the operator.
-fn binary_operator(token: Token<'_>) -> Option<(BinaryOperator, usize)> {
+fn binary_operator(token: Token<'_>) -> Option<(BinaryOperator, usize)>
+    ensures { result ≡ option_map (λ operator. (operator, level_of operator)) (reader.binary_at (symbol_of_token token.entry)) }
+{
     match token {
         Token::Sign(Sign::Star) => Some((BinaryOperator::Multiply, 1)),
         Token::Sign(Sign::Plus) => Some((BinaryOperator::Add, 2)),
@@ -67,7 +80,9 @@ fn binary_operator(token: Token<'_>) -> Option<(BinaryOperator, usize)> {
 }
 
 /// The binary operator of a token, if it is of the level.
-fn operator_at(token: Token<'_>, level: usize) -> Option<BinaryOperator> {
+fn operator_at(token: Token<'_>, level: usize) -> Option<BinaryOperator>
+    ensures { result ≡ reader.of_level level (reader.binary_at (symbol_of_token token.entry)) }
+{
     match binary_operator(token) {
         Some((operator, found)) if found == level => Some(operator),
         _ => None,
@@ -75,7 +90,9 @@ fn operator_at(token: Token<'_>, level: usize) -> Option<BinaryOperator> {
 }
 
 /// Whether the token is an operator of C that no expression takes.
-fn is_foreign_operator(token: Token<'_>) -> bool {
+fn is_foreign_operator(token: Token<'_>) -> bool
+    ensures { result ≡ reader.is_foreign (symbol_of_token token.entry) }
+{
     matches!(
         token,
         Token::Sign(
@@ -95,15 +112,19 @@ fn applied(
     alloc: Global,
     operator: UnaryOperator,
     operand: Expression,
-) -> Result<Expression, AllocError> {
-    Ok(match operand {
+) -> Result<Expression, AllocError>
+    ensures { IfOk result (λ whole. expression_of whole ≡ reader.applied operator (expression_of operand)) }
+{
+    match operand {
         Expression::Pure(operand) => {
-            Expression::Pure(Pure::Unary(operator, Box::new(alloc, operand)?))
+            let operand = Box::new(alloc, operand)?;
+            Ok(Expression::Pure(Pure::Unary(operator, operand)))
         }
         Expression::Loading(operand) => {
-            Expression::Loading(Loading::Unary(operator, Box::new(alloc, operand)?))
+            let operand = Box::new(alloc, operand)?;
+            Ok(Expression::Loading(Loading::Unary(operator, operand)))
         }
-    })
+    }
 }
 
 /// An operator between two operands. None: both hold a load.
@@ -112,7 +133,9 @@ fn combined(
     left: Expression,
     operator: BinaryOperator,
     right: Expression,
-) -> Result<Option<Expression>, AllocError> {
+) -> Result<Option<Expression>, AllocError>
+    ensures { IfOk result (λ whole. option_map expression_of whole ≡ reader.combined (expression_of left) operator (expression_of right)) }
+{
     match left {
         Expression::Pure(left) => {
             let combined = match right {
@@ -138,10 +161,47 @@ fn combined(
     }
 }
 
+/// Whether `data_race` is next.
+fn is_at_data_race(cursor: &Cursor<'_>) -> bool
+    ensures exact { result ≡ reader.is_data_race (first (symbols_left cursor.now)) }
+    ensures some { IsTrue result → 0 < count_left cursor.now }
+{
+    matches!(cursor.word(), Some(Word::DataRace))
+}
+
+/// Takes each `data_race (` that is next, and answers how many.
+#[tactic(auto, using(crate::proofs::Races::opened_unrolls))]
+fn open_data_races(cursor: &mut Cursor<'_>) -> Result<u64, Refusal>
+    ensures moves { IfOk result (λ count. count + count_left cursor.new ≤ count_left cursor.old) }
+    ensures reads { Answers result (λ count. (count, symbols_left cursor.new)) (reader.opened 0 (symbols_left cursor.old)) }
+{
+    let mut count = 0;
+    while is_at_data_race(cursor) {
+        cursor.advance();
+        cursor.take(Sign::OpenParen)?;
+        count += 1;
+    }
+    Ok(count)
+}
+
+/// Takes so many `)`.
+#[tactic(auto, using(crate::proofs::Races::closing))]
+fn close_data_races(cursor: &mut Cursor<'_>, count: u64) -> Result<(), Refusal>
+    ensures moves { OnOk result (count_left cursor.new ≤ count_left cursor.old) }
+    ensures reads { Answers result (λ _. symbols_left cursor.new) (reader.closed count (symbols_left cursor.old)) }
+{
+    for _ in 0..count {
+        cursor.take(Sign::CloseParen)?;
+    }
+    Ok(())
+}
+
 impl<'a> Process<'a> {
     /// An expression with one load at most.
+    #[tactic(auto, unfolding(crate::specs::ExpressionReader::expression_at))]
     pub fn expression(&mut self, around: &Surroundings) -> Result<Expression, Refusal>
-        ensures { OnOk result (count_left self.new.cursor < count_left self.old.cursor) }
+        ensures moves { OnOk result (count_left self.new.cursor < count_left self.old.cursor) }
+        ensures reads { Answers result (λ found. (expression_of found, state_of self.new)) (reader.expression_at around.now.turns around.now.depth (state_of self.old)) }
     {
         let mut rest = Rest {
             operators: OPERATORS,
@@ -152,8 +212,10 @@ impl<'a> Process<'a> {
 
     /// An expression without a load.
     #[cycle(expression)]
+    #[tactic(auto, using(crate::proofs::Unrolled::unrolls))]
     pub fn pure(&mut self, around: &Surroundings) -> Result<Pure, Refusal>
-        ensures { OnOk result (count_left self.new.cursor < count_left self.old.cursor) }
+        ensures moves { OnOk result (count_left self.new.cursor < count_left self.old.cursor) }
+        ensures reads { Answers result (λ found. (pure_of found, state_of self.new)) (reader.pure_at around.now.turns around.now.depth (state_of self.old)) }
     {
         let unsupported = self.cursor.unsupported();
         let mut rest = Rest {
@@ -169,13 +231,15 @@ impl<'a> Process<'a> {
     /// An expression whose binary operators outside parentheses are of the level or stronger, from the
     /// left. At level 0 there is none.
     #[cycle(expression)]
+    #[tactic(auto, using(crate::proofs::Unrolled::unrolls))]
     fn level(
         &mut self,
         level: usize,
         around: &Surroundings,
         rest: &mut Rest,
     ) -> Result<Expression, Refusal>
-        ensures { OnOk result (count_left self.new.cursor < count_left self.old.cursor) }
+        ensures moves { OnOk result (count_left self.new.cursor < count_left self.old.cursor) }
+        ensures reads { Answers result (λ found. (expression_of found, state_of self.new, rest.new)) (reader.level_at around.now.turns around.now.depth level (state_of self.old) rest.old) }
     {
         if level == 0 {
             return self.prefixed(around, rest);
@@ -193,8 +257,10 @@ impl<'a> Process<'a> {
 
     /// An operand, behind any number of unary operators.
     #[cycle(expression)]
+    #[tactic(auto, using(crate::proofs::Unrolled::unrolls))]
     fn prefixed(&mut self, around: &Surroundings, rest: &mut Rest) -> Result<Expression, Refusal>
-        ensures { OnOk result (count_left self.new.cursor < count_left self.old.cursor) }
+        ensures moves { OnOk result (count_left self.new.cursor < count_left self.old.cursor) }
+        ensures reads { Answers result (λ found. (expression_of found, state_of self.new, rest.new)) (reader.prefixed_at around.now.turns around.now.depth (state_of self.old) rest.old) }
     {
         let Some(operator) = unary_operator(self.cursor.token()) else {
             let operand = self.operand(around, rest)?;
@@ -210,8 +276,10 @@ impl<'a> Process<'a> {
 
     /// A number, a register, a load, or an expression in parentheses.
     #[cycle(expression)]
+    #[tactic(auto, using(crate::proofs::Unrolled::unrolls))]
     fn operand(&mut self, around: &Surroundings, rest: &mut Rest) -> Result<Expression, Refusal>
-        ensures { OnOk result (count_left self.new.cursor < count_left self.old.cursor) }
+        ensures moves { OnOk result (count_left self.new.cursor < count_left self.old.cursor) }
+        ensures reads { Answers result (λ found. (expression_of found, state_of self.new, rest.new)) (reader.operand_at around.now.turns around.now.depth (state_of self.old) rest.old) }
     {
         match self.cursor.token() {
             Token::Number(number) => {
@@ -240,8 +308,10 @@ impl<'a> Process<'a> {
     }
 
     /// A register as an operand.
+    #[tactic(auto, unfolding(crate::specs::ExpressionReader::register_operand))]
     fn register_operand(&mut self) -> Result<Expression, Refusal>
-        ensures { OnOk result (count_left self.new.cursor < count_left self.old.cursor) }
+        ensures moves { OnOk result (count_left self.new.cursor < count_left self.old.cursor) }
+        ensures reads { Answers result (λ found. (expression_of found, state_of self.new)) (reader.register_operand (state_of self.old)) }
     {
         self.cursor.refuse_call()?;
         Ok(Expression::Pure(Pure::Register(self.take_register()?)))
@@ -249,8 +319,10 @@ impl<'a> Process<'a> {
 
     /// A load as an operand. A second one is unsupported, and so is one where a pure expression stands.
     #[cycle(expression)]
+    #[tactic(auto, using(crate::proofs::Unrolled::unrolls))]
     fn loading(&mut self, around: &Surroundings, rest: &mut Rest) -> Result<Expression, Refusal>
-        ensures { OnOk result (count_left self.new.cursor < count_left self.old.cursor) }
+        ensures moves { OnOk result (count_left self.new.cursor < count_left self.old.cursor) }
+        ensures reads { Answers result (λ found. (expression_of found, state_of self.new, rest.new)) (reader.loading_at around.now.turns around.now.depth (state_of self.old) rest.old) }
     {
         if !rest.may_load {
             return Err(self.cursor.unsupported());
@@ -261,43 +333,25 @@ impl<'a> Process<'a> {
 
     /// A load, inside any number of `data_race( )`.
     #[cycle(expression)]
+    #[tactic(auto, using(crate::proofs::Unrolled::unrolls))]
     pub fn load(&mut self, around: &Surroundings) -> Result<Load, Refusal>
+        ensures reads { Answers result (λ found. (load_of found, state_of self.new)) (reader.load_at around.now.turns around.now.depth (state_of self.old)) }
         ensures moves { OnOk result (count_left self.new.cursor < count_left self.old.cursor) }
         ensures enclosed { IfOk result (λ load. load.data_races < count_left self.old.cursor) }
     {
         self.count_access(around)?;
-        let data_races = self.open_data_races()?;
+        let data_races = open_data_races(&mut self.cursor)?;
         let fetch = self.fetch(around)?;
-        self.close_data_races(data_races)?;
+        close_data_races(&mut self.cursor, data_races)?;
         Ok(Load { data_races, fetch })
-    }
-
-    /// Takes each `data_race (` that is next, and answers how many.
-    fn open_data_races(&mut self) -> Result<u64, Refusal>
-        ensures { IfOk result (λ count. count + count_left self.new.cursor ≤ count_left self.old.cursor) }
-    {
-        let mut count = 0;
-        while self.cursor.accept_word(Word::DataRace) {
-            self.cursor.take(Sign::OpenParen)?;
-            count += 1;
-        }
-        Ok(count)
-    }
-
-    /// Takes so many `)`.
-    fn close_data_races(&mut self, count: u64) -> Result<(), Refusal>
-        ensures { OnOk result (count_left self.new.cursor ≤ count_left self.old.cursor) }
-    {
-        for _ in 0..count {
-            self.cursor.take(Sign::CloseParen)?;
-        }
-        Ok(())
     }
 
     /// A load without `data_race`.
     #[cycle(expression)]
+    #[tactic(auto, using(crate::proofs::Unrolled::unrolls))]
     fn fetch(&mut self, around: &Surroundings) -> Result<Fetch, Refusal>
-        ensures { OnOk result (count_left self.new.cursor < count_left self.old.cursor) }
+        ensures moves { OnOk result (count_left self.new.cursor < count_left self.old.cursor) }
+        ensures reads { Answers result (λ found. (fetch_of found, state_of self.new)) (reader.fetch_at around.now.turns around.now.depth (state_of self.old)) }
     {
         if self.cursor.accept(Sign::Star) {
             return self.read(ReadForm::Plain);
@@ -321,16 +375,19 @@ impl<'a> Process<'a> {
 
     /// What stands between the parentheses of a load.
     #[cycle(expression)]
+    #[tactic(auto, using(crate::proofs::Unrolled::unrolls))]
     fn fetch_of_word(&mut self, word: LoadWord, around: &Surroundings) -> Result<Fetch, Refusal>
-        ensures { OnOk result (count_left self.new.cursor < count_left self.old.cursor) }
+        ensures moves { OnOk result (count_left self.new.cursor < count_left self.old.cursor) }
+        ensures reads { Answers result (λ found. (fetch_of found, state_of self.new)) (reader.arguments_at around.now.turns around.now.depth word (state_of self.old)) }
     {
         match word {
-            LoadWord::Read(form) => {
-                if form == ReadForm::Once {
-                    self.take_star()?;
-                }
-                self.read(form)
+            // No word is a plain read.
+            LoadWord::Read(ReadForm::Plain) => Err(self.cursor.offence()),
+            LoadWord::Read(ReadForm::Once) => {
+                self.take_star()?;
+                self.read(ReadForm::Once)
             }
+            LoadWord::Read(form) => self.read(form),
             LoadWord::Exchange => {
                 let variable = self.take_variable(Takes::Integers)?;
                 self.cursor.take(Sign::Comma)?;
@@ -353,8 +410,10 @@ impl<'a> Process<'a> {
     }
 
     /// The variable that a load of the form reads.
+    #[tactic(auto, unfolding(crate::specs::ExpressionReader::read_of))]
     fn read(&mut self, form: ReadForm) -> Result<Fetch, Refusal>
-        ensures { OnOk result (count_left self.new.cursor < count_left self.old.cursor) }
+        ensures moves { OnOk result (count_left self.new.cursor < count_left self.old.cursor) }
+        ensures reads { Answers result (λ found. (fetch_of found, state_of self.new)) (reader.read_of form (state_of self.old)) }
     {
         let takes = match form {
             ReadForm::Atomic => Takes::Atomics,
@@ -365,15 +424,23 @@ impl<'a> Process<'a> {
     }
 
     /// Takes the `*` before a variable.
+    #[tactic(auto, unfolding(crate::specs::ExpressionReader::take_star, litmus_cursor::specs::Front::take_sign))]
     pub fn take_star(&mut self) -> Result<(), Refusal>
-        ensures { OnOk result (count_left self.new.cursor < count_left self.old.cursor) }
+        ensures moves { OnOk result (count_left self.new.cursor < count_left self.old.cursor) }
+        ensures reads { Answers result (λ _. state_of self.new) (reader.take_star (state_of self.old)) }
     {
+        if self.cursor.accept(Sign::Star) {
+            return Ok(());
+        }
         self.cursor.refuse_address()?;
-        self.cursor.take(Sign::Star)
+        Err(self.cursor.offence())
     }
 
     /// Refuses an operator that no expression takes, where an operator or an operand may stand.
-    fn refuse_foreign_operator(&self) -> Result<(), Refusal> {
+    fn refuse_foreign_operator(&self) -> Result<(), Refusal>
+        ensures ok { OnOk result (reader.is_foreign (first (symbols_left self.now.cursor)) ≡ false) }
+        ensures err { OnErr result (IsTrue (reader.is_foreign (first (symbols_left self.now.cursor)))) }
+    {
         if is_foreign_operator(self.cursor.token()) {
             Err(self.cursor.unsupported())
         } else {

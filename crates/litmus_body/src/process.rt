@@ -1,11 +1,11 @@
 //! A process, as far as it is read: what its names mean, and how much of its limits is used.
 
-ghost use Rattle.std.specs.Prelude.{◌≡◌, ◌≤◌, ◌<◌, length, vec_len, IfOk, IfSome, IsSome, OnOk};
+ghost use Rattle.std.specs.Prelude.{◌≡◌, ◌≤◌, ◌<◌, ◌+◌, ◌==◌, false, length, IsTrue, OnErr, vec_len, IfOk, IfSome, IsSome, OnOk, find, position};
+ghost use Rattle.litmus_cursor.specs.Words.{is_same};
 ghost use Rattle.litmus_cursor.specs.Cursor.{count_left};
 ghost use Rattle.litmus_body.specs.Limits.{nesting_limit, registers_limit, repeats_limit, scoped_limit, statements_limit, turns_limit};
 
-use litmus_cursor::{Cursor, Excess, Refusal, VariableType, word_of};
-use litmus_lex::Token;
+use litmus_cursor::{Cursor, Excess, Refusal, VariableType};
 use std::alloc::Global;
 
 /// How many registers a task can have.
@@ -51,8 +51,12 @@ pub enum Takes {
 }
 
 impl Takes {
+    ghost use Rattle.litmus_body.specs.NameReader as reader;
+
     /// Whether a form that takes these takes the type.
-    fn contains(self, variable_type: VariableType) -> bool {
+    fn contains(self, variable_type: VariableType) -> bool
+        ensures { result ≡ reader.takes_type self variable_type }
+    {
         match variable_type {
             VariableType::Lock => self == Takes::Locks,
             VariableType::Atomic => self == Takes::Atomics || self == Takes::Memory,
@@ -90,7 +94,12 @@ impl Surroundings {
     }
 
     /// The same with one more block or parenthesis open.
-    pub fn deeper(self) -> Result<Surroundings, Refusal> {
+    pub fn deeper(self) -> Result<Surroundings, Refusal>
+        ensures inside { IfOk result (λ inside. inside.depth ≡ self.depth + 1) }
+        ensures turns { IfOk result (λ inside. inside.turns ≡ self.turns) }
+        ensures ok { OnOk result ((self.depth == nesting_limit) ≡ false) }
+        ensures err { OnErr result (IsTrue (self.depth == nesting_limit)) }
+    {
         if self.depth == NESTING {
             return Err(Refusal::Limit(Excess::Nesting));
         }
@@ -150,6 +159,26 @@ impl Surroundings {
     }
 }
 
+/// The parameter of a name, among parameters.
+fn find_parameter<'a>(mut parameters: &[Parameter<'a>], name: &[u8]) -> Option<Parameter<'a>>
+    ensures { result ≡ find (λ parameter. is_same parameter.name.now name.now) parameters.entry.now }
+{
+    while let [parameter, rest @ ..] = parameters {
+        if parameter.name == name {
+            return Some(*parameter);
+        }
+        parameters = rest;
+    }
+    None
+}
+
+/// The place of a name, among names.
+fn find_name(names: &[&[u8]], name: &[u8]) -> Option<usize>
+    ensures { result ≡ position (λ other. is_same other.now name.now) names.now }
+{
+    names.iter().position(|other| *other == name)
+}
+
 /// A process, as far as it is read. The cursor stands at the token that is read next.
 #[derive(Drop)]
 pub struct Process<'a> {
@@ -168,6 +197,11 @@ pub struct Process<'a> {
 }
 
 impl<'a> Process<'a> {
+    ghost use Rattle.std.specs.Prelude.{IfNone, map, option_map};
+    ghost use Rattle.litmus_cursor.specs.Front.{Answers, first, identifier_at, now, symbols_left};
+    ghost use Rattle.litmus_body.specs.NameReader as reader;
+    ghost use Rattle.litmus_body.specs.States.{parameter_of, state_of};
+
     /// A process of which the parameters are read.
     pub fn new(alloc: Global, cursor: Cursor<'a>, parameters: Vec<Parameter<'a>>) -> Process<'a>
         ensures { result.cursor ≡ cursor.entry }
@@ -195,7 +229,8 @@ impl<'a> Process<'a> {
 
     /// Counts an access, at the token that begins it.
     pub fn count_access(&mut self, around: &Surroundings) -> Result<(), Refusal>
-        ensures { self.new.cursor ≡ self.old.cursor }
+        ensures stays { self.new.cursor ≡ self.old.cursor }
+        ensures reads { Answers result (λ _. state_of self.new) (reader.count_access around.now.turns (state_of self.old)) }
     {
         if self.repeats + around.turns > REPEATS {
             return Err(Refusal::Limit(Excess::Repeats));
@@ -205,19 +240,21 @@ impl<'a> Process<'a> {
     }
 
     /// The parameter of a name.
-    pub fn parameter(&self, name: &[u8]) -> Option<Parameter<'a>> {
-        self.parameters
-            .iter()
-            .find(|parameter| parameter.name == name)
-            .copied()
+    pub fn parameter(&self, name: &[u8]) -> Option<Parameter<'a>>
+        ensures { option_map parameter_of result
+            ≡ reader.parameter_named (map parameter_of self.now.parameters.items) name.now }
+    {
+        find_parameter(&self.parameters, name)
     }
 
     /// Takes a variable of a type that the form takes. It is a parameter's name.
+    #[tactic(auto, unfolding(crate::specs::NameReader::take_variable))]
     pub fn take_variable(&mut self, takes: Takes) -> Result<usize, Refusal>
-        ensures { OnOk result (count_left self.new.cursor < count_left self.old.cursor) }
+        ensures moves { OnOk result (count_left self.new.cursor < count_left self.old.cursor) }
+        ensures reads { Answers result (λ variable. (variable, state_of self.new)) (reader.take_variable takes (state_of self.old)) }
     {
-        self.cursor.refuse_address()?;
-        let Token::Name(name) = self.cursor.token() else {
+        let Some(name) = self.cursor.identifier() else {
+            self.cursor.refuse_address()?;
             return Err(self.cursor.offence());
         };
         let Some(parameter) = self.parameter(name) else {
@@ -232,28 +269,30 @@ impl<'a> Process<'a> {
 
     /// The name that is next, if it is a register's: no word and no parameter.
     pub fn register_name(&self) -> Option<&'a [u8]>
-        ensures { IsSome result → 0 < count_left self.now.cursor }
+        ensures exact { option_map now result ≡ reader.register_name (state_of self.now) }
+        ensures some { IsSome result → 0 < count_left self.now.cursor }
     {
-        match self.cursor.token() {
-            Token::Name(name) if word_of(name).is_none() && self.parameter(name).is_none() => {
-                Some(name)
-            }
+        match self.cursor.identifier() {
+            Some(name) if self.parameter(name).is_none() => Some(name),
             _ => None,
         }
     }
 
     /// The number of a register's name that has appeared.
     pub fn register_of(&self, name: &[u8]) -> Option<usize>
-        ensures { IfSome result (λ register. register < registers_limit) }
+        ensures exact { result ≡ reader.index_of (map now self.now.registers.items) name.now }
+        ensures within { IfSome result (λ register. register < registers_limit) }
     {
-        self.registers.iter().position(|other| *other == name)
+        find_name(&self.registers, name)
     }
 
     /// The register that is next. The first appearance of one gives it the next number.
+    #[tactic(auto, unfolding(crate::specs::NameReader::register_at))]
     pub fn register(&mut self) -> Result<usize, Refusal>
         ensures stays { self.new.cursor ≡ self.old.cursor }
         ensures some { OnOk result (0 < count_left self.old.cursor) }
         ensures within { IfOk result (λ register. register < registers_limit) }
+        ensures reads { Answers result (λ register. (register, state_of self.new)) (reader.register_at (state_of self.old)) }
     {
         let Some(name) = self.register_name() else {
             return Err(self.cursor.offence());
@@ -270,8 +309,10 @@ impl<'a> Process<'a> {
     }
 
     /// Takes a register.
+    #[tactic(auto, unfolding(crate::specs::NameReader::take_register))]
     pub fn take_register(&mut self) -> Result<usize, Refusal>
-        ensures { OnOk result (count_left self.new.cursor < count_left self.old.cursor) }
+        ensures moves { OnOk result (count_left self.new.cursor < count_left self.old.cursor) }
+        ensures reads { Answers result (λ register. (register, state_of self.new)) (reader.take_register (state_of self.old)) }
     {
         let register = self.register()?;
         self.cursor.advance();

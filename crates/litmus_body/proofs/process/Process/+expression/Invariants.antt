@@ -1,6 +1,9 @@
 -- Tokens are taken, or the part that is read is nearer to an operand.
-use Rattle.std.proofs.Common.{◌+◌, ◌*◌, ◌<◌}
+use Rattle.std.proofs.Common.{◌≡◌, ◌+◌, ◌*◌, ◌<◌}
+use Rattle.litmus_syntax.specs.Views.{expression_of}
 use Rattle.litmus_cursor.specs.Cursor.{count_left}
+use Rattle.litmus_body.specs.ExpressionReader.{level_at, more_at}
+use Rattle.litmus_body.specs.States.{state_of}
 use Rattle.litmus_body.proofs.process.Process.+expression.Given as goal
 
 abbrev pub decreases-fetch_of_word : goal.decreases-fetch_of_word
@@ -28,7 +31,11 @@ abbrev pub decreases-pure : goal.decreases-pure
 decreases-pure l = 20 * count_left l.self.now.cursor + 13
 
 abbrev pub invariant-level-loop-operator : goal.invariant-level-loop-operator
-invariant-level-loop-operator l = count_left l.self.cursor < count_left l.fn.self.cursor
+invariant-level-loop-operator l = record {
+  moves : count_left l.self.cursor < count_left l.fn.self.cursor;
+  reads : level_at l.around.turns l.around.depth l.level (state_of l.fn.self) l.fn.rest
+      ≡ more_at l.around.turns l.around.depth l.level (expression_of l.left) (state_of l.self) l.rest;
+}
 
 abbrev pub decreases-level-loop-operator : goal.decreases-level-loop-operator
 decreases-level-loop-operator l = count_left l.self.cursor
