@@ -1,3 +1,5 @@
 pub mod SinkSteps
 pub mod HexDigits
 pub mod Written
+pub mod Entries
+pub mod TrueLines

@@ -5,8 +5,8 @@ use Rattle.std.proofs.Math.Seq.{drop-cons, take-append-add}
 use Rattle.std.proofs.lemmas.Grind.{flat_map-append}
 use Rattle.std.proofs.lemmas.List.{take-append-drop}
 use Rattle.std.specs.List.{flat_map}
-use Rattle.std.specs.Result.{IsErr}
-use Rattle.std.specs.Prelude.{Result, Ok, Err}
+use Rattle.std.specs.Result.{IsErr, is_err}
+use Rattle.std.specs.Prelude.{Result, Ok, Err, false}
 use Rattle.report_text.specs.Sink.{CountsFailure, FailsWithin, Takes, Writes, appended}
 
 -- two texts in a row are one
@@ -110,3 +110,9 @@ module _ {S : Type 0} (written : S → Option (List ℕ)) (failures : S → ℕ)
       → FailsWithin written failures (flat_map f xs) a c
   fails_item f xs i x a b c within is h k = fails_at f xs i x a b c within h
       (subst (λ y. FailsWithin written failures (f y) b c) is k)
+
+  -- a call without an error wrote the whole text
+  pub takes_unless_error : {E : Type 0} (text : List ℕ) (r : Result (Unit {0}) E) (a b : S)
+      → is_err r ≡ false → Writes written failures r text a b → Takes written failures text a b
+  takes_unless_error text (Ok x) a b h k = k
+  takes_unless_error text (Err e) a b h k = cc

@@ -6,3 +6,4 @@ pub mod TraceText
 pub mod Standing
 pub mod Truth
 pub mod Faults
+pub mod Groups

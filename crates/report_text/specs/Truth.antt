@@ -15,6 +15,7 @@ use Rattle.access_types.specs.declared.report.Report.TheVariants.{Two, Unknown}
 use Rattle.watch_word.specs.Match.{Matches}
 use Rattle.watch_word.specs.Word.{WordOf, watch_in}
 use Rattle.watch_word.specs.declared.layout.Layout.{Layout}
+use Rattle.watch_word.specs.declared.watch.Watch.{Watch}
 use Rattle.report_text.specs.Standing.{Names, arms_of, reports_of, takes_of}
 use Rattle.report_text.specs.TraceText.{Head, first, second}
 use Rattle.report_text.specs.declared.line.Line.{Line}
@@ -63,15 +64,15 @@ pub record ResultAgrees (s f : Stamped) (result : HitResult) : Type 0 where
   pub same_size : result ≡ results.Same → s.access.size ≤ 8
   pub masked : result ≡ results.Masked → IsSome (proper_mask s.access.mask)
 
--- the finder could take the watchpoint of the setter at this index by this word, with this result
-pub record MayHit (slots : ℕ) (layout : Layout) (s f : Stamped) (index word : ℕ) (result : HitResult) :
-    Type 0 where
+-- the finder could take the setter's watchpoint, which says this, at this index and with this result
+pub record MayHit (slots : ℕ) (layout : Layout) (watch : Watch) (index : ℕ) (s f : Stamped)
+    (result : HitResult) : Type 0 where
   pub tasks : s.access.task ≢ f.access.task
   pub heard : ¬ IsTrue f.silenced
   pub unmasked : proper_mask f.access.mask ≡ None
   pub index_of_finder : IsIndexOf slots f.access.addr index
-  pub breaks : IsTrue ((watch_in layout word).write || write_flag f.access.kind)
-  pub meets : Matches layout (watch_in layout word) f.access.addr f.access.size
+  pub breaks : IsTrue (watch.write || write_flag f.access.kind)
+  pub meets : Matches layout watch f.access.addr f.access.size
   pub at_once : AreInProgressAtOnce s f
   pub result_agrees : ResultAgrees s f result
 
@@ -80,22 +81,21 @@ abbrev pub OutcomeIsTrue : ℕ → Layout → List Line → Stamped → Arm → 
 OutcomeIsTrue slots layout before s a Quiet = Unit {0}
 OutcomeIsTrue slots layout before s a Origin = Unit {0}
 OutcomeIsTrue slots layout before s a (Hit finder result) =
-    (f : Stamped) × Names before finder f × MayHit slots layout s f a.index a.watch_word result
+    (f : Stamped) × Names before finder f × MayHit slots layout (watch_in layout a.watch_word) a.index s f result
 
--- the access may have set this watchpoint up
-pub record MaySetUp (slots : ℕ) (layout : Layout) (before : List Line) (s : Stamped) (a : Arm) :
-    Type 0 where
+-- the access may have set a watchpoint up with this word, at this index, after so many earlier ones:
+-- only an assertion, which is checked again, sets up more than one
+pub record MayWatch (slots : ℕ) (layout : Layout) (s : Stamped) (number index word : ℕ) : Type 0 where
   pub unmarked : ¬ IsTrue s.marked
   pub heard : ¬ IsTrue s.silenced
-  pub word : WordOf layout s.access a.watch_word
-  pub index : IsIndexOf slots s.access.addr a.index
-  pub once : (a.number ≡ 0) ⊎ IsTrue (is_assertion s.access.kind)
-  pub outcome : OutcomeIsTrue slots layout before s a a.outcome
+  pub word_is : WordOf layout s.access word
+  pub index_of_setter : IsIndexOf slots s.access.addr index
+  pub once : (number ≡ 0) ⊎ IsTrue (is_assertion s.access.kind)
 
--- an arming is true
+-- an arming is true: its access may have made it, and what became of it may have
 abbrev pub ArmIsTrue : ℕ → Layout → List Line → Arm → Type 0
-ArmIsTrue slots layout before a =
-    (s : Stamped) × Names before a.setter s × MaySetUp slots layout before s a
+ArmIsTrue slots layout before a = (s : Stamped) × Names before a.setter s
+    × MayWatch slots layout s a.number a.index a.watch_word × OutcomeIsTrue slots layout before s a a.outcome
 
 -- a report is true
 abbrev pub ReportIsTrue : List Line → Report → Type 0
@@ -186,3 +186,8 @@ pub record TellOfTheSame (all : List Line) : Type 0 where
 abbrev pub IsTrueEnd : Head → List Line → Type 0
 IsTrueEnd first all = Unit {0}
 IsTrueEnd (second slots layout) all = TellOfTheSame all
+
+-- the tickets name two accesses among the lines that race
+abbrev pub IsRaceOf : List Line → ℕ → ℕ → Type 0
+IsRaceOf all setter finder = (s : Stamped) × (f : Stamped)
+    × Names all setter s × Names all finder f × RaceByStamps s f

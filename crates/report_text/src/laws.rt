@@ -1,0 +1,18 @@
+//! What is true of traces: laws over their definitions alone.
+
+ghost use Rattle.std.specs.Prelude.{ℕ, List, Contains, Option};
+ghost use Rattle.access_types.specs.declared.report.Report.TheVariants.{Two};
+ghost use Rattle.access_types.specs.declared.report.ValueChange.{ValueChange};
+ghost use Rattle.report_text.specs.Faults.{IsTrueTrace};
+ghost use Rattle.report_text.specs.TraceText.{Head};
+ghost use Rattle.report_text.specs.Truth.{IsRaceOf};
+ghost use Rattle.report_text.specs.declared.line.Line.{Line};
+ghost use Rattle.report_text.specs.declared.line.Line.TheVariants as lines;
+
+/// Law: each race line of a true trace names two accesses of it that race: of different tasks, with
+/// a common byte, conflicting, not both marked, neither silenced, and in progress at one moment.
+pub fn race_lines_are_races()
+    ensures { (bytes : List ℕ) (head : Head) (all : List Line) → IsTrueTrace bytes head all
+        → (setter finder : ℕ) (seen : Option ValueChange)
+        → Contains all (lines.Report (Two setter finder seen)) → IsRaceOf all setter finder }
+{}
