@@ -30,12 +30,14 @@ returns-then-stuck-2 c = λ s scopes doing asked sites task leads.
 
 pub returns-then-is_none : goal.returns-then-is_none
 returns-then-is_none c = λ s scopes doing asked sites task leads.
-    let here = all_read s scopes doing asked c.args.records.now c.loop-latest.latest-index (omega (arith, c.loop-latest-test.false, c.loop-latest.auto.latest-index-end)) c.loop-latest.checker (c.loop-latest.invariant s scopes doing asked sites task leads) in
+    let here = all_read s scopes doing asked c.args.records.now c.loop-latest.latest-index
+    (omega (arith, c.loop-latest-test.false, c.loop-latest.auto.latest-index-end)) c.loop-latest.checker (c.loop-latest.invariant s scopes doing asked sites task leads) in
     nothing_missing s scopes doing asked c.args.records.now c.loop-latest.checker ((c.next-2.ensures.none s scopes doing asked _ here).0 c.if-is_none.ensures)
     (λ stuck. let both : false ≡ true = sym c.if-stuck-2.false ∙ (c.stuck-2.ensures.records s scopes doing asked _ here).1 stuck in cc)
     (c.next-2.ensures.complete s scopes doing asked _ here)
 
 pub returns-else-is_none : goal.returns-else-is_none
 returns-else-is_none c = λ s scopes doing asked sites task leads.
-    let here = all_read s scopes doing asked c.args.records.now c.loop-latest.latest-index (omega (arith, c.loop-latest-test.false, c.loop-latest.auto.latest-index-end)) c.loop-latest.checker (c.loop-latest.invariant s scopes doing asked sites task leads) in
+    let here = all_read s scopes doing asked c.args.records.now c.loop-latest.latest-index
+    (omega (arith, c.loop-latest-test.false, c.loop-latest.auto.latest-index-end)) c.loop-latest.checker (c.loop-latest.invariant s scopes doing asked sites task leads) in
     step_missing s scopes doing asked c.args.records.now c.next-2.result (c.next-2.ensures.only s scopes doing asked _ here) (c.is_none.ensures ∙ rw c.if-is_none.false refl)
