@@ -154,7 +154,7 @@ module _ (P : List Record → Type 0) (before : (first : Record) (later : List R
   goes_on : (s : Setting) (a : Access) (marked : Bool) (asked : ℕ) (found : Option Watchpoint) (records : List Record) (pass : Pass) (rest : List Record)
       → GoesOn s a marked asked found records pass rest → P rest → P records
   goes_on s a marked asked None records pass rest h p = none_found s a marked asked records pass rest h p
-  goes_on s a marked asked (Some found) records pass rest h p = masked a.mask s a found records pass.outcome Nothing rest h.2 p
+  goes_on s a marked asked (Some found) records pass rest h p = masked a.mask s a found records pass.outcome Nothing rest h.3 p
 
   once : (s : Setting) (a : Access) (marked : Bool) (asked : ℕ) (records : List Record) (pass : Pass) (rest : List Record) → ChecksOnce s a marked asked records pass rest → P rest → P records
   once s a marked asked records pass rest h p =
