@@ -18,7 +18,8 @@ use Rattle.setup_access.specs.Values.{value_in}
 use Rattle.setup_access.proofs.LocksLemmas.{TouchesNoLock, check_leaves_locks, close_leaves_locks}
 use Rattle.setup_access.specs.Check.{Check, Close, Passes}
 use Rattle.setup_access.specs.MadeOfChecks as shapes
-use Rattle.setup_access.specs.MadeOfChecks.{AreOwn, FreesHeldLocks, IsBesides, IsOwn, MadeOfChecks}
+use Rattle.setup_access.specs.MadeOfChecks.{FreesHeldLocks, IsBesides, MadeOfChecks}
+use Rattle.setup_access.specs.Own.{AreOwn, IsOwn}
 use Rattle.setup_access.specs.Records.{MakesDone, MakesWord, OnFlag, OnWord}
 use Rattle.setup_access.specs.declared.begun.Begun.{Begun}
 use Rattle.setup_access.specs.declared.source.Source.{Source}
@@ -144,7 +145,7 @@ module _ (s : Setting) where
   checked : (did : List Happening) (begun : Begun) (scopes : List Begun) (asked : ℕ) (records : List Record) (passes : Passes) (rest : List Record)
       → AreOwn (checks_of s) scopes → IsOwn (checks_of s) begun.access → Check (checks_of s) scopes begun asked records passes rest → Goes s did rest → Goes s did records
   checked did begun scopes asked records passes rest all own h goes = (
-    shapes.checks scopes begun asked records passes rest all own h goes.0,
+    shapes.checks scopes begun asked records passes rest h goes.0,
     check_leaves_locks (λ (r : List Record). (o : List Record) → Agree s did o → FreesHeldLocks o r) (frees_more did) (checks_of s) scopes begun asked records passes rest h goes.1,
   )
 
@@ -152,7 +153,7 @@ module _ (s : Setting) where
   closed : (did : List Happening) (scope : Begun) (silenced : Bool) (asked : ℕ) (records : List Record) (passes : Passes) (rest : List Record)
       → IsOwn (checks_of s) scope.access → Close (checks_of s) scope silenced asked records passes rest → Goes s did rest → Goes s did records
   closed did scope silenced asked records passes rest own h goes = (
-    shapes.closes scope silenced asked records passes rest own h goes.0,
+    shapes.closes scope silenced asked records passes rest h goes.0,
     close_leaves_locks (λ (r : List Record). (o : List Record) → Agree s did o → FreesHeldLocks o r) (frees_more did) (checks_of s) scope silenced asked records passes rest h goes.1,
   )
 

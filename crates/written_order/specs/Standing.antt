@@ -11,10 +11,10 @@ use Rattle.litmus_meaning.specs.Layout.{cells_of}
 use Rattle.litmus_meaning.specs.Task as meaning
 use Rattle.litmus_syntax.specs.declared.program.Contents.{Contents}
 use Rattle.litmus_syntax.specs.declared.program.Contents.TheVariants.{Lock}
-use Rattle.setup_access.specs.MadeOfChecks.{IsOwn}
+use Rattle.setup_access.specs.Own.{IsOwn}
 use Rattle.setup_access.specs.Setting as checks
 use Rattle.setup_access.specs.declared.begun.Begun.{Begun}
-use Rattle.setup_access.specs.declared.outcome.Outcome.{Outcome}
+use Rattle.setup_access.specs.Check.{Fallen}
 use Rattle.setup_access.specs.declared.rules.Rules.{Rules}
 use Rattle.slot_table.specs.declared.records.Record.{Record}
 
@@ -50,7 +50,7 @@ pub record Standing : Type 0 where
   pub way : List Point
   pub asked : ℕ
   pub scopes : List Begun
-  pub outcomes : List Outcome
+  pub outcomes : List Fallen
 
 -- after it has come this far, with these records still to come
 abbrev pub coming : Standing → List Record → meaning.Progress → Standing
