@@ -98,11 +98,13 @@ module _ (given : Given) where
       (part (two ++ given.cells) locks end (locks_from given) given.locks to_locks locks_length)
       (get_or_push ((two ++ given.cells) ++ locks) 0 0 (clock_at given) to_clock)
 
-  one_seat : (seat : ℕ) (view : View) → get_elem? (everyone given ∷ []) seat ≡ some view → (view.opening ≡ given) × All (IsHeld [] (λ _. 0) seat) view.held
+  abbrev Holds : ℕ → View → Type 0
+  Holds seat view = All (IsHeld given [] (λ _. 0) seat view) view.held
+
+  one_seat : (seat : ℕ) (view : View) → get_elem? (everyone given ∷ []) seat ≡ some view → Holds seat view
   one_seat zero view is =
-      let P : View → Type 0 = λ v. (v.opening ≡ given) × All (IsHeld [] (λ _. 0) 0) v.held in
-      subst P (some-injective (everyone given) view is)
-      (refl, from_each (IsHeld [] (λ _. 0) 0) 0 given.tasks (λ task past. record { only = refl; all = refl }))
+      subst (Holds 0) (some-injective (everyone given) view is)
+      (from_each (IsHeld given [] (λ _. 0) 0 (everyone given)) 0 given.tasks (λ task past. record { knows = refl; only = refl; all = refl }))
   one_seat (suc seat) view is = absurd (some-ne-none view (sym is))
 
   pub begins : RunningWords given (first_row given) (everyone given ∷ [])
@@ -112,7 +114,6 @@ module _ (given : Given) where
     counts = counts;
     stand = stands;
     seat_of = λ _. 0;
-    given_is = λ seat view is. (one_seat seat view is).0;
-    held = λ seat view is. (one_seat seat view is).1;
+    held = one_seat;
     others = λ task past. refl;
   }

@@ -48,33 +48,26 @@ module _ (given : Given) (id task count : ℕ) (row : List ℕ) (views : List Vi
   abbrev seat_of : ℕ → ℕ
   seat_of other = cond (eqb other task) (length views) (now.seat_of other)
 
-  abbrev Was : ℕ → Held → Type 0
-  Was seat = IsHeld now.records now.seat_of seat
+  abbrev Was : ℕ → View → Held → Type 0
+  Was = IsHeld given now.records now.seat_of
 
-  abbrev Is : ℕ → Held → Type 0
-  Is seat = IsHeld now.records seat_of seat
+  abbrev Is : ℕ → View → Held → Type 0
+  Is = IsHeld given now.records seat_of
 
-  all : All (Was id) (unbegun task (suc count))
-  all = now.held id (holding given task (suc count)) at
+  abbrev before : View
+  before = holding given task (suc count)
 
-  its : Was id (new_task task)
-  its = All-head (Was id) (new_task task) (unbegun (task + 1) count) all
+  all : All (Was id before) (unbegun task (suc count))
+  all = now.held id before at
 
-  stays : (seat : ℕ) (held : Held) → held.task ≢ task → Was seat held → Is seat held
-  stays seat held apart was =
-      ⊎_elim (λ same. absurd (apart same.1)) (λ other. record { only = rw other.0 was.only; all = was.all }) (eqb_tells held.task task)
+  its : Was id before (new_task task)
+  its = All-head (Was id before) (new_task task) (unbegun (task + 1) count) all
 
-  moved : (seat : ℕ) → seat ≡ length views → All (Is seat) (new_task task ∷ [])
-  moved seat last =
-      All-cons (Is seat) (new_task task) []
-      (record { only = rw (eq-eqb task task refl) (sym last); all = its.all })
-      (All-nil (Is seat))
-
-  rest : All (Is id) (unbegun (task + 1) count)
-  rest =
-      each_from (Was id) (Is id) (task + 1) count
-      (λ held past was. stays id held (λ same. omega arith) was)
-      (All-tail (Was id) (new_task task) (unbegun (task + 1) count) all)
+  stays : (seat : ℕ) (was_in is_in : View) → is_in.opening ≡ was_in.opening → (held : Held) → held.task ≢ task
+      → Was seat was_in held → Is seat is_in held
+  stays seat was_in is_in same held apart was =
+      ⊎_elim (λ this. absurd (apart this.1)) (λ other. record { knows = same ∙ was.knows; only = rw other.0 was.only; all = was.all })
+      (eqb_tells held.task task)
 
   abbrev left : View
   left = holding given (task + 1) count
@@ -82,21 +75,31 @@ module _ (given : Given) (id task count : ℕ) (row : List ℕ) (views : List Vi
   abbrev right : View
   right = alone given task []
 
-  fine : (seat : ℕ) (view : View) → get_elem? (set views id left ++ right ∷ []) seat ≡ some view → (view.opening ≡ given) × All (Is seat) view.held
-  fine seat view is =
-      let P : View → Type 0 = λ v. (v.opening ≡ given) × All (Is seat) v.held in
+  moved : (seat : ℕ) → seat ≡ length views → All (Is seat right) right.held
+  moved seat last =
+      All-cons (Is seat right) (new_task task) []
+      (record { knows = refl; only = rw (eq-eqb task task refl) (sym last); all = its.all })
+      (All-nil (Is seat right))
+
+  rest : All (Is id left) left.held
+  rest =
+      each_from (Was id before) (Is id left) (task + 1) count
+      (λ held past was. stays id before left refl held (λ same. omega arith) was)
+      (All-tail (Was id before) (new_task task) (unbegun (task + 1) count) all)
+
+  held_after : (seat : ℕ) (view : View) → get_elem? (set views id left ++ right ∷ []) seat ≡ some view → All (Is seat view) view.held
+  held_after seat view is =
+      let P : ℕ × View → Type 0 = λ p. All (Is p.0 p.1) p.1.held in
       ⊎_elim
       (λ there.
       ⊎_elim
-      (λ here. subst P here.1 (refl, (let Q : ℕ → Type 0 = λ k. All (Is k) (unbegun (task + 1) count) in subst Q (sym here.0) rest)))
-      (λ other. (
-        now.given_is seat view other.1,
-        All-weaker (Was seat) (Is seat)
-            (λ held was. stays seat held (λ same. other.0 (sym was.only ∙ ap now.seat_of same ∙ its.only)) was)
-            view.held (now.held seat view other.1),
-      ))
+      (λ here. subst P (λ i. (sym here.0 i, here.1 i)) rest)
+      (λ other.
+      All-weaker (Was seat view) (Is seat view)
+      (λ held was. stays seat view view refl held (λ same. other.0 (sym was.only ∙ ap now.seat_of same ∙ its.only)) was)
+      view.held (now.held seat view other.1))
       (at_set views id seat left view there))
-      (λ last. subst P last.1 (refl, moved seat (last.0 ∙ length-set views id left)))
+      (λ last. let Q : View → Type 0 = λ v. All (Is seat v) v.held in subst Q last.1 (moved seat (last.0 ∙ length-set views id left)))
       (at_longer (set views id left) right view seat is)
 
   pub split : RunningWords given row (set views id left ++ right ∷ [])
@@ -106,8 +109,7 @@ module _ (given : Given) (id task count : ℕ) (row : List ℕ) (views : List Vi
     counts = now.counts;
     stand = now.stand;
     seat_of = seat_of;
-    given_is = λ seat view is. (fine seat view is).0;
-    held = λ seat view is. (fine seat view is).1;
+    held = held_after;
     others = now.others;
   }
 

@@ -104,8 +104,9 @@ module _ (given : Given) (id task : ℕ) (own : List Record) (step : Step) (plac
       abbrev latest : Record
       latest = made (found_in row)
 
-      mine : IsHeld now.records now.seat_of id (record { task = task; records = own })
-      mine = All-head (IsHeld now.records now.seat_of id) (record { task = task; records = own }) [] (now.held id (alone given task own) at)
+      mine : IsHeld given now.records now.seat_of id (alone given task own) (record { task = task; records = own })
+      mine = All-head (IsHeld given now.records now.seat_of id (alone given task own)) (record { task = task; records = own }) []
+          (now.held id (alone given task own) at)
 
       follows : Follows (words_after (first_words given) now.records) latest
       follows =
@@ -121,17 +122,21 @@ module _ (given : Given) (id task : ℕ) (own : List Record) (step : Step) (plac
       may : Allows task (records_of task now.records) step
       may = let P : List Record → Type 0 = λ held. Allows task held step in subst P (sym mine.all) allowed
 
-      mine_after : All (IsHeld (latest ∷ now.records) now.seat_of id) (view_after (found_in row)).held
+      mine_after : All (IsHeld given (latest ∷ now.records) now.seat_of id (view_after (found_in row))) (view_after (found_in row)).held
       mine_after =
-          All-cons (IsHeld (latest ∷ now.records) now.seat_of id) (record { task = task; records = latest ∷ own }) []
+          let P : Held → Type 0 = IsHeld given (latest ∷ now.records) now.seat_of id (view_after (found_in row)) in
+          All-cons P (record { task = task; records = latest ∷ own }) []
           (record {
+            knows = refl;
             only = mine.only;
             all = own_grows latest now.records ∙ ap (λ (held : List Record). latest ∷ held) mine.all;
           })
-          (All-nil (IsHeld (latest ∷ now.records) now.seat_of id))
+          (All-nil P)
 
-      theirs : (seat : ℕ) → seat ≢ id → (held : Held) → IsHeld now.records now.seat_of seat held → IsHeld (latest ∷ now.records) now.seat_of seat held
-      theirs seat apart held is = record {
+      theirs : (seat : ℕ) (view : View) → seat ≢ id → (held : Held) → IsHeld given now.records now.seat_of seat view held
+          → IsHeld given (latest ∷ now.records) now.seat_of seat view held
+      theirs seat view apart held is = record {
+        knows = is.knows;
         only = is.only;
         all = others_stay latest now.records held.task
             (λ same. apart (sym is.only ∙ ap now.seat_of (sym same) ∙ mine.only))
@@ -139,17 +144,14 @@ module _ (given : Given) (id task : ℕ) (own : List Record) (step : Step) (plac
       }
 
       held_after : (seat : ℕ) (view : View) → get_elem? (set views id (view_after (found_in row))) seat ≡ some view
-          → (view.opening ≡ given) × All (IsHeld (latest ∷ now.records) now.seat_of seat) view.held
+          → All (IsHeld given (latest ∷ now.records) now.seat_of seat view) view.held
       held_after seat view is =
-          let P : View → Type 0 = λ v. (v.opening ≡ given) × All (IsHeld (latest ∷ now.records) now.seat_of seat) v.held in
+          let P : ℕ × View → Type 0 = λ p. All (IsHeld given (latest ∷ now.records) now.seat_of p.0 p.1) p.1.held in
           ⊎_elim
-          (λ here. subst P here.1
-          (let Q : ℕ → Type 0 = λ k. All (IsHeld (latest ∷ now.records) now.seat_of k) (view_after (found_in row)).held in
-          (refl, subst Q (sym here.0) mine_after)))
-          (λ there. (
-            now.given_is seat view there.1,
-            All-weaker (IsHeld now.records now.seat_of seat) (IsHeld (latest ∷ now.records) now.seat_of seat) (theirs seat there.0) view.held (now.held seat view there.1),
-          ))
+          (λ here. subst P (λ i. (sym here.0 i, here.1 i)) mine_after)
+          (λ there.
+          All-weaker (IsHeld given now.records now.seat_of seat view) (IsHeld given (latest ∷ now.records) now.seat_of seat view)
+          (theirs seat view there.0) view.held (now.held seat view there.1))
           (at_set views id seat (view_after (found_in row)) view is)
 
       pub kept : RunningWords given (set row place (change (found_in row))) (set views id (view_after (found_in row)))
@@ -159,8 +161,7 @@ module _ (given : Given) (id task : ℕ) (own : List Record) (step : Step) (plac
         counts = length-set row place (change (found_in row)) ∙ now.counts;
         stand = stands;
         seat_of = now.seat_of;
-        given_is = λ seat view is. (held_after seat view is).0;
-        held = λ seat view is. (held_after seat view is).1;
+        held = held_after;
         others = λ other past. others_stay latest now.records other (λ same. omega arith) ∙ now.others other past;
       }
 

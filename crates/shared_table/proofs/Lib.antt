@@ -5,3 +5,4 @@ pub mod Steps
 pub mod Calls
 pub mod Dealing
 pub mod Beginning
+pub mod Gathering

@@ -1,6 +1,6 @@
 -- A section of a row of words, and how a write to the row shows in it.
 use Rattle.std.proofs.Common.{◌≡◌, ℕ, ◌+◌, ◌-◌, ◌<◌, ◌≤◌, List, length, get_or, take, drop, set, sym, ap, ◌∙◌, subst, arith}
-use Rattle.std.proofs.lemmas.List.{drop-set-add, drop-set-lt, get_or-drop, get_or-take, length-drop, length-take-le, take-set-le}
+use Rattle.std.proofs.lemmas.List.{drop-set-add, drop-set-lt, get_or-drop, get_or-take, length-drop, length-replicate, length-take-le, take-set-le}
 use Rattle.std.proofs.Math.Seq.{take-set-lt}
 use Rattle.shared_table.specs.Row.{section}
 
@@ -39,3 +39,6 @@ pub section_length : (from count : ℕ) (row : List ℕ) → from + count ≤ le
     → length (section from count row) ≡ count
 section_length from count row fits =
     length-take-le count (drop from row) (let l = length-drop from row in omega arith)
+
+-- how many words there are
+pub ruleset lengths = (length-replicate)

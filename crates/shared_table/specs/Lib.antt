@@ -4,3 +4,4 @@ pub mod Views
 pub mod RunningWords
 pub mod Plays
 pub mod Seats
+pub mod Ended

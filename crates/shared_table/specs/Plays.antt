@@ -1,4 +1,4 @@
-use Rattle.std.specs.Prelude.{◌≡◌, ◌==◌, ◌||◌, ℕ, not, ◌^◌, ◌-◌, ◌/◌, true, if◌then◌else◌}
+use Rattle.std.specs.Prelude.{◌≡◌, ◌==◌, ◌||◌, ℕ, not, ◌^◌, ◌-◌, ◌/◌, true, if◌then◌else◌, []}
 use Rattle.atomic_table.specs.Table as table
 use Rattle.slot_table.specs.declared.step.Answer.{Answer}
 use Rattle.slot_table.specs.declared.step.Answer.TheVariants as answers
@@ -88,3 +88,7 @@ StoresLock on before found after =
 
 abbrev pub Ticks : Operation → Me → ℕ → Me → Type 0
 Ticks on before found after = Notes Clock (answers.Word found) before after
+
+-- a new seat holds nothing
+abbrev pub Sits : Operation → Me → ℕ → Me → Type 0
+Sits on before found after = after ≡ (record before.0 { held = [] }, [])

@@ -9,8 +9,11 @@ use Rattle.shared_table.specs.Row.{row_length, words_in}
 use Rattle.shared_table.specs.declared.view.Held.{Held}
 use Rattle.shared_table.specs.declared.view.View.{View}
 
--- what a seat holds of a task is all that the list has of it, and no other seat holds that task
-pub record IsHeld (records : List Record) (seat_of : ℕ → ℕ) (seat : ℕ) (held : Held) : Type 0 where
+-- what a seat with this view holds of a task: all that the list has of it, and no other seat holds
+-- that task
+pub record IsHeld (given : Given) (records : List Record) (seat_of : ℕ → ℕ) (seat : ℕ)
+    (view : View) (held : Held) : Type 0 where
+  pub knows : view.opening ≡ given
   pub only : seat_of held.task ≡ seat
   pub all : records_of held.task records ≡ held.records
 
@@ -22,9 +25,7 @@ pub record RunningWords (given : Given) (row : List ℕ) (views : List View) : T
   pub counts : length row ≡ row_length given
   pub stand : words_in given row ≡ words_after (first_words given) records
   pub seat_of : ℕ → ℕ
-  pub given_is : (seat : ℕ) (view : View) → get_elem? views seat ≡ some view
-      → view.opening ≡ given
   pub held : (seat : ℕ) (view : View) → get_elem? views seat ≡ some view
-      → All (IsHeld records seat_of seat) view.held
+      → All (IsHeld given records seat_of seat view) view.held
   -- no other task has a record
   pub others : (task : ℕ) → given.tasks ≤ task → records_of task records ≡ []

@@ -1,4 +1,4 @@
-use Rattle.std.specs.Prelude.{ℕ, List, [], ◌∷◌, map}
+use Rattle.std.specs.Prelude.{ℕ, List, [], ◌∷◌, map, ◌++◌}
 use Rattle.std.specs.List.{range_with_len}
 use Rattle.slot_table.specs.declared.records.Record.{Record}
 use Rattle.slot_table.specs.declared.step.Answer.{Answer}
@@ -50,3 +50,14 @@ with_record step answer (own ∷ others) =
 -- the view of a seat of one task after its step
 abbrev pub noted : View → Step → Answer → View
 noted view step answer = record view { held = with_record step answer view.held }
+
+-- a seat takes in what another holds
+abbrev pub with_both : View → View → View
+with_both view other = record view { held = other.held ++ view.held }
+
+-- the other holds nothing any more
+abbrev pub nothing_held : View
+nothing_held = record {
+  opening = record { page_slots = 0; tasks = 0; locks = 0; cells = [] };
+  held = [];
+}

@@ -1,12 +1,15 @@
 //! The board of one task on the shared words. Code that is written for any `Board` runs on it as it
 //! is.
 
-ghost use Rattle.std.specs.Prelude.{◌≡◌};
+ghost use Rattle.std.specs.Prelude.{◌≡◌, ◌↔◌, IsTrue};
 ghost use Rattle.slot_table.specs.Answer.{Answers};
+ghost use Rattle.slot_table.specs.StepLine.{Names};
+ghost use Rattle.shared_table.specs.Given.{first_words};
 ghost use Rattle.shared_table.specs.Seats.{MayMake, seat_after};
 
 use crate::seat::TaskSeat;
 use crate::table::SharedTable;
+use slot::CONSUMED;
 use slot_table::{Answer, Board, Step};
 use std::marker::Model;
 
@@ -36,6 +39,31 @@ impl SharedTable {
         ensures { result ≡ seat }
     {
         SharedBoard { table: self, seat }
+    }
+}
+
+impl SharedTable {
+    /// Whether the step names one of its words, and sets up or claims a watch word above 1 alone.
+    #[tactic(auto, using(crate::proofs::Sections::lengths))]
+    pub fn has(&self, step: Step) -> bool
+        ensures { IsTrue result ↔ Names (first_words self.now.given) step }
+    {
+        let indices = self.opening.slots + 2;
+        match step {
+            Step::Load(index) | Step::Consume(index) | Step::Remove(index) => index < indices,
+            Step::Insert(index, word) | Step::TryConsume(index, word) => {
+                index < indices && word > CONSUMED
+            }
+            Step::PairLoad(index)
+            | Step::Name(index, _)
+            | Step::Tell(index, _)
+            | Step::Clear(index) => index < indices,
+            Step::CellLoad(cell) | Step::CellExchange(cell, _, _) => {
+                cell < self.opening.cells.len()
+            }
+            Step::LockTry(lock, _) | Step::LockStore(lock) => lock < self.opening.locks,
+            Step::Clock => true,
+        }
     }
 }
 

@@ -5,6 +5,7 @@
 #![tactic(auto)]
 
 pub mod board;
+pub mod gathered;
 mod opening;
 mod plays;
 mod rule;
@@ -13,5 +14,6 @@ pub mod table;
 mod view;
 
 pub use board::SharedBoard;
+pub use gathered::Gathered;
 pub use seat::TaskSeat;
 pub use table::SharedTable;

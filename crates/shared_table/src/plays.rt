@@ -1,12 +1,13 @@
 //! What each kind of step tells the seat that makes it: that it has noted this step, with the
-//! answer that the word found gives. And how a seat of all tasks is cut into one seat a task.
+//! answer that the word found gives. And how a seat of all tasks is cut into one seat
+//! a task, and put together again.
 
 ghost use Rattle.shared_table.specs.Plays.{Clears, Consumes, ExchangesCell, Inserts, Loads};
-ghost use Rattle.shared_table.specs.Plays.{LoadsCell, LoadsPair, Names, Removes, StoresLock, Tells};
-ghost use Rattle.shared_table.specs.Plays.{Ticks, TriesLock, TriesToConsume};
+ghost use Rattle.shared_table.specs.Plays.{LoadsCell, LoadsPair, Names, Removes, Sits, StoresLock};
+ghost use Rattle.shared_table.specs.Plays.{Tells, Ticks, TriesLock, TriesToConsume};
 
 use crate::view::View;
-use atomic_table::{Play, Split};
+use atomic_table::{Join, Play, Split};
 
 pub struct Load;
 
@@ -101,4 +102,22 @@ impl Split<View> for FirstTask {
     ghost left = { λ v. record v { held = without_first v.held } };
 
     ghost right = { λ v. record v { held = first_of v.held } };
+}
+
+/// A new seat sits down.
+pub struct Sit;
+
+impl Play<(), View> for Sit {
+    ghost then = { Sits };
+}
+
+/// One seat takes in what the others hold.
+pub struct AllTasks;
+
+impl Join<View> for AllTasks {
+    ghost use Rattle.shared_table.specs.Views.{nothing_held, with_both};
+
+    ghost both = { with_both };
+
+    ghost spent = { nothing_held };
 }

@@ -1,9 +1,10 @@
 //! A task's seat: the token of what the task has seen. Each step on the shared words needs it and
 //! keeps it.
 
-ghost use Rattle.std.specs.Prelude.{◌≡◌, ◌==◌, ◌<◌, ◌*◌, ◌^◌, ℕ, true, [], if◌then◌else◌};
+ghost use Rattle.std.specs.Prelude.{◌≡◌, ◌==◌, ◌<◌, ◌*◌, ◌^◌, ℕ, true, [], if◌then◌else◌, is_some};
 ghost use Rattle.slot_table.specs.declared.step.Answer.TheVariants as answers;
 ghost use Rattle.slot_table.specs.Answer.{Answers};
+ghost use Rattle.slot_table.specs.Discipline.{in_hand};
 ghost use Rattle.slot_table.specs.declared.step.Step.TheVariants as steps;
 ghost use Rattle.shared_table.specs.Seats.{MayMake, seat_after};
 ghost use Rattle.shared_table.specs.Views.{alone};
@@ -67,6 +68,29 @@ impl TaskSeat {
             is_open: false,
             seat,
         }
+    }
+
+    /// Whose seat it is.
+    pub fn task(&self) -> u32
+        ensures { result ≡ self.now.task }
+    {
+        self.task
+    }
+
+    /// Whether the task has a check unfinished: an arming without its remove, or a taking without
+    /// its tell.
+    pub fn is_unfinished(&self) -> bool
+        ensures { result ≡ is_some (in_hand self.now.records) }
+    {
+        self.is_open
+    }
+
+    /// What it knows, apart.
+    pub(crate) fn into_token(self) -> Seat<(), View>
+        ensures id { result.table_id ≡ self.table.id }
+        ensures me { result.me ≡ (alone self.table.given self.task self.records, []) }
+    {
+        self.seat
     }
 
     /// Reads the watch word at an index.

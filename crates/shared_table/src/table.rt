@@ -17,15 +17,15 @@ use std::alloc::{AllocError, Global};
 use std::marker::Model;
 
 /// The atomic words, which many threads share.
-type Row = Table<(), View, Opening, Running, Global>;
+pub(crate) type Row = Table<(), View, Opening, Running, Global>;
 
 /// All words of a run, for many threads at once.
 #[derive(Drop)]
 pub struct SharedTable {
     pub(crate) row: Row,
-    opening: Opening,
+    pub(crate) opening: Opening,
     /// Room for what the cells hold at the end.
-    room: Vec<u64>,
+    pub(crate) room: Vec<u64>,
 }
 
 impl Model for SharedTable {
@@ -77,12 +77,27 @@ impl SharedTable {
 }
 
 impl SharedTable {
+    /// How many tasks there are.
+    pub(crate) fn tasks(&self) -> u32
+        ensures { result ≡ self.now.given.tasks }
+    {
+        self.opening.tasks
+    }
+
     /// Where in the row the pair word of an index stands.
     pub(crate) fn pair_at(&self, index: usize) -> usize
         requires { index < indices self.now.given }
         ensures { result ≡ pairs_from self.now.given + index }
     {
         self.opening.slots + 2 + index
+    }
+
+    /// Where in the row the cells begin.
+    pub(crate) fn cells_from(&self) -> usize
+        ensures { result ≡ cells_from self.now.given }
+    {
+        let indices = self.opening.slots + 2;
+        indices + indices
     }
 
     /// Where in the row a cell stands.
@@ -99,16 +114,14 @@ impl SharedTable {
         requires { lock < self.now.given.locks }
         ensures { result ≡ locks_from self.now.given + lock }
     {
-        let indices = self.opening.slots + 2;
-        indices + indices + self.opening.cells.len() + lock
+        self.cells_from() + self.opening.cells.len() + lock
     }
 
     /// Where in the row the clock stands.
     pub(crate) fn clock_at(&self) -> usize
         ensures { result ≡ clock_at self.now.given }
     {
-        let indices = self.opening.slots + 2;
-        indices + indices + self.opening.cells.len() + self.opening.locks
+        self.cells_from() + self.opening.cells.len() + self.opening.locks
     }
 }
 
