@@ -4,3 +4,4 @@ pub mod Shorter
 pub mod Named
 pub mod Races
 pub mod Unrolled
+pub mod Sound

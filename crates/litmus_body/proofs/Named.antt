@@ -168,3 +168,47 @@ index_nowhere (other ∷ names) name e there =
     among other name names ⊥ there
     (λ same. not_true (is_same other name) ((names_decide other name).1 same) s.0)
     (λ later. index_nowhere names name s.1 later)
+
+-- ---- the other way
+
+index_first : (b : Bool) (o : Option ℕ) (i : ℕ) → (b ≡ true → 0 ≡ i) → (b ≡ false → next_place o ≡ Some i) → cond b (Some 0) (next_place o) ≡ Some i
+index_first true o i f g = ap (λ (n : ℕ). Some n) (f refl)
+index_first false o i f g = g refl
+
+some_name : (names : Names) (name : List ℕ) (i : ℕ) → slice_get names i ≡ Some name → Contains names name
+some_name [] name i e = absurd cc
+some_name (other ∷ names) name zero e = let same : other ≡ name = cc in subst (λ (n : List ℕ). Contains (other ∷ names) n) same (in_front other names)
+some_name (other ∷ names) name (suc i) e = in_rest other name names (some_name names name i e)
+
+pub found_at : (names : Names) (name : List ℕ) (i : ℕ) → Differ names → slice_get names i ≡ Some name → index_of names name ≡ Some i
+found_at [] name i differ e = absurd cc
+found_at (other ∷ names) name zero differ e =
+    let same : other ≡ name = cc in
+    index_cons other names name ∙ index_first (is_same other name) (index_of names name) 0 (λ is. refl)
+    (λ none. absurd (not_true (is_same other name) ((names_decide other name).1 same) none))
+found_at (other ∷ names) name (suc i) differ e =
+    index_cons other names name ∙ index_first (is_same other name) (index_of names name) (suc i)
+    (λ is. absurd (differ.0 (subst (λ (n : List ℕ). Contains names n) (sym (same_name other name is)) (some_name names name i e))))
+    (λ none. ap next_place (found_at names name i differ.1 e))
+
+pub nowhere : (names : Names) (name : List ℕ) → ¬ Contains names name → index_of names name ≡ None
+unfolding index_of
+nowhere [] name none = refl
+nowhere (other ∷ names) name none =
+    index_cons other names name
+    ∙ ap (λ (b : Bool). cond b (Some 0) (next_place (index_of names name))) (is_other other name (λ same. none (subst (λ (n : List ℕ). Contains (other ∷ names) n) same (in_front other names))))
+    ∙ ap next_place (nowhere names name (λ there. none (in_rest other name names there)))
+
+stays_out : (names : Names) (other name : List ℕ) → ¬ Contains names other → ¬ (other ≡ name) → ¬ Contains (names ++ name ∷ []) other
+stays_out [] other name out apart there = among name other [] ⊥ there (λ same. apart (sym same)) (λ later. in_none other later)
+stays_out (n ∷ names) other name out apart there =
+    among n other (names ++ name ∷ []) ⊥ there
+    (λ same. out (subst (λ (m : List ℕ). Contains (n ∷ names) m) same (in_front n names)))
+    (λ later. stays_out names other name (λ inside. out (in_rest n other names inside)) apart later)
+
+pub differ_more : (names : Names) (name : List ℕ) → Differ names → ¬ Contains names name → Differ (names ++ name ∷ [])
+differ_more [] name differ out = (in_none name, tt)
+differ_more (n ∷ names) name differ out = (
+  stays_out names n name differ.0 (λ same. out (subst (λ (m : List ℕ). Contains (n ∷ names) m) same (in_front n names))),
+  differ_more names name differ.1 (λ inside. out (in_rest n name names inside)),
+)

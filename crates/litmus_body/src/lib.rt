@@ -3,6 +3,7 @@
 
 pub mod call;
 pub mod expression;
+pub mod laws;
 pub mod limits;
 pub mod process;
 pub mod simple;
