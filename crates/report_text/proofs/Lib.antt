@@ -3,3 +3,4 @@ pub mod HexDigits
 pub mod Written
 pub mod Entries
 pub mod TrueLines
+pub mod Counts

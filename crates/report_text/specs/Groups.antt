@@ -1,6 +1,7 @@
-use Rattle.std.specs.Prelude.{◌+◌, ◌-◌, ◌^◌, ◌++◌, ℕ, List, [], ◌∷◌, Bool, codes, if◌then◌else◌, min, nat_eq}
+use Rattle.std.specs.Prelude.{◌≡◌, ◌+◌, ◌-◌, ◌^◌, ◌++◌, ℕ, List, [], ◌∷◌, Bool, codes, count_by, fold, if◌then◌else◌, map, min, nat_eq}
 use Rattle.std.specs.Cmp.Lexicographic.{pointwise}
 use Rattle.std.specs.Fmt.{decimal}
+use Rattle.std.specs.List.{list_any}
 use Rattle.access_types.specs.ReportText.{line}
 
 -- a text, and how often it was seen
@@ -25,3 +26,22 @@ counted (group ∷ groups) text = if is_text text group.0
 -- what is written of a group
 unfoldable pub group_text : Group → List ℕ
 group_text group = group.0 ++ line (codes "seen " ++ decimal group.1 ++ codes " times")
+
+-- a text stands last among those that were seen, unless it is one of them
+abbrev pub seen_too : List (List ℕ) → List ℕ → List (List ℕ)
+seen_too before text = if list_any (is_text text) before then before else before ++ text ∷ []
+
+-- each text once, in the order in which they were first seen
+abbrev pub first_seen : List (List ℕ) → List (List ℕ)
+first_seen texts = fold seen_too [] texts
+
+-- how often a text was seen, by the groups
+abbrev pub count_in : List ℕ → List Group → ℕ
+count_in text [] = 0
+count_in text (group ∷ groups) = if is_text text group.0 then group.1 else count_in text groups
+
+-- the groups of texts: each text once, in the order in which they were first seen, with how often it
+-- is among them, where a count rests at its last value
+pub record AreGroupsOf (texts : List (List ℕ)) (groups : List Group) : Type 0 where
+  pub order : map (λ group. group.0) groups ≡ first_seen texts
+  pub counts : (text : List ℕ) → count_in text groups ≡ min (count_by (is_text text) texts) (2 ^ 64 - 1)

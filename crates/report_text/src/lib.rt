@@ -11,7 +11,7 @@ mod pieces;
 pub mod report;
 pub mod sink;
 pub mod trace;
-mod truth;
+pub mod truth;
 
 pub use groups::Groups;
 pub use line::Line;

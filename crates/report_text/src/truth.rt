@@ -11,7 +11,7 @@ use access_types::{HitResult, Stamped, conflicts, overlaps};
 use watch_word::{Layout, Watch, encode_in, matches_in};
 
 /// What is declared marked counted as marked, and an assertion didn't.
-pub(crate) fn letters_agree(stamped: &Stamped) -> bool
+pub fn letters_agree(stamped: &Stamped) -> bool
     ensures { IsTrue result ↔ LettersAgree stamped.now }
 {
     let kind = stamped.access().kind();
@@ -30,7 +30,7 @@ fn are_in_progress_at_once(s: &Stamped, f: &Stamped) -> bool
 }
 
 /// The two accesses race, by their stamps.
-pub(crate) fn race_by_stamps(s: &Stamped, f: &Stamped) -> bool
+pub fn race_by_stamps(s: &Stamped, f: &Stamped) -> bool
     ensures { IsTrue result ↔ RaceByStamps s.now f.now }
 {
     let (setter, finder) = (s.access(), f.access());
@@ -43,7 +43,7 @@ pub(crate) fn race_by_stamps(s: &Stamped, f: &Stamped) -> bool
 }
 
 /// The access may have seen its bytes change from `old` to `new`.
-pub(crate) fn may_see(s: &Stamped, old: u64, new: u64) -> bool
+pub fn may_see(s: &Stamped, old: u64, new: u64) -> bool
     ensures { IsTrue result ↔ MaySee s.now old new }
 {
     !s.marked()
@@ -110,7 +110,7 @@ fn result_agrees(s: &Stamped, f: &Stamped, result_of_hit: HitResult) -> bool
 }
 
 /// The finder could take the setter's watchpoint, at this index and with this result.
-pub(crate) fn may_hit(
+pub fn may_hit(
     slots: u64,
     layout: Layout,
     watch: &Watch,
@@ -135,7 +135,7 @@ pub(crate) fn may_hit(
 }
 
 /// The access may have set a watchpoint up with this word, at this index, after so many earlier ones.
-pub(crate) fn may_watch(
+pub fn may_watch(
     slots: u64,
     layout: Layout,
     s: &Stamped,
