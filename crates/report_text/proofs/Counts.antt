@@ -32,15 +32,15 @@ counts_counted (group ∷ groups) text other = by (is_text text group.0) refl (i
         → count_in other (counted (group ∷ groups) text) ≡ more_if (is_text other text) (count_in other (group ∷ groups))
     by true p true q rest =
         let e : is_text other text ≡ true = nat_list_eq_equiv.symm other text ∙ nat_list_eq_equiv.congr text group.0 other p
-            ∙ nat_list_eq_equiv.symm group.0 other ∙ q in
+        ∙ nat_list_eq_equiv.symm group.0 other ∙ q in
         rw (p, q, e)
     by true p false q rest =
         let e : is_text other text ≡ false = nat_list_eq_equiv.symm other text ∙ nat_list_eq_equiv.congr text group.0 other p
-            ∙ nat_list_eq_equiv.symm group.0 other ∙ q in
+        ∙ nat_list_eq_equiv.symm group.0 other ∙ q in
         rw (p, q, e)
     by false p true q rest =
         let e : is_text other text ≡ false = nat_list_eq_equiv.congr other group.0 text q
-            ∙ nat_list_eq_equiv.symm group.0 text ∙ p in
+        ∙ nat_list_eq_equiv.symm group.0 text ∙ p in
         rw (p, q, e)
     by false p false q rest = rw (p, q) rest
 
