@@ -1,3 +1,4 @@
 pub mod Worked
 pub mod Traces
 pub mod Told
+pub mod Turns

@@ -14,13 +14,13 @@ use Rattle.report_text.specs.declared.line.Line.{Line}
 use Rattle.report_text.specs.declared.line.Line.TheVariants as lines
 use Rattle.traces_tried.specs.Examples.{four_bytes, race_of, read_from, write_from}
 
-limits : (task rep : ℕ) (operation : Operation) → task < 16 → rep < 256 → IsInLimits (four_bytes task rep operation)
+pub limits : (task rep : ℕ) (operation : Operation) → task < 16 → rep < 256 → IsInLimits (four_bytes task rep operation)
 limits task rep operation small few = record { task = small; site = omega arith; rep = few; range = omega arith }
 
-read_letters : (rep begin end : ℕ) → LettersAgree (read_from rep begin end)
+pub read_letters : (rep begin end : ℕ) → LettersAgree (read_from rep begin end)
 read_letters rep begin end = record { marked = λ h. absurd (cc); assertion = λ h. absurd (cc) }
 
-write_letters : (begin end : ℕ) → LettersAgree (write_from begin end)
+pub write_letters : (begin end : ℕ) → LettersAgree (write_from begin end)
 write_letters begin end = record { marked = λ h. refl; assertion = λ h. absurd (cc) }
 
 -- a read may stand first

@@ -31,6 +31,11 @@ pub fn version_2_is_true()
     ensures { IsTrueTrace (trace_text (second 64 W64) told) (second 64 W64) told }
 {}
 
+/// The trace of a loop whose third turn met a write is true.
+pub fn turns_are_true()
+    ensures { IsTrueTrace (trace_text first turns) first turns }
+{}
+
 /// A race line of two accesses of which one ended before the other began is false: line 4.
 pub fn apart_is_false()
     ensures { FalseReportAt (trace_text first (apart ++ race_of 1 ∷ [])) 4 }
