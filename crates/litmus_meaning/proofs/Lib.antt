@@ -2,3 +2,4 @@ pub mod Ranges
 pub mod Tried
 pub mod TextSitesLemmas
 pub mod TicketLemmas
+pub mod RepeatedLemmas

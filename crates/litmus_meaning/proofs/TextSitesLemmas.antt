@@ -22,7 +22,8 @@ use Rattle.litmus_meaning.specs.Loads as loads
 use Rattle.litmus_meaning.specs.Loads.{ComparesAndWrites, Evaluates, Fetches, Loads, exchange_kind, fetch_kind, in_data_races, load_in, variable_of}
 use Rattle.litmus_meaning.specs.Meaning.{InBlock, Means, MeansBlock, Turns, after_condition}
 use Rattle.litmus_meaning.specs.Task.{Progress, Setting, access_now, assigning, begins_at, bytes_in, doing, has_lock}
-use Rattle.litmus_meaning.specs.TextSites.{Site, access_at, assignment_sites, block_sites, call_sites, expression_sites, once, repeated, statement_sites}
+use Rattle.litmus_meaning.specs.declared.site.Site.{Site}
+use Rattle.litmus_meaning.specs.TextSites.{access_at, assignment_by, block_by, block_sites, call_by, expression_by, once, repeated, statement_by}
 
 two_sums : {a b c d : ℕ} → a ≡ b → c ≡ d → a + c ≡ b + d
 two_sums p q = omega arith
@@ -329,13 +330,13 @@ module _ (s : Setting) where
       (one_access site bytes kind None off after (got.0 ++ enables) (none_append got.0 enables got.1 quiet_last) all)
 
   by_expression : (site : ℕ) (e : Expression) (before : Progress) (value : ℕ) (after : Progress) → Evaluates s site e before value after
-      → Added s.task site (expression_sites s e) before after
+      → Added s.task site (expression_by (bytes_in s) e) before after
   by_expression site (tree.pure e) before value after h = still s.task site [] before after (ap (λ (p : Progress). p.did) h.1)
   by_expression site (tree.loading e) before value after h = by_load site (load_in e) before h.0 after h.1
 
-  by_assignment : (site : ℕ) (given : Assignment) (before after : Progress) → Assigns s site given before after → Added s.task site (assignment_sites s given) before after
+  by_assignment : (site : ℕ) (given : Assignment) (before after : Progress) → Assigns s site given before after → Added s.task site (assignment_by (bytes_in s) given) before after
   by_assignment site (tree.to_register r e) before after h =
-      before_quiet s.task site (expression_sites s e) before h.1 after [] (by_expression site e before h.0 h.1 h.2) tt
+      before_quiet s.task site (expression_by (bytes_in s) e) before h.1 after [] (by_expression site e before h.0 h.1 h.2) tt
       (ap (λ (p : Progress). p.did) h.3 ∙ sym (append-nil h.1.did))
   by_assignment site (tree.write form x e) before after h =
       one_access site (bytes_in s x) (write_kind form) None before after _ (tt, (tt, tt)) (ap (λ (p : Progress). p.did) h)
@@ -355,12 +356,12 @@ module _ (s : Setting) where
   none_if false m = tt
 
   by_data_race : (site : ℕ) (data_race : Bool) (given : Assignment) (before after : Progress) → AssignsIn s site data_race given before after
-      → Added s.task site (assignment_sites s given) before after
+      → Added s.task site (assignment_by (bytes_in s) given) before after
   by_data_race site data_race given before after h =
       let disables : List Happening = if data_race then happenings.Mark marks.Disable ∷ [] else [] in
       let enables : List Happening = if data_race then happenings.Mark marks.Enable ∷ [] else [] in
-      before_quiet s.task site (assignment_sites s given) before h.0 after enables
-      (after_quiet s.task site (assignment_sites s given) before (doing before disables) h.0 disables (none_if data_race marks.Disable) refl
+      before_quiet s.task site (assignment_by (bytes_in s) given) before h.0 after enables
+      (after_quiet s.task site (assignment_by (bytes_in s) given) before (doing before disables) h.0 disables (none_if data_race marks.Disable) refl
       (by_assignment site given (doing before disables) h.0 h.1))
       (none_if data_race marks.Enable) (ap (λ (p : Progress). p.did) h.2)
 
@@ -375,7 +376,7 @@ module _ (s : Setting) where
   by_sized site false bytes kind before after did = one_access site bytes kind None before after _ (tt, tt) did
 
   by_call : (site : ℕ) (c : Call) (before after : Progress) → scoped_assertion (tree.call c) ≡ None → after ≡ doing before (call_does s site c before)
-      → Added s.task site (call_sites s c) before after
+      → Added s.task site (call_by (bytes_in s) c) before after
   by_call site (calls.Barrier b) before after plain h = quiet s.task site [] before after [] tt (ap (λ (p : Progress). p.did) h)
   by_call site (calls.Lock l) before after plain h = quiet s.task site [] before after (happenings.Lock l ∷ []) (tt, tt) (ap (λ (p : Progress). p.did) h)
   by_call site (calls.Unlock l) before after plain h =
@@ -428,11 +429,11 @@ module _ (s : Setting) where
       ]
 
   -- a statement has as many sites as accesses
-  expression_length : (st : Statement) (e : Expression) → length (expression_sites s e) ≡ length (if expression_has_access e then st ∷ [] else [])
+  expression_length : (st : Statement) (e : Expression) → length (expression_by (bytes_in s) e) ≡ length (if expression_has_access e then st ∷ [] else [])
   expression_length st (tree.pure e) = refl
   expression_length st (tree.loading e) = refl
 
-  assignment_length : (data_race : Bool) (given : Assignment) → length (assignment_sites s given) ≡ length (accesses_of (tree.assign data_race given))
+  assignment_length : (data_race : Bool) (given : Assignment) → length (assignment_by (bytes_in s) given) ≡ length (accesses_of (tree.assign data_race given))
   assignment_length data_race (tree.to_register r e) = expression_length (tree.assign data_race (tree.to_register r e)) e
   assignment_length data_race (tree.write form x e) = refl
   assignment_length data_race (tree.add x e) = refl
@@ -445,7 +446,7 @@ module _ (s : Setting) where
   sized_length true sites st one = refl
   sized_length false sites st one = one
 
-  call_length : (c : Call) → length (call_sites s c) ≡ length (accesses_of (tree.call c))
+  call_length : (c : Call) → length (call_by (bytes_in s) c) ≡ length (accesses_of (tree.call c))
   call_length (calls.Barrier b) = refl
   call_length (calls.Lock l) = refl
   call_length (calls.Unlock l) = refl
@@ -456,16 +457,16 @@ module _ (s : Setting) where
   call_length (calls.Check is_write x size) = sized_length (size == 0) (once (checked_bytes s x size) (check_kind is_write) None) (tree.call (calls.Check is_write x size)) refl
 
   mutual
-    statement_length : (st : Statement) → length (statement_sites s st) ≡ length (accesses_of st)
+    statement_length : (st : Statement) → length (statement_by (bytes_in s) st) ≡ length (accesses_of st)
     statement_length (tree.load_only l) = refl
     statement_length (tree.assign data_race given) = assignment_length data_race given
     statement_length (tree.call c) = call_length c
     statement_length (tree.if_block e body) =
-        length-append (expression_sites s e) (block_sites s body)
+        length-append (expression_by (bytes_in s) e) (block_sites s body)
         ∙ (two_sums (expression_length (tree.if_block e body) e) (block_length body)
         ∙ sym (length-append (if expression_has_access e then tree.if_block e body ∷ [] else []) (sites_of body)))
     statement_length (tree.if_else e body otherwise) =
-        length-append (expression_sites s e) (block_sites s body ++ block_sites s otherwise)
+        length-append (expression_by (bytes_in s) e) (block_sites s body ++ block_sites s otherwise)
         ∙ (two_sums (expression_length (tree.if_else e body otherwise) e)
         (length-append (block_sites s body) (block_sites s otherwise) ∙ (two_sums (block_length body) (block_length otherwise) ∙ sym (length-append (sites_of body) (sites_of otherwise))))
         ∙ sym (length-append (if expression_has_access e then tree.if_else e body otherwise ∷ [] else []) (sites_of body ++ sites_of otherwise)))
@@ -474,7 +475,7 @@ module _ (s : Setting) where
     pub block_length : (body : Block) → length (block_sites s body) ≡ length (sites_of body)
     block_length tree.empty = refl
     block_length (tree.first st rest) =
-        length-append (statement_sites s st) (block_sites s rest)
+        length-append (statement_by (bytes_in s) st) (block_sites s rest)
         ∙ (two_sums (statement_length st) (block_length rest) ∙ sym (length-append (accesses_of st) (sites_of rest)))
 
   -- the site of a scoped assertion
@@ -482,11 +483,11 @@ module _ (s : Setting) where
   of_scoped None = []
   of_scoped (Some scoped) = once (bytes_in s scoped.variable) scoped.kind None
 
-  condition_site : (site : ℕ) (e : Expression) → after_condition site e ≡ site + length (expression_sites s e)
+  condition_site : (site : ℕ) (e : Expression) → after_condition site e ≡ site + length (expression_by (bytes_in s) e)
   condition_site site (tree.pure e) = omega arith
   condition_site site (tree.loading e) = refl
 
-  scoped_sites : (st : Statement) (scoped : Scoped) → scoped_assertion st ≡ Some scoped → statement_sites s st ≡ once (bytes_in s scoped.variable) scoped.kind None
+  scoped_sites : (st : Statement) (scoped : Scoped) → scoped_assertion st ≡ Some scoped → statement_by (bytes_in s) st ≡ once (bytes_in s scoped.variable) scoped.kind None
   scoped_sites (tree.load_only l) scoped is = cc
   scoped_sites (tree.assign data_race given) scoped is = cc
   scoped_sites (tree.call (calls.Barrier b)) scoped is = cc
@@ -505,35 +506,35 @@ module _ (s : Setting) where
 
   by_block_of : (site : ℕ) (st : Statement) (later : List Site) (scoped : Option Scoped) → scoped_assertion st ≡ scoped
       → (Own Rest : Progress → Progress → Type 0)
-      → (scoped ≡ None → (before after : Progress) → Own before after → Added s.task site (statement_sites s st) before after)
-      → ((before after : Progress) → Rest before after → Added s.task (site + length (statement_sites s st)) later before after)
-      → (before after : Progress) → InBlock s site scoped Own Rest before after → Added s.task site (statement_sites s st ++ later) before after
+      → (scoped ≡ None → (before after : Progress) → Own before after → Added s.task site (statement_by (bytes_in s) st) before after)
+      → ((before after : Progress) → Rest before after → Added s.task (site + length (statement_by (bytes_in s) st)) later before after)
+      → (before after : Progress) → InBlock s site scoped Own Rest before after → Added s.task site (statement_by (bytes_in s) st ++ later) before after
   by_block_of site st later None is Own Rest own rest before after h =
-      followed s.task site (statement_sites s st) later before h.0 after (own refl before h.0 h.1) (rest h.0 after h.2)
+      followed s.task site (statement_by (bytes_in s) st) later before h.0 after (own refl before h.0 h.1) (rest h.0 after h.2)
   by_block_of site st later (Some scoped) is Own Rest own rest before after h =
       let a : Access = scoped_access s site before scoped in
       let opened : Progress = doing before (happenings.Begin a ∷ []) in
-      let first : Added s.task site (statement_sites s st) before opened =
+      let first : Added s.task site (statement_by (bytes_in s) st) before opened =
       subst (λ (xs : List Site). Added s.task site xs before opened) (sym (scoped_sites st scoped is))
       (one_access site (bytes_in s scoped.variable) scoped.kind None before opened [] tt refl) in
-      before_quiet s.task site (statement_sites s st ++ later) before h.0 after (happenings.End a ∷ [])
-      (followed s.task site (statement_sites s st) later before opened h.0 first (rest opened h.0 h.1)) (tt, tt) (ap (λ (p : Progress). p.did) h.2)
+      before_quiet s.task site (statement_by (bytes_in s) st ++ later) before h.0 after (happenings.End a ∷ [])
+      (followed s.task site (statement_by (bytes_in s) st) later before opened h.0 first (rest opened h.0 h.1)) (tt, tt) (ap (λ (p : Progress). p.did) h.2)
 
   mutual
     by_statement : (site : ℕ) (st : Statement) → scoped_assertion st ≡ None → (before after : Progress) → Means s site st before after
-        → Added s.task site (statement_sites s st) before after
+        → Added s.task site (statement_by (bytes_in s) st) before after
     by_statement site (tree.load_only l) plain before after h = by_load site l before h.0 after h.1
     by_statement site (tree.assign data_race given) plain before after h = by_data_race site data_race given before after h
     by_statement site (tree.call c) plain before after h = by_call site c before after plain h
     by_statement site (tree.if_block e body) plain before after h =
-        followed s.task site (expression_sites s e) (block_sites s body) before h.1 after (by_expression site e before h.0 h.1 h.2)
+        followed s.task site (expression_by (bytes_in s) e) (block_sites s body) before h.1 after (by_expression site e before h.0 h.1 h.2)
         (elim h.3 [
-          | inl p ↦ by_block (site + length (expression_sites s e)) body h.1 after (subst (λ (n : ℕ). MeansBlock s n body h.1 after) (condition_site site e) p.1)
-          | inr p ↦ still s.task (site + length (expression_sites s e)) (block_sites s body) h.1 after (ap (λ (p : Progress). p.did) p.1)
+          | inl p ↦ by_block (site + length (expression_by (bytes_in s) e)) body h.1 after (subst (λ (n : ℕ). MeansBlock s n body h.1 after) (condition_site site e) p.1)
+          | inr p ↦ still s.task (site + length (expression_by (bytes_in s) e)) (block_sites s body) h.1 after (ap (λ (p : Progress). p.did) p.1)
         ])
     by_statement site (tree.if_else e body otherwise) plain before after h =
-        let next : ℕ = site + length (expression_sites s e) in
-        followed s.task site (expression_sites s e) (block_sites s body ++ block_sites s otherwise) before h.1 after (by_expression site e before h.0 h.1 h.2)
+        let next : ℕ = site + length (expression_by (bytes_in s) e) in
+        followed s.task site (expression_by (bytes_in s) e) (block_sites s body ++ block_sites s otherwise) before h.1 after (by_expression site e before h.0 h.1 h.2)
         (elim h.3 [
           | inl p ↦ widened s.task next (block_sites s body) (block_sites s otherwise) h.1 after
               (by_block next body h.1 after (subst (λ (n : ℕ). MeansBlock s n body h.1 after) (condition_site site e) p.1))
@@ -552,6 +553,6 @@ module _ (s : Setting) where
         (λ start end. Means s site st start end)
         (λ start end. MeansBlock s (site + length (accesses_of st)) more start end)
         (λ plain start end p. by_statement site st plain start end p)
-        (λ start end p. by_block (site + length (statement_sites s st)) more start end
+        (λ start end p. by_block (site + length (statement_by (bytes_in s) st)) more start end
         (subst (λ (n : ℕ). MeansBlock s n more start end) (ap (λ (n : ℕ). site + n) (sym (statement_length st))) p))
         before after h

@@ -10,7 +10,8 @@ use Rattle.access_types.specs.declared.history.Happening.TheVariants as happenin
 use Rattle.litmus_syntax.specs.Tree.{Block}
 use Rattle.litmus_meaning.specs.Meaning.{MeansBlock}
 use Rattle.litmus_meaning.specs.Task.{Progress, Setting, begins_at}
-use Rattle.litmus_meaning.specs.TextSites.{FitsTickets, IsOfText, Site, access_at, block_sites}
+use Rattle.litmus_meaning.specs.TextSites.{FitsTickets, IsOfText, access_at, block_sites}
+use Rattle.litmus_meaning.specs.declared.site.Site.{Site}
 use Rattle.litmus_meaning.proofs.TextSitesLemmas.{Added, AreNumbered, HasSite, IsNumbered, begun_at, begun_cons, by_block, times_from}
 
 -- what may be said of an access that begins

@@ -1,5 +1,5 @@
 -- The accesses of a text at their sites, and how often each can begin.
-use Rattle.std.specs.Prelude.{◌≡◌, ◌<◌, ◌≤◌, ◌*◌, ◌++◌, ◌==◌, ℕ, Bool, List, [], ◌∷◌, Option, None, Some, length, map, slice_get, if◌then◌else◌}
+use Rattle.std.specs.Prelude.{◌≡◌, ◌<◌, ◌≤◌, ◌*◌, ◌-◌, ◌^◌, ◌++◌, ◌==◌, ℕ, Bool, List, [], ◌∷◌, Option, None, Some, length, map, min, slice_get, unwrap_or, if◌then◌else◌}
 use Rattle.access_types.specs.Access.{Access, proper_mask}
 use Rattle.access_types.specs.declared.history.Bytes.{Bytes}
 use Rattle.access_types.specs.declared.kind.Claim.{Claim}
@@ -11,17 +11,15 @@ use Rattle.litmus_syntax.specs.Tree as tree
 use Rattle.litmus_syntax.specs.declared.statement.Call.{Call}
 use Rattle.litmus_syntax.specs.declared.statement.Call.TheVariants as calls
 use Rattle.litmus_meaning.specs.Assignments.{compound_kind, write_kind}
-use Rattle.litmus_meaning.specs.Calls.{check_kind, checked_bytes}
+use Rattle.litmus_meaning.specs.Calls.{check_kind}
+use Rattle.litmus_meaning.specs.Layout.{no_bytes}
 use Rattle.litmus_meaning.specs.Loads.{exchange_kind, fetch_kind, load_in, variable_of}
 use Rattle.litmus_meaning.specs.Task.{Setting, bytes_in}
+use Rattle.litmus_meaning.specs.declared.site.Site.{Site}
 
--- what is accessed at a site, by what kind of access and with which mask, and how often at most: once
--- for each turn of the loops round it
-pub record Site : Type 0 where
-  pub bytes : Bytes
-  pub kind : Kind
-  pub mask : Option ℕ
-  pub times : ℕ
+-- the bytes of a variable among these, by its number; no bytes where there is none
+abbrev pub bytes_among : List Bytes → ℕ → Bytes
+bytes_among bytes variable = unwrap_or (slice_get bytes variable) no_bytes
 
 -- one site, outside of loops
 abbrev pub once : Bytes → Kind → Option ℕ → List Site
@@ -31,54 +29,102 @@ once bytes kind mask = record { bytes = bytes; kind = kind; mask = mask; times =
 abbrev pub repeated : ℕ → Site → Site
 repeated turns site = record site { times = turns * site.times }
 
-abbrev pub load_sites : Setting → Load → List Site
-load_sites s l = once (bytes_in s (variable_of l.fetch)) (fetch_kind l.fetch) None
+-- the site of a load, of an expression, of an assignment and of a call, where these are the bytes of
+-- the variables
+abbrev pub load_by : (ℕ → Bytes) → Load → List Site
+load_by bytes l = once (bytes (variable_of l.fetch)) (fetch_kind l.fetch) None
 
-abbrev pub expression_sites : Setting → Expression → List Site
-expression_sites s (tree.pure e) = []
-expression_sites s (tree.loading e) = load_sites s (load_in e)
+abbrev pub expression_by : (ℕ → Bytes) → Expression → List Site
+expression_by bytes (tree.pure e) = []
+expression_by bytes (tree.loading e) = load_by bytes (load_in e)
 
-abbrev pub assignment_sites : Setting → Assignment → List Site
-assignment_sites s (tree.to_register r e) = expression_sites s e
-assignment_sites s (tree.write form x e) = once (bytes_in s x) (write_kind form) None
-assignment_sites s (tree.add x e) = once (bytes_in s x) compound_kind None
-assignment_sites s (tree.increment x) = once (bytes_in s x) compound_kind None
-assignment_sites s (tree.atomic_add e x) = once (bytes_in s x) exchange_kind None
-assignment_sites s (tree.atomic_increment x) = once (bytes_in s x) exchange_kind None
-assignment_sites s (tree.atomic_decrement x) = once (bytes_in s x) exchange_kind None
+abbrev pub assignment_by : (ℕ → Bytes) → Assignment → List Site
+assignment_by bytes (tree.to_register r e) = expression_by bytes e
+assignment_by bytes (tree.write form x e) = once (bytes x) (write_kind form) None
+assignment_by bytes (tree.add x e) = once (bytes x) compound_kind None
+assignment_by bytes (tree.increment x) = once (bytes x) compound_kind None
+assignment_by bytes (tree.atomic_add e x) = once (bytes x) exchange_kind None
+assignment_by bytes (tree.atomic_increment x) = once (bytes x) exchange_kind None
+assignment_by bytes (tree.atomic_decrement x) = once (bytes x) exchange_kind None
 
 abbrev pub assertion_kind : Bool → Claim → Kind
 assertion_kind scoped claim = if scoped then kinds.AssertScoped claim else kinds.Assert claim
 
-abbrev pub call_sites : Setting → Call → List Site
-call_sites s (calls.Barrier b) = []
-call_sites s (calls.Lock l) = []
-call_sites s (calls.Unlock l) = []
-call_sites s (calls.AssertWriter x scoped) =
-    once (bytes_in s x) (assertion_kind scoped NoWrites) None
-call_sites s (calls.AssertAccess x scoped) =
-    once (bytes_in s x) (assertion_kind scoped NoAccesses) None
-call_sites s (calls.AssertBits x mask) =
-    once (bytes_in s x) (kinds.Assert NoWrites) (proper_mask (Some mask))
-call_sites s (calls.Mark m) = []
-call_sites s (calls.Check is_write x size) =
-    if size == 0 then [] else once (checked_bytes s x size) (check_kind is_write) None
+abbrev pub call_by : (ℕ → Bytes) → Call → List Site
+call_by bytes (calls.Barrier b) = []
+call_by bytes (calls.Lock l) = []
+call_by bytes (calls.Unlock l) = []
+call_by bytes (calls.AssertWriter x scoped) =
+    once (bytes x) (assertion_kind scoped NoWrites) None
+call_by bytes (calls.AssertAccess x scoped) =
+    once (bytes x) (assertion_kind scoped NoAccesses) None
+call_by bytes (calls.AssertBits x mask) =
+    once (bytes x) (kinds.Assert NoWrites) (proper_mask (Some mask))
+call_by bytes (calls.Mark m) = []
+call_by bytes (calls.Check is_write x size) =
+    if size == 0 then [] else once (record (bytes x) { size = size }) (check_kind is_write) None
 
 abbrev mutual
   -- the sites of a statement and of all that stands in it, in text order
-  pub statement_sites : Setting → Statement → List Site
-  statement_sites s (tree.load_only l) = load_sites s l
-  statement_sites s (tree.assign data_race a) = assignment_sites s a
-  statement_sites s (tree.call c) = call_sites s c
-  statement_sites s (tree.if_block e body) = expression_sites s e ++ block_sites s body
-  statement_sites s (tree.if_else e body otherwise) =
-      expression_sites s e ++ (block_sites s body ++ block_sites s otherwise)
-  statement_sites s (tree.for_turns r turns body) = map (repeated turns) (block_sites s body)
+  pub statement_by : (ℕ → Bytes) → Statement → List Site
+  statement_by bytes (tree.load_only l) = load_by bytes l
+  statement_by bytes (tree.assign data_race a) = assignment_by bytes a
+  statement_by bytes (tree.call c) = call_by bytes c
+  statement_by bytes (tree.if_block e body) = expression_by bytes e ++ block_by bytes body
+  statement_by bytes (tree.if_else e body otherwise) =
+      expression_by bytes e ++ (block_by bytes body ++ block_by bytes otherwise)
+  statement_by bytes (tree.for_turns r turns body) = map (repeated turns) (block_by bytes body)
 
   -- the same of a block
-  pub block_sites : Setting → Block → List Site
-  block_sites s tree.empty = []
-  block_sites s (tree.first statement rest) = statement_sites s statement ++ block_sites s rest
+  pub block_by : (ℕ → Bytes) → Block → List Site
+  block_by bytes tree.empty = []
+  block_by bytes (tree.first statement rest) = statement_by bytes statement ++ block_by bytes rest
+
+-- the sites of a text whose variables stand where they do in a setting
+abbrev pub block_sites : Setting → Block → List Site
+block_sites s body = block_by (bytes_in s) body
+
+abbrev mutual
+  -- The loops of a statement, and those round it, whose turns multiply to so many, have turns that
+  -- multiply to at most 256, whatever stands in them. So it is of each program that is read.
+  pub LoopsFit : ℕ → Statement → Type 0
+  LoopsFit times (tree.load_only l) = Unit {0}
+  LoopsFit times (tree.assign data_race a) = Unit {0}
+  LoopsFit times (tree.call c) = Unit {0}
+  LoopsFit times (tree.if_block e body) = AllLoopsFit times body
+  LoopsFit times (tree.if_else e body otherwise) =
+      AllLoopsFit times body × AllLoopsFit times otherwise
+  LoopsFit times (tree.for_turns r turns body) =
+      (times * turns ≤ 256) × AllLoopsFit (times * turns) body
+
+  pub AllLoopsFit : ℕ → Block → Type 0
+  AllLoopsFit times tree.empty = Unit {0}
+  AllLoopsFit times (tree.first statement rest) =
+      LoopsFit times statement × AllLoopsFit times rest
+
+-- so many turns in each of so many, as far as a number of 64 bits goes
+abbrev pub turns_in_all : ℕ → ℕ → ℕ
+turns_in_all times turns = min (times * turns) (2 ^ 64 - 1)
+
+abbrev mutual
+  -- the sites of a statement in loops whose turns multiply to so many
+  pub statement_in : (ℕ → Bytes) → ℕ → Statement → List Site
+  statement_in bytes times (tree.load_only l) = map (repeated times) (load_by bytes l)
+  statement_in bytes times (tree.assign data_race a) = map (repeated times) (assignment_by bytes a)
+  statement_in bytes times (tree.call c) = map (repeated times) (call_by bytes c)
+  statement_in bytes times (tree.if_block e body) =
+      map (repeated times) (expression_by bytes e) ++ block_in bytes times body
+  statement_in bytes times (tree.if_else e body otherwise) =
+      map (repeated times) (expression_by bytes e)
+      ++ (block_in bytes times body ++ block_in bytes times otherwise)
+  statement_in bytes times (tree.for_turns r turns body) =
+      block_in bytes (turns_in_all times turns) body
+
+  -- the same of a block
+  pub block_in : (ℕ → Bytes) → ℕ → Block → List Site
+  block_in bytes times tree.empty = []
+  block_in bytes times (tree.first statement rest) =
+      statement_in bytes times statement ++ block_in bytes times rest
 
 -- the access of a task at a site, by its number, of a repetition
 abbrev pub access_at : ℕ → ℕ → Site → ℕ → Access

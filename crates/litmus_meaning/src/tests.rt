@@ -1,13 +1,18 @@
 //! Values at the edges of 64 bits, of 8, 16 and 32 bits.
 
 use crate::expression::pure_value;
+use crate::site::{Site, text_sites};
 use crate::value::{cut, sign_extended};
+use access_types::{Bytes, Claim, Kind, Operation};
 use litmus_syntax::BinaryOperator::{
     Add, BitAnd, BitOr, BitXor, Equal, Greater, GreaterOrEqual, Less, LessOrEqual, Multiply,
     NotEqual, Subtract,
 };
 use litmus_syntax::UnaryOperator::{Complement, Negate, Not};
-use litmus_syntax::{BinaryOperator, Pure, UnaryOperator};
+use litmus_syntax::{
+    Assignment, BinaryOperator, Call, Expression, Fetch, Load, Loading, Pure, ReadForm, Statement,
+    UnaryOperator,
+};
 use std::alloc::{AllocError, Global};
 use std::test::Fail;
 
@@ -105,4 +110,63 @@ fn values_are_cut_and_their_sign_extended(rt: HostRuntime) {
             "{value} in {size} bytes"
         );
     }
+}
+
+/// `r0 = *x;`.
+fn plain_read() -> Statement {
+    let load = Load {
+        data_races: 0,
+        fetch: Fetch::Read {
+            form: ReadForm::Plain,
+            variable: 0,
+        },
+    };
+    Statement::Assign {
+        data_race: false,
+        assignment: Assignment::Register {
+            register: 0,
+            value: Expression::Loading(Loading::Load(load)),
+        },
+    }
+}
+
+/// `for (i = 0; i < 3; i++) { r0 = *x; }`, a check of size 0, `ASSERT_EXCLUSIVE_BITS(*x, 0xf);`: a
+/// site that begins three times, none, and one that begins once.
+#[test]
+fn sites_of_a_text(rt: HostRuntime) -> Result<(), Fail> {
+    let bytes = Bytes {
+        addr: 0x10000,
+        size: 4,
+    };
+    let body = vec![in rt.alloc(); plain_read()]?;
+    let nothing = Call::Check {
+        write: true,
+        variable: 0,
+        size: 0,
+    };
+    let bits = Call::AssertBits {
+        variable: 0,
+        mask: 0xf,
+    };
+    let in_turns = Statement::For {
+        register: 1,
+        turns: 3,
+        body,
+    };
+    let text = vec![in rt.alloc(); in_turns, Statement::Call(nothing), Statement::Call(bits)]?;
+    let sites = text_sites(rt.alloc(), &text, &[bytes])?;
+    assert_eq!(rt; sites.len(), 2);
+    for (number, kind, mask, times) in [
+        (0, Kind::Plain(Operation::Read), None, 3),
+        (1, Kind::Assert(Claim::NoWrites), Some(0xf), 1),
+    ] {
+        let wanted = Site {
+            bytes,
+            kind,
+            mask,
+            times,
+        };
+        assert_eq!(rt; sites.get(number).copied(), Some(wanted));
+    }
+    Ok(())
 }
