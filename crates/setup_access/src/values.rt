@@ -1,6 +1,6 @@
 //! The values of an access's bytes, before and after its watch.
 
-ghost use Rattle.std.specs.Prelude.{◌≡◌, ◌<◌, position};
+ghost use Rattle.std.specs.Prelude.{◌≡◌, ◌+◌, ◌<◌, ◌≤◌, IfSome, position};
 ghost use Rattle.access_types.specs.Sites.{AccessMap};
 ghost use Rattle.setup_access.specs.Kept.{setting_with};
 ghost use Rattle.setup_access.specs.Values as spec;
@@ -19,7 +19,8 @@ fn cell_of(setting: &Setting, access: &Access) -> Option<usize>
 /// Where an access's value is loaded from, if it has one: its bytes are 1, 2, 4 or 8, and lie in one cell.
 pub(crate) fn source_of(setting: &Setting, access: &Access) -> Option<Source>
     requires { 0 < access.now.size }
-    ensures { (sites : AccessMap) → result ≡ spec.source_of (setting_with setting.now sites) access.now }
+    ensures value { (sites : AccessMap) → result ≡ spec.source_of (setting_with setting.now sites) access.now }
+    ensures in_cell { IfSome result (λ source. source.first + access.now.size ≤ 8) }
 {
     if !matches!(access.size(), 1 | 2 | 4 | 8) {
         return None;

@@ -7,3 +7,8 @@ pub overflow_sub-first : goal.overflow_sub-first
 overflow_sub-first c =
     let inside = found_in_cell c.args.access.now c.args.setting.now.cells.items c.in_ok-cell.cell c.index.result.now (sym c.cell_of.ensures ∙ c.in_ok-cell.was) c.index.ensures in
     omega (arith, inside.0)
+
+pub returns-clause-in_cell : goal.returns-clause-in_cell
+returns-clause-in_cell c =
+    let inside = found_in_cell c.args.access.now c.args.setting.now.cells.items c.in_ok-cell.cell c.index.result.now (sym c.cell_of.ensures ∙ c.in_ok-cell.was) c.index.ensures in
+    omega (arith, c.addr.ensures, inside.0, inside.1)
