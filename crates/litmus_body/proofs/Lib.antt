@@ -5,3 +5,4 @@ pub mod Named
 pub mod Races
 pub mod Unrolled
 pub mod Sound
+pub mod Complete

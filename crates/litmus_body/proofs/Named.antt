@@ -7,6 +7,7 @@ use Rattle.std.proofs.lemmas.Bool.{cases_lt, le-ltb, lt-ltb}
 use Rattle.std.proofs.lemmas.Bool.Decides.{Decides-eqb}
 use Rattle.std.proofs.lemmas.Slice.Eq.{slice_eq-Decides}
 use Rattle.litmus_cursor.specs.Words.{is_same}
+use Rattle.litmus_body.specs.Followed.{Differ, name_of}
 use Rattle.litmus_body.specs.NameReader.{index_of, parameter_named}
 use Rattle.litmus_body.specs.Names.{Names, Parameter}
 
@@ -44,15 +45,7 @@ among x y xs P (suc k, lt, e) f g = g (k, omega arith, e)
 pub in_none : {A : Type 0} (y : A) → Contains [] y → ⊥
 in_none y (k, lt, e) = omega arith
 
--- names of which none stands twice
-abbrev pub Differ : Names → Type 0
-Differ [] = Unit {0}
-Differ (name ∷ names) = ¬ Contains names name × Differ names
-
 -- ---- parameters
-
-abbrev pub name_of : Parameter → List ℕ
-name_of p = p.name
 
 find_step : (b : Bool) (p : Parameter) (rest : Option Parameter) (q : Parameter) (P : Type 0) → cond b (Some p) rest ≡ Some q → (b ≡ true → p ≡ q → P) → (rest ≡ Some q → P) → P
 find_step true p rest q P e f g = f refl cc

@@ -285,8 +285,10 @@ arguments_shorter R h t d loads.Exchange s x e =
     let value : Less three.0.1 (with_left one.0.1 two.0) = h.pure t d (with_left one.0.1 two.0) three.0 three.1 in
     subst (λ (u : State). Less u s) same (omega arith)
 arguments_shorter R h t d loads.CompareExchange s x e =
-    let one = bind_some (take_variable Integers s) (λ v. take_sign Comma v.1.symbols >>= λ l. R.pure t d (with_left v.1 l) >>= λ y. take_sign Comma y.1.symbols >>= λ l. R.pure t d (with_left y.1 l) >>= λ z. Some (tree.compare_exchange v.0 y.0 z.0, z.1)) x e in
-    let two = bind_some (take_sign Comma one.0.1.symbols) (λ l. R.pure t d (with_left one.0.1 l) >>= λ y. take_sign Comma y.1.symbols >>= λ l. R.pure t d (with_left y.1 l) >>= λ z. Some (tree.compare_exchange one.0.0 y.0 z.0, z.1)) x one.2 in
+    let one = bind_some (take_variable Integers s)
+    (λ v. take_sign Comma v.1.symbols >>= λ l. R.pure t d (with_left v.1 l) >>= λ y. take_sign Comma y.1.symbols >>= λ l. R.pure t d (with_left y.1 l) >>= λ z. Some (tree.compare_exchange v.0 y.0 z.0, z.1)) x e in
+    let two = bind_some (take_sign Comma one.0.1.symbols)
+    (λ l. R.pure t d (with_left one.0.1 l) >>= λ y. take_sign Comma y.1.symbols >>= λ l. R.pure t d (with_left y.1 l) >>= λ z. Some (tree.compare_exchange one.0.0 y.0 z.0, z.1)) x one.2 in
     let three = bind_some (R.pure t d (with_left one.0.1 two.0)) (λ y. take_sign Comma y.1.symbols >>= λ l. R.pure t d (with_left y.1 l) >>= λ z. Some (tree.compare_exchange one.0.0 y.0 z.0, z.1)) x two.2 in
     let four = bind_some (take_sign Comma three.0.1.symbols) (λ l. R.pure t d (with_left three.0.1 l) >>= λ z. Some (tree.compare_exchange one.0.0 three.0.0 z.0, z.1)) x three.2 in
     let five = bind_some (R.pure t d (with_left three.0.1 four.0)) (λ z. Some (tree.compare_exchange one.0.0 three.0.0 z.0, z.1)) x four.2 in

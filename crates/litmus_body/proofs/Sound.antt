@@ -27,6 +27,7 @@ use Rattle.litmus_body.specs.ExpressionReader.{is_data_race, is_foreign, loader_
 use Rattle.litmus_body.specs.ExpressionReader as reader
 use Rattle.litmus_body.specs.Expressions as grammar
 use Rattle.litmus_body.specs.Expressions.{Level, Operand, Load, Pure, Applied, Combined, bare, enclosed_once, level_of, sign_of_binary, sign_of_unary}
+use Rattle.litmus_body.specs.Followed.{accesses}
 use Rattle.litmus_body.specs.NameReader.{count_access, free_name, index_of, name_among, numbered, parameter_named, register_at, register_name, register_named, take_register, take_variable, takes_type, variable_named, variable_of}
 use Rattle.litmus_body.specs.Names.{Names, Parameter, IsAtomic, IsFree, IsInteger, IsRegister, IsVariable, Numbered, known, new}
 use Rattle.litmus_body.specs.States.{State, after, with_left}
@@ -73,11 +74,6 @@ operator_taken r f e =
     some : (n m : ℕ) → (n == 0) ≡ false → n - 1 ≡ m → n ≡ m + 1
     some zero m e is = absurd cc
     some (suc n) m e is = omega arith
-
--- how often an expression's access is made
-abbrev pub accesses : ℕ → tree.Expression → ℕ
-accesses turns (tree.pure a) = 0
-accesses turns (tree.loading a) = turns
 
 pub applied_is : (op : UnaryOperator) (a : tree.Expression) → Applied op a (reader.applied op a)
 applied_is op (tree.pure a) = grammar.to_pure
@@ -149,7 +145,8 @@ name_next symbols name e = front symbols (identifier name) (identifier_is (first
 stays : (s : State) → Moved s s
 stays s = record { parameters = refl; names = refl; statements = refl; repeats = refl }
 
-variable_of_reads : (takes : Takes) (s : State) (name : List ℕ) (o : Option Parameter) (x : ℕ × State) → identifier_at (first s.symbols) ≡ Some name → parameter_named s.parameters name ≡ o → variable_of takes s o ≡ Some x → ReadsVariable takes s x
+variable_of_reads : (takes : Takes) (s : State) (name : List ℕ) (o : Option Parameter) (x : ℕ × State)
+    → identifier_at (first s.symbols) ≡ Some name → parameter_named s.parameters name ≡ o → variable_of takes s o ≡ Some x → ReadsVariable takes s x
 variable_of_reads takes s name None x next is e = absurd cc
 variable_of_reads takes s name (Some p) x next is e =
     let a = allowed (takes_type takes p.type) (Some (p.variable, after s)) x e in
@@ -200,7 +197,8 @@ free_is parameters name e variable type there = no_parameter parameters name e (
 not_all : (n : ℕ) → (n == 32) ≡ false → n ≤ 32 → n < 32
 not_all n e le = grind (arith, eq-eqb n 32)
 
-numbered_reads : (s : State) (name : List ℕ) (o : Option ℕ) (x : ℕ × State) → s.symbols ≡ identifier name ∷ others s.symbols → IsFree s.parameters name → length s.names ≤ 32 → index_of s.names name ≡ o → numbered s name o ≡ Some x → ReadsRegister s x
+numbered_reads : (s : State) (name : List ℕ) (o : Option ℕ) (x : ℕ × State)
+    → s.symbols ≡ identifier name ∷ others s.symbols → IsFree s.parameters name → length s.names ≤ 32 → index_of s.names name ≡ o → numbered s name o ≡ Some x → ReadsRegister s x
 numbered_reads s name (Some n) x next free le is e =
     subst (ReadsRegister s) (same_given (n, s) x e) (record {
       name = name;
@@ -719,8 +717,10 @@ module _ (R : Readers) (h : Sound R) where
         repeats = omega (arith, value.repeats, v.moved.repeats);
       })
   arguments_sound t d loads.CompareExchange s x deep within e =
-      let one = bind_some (take_variable Integers s) (λ v. take_sign Comma v.1.symbols >>= λ l. R.pure t d (with_left v.1 l) >>= λ y. take_sign Comma y.1.symbols >>= λ l. R.pure t d (with_left y.1 l) >>= λ z. Some (tree.compare_exchange v.0 y.0 z.0, z.1)) x e in
-      let two = bind_some (take_sign Comma one.0.1.symbols) (λ l. R.pure t d (with_left one.0.1 l) >>= λ y. take_sign Comma y.1.symbols >>= λ l. R.pure t d (with_left y.1 l) >>= λ z. Some (tree.compare_exchange one.0.0 y.0 z.0, z.1)) x one.2 in
+      let one = bind_some (take_variable Integers s)
+      (λ v. take_sign Comma v.1.symbols >>= λ l. R.pure t d (with_left v.1 l) >>= λ y. take_sign Comma y.1.symbols >>= λ l. R.pure t d (with_left y.1 l) >>= λ z. Some (tree.compare_exchange v.0 y.0 z.0, z.1)) x e in
+      let two = bind_some (take_sign Comma one.0.1.symbols)
+      (λ l. R.pure t d (with_left one.0.1 l) >>= λ y. take_sign Comma y.1.symbols >>= λ l. R.pure t d (with_left y.1 l) >>= λ z. Some (tree.compare_exchange one.0.0 y.0 z.0, z.1)) x one.2 in
       let three = bind_some (R.pure t d (with_left one.0.1 two.0)) (λ y. take_sign Comma y.1.symbols >>= λ l. R.pure t d (with_left y.1 l) >>= λ z. Some (tree.compare_exchange one.0.0 y.0 z.0, z.1)) x two.2 in
       let four = bind_some (take_sign Comma three.0.1.symbols) (λ l. R.pure t d (with_left three.0.1 l) >>= λ z. Some (tree.compare_exchange one.0.0 three.0.0 z.0, z.1)) x three.2 in
       let five = bind_some (R.pure t d (with_left three.0.1 four.0)) (λ z. Some (tree.compare_exchange one.0.0 three.0.0 z.0, z.1)) x four.2 in

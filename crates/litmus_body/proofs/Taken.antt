@@ -36,7 +36,11 @@ same_given x y e = cc
 -- ---- signs
 
 abbrev signs : List Sign
-signs = OpenBrace ∷ CloseBrace ∷ OpenParen ∷ CloseParen ∷ OpenBracket ∷ CloseBracket ∷ Semicolon ∷ Comma ∷ Colon ∷ Assign ∷ AddAssign ∷ Increment ∷ Plus ∷ Minus ∷ Star ∷ Tilde ∷ Not ∷ Ampersand ∷ Caret ∷ Bar ∷ Less ∷ Greater ∷ LessEqual ∷ GreaterEqual ∷ Equal ∷ NotEqual ∷ Conjunction ∷ Disjunction ∷ Slash ∷ Percent ∷ ShiftLeft ∷ ShiftRight ∷ LogicalAnd ∷ LogicalOr ∷ Question ∷ []
+signs =
+    OpenBrace ∷ CloseBrace ∷ OpenParen ∷ CloseParen ∷ OpenBracket ∷ CloseBracket ∷ Semicolon ∷ Comma ∷ Colon ∷ Assign ∷
+    AddAssign ∷ Increment ∷ Plus ∷ Minus ∷ Star ∷ Tilde ∷ Not ∷ Ampersand ∷ Caret ∷ Bar ∷
+    Less ∷ Greater ∷ LessEqual ∷ GreaterEqual ∷ Equal ∷ NotEqual ∷ Conjunction ∷ Disjunction ∷ Slash ∷ Percent ∷
+    ShiftLeft ∷ ShiftRight ∷ LogicalAnd ∷ LogicalOr ∷ Question ∷ []
 
 at_number : (s : Sign) → get_or signs (sign_number s) Question ≡ s
 at_number OpenBrace = refl

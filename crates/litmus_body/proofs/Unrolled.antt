@@ -10,7 +10,8 @@ use Rattle.litmus_cursor.specs.Front.{◌>>=◌, first, others, take_sign}
 use Rattle.litmus_cursor.specs.Words.{Symbol}
 use Rattle.litmus_body.specs.declared.expression.Rest.{Rest}
 use Rattle.litmus_body.specs.declared.process.Takes.TheVariants.{Integers}
-use Rattle.litmus_body.specs.ExpressionReader.{Readers, Beginning, a_number, parenthesis, a_load, a_name, nothing, Loader, starred, called, nothing_loads, by, deep, idle, readers, all_of_it, applied, beginning_of, binary_at, closed, combined}
+use Rattle.litmus_body.specs.ExpressionReader.{Readers, Beginning, a_number, parenthesis, a_load, a_name, nothing}
+use Rattle.litmus_body.specs.ExpressionReader.{Loader, starred, called, nothing_loads, by, deep, idle, readers, all_of_it, applied, beginning_of, binary_at, closed, combined}
 use Rattle.litmus_body.specs.ExpressionReader.{fetch_with, is_foreign, loader_of, more_with, of_level, opened, operand_with, prefixed_with, pure_of, take_operator, unary_at}
 use Rattle.litmus_body.specs.ExpressionReader.{level_at, more_at, prefixed_at, operand_at, loading_at, load_at, fetch_at, arguments_at, pure_at}
 use Rattle.litmus_body.specs.NameReader.{count_access, take_variable}
@@ -63,7 +64,8 @@ module _ (f g : ℕ) (R Q : Readers) (short : Shorter R) (h : Agree f g R Q) whe
   more_agrees t d k a s r None is lf lg = refl
   more_agrees t d k a s r (Some op) is lf lg =
       let begun = binary_some s.symbols (first s.symbols) k op refl is in
-      then_same (take_operator r) (λ fewer. R.level t d (k - 1) (after s) fewer >>= λ y. combined a op y.0 >>= λ both. R.more t d k both y.1 y.2) (λ fewer. Q.level t d (k - 1) (after s) fewer >>= λ y. combined a op y.0 >>= λ both. Q.more t d k both y.1 y.2)
+      then_same (take_operator r) (λ fewer. R.level t d (k - 1) (after s) fewer >>= λ y. combined a op y.0 >>= λ both. R.more t d k both y.1 y.2)
+      (λ fewer. Q.level t d (k - 1) (after s) fewer >>= λ y. combined a op y.0 >>= λ both. Q.more t d k both y.1 y.2)
       (λ fewer taken.
       bind_same (R.level t d (k - 1) (after s) fewer) (Q.level t d (k - 1) (after s) fewer) (λ y. combined a op y.0 >>= λ both. R.more t d k both y.1 y.2) (λ y. combined a op y.0 >>= λ both. Q.more t d k both y.1 y.2)
       (h.level t d (k - 1) (after s) fewer (omega arith) (omega arith))

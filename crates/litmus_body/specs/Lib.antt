@@ -7,3 +7,4 @@ pub mod Statements
 pub mod States
 pub mod NameReader
 pub mod ExpressionReader
+pub mod Followed
