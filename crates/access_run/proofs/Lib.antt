@@ -1,3 +1,4 @@
 pub mod Steps
 pub mod PartFronts
 pub mod CheckFronts
+pub mod LawLemmas

@@ -1,5 +1,5 @@
 -- Step by step: what is in hand after each part of a check is what the next part may go on from. Each lemma is told how to go on.
-use Rattle.std.proofs.Common.{◌≡◌, ◌<◌, ◌⊎◌, ◌∙◌, ◌∷◌, ◌+◌, ◌++◌, ◌||◌, [], ℕ, Bool, IsTrue, reverse, true, false, List, Option, None, Some, MatchBool, MatchOption, ap, inl, inr, refl, subst, sym}
+use Rattle.std.proofs.Common.{◌≡◌, ◌<◌, ◌∙◌, ◌∷◌, ◌+◌, ◌++◌, ◌||◌, [], ℕ, Bool, IsTrue, reverse, true, false, List, Option, None, Some, MatchBool, MatchOption, ap, inl, inr, refl, subst, sym}
 use Rattle.std.proofs.lemmas.Bool.{eq-eqb}
 use Rattle.std.proofs.lemmas.List.{append_assoc, append-nil, reverse-append}
 use Rattle.access_types.specs.Access.{Access, IsInLimits}
@@ -7,7 +7,6 @@ use Rattle.access_types.specs.Ticket.{ReadsBack, ticket_number}
 use Rattle.slot.specs.Pair.{Halves}
 use Rattle.slot_table.specs.Discipline.{Allows, Discipline, IsFinished, HasPart, IsOwnTicket, hand_after, heard, holds, in_hand, last_load}
 use Rattle.slot_table.specs.declared.discipline.InHand.{InHand}
-use Rattle.slot_table.specs.declared.discipline.Part.{Part}
 use Rattle.slot_table.specs.declared.discipline.Part.TheVariants as parts
 use Rattle.slot_table.specs.declared.records.Record.{Record}
 use Rattle.slot_table.specs.declared.step.Answer.{Answer}

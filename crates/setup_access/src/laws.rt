@@ -1,17 +1,15 @@
 //! What is true of every check.
 
-ghost use Rattle.std.specs.Prelude.{◌≡◌, ◌≢◌, ◌++◌, ◌∷◌, [], ℕ, Bool, true, List, Option, Some, IsSome, MatchBool, reverse};
+ghost use Rattle.std.specs.Prelude.{◌≡◌, ◌++◌, [], ℕ, Bool, List, Option, reverse};
 ghost use Rattle.access_types.specs.Access as access;
 ghost use Rattle.slot.specs.Pair.{Halves};
 ghost use Rattle.slot_table.specs.Discipline.{Discipline, IsFinished};
 ghost use Rattle.slot_table.specs.declared.records.Record.{Record};
 ghost use Rattle.access_types.specs.declared.report.ValueChange.{ValueChange};
-ghost use Rattle.setup_access.specs.Check.{Check, Close, Fallen, NoneFound, Pass, Passes};
+ghost use Rattle.setup_access.specs.Check.{Check, Close, Fallen, Passes};
 ghost use Rattle.setup_access.specs.Fallen.{HaveFallen};
 ghost use Rattle.setup_access.specs.FallsAt.{AllFallIn};
-ghost use Rattle.setup_access.specs.Found.{FoundWatchpoint};
 ghost use Rattle.setup_access.specs.MadeOfChecks.{FreesHeldLocks, MadeOfChecks};
-ghost use Rattle.setup_access.specs.Laws.{OneStep};
 ghost use Rattle.setup_access.specs.Checker.{Does, Doing};
 ghost use Rattle.setup_access.specs.Leads.{Leads, Rests};
 ghost use Rattle.setup_access.specs.Lending.{with_context};
@@ -20,8 +18,6 @@ ghost use Rattle.task_context.specs.Context.{Context};
 ghost use Rattle.setup_access.specs.Setting.{Setting};
 ghost use Rattle.setup_access.specs.Verdicts.{HitOutcome, SharesByte};
 ghost use Rattle.setup_access.specs.declared.begun.Begun.{Begun};
-ghost use Rattle.setup_access.specs.declared.outcome.Outcome as outcomes;
-ghost use Rattle.setup_access.specs.declared.outcome.Watchpoint.{Watchpoint};
 
 use crate::checker::Checker;
 use crate::outcome::Outcome;
@@ -32,24 +28,6 @@ use watch_word::words_are_above_one;
 pub fn reports_share_a_byte()
     ensures { (s : Setting) (a : access.Access) (values : Option (ℕ × ℕ)) (both pair : Halves) (seen : Option ValueChange)
         → HitOutcome s a values both (Outcome.Report pair seen) → (pair ≡ both) × SharesByte s.sites a pair.finder }
-{}
-
-/// Law: an access with a mask makes no step where it found a watchpoint, so it takes nothing.
-pub fn masked_accesses_take_nothing()
-    ensures { (s : Setting) (a : access.Access) (found : Watchpoint) (records : List Record) (outcome : outcomes.Outcome) (rest : List Record)
-        → IsSome a.mask → FoundWatchpoint s a found records outcome rest → rest ≡ records }
-{}
-
-/// Law: an access that counts as marked makes no step where it found none, so it sets nothing up.
-pub fn marked_accesses_set_nothing_up()
-    ensures { (s : Setting) (a : access.Access) (asked : ℕ) (records : List Record) (pass : Pass) (rest : List Record)
-        → NoneFound s a true asked records pass rest → rest ≡ records }
-{}
-
-/// Law: a silenced access makes one step, the clock's, and has no outcome.
-pub fn silenced_accesses_only_begin()
-    ensures { (s : Setting) (scopes : List Begun) (begun : Begun) (asked : ℕ) (records : List Record) (passes : Passes) (rest : List Record)
-        → begun.silenced ≡ true → Check s scopes begun asked records passes rest → OneStep records rest × (passes.outcomes ≡ []) }
 {}
 
 /// Law: each outcome of a check, and of a close, is of one access and falls at one of the records, of its own
