@@ -23,7 +23,8 @@ pub accesses_in-returns-in-If : goal.accesses_in-returns-in-If
 accesses_in-returns-in-If t c =
     let is : statement_of c.args.statement.now ≡ tree.if_block (expression_of c.in-If.condition) (block_of c.in-If.body.items)
     = ap statement_of c.in-If.is ∙ statement_of-If c.in-If.condition c.in-If.body in
-    let own : c.one_if-itself.result ≡ (if has_access (tree.if_block (expression_of c.in-If.condition) (block_of c.in-If.body.items)) then 1 else 0) = c.one_if-itself.ensures ∙ ap (λ (has : Bool). if has then 1 else 0) (c.has_access.ensures ∙ ap has_access is) in
+    let own : c.one_if-itself.result ≡ (if has_access (tree.if_block (expression_of c.in-If.condition) (block_of c.in-If.body.items)) then 1 else 0)
+    = c.one_if-itself.ensures ∙ ap (λ (has : Bool). if has then 1 else 0) (c.has_access.ensures ∙ ap has_access is) in
     rw (is, if_counts (expression_of c.in-If.condition) (block_of c.in-If.body.items))
     (one_capped _ _ c.sites_in.result _ _ (rw c.as_slice.ensures.value at c.sites_in.ensures) (rw own at c.saturating_add.ensures))
 
