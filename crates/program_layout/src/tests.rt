@@ -39,6 +39,14 @@ fn placed(alloc: Global, letter: &str, addr: u64) -> Result<Place, AllocError> {
     })
 }
 
+/// The layout of a program's variables, of which there are at most 32.
+fn laid(alloc: Global, variables: &[Variable], places: &[Place]) -> Result<Layout, LayoutError> {
+    if variables.len() > 32 {
+        return Err(LayoutError::OutOfMemory);
+    }
+    Layout::new(alloc, variables, places)
+}
+
 #[test]
 fn variables_stand_64_bytes_apart_unless_they_are_placed(rt: HostRuntime) -> Result<(), Fail> {
     let variables = variables(rt.alloc())?;
@@ -46,7 +54,7 @@ fn variables_stand_64_bytes_apart_unless_they_are_placed(rt: HostRuntime) -> Res
         placed(rt.alloc(), "x", 0x1004)?,
         placed(rt.alloc(), "c", 0x1003)?,
     ];
-    let layout = Layout::new(rt.alloc(), variables.as_slice(), &places)?;
+    let layout = laid(rt.alloc(), variables.as_slice(), &places)?;
     assert_eq!(rt;
         layout.bytes_in(0),
         Bytes {
@@ -91,7 +99,7 @@ fn bad_places_are_refused(rt: HostRuntime) -> Result<(), Fail> {
         let places = [placed(rt.alloc(), letter, addr)?];
         assert!(rt;
             matches!(
-                Layout::new(rt.alloc(), variables.as_slice(), &places),
+                laid(rt.alloc(), variables.as_slice(), &places),
                 Err(LayoutError::BadPlace)
             ),
             "{letter} {addr}"
@@ -103,11 +111,11 @@ fn bad_places_are_refused(rt: HostRuntime) -> Result<(), Fail> {
     ];
     assert!(rt;
         matches!(
-            Layout::new(rt.alloc(), variables.as_slice(), &twice),
+            laid(rt.alloc(), variables.as_slice(), &twice),
             Err(LayoutError::BadPlace)
         )
     );
     let highest = [placed(rt.alloc(), "y", 0x4000_0000_0000_0000)?];
-    assert!(rt; Layout::new(rt.alloc(), variables.as_slice(), &highest).is_ok());
+    assert!(rt; laid(rt.alloc(), variables.as_slice(), &highest).is_ok());
     Ok(())
 }
