@@ -115,5 +115,6 @@ module _ (given : Given) where
     stand = stands;
     seat_of = λ _. 0;
     held = one_seat;
+    nobody = λ task nobody. refl;
     others = λ task past. refl;
   }

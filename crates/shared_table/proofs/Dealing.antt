@@ -6,12 +6,13 @@ use Rattle.std.proofs.lemmas.List.{length-set}
 use Rattle.std.proofs.lemmas.List.Elements.{All-cons, All-head, All-nil, All-tail, All-weaker}
 use mathlib.Core.Option.{some, some-injective, some-ne-none}
 use lib.ListN.{get_elem?}
-use Rattle.atomic_table.proofs.Lists.{at_set}
+use Rattle.atomic_table.proofs.Lists.{at_last, at_set}
 use Rattle.shared_table.specs.Given.{Given}
-use Rattle.shared_table.specs.RunningWords.{IsHeld, RunningWords}
+use Rattle.shared_table.specs.RunningWords.{IsHeld, IsHeldByNobody, RunningWords}
 use Rattle.shared_table.specs.Views.{alone, holding, unbegun}
 use Rattle.shared_table.specs.declared.view.Held.{Held}
 use Rattle.shared_table.specs.declared.view.View.{View}
+use Rattle.shared_table.proofs.Nobody.{before_change, before_new}
 
 -- what stands in a list with one more at its end
 pub at_longer : {X : Type 0} (xs : List X) (a b : X) (j : ℕ) → get_elem? (xs ++ a ∷ []) j ≡ some b
@@ -102,6 +103,14 @@ module _ (given : Given) (id task count : ℕ) (row : List ℕ) (views : List Vi
       (λ last. let Q : View → Type 0 = λ v. All (Is seat v) v.held in subst Q last.1 (moved seat (last.0 ∙ length-set views id left)))
       (at_longer (set views id left) right view seat is)
 
+  unheld : (other : ℕ) → IsHeldByNobody (set views id left ++ right ∷ []) other → IsHeldByNobody views other
+  unheld other nobody =
+      let P : Held → Type 0 = λ held. held.task ≢ other in
+      let last = nobody (length views) right (at_last (set views id left) right (length views) (length-set views id left)) in
+      before_change views id before left other at
+      (λ others. All-cons P (new_task task) (unbegun (task + 1) count) (All-head P (new_task task) [] last) others)
+      (before_new (set views id left) right other nobody)
+
   pub split : RunningWords given row (set views id left ++ right ∷ [])
   split = record {
     records = now.records;
@@ -110,6 +119,7 @@ module _ (given : Given) (id task count : ℕ) (row : List ℕ) (views : List Vi
     stand = now.stand;
     seat_of = seat_of;
     held = held_after;
+    nobody = λ other nobody. now.nobody other (unheld other nobody);
     others = now.others;
   }
 

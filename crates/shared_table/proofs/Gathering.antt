@@ -21,12 +21,13 @@ use Rattle.slot_table.specs.declared.records.Record.{Record}
 use Rattle.shared_table.specs.Ended.{Ended, HasSeat, IsListOf, held_by}
 use Rattle.shared_table.specs.Given.{Given}
 use Rattle.shared_table.specs.Row.{cells_from, section}
-use Rattle.shared_table.specs.RunningWords.{IsHeld, RunningWords}
+use Rattle.shared_table.specs.RunningWords.{IsHeld, IsHeldByNobody, RunningWords}
 use Rattle.shared_table.specs.Seats.{Sitting}
 use Rattle.shared_table.specs.Views.{nothing_held, with_both}
 use Rattle.shared_table.specs.declared.view.Held.{Held}
 use Rattle.shared_table.specs.declared.view.View.{View}
 use Rattle.shared_table.proofs.Dealing.{at_longer}
+use Rattle.shared_table.proofs.Nobody.{All-left, All-right, before_change, before_new, set_over}
 
 module _ (given : Given) (row : List ℕ) (views : List View) (now : RunningWords given row views) where
   -- a seat that holds nothing sits down
@@ -42,6 +43,7 @@ module _ (given : Given) (row : List ℕ) (views : List View) (now : RunningWord
         let new : View = record { opening = opening; held = [] } in
         ⊎_elim (λ there. now.held seat view there) (λ last. subst P last.1 (All-nil (IsHeld given now.records now.seat_of seat new)))
         (at_longer views new view seat is);
+    nobody = λ task nobody. now.nobody task (before_new views (record { opening = opening; held = [] }) task nobody);
     others = now.others;
   }
 
@@ -98,6 +100,14 @@ module _ (given : Given) (row : List ℕ) (views : List View) (now : RunningWord
         (at_set views id seat both view else.1))
         (at_set (set views id both) other seat nothing_held view is)
 
+    unheld : (task : ℕ) → IsHeldByNobody (set (set views id both) other nothing_held) task → IsHeldByNobody views task
+    unheld task nobody =
+        let P : Held → Type 0 = λ held. held.task ≢ task in
+        let here = set_else (set views id both) other id nothing_held (λ same. apart (sym same)) ∙ set_over views id mine both at in
+        let all = nobody id both here in
+        before_change views id mine both task at (λ _. All-right P theirs.held mine.held all)
+        (before_change (set views id both) other theirs nothing_held task beside (λ _. All-left P theirs.held mine.held all) nobody)
+
     pub joined : RunningWords given row (set (set views id both) other nothing_held)
     joined = record {
       records = now.records;
@@ -106,6 +116,7 @@ module _ (given : Given) (row : List ℕ) (views : List View) (now : RunningWord
       stand = now.stand;
       seat_of = seat_of;
       held = held_after;
+      nobody = λ task nobody. now.nobody task (unheld task nobody);
       others = now.others;
     }
 

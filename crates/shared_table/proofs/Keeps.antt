@@ -24,10 +24,11 @@ use Rattle.shared_table.specs.Given.{Given, first_words}
 use Rattle.shared_table.specs.Plays.{Me, Notes}
 use Rattle.slot.specs.Pair.{unnamed}
 use Rattle.shared_table.specs.Row.{cells_from, halves_in, indices, locks_from, pairs_from, row_length, section, words_in}
-use Rattle.shared_table.specs.RunningWords.{IsHeld, RunningWords}
+use Rattle.shared_table.specs.RunningWords.{IsHeld, IsHeldByNobody, RunningWords}
 use Rattle.shared_table.specs.Views.{alone, noted}
 use Rattle.shared_table.specs.declared.view.Held.{Held}
 use Rattle.shared_table.specs.declared.view.View.{View}
+use Rattle.shared_table.proofs.Nobody.{Others, before_change, set_over}
 use Rattle.shared_table.proofs.Sections.{section_length}
 
 -- a step names words of whatever has as many
@@ -154,6 +155,20 @@ module _ (given : Given) (id task : ℕ) (own : List Record) (step : Step) (plac
           (theirs seat view there.0) view.held (now.held seat view there.1))
           (at_set views id seat (view_after (found_in row)) view is)
 
+      -- a task that nobody holds isn't the one whose step it is, and nobody held it
+      is_other : (other : ℕ) → IsHeldByNobody (set views id (view_after (found_in row))) other → task ≢ other
+      is_other other nobody =
+          All-head (λ (one : Held). one.task ≢ other) (record { task = task; records = latest ∷ own }) []
+          (nobody id (view_after (found_in row)) (set_over views id (alone given task own) (view_after (found_in row)) at))
+
+      had_none : (other : ℕ) → IsHeldByNobody (set views id (view_after (found_in row))) other → records_of other now.records ≡ []
+      had_none other nobody =
+          let P : Held → Type 0 = λ one. one.task ≢ other in
+          now.nobody other
+          (before_change views id (alone given task own) (view_after (found_in row)) other at
+          (λ all. All-cons P (record { task = task; records = own }) [] (is_other other nobody) (All-nil P))
+          nobody)
+
       pub kept : RunningWords given (set row place (change (found_in row))) (set views id (view_after (found_in row)))
       kept = record {
         records = latest ∷ now.records;
@@ -162,6 +177,7 @@ module _ (given : Given) (id task : ℕ) (own : List Record) (step : Step) (plac
         stand = stands;
         seat_of = now.seat_of;
         held = held_after;
+        nobody = λ other nobody. others_stay latest now.records other (is_other other nobody) ∙ had_none other nobody;
         others = λ other past. others_stay latest now.records other (λ same. omega arith) ∙ now.others other past;
       }
 

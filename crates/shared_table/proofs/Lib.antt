@@ -1,4 +1,5 @@
 pub mod Sections
+pub mod Nobody
 pub mod Keeps
 pub mod Acts
 pub mod Steps

@@ -1,4 +1,4 @@
-use Rattle.std.specs.Prelude.{◌≡◌, ◌≤◌, ℕ, List, [], All, length}
+use Rattle.std.specs.Prelude.{◌≡◌, ◌≢◌, ◌≤◌, ℕ, List, [], All, length}
 use mathlib.Core.Option.{some}
 use lib.ListN.{get_elem?}
 use Rattle.slot_table.specs.Discipline.{LegalInDiscipline}
@@ -17,6 +17,12 @@ pub record IsHeld (given : Given) (records : List Record) (seat_of : ℕ → ℕ
   pub only : seat_of held.task ≡ seat
   pub all : records_of held.task records ≡ held.records
 
+-- no seat holds a task
+abbrev pub IsHeldByNobody : List View → ℕ → Type 0
+IsHeldByNobody views task =
+    (seat : ℕ) (view : View) → get_elem? views seat ≡ some view
+    → All (λ held. held.task ≢ task) view.held
+
 -- the rule: there is a list that is legal, each task by the discipline, whose records of each task
 -- are those that the seats hold for it, and after which the words stand as they do
 pub record RunningWords (given : Given) (row : List ℕ) (views : List View) : Type 0 where
@@ -27,5 +33,6 @@ pub record RunningWords (given : Given) (row : List ℕ) (views : List View) : T
   pub seat_of : ℕ → ℕ
   pub held : (seat : ℕ) (view : View) → get_elem? views seat ≡ some view
       → All (IsHeld given records seat_of seat view) view.held
-  -- no other task has a record
+  -- a task that no seat holds has no record, nor has one that isn't the table's
+  pub nobody : (task : ℕ) → IsHeldByNobody views task → records_of task records ≡ []
   pub others : (task : ℕ) → given.tasks ≤ task → records_of task records ≡ []
