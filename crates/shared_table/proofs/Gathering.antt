@@ -1,9 +1,8 @@
 -- A new seat keeps the rule, and so does a seat that takes in what another holds. At the end the
 -- list of the rule has all that the seats hold.
 use Rattle.atomic_table.specs.Table.{State}
-use Rattle.std.proofs.Common.{◌≡◌, ◌≢◌, ◌⊎◌, ⊎_elim, ℕ, ◌+◌, ◌<◌, ◌≤◌, Bool, cond, eqb, Option, Some, None, is_some, true, false}
+use Rattle.std.proofs.Common.{◌≡◌, ◌≢◌, ⊎_elim, ℕ, ◌<◌, cond, eqb, Option, Some, None, is_some, true, false}
 use Rattle.std.proofs.Common.{List, [], ◌∷◌, ◌++◌, All, length, map, set, get_or, refl, sym, ap, ◌∙◌, subst, lt_of_not-le, arith, zero, suc}
-use Rattle.std.specs.List.{Contains}
 use Rattle.std.proofs.Math.ListN.{get_or-map}
 use Rattle.std.proofs.lemmas.Bool.{false≢true}
 use Rattle.std.proofs.lemmas.Bool.Decides.{eqb_tells}
@@ -18,7 +17,7 @@ use Rattle.slot_table.specs.Discipline.{AllAreFinished, IsFinished, in_hand}
 use Rattle.slot_table.specs.Records.{records_of}
 use Rattle.slot_table.specs.Words.{Words}
 use Rattle.slot_table.specs.declared.records.Record.{Record}
-use Rattle.shared_table.specs.Ended.{Ended, HasSeat, IsListOf, held_by}
+use Rattle.shared_table.specs.Ended.{HasSeat, IsListOf, held_by}
 use Rattle.shared_table.specs.Given.{Given}
 use Rattle.shared_table.specs.Row.{cells_from, section}
 use Rattle.shared_table.specs.RunningWords.{IsHeld, IsHeldByNobody, RunningWords}

@@ -28,7 +28,7 @@ use Rattle.shared_table.specs.RunningWords.{IsHeld, IsHeldByNobody, RunningWords
 use Rattle.shared_table.specs.Views.{alone, noted}
 use Rattle.shared_table.specs.declared.view.Held.{Held}
 use Rattle.shared_table.specs.declared.view.View.{View}
-use Rattle.shared_table.proofs.Nobody.{Others, before_change, set_over}
+use Rattle.shared_table.proofs.Nobody.{before_change, set_over}
 use Rattle.shared_table.proofs.Sections.{section_length}
 
 -- a step names words of whatever has as many

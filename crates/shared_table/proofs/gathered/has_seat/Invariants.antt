@@ -1,4 +1,4 @@
-use Rattle.std.proofs.Common.{◌≡◌, ◌≢◌, ℕ, ◌<◌, get_or}
+use Rattle.std.proofs.Common.{◌≢◌, ℕ, ◌<◌, get_or}
 use Rattle.shared_table.specs.Seats.{Sitting}
 use Rattle.shared_table.proofs.gathered.has_seat.Given as goal
 

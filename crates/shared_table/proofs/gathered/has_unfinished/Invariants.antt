@@ -1,4 +1,4 @@
-use Rattle.std.proofs.Common.{◌≡◌, ℕ, ◌<◌, get_or}
+use Rattle.std.proofs.Common.{ℕ, ◌<◌, get_or}
 use Rattle.slot_table.specs.Discipline.{IsFinished}
 use Rattle.shared_table.specs.Seats.{Sitting}
 use Rattle.shared_table.proofs.gathered.has_unfinished.Given as goal

@@ -1,7 +1,7 @@
 use Rattle.shared_table.specs.Seats.{Opened, Sitting}
 use Rattle.shared_table.specs.Plays.{Me}
 use Rattle.std.proofs.lemmas.List.Elements.{All-pop}
-use Rattle.std.proofs.Common.{◌≡◌, ℕ, List, [], ◌∷◌, ◌++◌, All, map, refl, sym, ap, ◌∙◌, subst, arith, rules, Some}
+use Rattle.std.proofs.Common.{◌≡◌, [], refl, ap, ◌∙◌, Some}
 use Rattle.shared_table.proofs.Gathering.{entered, joined}
 use Rattle.shared_table.proofs.gathered.join_all.Goals as goal
 

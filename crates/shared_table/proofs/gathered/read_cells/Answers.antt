@@ -1,4 +1,4 @@
-use Rattle.std.proofs.Common.{◌≡◌, ◌≢◌, ℕ, ◌+◌, ◌<◌, List, length, get_or, vec_len, refl, sym, ◌∙◌, arith, below_more}
+use Rattle.std.proofs.Common.{◌+◌, ◌<◌, length, vec_len, refl, sym, ◌∙◌, arith, below_more}
 use Rattle.std.proofs.lemmas.List.{ext_get_or, get_or-set_other, get_or-set_same}
 use Rattle.std.specs.Slots.{slots_counts, slots_items}
 use Rattle.shared_table.specs.Row.{section}

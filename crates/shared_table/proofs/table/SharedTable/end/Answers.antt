@@ -1,4 +1,4 @@
-use Rattle.std.proofs.Common.{◌≡◌, ℕ, ◌<◌, List, sym, ap, ◌∙◌, arith, Vec, Global}
+use Rattle.std.proofs.Common.{◌≡◌, sym, ap, ◌∙◌, arith, Vec, Global}
 use Rattle.std.specs.Slots.{slots_items}
 use Rattle.shared_table.specs.Given.{Given}
 use Rattle.shared_table.specs.Row.{cells_from, section}

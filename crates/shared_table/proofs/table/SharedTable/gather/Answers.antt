@@ -1,4 +1,4 @@
-use Rattle.std.proofs.Common.{◌≡◌, ℕ, ◌<◌, List, sym, subst, arith}
+use Rattle.std.proofs.Common.{List, subst, arith}
 use Rattle.shared_table.specs.Ended.{HasSeat}
 use Rattle.shared_table.specs.Seats.{Sitting}
 use Rattle.shared_table.proofs.table.SharedTable.gather.Goals as goal
