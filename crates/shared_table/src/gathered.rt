@@ -69,7 +69,8 @@ impl Gathered {
     }
 
     /// Law: in that list each arming is taken at most once, the pairs of halves that setters heard
-    /// are those that finders told, as a bag, and each arming is in it at most once.
+    /// are those that finders told, as a bag, and each arming is in it at most once. Each call of a law
+    /// tells of a list of its own, so who needs several of these facts of one list takes them here.
     pub fn has_its_laws(&self)
         ensures { (records : List Record) × IsListOf self.now records × MeetOnce records
             × AllPairs ◌≢◌ (armings_taken records)
