@@ -186,7 +186,7 @@ clock_front : (task : ℕ) (records rest : List Record) → MakesWord task Clock
 clock_front task records rest h = front_word task Clock (λ stamp later l. l ≡ later) records rest h (λ stamp later over. ([], sym over, λ other. refl))
 
 -- what comes before more records, and before still more
-moved_twice : (first later : List Record) (passes : Passes) → moved later (moved first passes) ≡ moved (first ++ later) passes
+pub moved_twice : (first later : List Record) (passes : Passes) → moved later (moved first passes) ≡ moved (first ++ later) passes
 moved_twice first later passes = ap (passes_of passes.asked) (outcomes passes.outcomes)
   where
     outcomes : (fallen : List Fallen) → followed later (followed first fallen) ≡ followed (first ++ later) fallen
@@ -222,7 +222,7 @@ close s scope silenced asked passes records rest h =
     (λ r m l v first second. (h.0, (m, first, second)))
 
 -- its operation on memory, if it has one
-operates : (s : Setting) (a : Access) (operation : Option Operation) (effect : Effect) (records rest : List Record)
+pub operates : (s : Setting) (a : Access) (operation : Option Operation) (effect : Effect) (records rest : List Record)
     → Operates s a operation records effect rest → Front (λ r l. Operates s a operation r effect l) records rest
 operates s a None effect records rest h = front_none _ records rest h.0 h.1
 operates s a (Some operation) effect records rest h =

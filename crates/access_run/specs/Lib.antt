@@ -1,2 +1,4 @@
 pub mod Access
 pub mod Moved
+pub mod Whole
+pub mod Leads

@@ -1,4 +1,11 @@
 //! One access of a task: its check, its operation on memory and its end.
 #![tactic(auto)]
 
+pub mod access;
 pub mod laws;
+pub mod stage;
+
+pub use access::AccessRun;
+
+#[cfg(test)]
+mod tests;

@@ -1,0 +1,41 @@
+-- The check goes on, or the operation follows, or the end.
+use Rattle.std.proofs.Common.{◌≡◌, ◌++◌, ◌∷◌, [], None, false, subst, sym, true}
+use Rattle.std.proofs.lemmas.List.{append-nil}
+use Rattle.access_run.specs.Leads.{IsReady, Runs, same_effect}
+use Rattle.access_run.specs.Whole.{IsWhole}
+use Rattle.memory_operation.specs.Effects.{nothing}
+use Rattle.memory_operation.specs.Operations.{Operates}
+use Rattle.access_run.proofs.LeadsLemmas.{checked_now, not_operated, nothing_operated, still_checked}
+use Rattle.access_run.proofs.stage.after_check.Goals as goal
+
+pub returns-then-not-is_checked : goal.returns-then-not-is_checked
+returns-then-not-is_checked c = λ s scopes begun asked operation records last leads none ready. (
+  leads,
+  still_checked s scopes begun asked records last none
+      (λ done. let yes : c.is_checked.result ≡ true = (c.is_checked.ensures.done s scopes begun asked (records ++ last ∷ []) leads).1 done in
+      let no : c.is_checked.result ≡ false = c.if-not-is_checked.true in cc),
+  ready,
+)
+
+pub returns-in-Some : goal.returns-in-Some
+returns-in-Some c = λ s scopes begun asked operation records last leads none ready.
+    let runs : Runs s begun.access operation [] c.in-Some.run' = subst (λ o. IsReady s begun.access operation o) c.in-Some.is ready in
+    let done = (c.is_checked.ensures.done s scopes begun asked (records ++ last ∷ []) leads).0 c.if-not-is_checked.false in (
+      records ++ last ∷ [],
+      [],
+      sym (append-nil (records ++ last ∷ [])),
+      checked_now s scopes begun asked records last c.args.checker.now leads none (c.is_checked.ensures.complete s scopes begun asked (records ++ last ∷ []) leads done),
+      not_operated s begun.access operation c.in-Some.run' runs,
+      runs,
+    )
+
+pub returns-in-None : goal.returns-in-None
+returns-in-None c = λ s scopes begun asked operation records last leads none ready.
+    let is_none : operation ≡ None = subst (λ o. IsReady s begun.access operation o) c.in-None.is ready in
+    let done = (c.is_checked.ensures.done s scopes begun asked (records ++ last ∷ []) leads).0 c.if-not-is_checked.false in (
+      records ++ last ∷ [],
+      [],
+      sym (append-nil (records ++ last ∷ [])),
+      checked_now s scopes begun asked records last c.args.checker.now leads none (c.is_checked.ensures.complete s scopes begun asked (records ++ last ∷ []) leads done),
+      subst (λ o. IsWhole same_effect (Operates s begun.access o) [] nothing) (sym is_none) (nothing_operated s begun.access),
+    )

@@ -1,0 +1,93 @@
+//! What an access does next.
+
+ghost use Rattle.std.specs.Prelude.{◌≡◌, ◌↔◌, ◌<◌, ◌++◌, ◌∷◌, [], ℕ, List, Option, IsTrue};
+ghost use Rattle.access_run.specs.Leads.{HasCell, IsChecked, IsReady, Runs, StageLeads};
+ghost use Rattle.access_run.specs.Whole.{NoneWhole};
+ghost use Rattle.memory_operation.specs.Operations.{Operates};
+ghost use Rattle.memory_operation.specs.declared.operation.Operation as kinds;
+ghost use Rattle.setup_access.specs.Check.{Check};
+ghost use Rattle.setup_access.specs.Checker.{Checks};
+ghost use Rattle.setup_access.specs.Leads.{IsComplete, IsDone, Leads, Rests};
+ghost use Rattle.setup_access.specs.Setting.{Setting};
+ghost use Rattle.setup_access.specs.declared.begun.Begun.{Begun};
+ghost use Rattle.setup_access.specs.declared.checker.Checker as checkers;
+ghost use Rattle.slot_table.specs.declared.records.Record.{Record};
+
+use access_types::Access;
+use memory_operation::{Effect, Operation, OperationRun};
+use setup_access::Checker;
+
+/// What an access does next.
+#[derive(Clone, Copy, Debug, PartialEq, Eq)]
+pub enum Stage {
+    /// Its check, which its task's checker makes; then this operation on memory, if it has one.
+    Check(Option<OperationRun>),
+    /// Its operation.
+    Operate(OperationRun),
+    /// Draw the stamp of its end.
+    End(Effect),
+    /// Nothing: it is over.
+    Over(Effect),
+}
+
+/// The operation of an access, which makes its steps after the check. Its bytes lie in one cell.
+pub(crate) fn ready(
+    checker: &Checker,
+    access: &Access,
+    operation: Option<Operation>,
+) -> Option<OperationRun>
+    requires has_bytes { 0 < access.now.size }
+    ensures { (s : Setting) (scopes : List Begun) (asked : ℕ) (last : Option Begun) → Rests s scopes asked last checker.now
+        → HasCell s access.now operation → IsReady s access.now operation result }
+{
+    let operation = operation?;
+    let source = checker.source(access)?;
+    Some(OperationRun::new(access, source, operation))
+}
+
+/// The checker's check is over: it has no step left and isn't stuck.
+fn is_checked(checker: &Checker) -> bool
+    ensures done { (s : Setting) (scopes : List Begun) (begun : Begun) (asked : ℕ) (records : List Record)
+        → Leads s scopes (Checks begun) asked records checker.now → (IsTrue result ↔ IsDone s scopes (Checks begun) asked records) }
+    ensures complete { (s : Setting) (scopes : List Begun) (begun : Begun) (asked : ℕ) (records : List Record)
+        → Leads s scopes (Checks begun) asked records checker.now → IsDone s scopes (Checks begun) asked records
+        → IsComplete s scopes (Checks begun) asked records checker.now }
+{
+    match checker.next() {
+        Some(_) => false,
+        None => !checker.stuck(),
+    }
+}
+
+/// What follows on a step of the check.
+pub(crate) fn after_check(checker: &Checker, run: Option<OperationRun>) -> Stage
+    ensures { (s : Setting) (scopes : List Begun) (begun : Begun) (asked : ℕ) (operation : Option kinds.Operation) (records : List Record) (last : Record)
+        → Leads s scopes (Checks begun) asked (records ++ last ∷ []) checker.now
+        → NoneWhole (Check s scopes begun asked) records → IsReady s begun.access operation run
+        → StageLeads s scopes begun asked operation (records ++ last ∷ []) result checker.now }
+{
+    if !is_checked(checker) {
+        return Stage::Check(run);
+    }
+    match run {
+        Some(run) => Stage::Operate(run),
+        None => Stage::End(Effect {
+            read: None,
+            written: None,
+        }),
+    }
+}
+
+/// What follows on a step of the operation.
+pub(crate) fn after_step(run: OperationRun) -> Stage
+    ensures { (s : Setting) (scopes : List Begun) (begun : Begun) (asked : ℕ) (operation : Option kinds.Operation) (checked done : List Record) (last : Record) (checker : checkers.Checker)
+        → IsChecked s scopes begun asked checked checker → NoneWhole (Operates s begun.access operation) done
+        → Runs s begun.access operation (done ++ last ∷ []) run
+        → StageLeads s scopes begun asked operation (checked ++ (done ++ last ∷ [])) result checker }
+{
+    if run.is_over() {
+        Stage::End(run.effect())
+    } else {
+        Stage::Operate(run)
+    }
+}
