@@ -1,5 +1,5 @@
-ghost use Rattle.std.specs.Prelude.{◌≡◌, ◌+◌, ◌<◌, ◌^◌, ◌↔◌, ℕ, [], Bool, IsFalse, IsTrue, IsErrOf};
-ghost use Rattle.std.specs.Prelude.{OnErr};
+ghost use Rattle.std.specs.Prelude.{◌≡◌, ◌+◌, ◌-◌, ◌<◌, ◌^◌, ◌↔◌, ℕ, [], Bool, IsFalse, IsTrue, IsErrOf};
+ghost use Rattle.std.specs.Prelude.{OnErr, OnOk, false, true};
 ghost use Rattle.access_types.specs.History.{History};
 ghost use Rattle.access_types.specs.Marked as marked;
 ghost use Rattle.access_types.specs.Marked.{CountsAfter, EndsRaised, is_disable, is_enable};
@@ -69,7 +69,7 @@ impl Context {
     /// `kcsan_disable_current`: the task's accesses are silenced until a balancing `enable`.
     pub fn disable(&mut self)
         requires { self.old.disable_count < 2 ^ 32 }
-        ensures count { self.new.disable_count ≡ self.old.disable_count + 1 }
+        ensures value { self.new ≡ record self.old { disable_count = self.old.disable_count + 1 } }
         ensures follows { MarkFollows self.old Disable self.new }
     {
         self.disable_count += 1;
@@ -82,6 +82,7 @@ impl Context {
     pub fn enable(&mut self) -> Result<(), ContextError>
         ensures unbalanced { IsErrOf result ContextError.Unbalanced ↔ (self.old.disable_count ≡ 0) }
         ensures unchanged { OnErr result (self.new ≡ self.old) }
+        ensures value { OnOk result (self.new ≡ record self.old { disable_count = self.old.disable_count - 1 }) }
         ensures follows { MarkFollows self.old Enable self.new }
     {
         if self.disable_count == 0 {
@@ -95,7 +96,7 @@ impl Context {
     /// marked.
     pub fn nest_begin(&mut self)
         requires { self.old.nest_count < 2 ^ 32 }
-        ensures count { self.new.nest_count ≡ self.old.nest_count + 1 }
+        ensures value { self.new ≡ record self.old { nest_count = self.old.nest_count + 1 } }
         ensures follows { MarkFollows self.old NestOpen self.new }
     {
         self.nest_count += 1;
@@ -108,6 +109,7 @@ impl Context {
     pub fn nest_end(&mut self) -> Result<(), ContextError>
         ensures unbalanced { IsErrOf result ContextError.Unbalanced ↔ (self.old.nest_count ≡ 0) }
         ensures unchanged { OnErr result (self.new ≡ self.old) }
+        ensures value { OnOk result (self.new ≡ record self.old { nest_count = self.old.nest_count - 1 }) }
         ensures follows { MarkFollows self.old NestClose self.new }
     {
         if self.nest_count == 0 {
@@ -119,6 +121,7 @@ impl Context {
 
     /// `kcsan_flat_atomic_begin`: opens the flat atomic region, also where it is open already.
     pub fn flat_begin(&mut self)
+        ensures value { self.new ≡ record self.old { in_flat = true } }
         ensures follows { MarkFollows self.old FlatBegin self.new }
     {
         self.in_flat = true;
@@ -126,6 +129,7 @@ impl Context {
 
     /// `kcsan_flat_atomic_end`: closes the flat atomic region, however often it was opened.
     pub fn flat_end(&mut self)
+        ensures value { self.new ≡ record self.old { in_flat = false } }
         ensures follows { MarkFollows self.old FlatEnd self.new }
     {
         self.in_flat = false;
@@ -134,6 +138,7 @@ impl Context {
     /// `kcsan_atomic_next`: the next `count` accesses count as marked, of those that could be
     /// plain. What was left of an earlier call is forgotten.
     pub fn atomic_next(&mut self, count: u64)
+        ensures value { self.new ≡ record self.old { atomic_next = count } }
         ensures follows { MarkFollows self.old (Next count) self.new }
     {
         self.atomic_next = count;
@@ -145,6 +150,7 @@ impl Context {
         ensures counts { (before : History)
             → LeadsTo plain_writes_atomic access.now.task before self.old
             → (IsTrue result ↔ CountsAfter plain_writes_atomic access.now before) }
+        ensures kept { self.new ≡ record self.old { atomic_next = self.new.atomic_next } }
         ensures follows { Follows plain_writes_atomic access.now.task self.old (Begin access.now)
             self.new }
     {

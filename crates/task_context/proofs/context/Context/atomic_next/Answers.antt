@@ -2,5 +2,5 @@
 use Rattle.task_context.proofs.Leads.{next_follows}
 use Rattle.task_context.proofs.context.Context.atomic_next.Goals as goal
 
-pub returns : goal.returns
-returns c = record { follows = rw (← c.self.view_is) (next_follows _ _ _ _ _) }
+pub returns-clause-follows : goal.returns-clause-follows
+returns-clause-follows c = rw (← c.self.view_is) (next_follows _ _ _ _ _)

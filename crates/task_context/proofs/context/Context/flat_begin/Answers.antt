@@ -2,5 +2,5 @@
 use Rattle.task_context.proofs.Leads.{flat_begin_follows}
 use Rattle.task_context.proofs.context.Context.flat_begin.Goals as goal
 
-pub returns : goal.returns
-returns c = record { follows = rw (← c.self.view_is) (flat_begin_follows _ _ _ _) }
+pub returns-clause-follows : goal.returns-clause-follows
+returns-clause-follows c = rw (← c.self.view_is) (flat_begin_follows _ _ _ _)
