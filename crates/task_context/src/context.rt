@@ -16,6 +16,9 @@ use access_types::Access;
 use std::marker::Model;
 use thiserror::Error;
 
+/// No count of a task is above this.
+const ROOM: u64 = 1 << 32;
+
 /// What a task's KCSAN calls have led to: one context a task. Under one context all calls of
 /// `counts_as_marked` have the same setting for plain writes.
 #[derive(Clone, Copy, Debug, PartialEq, Eq, Default)]
@@ -64,6 +67,20 @@ impl Context {
             in_flat: false,
             atomic_next: 0,
         }
+    }
+
+    /// How many more times reporting can be disabled.
+    pub fn disable_room(&self) -> u64
+        ensures value { result ≡ 2 ^ 32 - self.now.disable_count }
+    {
+        ROOM.saturating_sub(self.disable_count)
+    }
+
+    /// How many more regions can be nested.
+    pub fn nest_room(&self) -> u64
+        ensures value { result ≡ 2 ^ 32 - self.now.nest_count }
+    {
+        ROOM.saturating_sub(self.nest_count)
     }
 
     /// `kcsan_disable_current`: the task's accesses are silenced until a balancing `enable`.
