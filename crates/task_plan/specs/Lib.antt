@@ -1,0 +1,6 @@
+pub mod Counts
+pub mod Follow
+pub mod Views
+pub mod Plans
+pub mod Keeps
+pub mod Alike
