@@ -2,3 +2,4 @@ pub mod Tree
 pub mod Sites
 pub mod Views
 pub mod PrintedForm
+pub mod Limits
