@@ -3,3 +3,4 @@ pub mod Tried
 pub mod TextSitesLemmas
 pub mod TicketLemmas
 pub mod RepeatedLemmas
+pub mod TimesLemmas

@@ -23,7 +23,7 @@ use Rattle.litmus_meaning.specs.Loads.{ComparesAndWrites, Evaluates, Fetches, Lo
 use Rattle.litmus_meaning.specs.Meaning.{InBlock, Means, MeansBlock, Turns, after_condition}
 use Rattle.litmus_meaning.specs.Task.{Progress, Setting, access_now, assigning, begins_at, bytes_in, doing, has_lock}
 use Rattle.litmus_meaning.specs.declared.site.Site.{Site}
-use Rattle.litmus_meaning.specs.TextSites.{access_at, assignment_by, block_by, block_sites, call_by, expression_by, once, repeated, statement_by}
+use Rattle.litmus_meaning.specs.TextSites.{access_at, assignment_by, block_sites, call_by, expression_by, once, repeated, statement_by}
 
 two_sums : {a b c d : ℕ} → a ≡ b → c ≡ d → a + c ≡ b + d
 two_sums p q = omega arith

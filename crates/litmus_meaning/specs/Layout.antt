@@ -18,8 +18,8 @@ pub record Place : Type 0 where
 abbrev pub place_of : List Place → List ℕ → Option Place
 place_of places name = find (λ place. bytes_eq place.name name) places
 
--- where the variable of a number stands: at its place, or, where it has none, 64 bytes after the
--- variable before it. Locks count.
+-- where the variable of a number stands: at its place, or, where it has none, 64 bytes from 0x10000
+-- on for each variable before it. Locks and placed variables count.
 abbrev pub address_of : List Place → ℕ → Variable → ℕ
 address_of places number variable =
     unwrap_or (option_map (λ place. place.addr) (place_of places variable.name))

@@ -1,5 +1,5 @@
 -- The accesses of a text at their sites, and how often each can begin.
-use Rattle.std.specs.Prelude.{◌≡◌, ◌<◌, ◌≤◌, ◌*◌, ◌-◌, ◌^◌, ◌++◌, ◌==◌, ℕ, Bool, List, [], ◌∷◌, Option, None, Some, length, map, min, slice_get, unwrap_or, if◌then◌else◌}
+use Rattle.std.specs.Prelude.{◌≡◌, ◌<◌, ◌≤◌, ◌*◌, ◌++◌, ◌==◌, ℕ, Bool, List, [], ◌∷◌, Option, None, Some, length, map, slice_get, unwrap_or, if◌then◌else◌}
 use Rattle.access_types.specs.Access.{Access, proper_mask}
 use Rattle.access_types.specs.declared.history.Bytes.{Bytes}
 use Rattle.access_types.specs.declared.kind.Claim.{Claim}
@@ -80,13 +80,17 @@ abbrev mutual
   block_by bytes tree.empty = []
   block_by bytes (tree.first statement rest) = statement_by bytes statement ++ block_by bytes rest
 
+-- these are the bytes of the variables of a setting, by their numbers
+abbrev pub AreBytesOf : Setting → List Bytes → Type 0
+AreBytesOf s bytes = (variable : ℕ) → bytes_among bytes variable ≡ bytes_in s variable
+
 -- the sites of a text whose variables stand where they do in a setting
 abbrev pub block_sites : Setting → Block → List Site
 block_sites s body = block_by (bytes_in s) body
 
 abbrev mutual
   -- The loops of a statement, and those round it, whose turns multiply to so many, have turns that
-  -- multiply to at most 256, whatever stands in them. So it is of each program that is read.
+  -- multiply to at most 256, whatever stands in them. A loop in one of no turns may have any.
   pub LoopsFit : ℕ → Statement → Type 0
   LoopsFit times (tree.load_only l) = Unit {0}
   LoopsFit times (tree.assign data_race a) = Unit {0}
@@ -101,30 +105,6 @@ abbrev mutual
   AllLoopsFit times tree.empty = Unit {0}
   AllLoopsFit times (tree.first statement rest) =
       LoopsFit times statement × AllLoopsFit times rest
-
--- so many turns in each of so many, as far as a number of 64 bits goes
-abbrev pub turns_in_all : ℕ → ℕ → ℕ
-turns_in_all times turns = min (times * turns) (2 ^ 64 - 1)
-
-abbrev mutual
-  -- the sites of a statement in loops whose turns multiply to so many
-  pub statement_in : (ℕ → Bytes) → ℕ → Statement → List Site
-  statement_in bytes times (tree.load_only l) = map (repeated times) (load_by bytes l)
-  statement_in bytes times (tree.assign data_race a) = map (repeated times) (assignment_by bytes a)
-  statement_in bytes times (tree.call c) = map (repeated times) (call_by bytes c)
-  statement_in bytes times (tree.if_block e body) =
-      map (repeated times) (expression_by bytes e) ++ block_in bytes times body
-  statement_in bytes times (tree.if_else e body otherwise) =
-      map (repeated times) (expression_by bytes e)
-      ++ (block_in bytes times body ++ block_in bytes times otherwise)
-  statement_in bytes times (tree.for_turns r turns body) =
-      block_in bytes (turns_in_all times turns) body
-
-  -- the same of a block
-  pub block_in : (ℕ → Bytes) → ℕ → Block → List Site
-  block_in bytes times tree.empty = []
-  block_in bytes times (tree.first statement rest) =
-      statement_in bytes times statement ++ block_in bytes times rest
 
 -- the access of a task at a site, by its number, of a repetition
 abbrev pub access_at : ℕ → ℕ → Site → ℕ → Access
@@ -145,8 +125,7 @@ pub record IsOfText (s : Setting) (body : Block) (a : Access) : Type 0 where
   pub rep : a.rep < site.times
   pub is : a ≡ access_at s.task a.site site a.rep
 
--- tickets have room for the sites of a text and for their repetitions, as they have for those of each
--- program that is read
+-- tickets have room for the sites of a text and for their repetitions
 pub record FitsTickets (sites : List Site) : Type 0 where
   pub numbers : length sites ≤ 256
   pub times : (number : ℕ) (site : Site) → slice_get sites number ≡ Some site → site.times ≤ 256

@@ -1,12 +1,13 @@
 //! What is true of every run of a text.
 
-ghost use Rattle.std.specs.Prelude.{◌≡◌, ◌≢◌, ◌<◌, ℕ, List, [], Some, slice_get};
+ghost use Rattle.std.specs.Prelude.{◌≡◌, ◌≢◌, ◌<◌, ◌≤◌, ℕ, List, [], Some, length, slice_get};
 ghost use Rattle.access_types.specs.Access as access;
 ghost use Rattle.access_types.specs.Ticket.{ticket_number};
 ghost use Rattle.access_types.specs.declared.history.Happening.TheVariants.{Begin};
 ghost use Rattle.litmus_meaning.specs.Meaning.{MeansBlock};
 ghost use Rattle.litmus_meaning.specs.Task.{Progress, Setting};
-ghost use Rattle.litmus_meaning.specs.TextSites.{FitsTickets, IsOfText, block_sites};
+ghost use Rattle.litmus_meaning.specs.TextSites.{AllLoopsFit, FitsTickets, IsOfText, block_sites};
+ghost use Rattle.litmus_syntax.specs.Sites.{sites_of};
 ghost use Rattle.litmus_syntax.specs.Tree.{Block};
 
 /// Law: each access that begins in a run of a text is one of the text: of the bytes, the kind and the mask of
@@ -18,11 +19,16 @@ pub fn each_access_is_one_of_the_text()
 {}
 
 /// Law: accesses that begin at different moments of one run of a text have different tickets, where tickets have
-/// room for its sites and their repetitions. The limits on what is read, of 256 statements and of loops whose
-/// turns multiply to at most 256, are such that they have.
+/// room for its sites and their repetitions.
 pub fn each_access_has_its_own_ticket()
     ensures { (s : Setting) (body : Block) (registers : List ℕ) (end : Progress)
         → MeansBlock s 0 body (record { did = []; registers = registers }) end → FitsTickets (block_sites s body)
         → (i j : ℕ) (a b : access.Access) → i < j → slice_get end.did i ≡ Some (Begin a) → slice_get end.did j ≡ Some (Begin b)
         → ticket_number a ≢ ticket_number b }
+{}
+
+/// Law: tickets have room for a text of at most 256 statements with an access, whose loops have turns that multiply
+/// to at most 256.
+pub fn texts_within_limits_fit_tickets()
+    ensures { (s : Setting) (body : Block) → length (sites_of body) ≤ 256 → AllLoopsFit 1 body → FitsTickets (block_sites s body) }
 {}

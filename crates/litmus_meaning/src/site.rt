@@ -4,7 +4,8 @@
 ghost use Rattle.std.specs.Prelude.{◌≡◌, ◌++◌, ◌∷◌, [], IfOk, OnOk, None, map};
 ghost use Rattle.litmus_meaning.specs.Assignments as assignments;
 ghost use Rattle.litmus_meaning.specs.Loads as loads;
-ghost use Rattle.litmus_meaning.specs.TextSites.{AllLoopsFit, assertion_kind, assignment_by, block_by, block_in, bytes_among, call_by, expression_by, load_by, once, repeated, statement_in};
+ghost use Rattle.litmus_meaning.specs.Task.{Setting};
+ghost use Rattle.litmus_meaning.specs.TextSites.{AllLoopsFit, AreBytesOf, LoopsFit, assertion_kind, assignment_by, block_by, block_sites, bytes_among, call_by, expression_by, load_by, once, repeated, statement_by};
 ghost use Rattle.litmus_syntax.specs.Views.{assignment_of, block_of, expression_of, fetch_of, load_of, loading_of, statement_of};
 
 use access_types::{Bytes, Claim, Kind, Operation};
@@ -223,8 +224,8 @@ fn add_block(
     times: u64,
     block: &[Statement],
 ) -> Result<(), AllocError>
-    ensures { OnOk result
-        (found.new.items ≡ found.old.items ++ block_in (bytes_among bytes.now) times (block_of block.now)) }
+    ensures { AllLoopsFit times (block_of block.now) → OnOk result
+        (found.new.items ≡ found.old.items ++ map (repeated times) (block_by (bytes_among bytes.now) (block_of block.now))) }
 {
     for statement in block {
         add_statement(found, bytes, times, statement)?;
@@ -240,8 +241,8 @@ fn add_statement(
     times: u64,
     statement: &Statement,
 ) -> Result<(), AllocError>
-    ensures { OnOk result
-        (found.new.items ≡ found.old.items ++ statement_in (bytes_among bytes.now) times (statement_of statement.now)) }
+    ensures { LoopsFit times (statement_of statement.now) → OnOk result
+        (found.new.items ≡ found.old.items ++ map (repeated times) (statement_by (bytes_among bytes.now) (statement_of statement.now))) }
 {
     match statement {
         Statement::Load(load) => {
@@ -284,8 +285,10 @@ pub fn text_sites(
     text: &[Statement],
     bytes: &[Bytes],
 ) -> Result<Vec<Site>, AllocError>
-    ensures { AllLoopsFit 1 (block_of text.now)
+    ensures among { AllLoopsFit 1 (block_of text.now)
         → IfOk result (λ sites. sites.items ≡ block_by (bytes_among bytes.now) (block_of text.now)) }
+    ensures setting { (s : Setting) → AreBytesOf s bytes.now → AllLoopsFit 1 (block_of text.now)
+        → IfOk result (λ sites. sites.items ≡ block_sites s (block_of text.now)) }
 {
     let mut found = Vec::new(alloc);
     add_block(&mut found, bytes, 1, text)?;
