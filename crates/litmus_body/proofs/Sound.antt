@@ -21,7 +21,7 @@ use Rattle.litmus_cursor.specs.Words.{Symbol, word, identifier, number, sign, fa
 use Rattle.litmus_body.specs.declared.expression.Rest.{Rest}
 use Rattle.litmus_body.specs.declared.process.Takes.{Takes}
 use Rattle.litmus_body.specs.declared.process.Takes.TheVariants.{Integers, Atomics, Locks, Memory}
-use Rattle.litmus_body.specs.Counts.{operators, pure_operators}
+use Rattle.litmus_syntax.specs.Limits.{operators, pure_operators}
 use Rattle.litmus_body.specs.ExpressionReader.{Readers, Beginning, a_number, parenthesis, a_load, a_name, nothing, Loader, starred, called, nothing_loads, by, deep, idle, all_of_it, beginning_of, binary_at, closed, fetch_with}
 use Rattle.litmus_body.specs.ExpressionReader.{is_data_race, is_foreign, loader_of, more_with, of_level, opened, operand_with, prefixed_with, pure_of, read_by, read_of, read_with, register_operand, take_operator, take_star, unary_at}
 use Rattle.litmus_body.specs.ExpressionReader as reader

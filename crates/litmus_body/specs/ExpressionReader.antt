@@ -22,7 +22,7 @@ use Rattle.litmus_body.specs.declared.expression.Rest.{Rest}
 use Rattle.litmus_body.specs.declared.process.Takes.{Takes}
 use Rattle.litmus_body.specs.declared.process.Takes.TheVariants.{Integers, Atomics}
 use Rattle.litmus_body.specs.Expressions.{level_of}
-use Rattle.litmus_body.specs.Limits.{nesting_limit, operators_limit}
+use Rattle.litmus_syntax.specs.Limits.{nesting_limit, operators_limit}
 use Rattle.litmus_body.specs.NameReader.{count_access, take_register, take_variable}
 use Rattle.litmus_body.specs.States.{State, after, with_left}
 

@@ -12,8 +12,7 @@ use Rattle.litmus_syntax.specs.Tree as tree
 use Rattle.litmus_cursor.specs.declared.words.Word.TheVariants as words
 use Rattle.litmus_cursor.specs.declared.words.LoadWord.TheVariants as loads
 use Rattle.litmus_cursor.specs.Words.{Symbol, word, identifier, number, sign}
-use Rattle.litmus_body.specs.Counts.{operators, pure_operators}
-use Rattle.litmus_body.specs.Limits.{nesting_limit, operators_limit}
+use Rattle.litmus_syntax.specs.Limits.{nesting_limit, operators, operators_limit, pure_operators}
 use Rattle.litmus_body.specs.Names.{Names, Parameter, IsVariable, IsInteger, IsAtomic, IsRegister}
 
 -- the sign of a unary operator

@@ -1,7 +1,5 @@
-pub mod Limits
 pub mod Simple
 pub mod Names
-pub mod Counts
 pub mod Expressions
 pub mod Statements
 pub mod States

@@ -6,7 +6,7 @@ use Rattle.litmus_cursor.specs.Front.{◌>>=◌, begins_call, first, identifier_
 use Rattle.litmus_cursor.specs.Words.{is_same}
 use Rattle.litmus_body.specs.declared.process.Takes.{Takes}
 use Rattle.litmus_body.specs.declared.process.Takes.TheVariants.{Integers, Atomics, Locks, Memory}
-use Rattle.litmus_body.specs.Limits.{registers_limit, repeats_limit}
+use Rattle.litmus_syntax.specs.Limits.{registers_limit, repeats_limit}
 use Rattle.litmus_body.specs.Names.{Names, Parameter}
 use Rattle.litmus_body.specs.States.{State, after}
 

@@ -2,7 +2,7 @@
 use Rattle.std.specs.Prelude.{◌≡◌, ◌<◌, ◌++◌, ℕ, List, [], ◌∷◌, Some, Contains, length, slice_get}
 use Rattle.litmus_cursor.specs.declared.words.VariableType.{VariableType}
 use Rattle.litmus_cursor.specs.declared.words.VariableType.TheVariants.{Char, Short, Int, Long, Atomic, Lock}
-use Rattle.litmus_body.specs.Limits.{registers_limit}
+use Rattle.litmus_syntax.specs.Limits.{registers_limit}
 
 -- the names that stand at numbers, from 0
 abbrev pub Names : Type 0

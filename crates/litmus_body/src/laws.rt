@@ -6,7 +6,7 @@ ghost use Rattle.litmus_cursor.specs.Words.{Symbol};
 ghost use Rattle.litmus_body.specs.Expressions.{Expression, Load, Pure};
 ghost use Rattle.litmus_body.specs.ExpressionReader.{expression_at, load_at, pure_at};
 ghost use Rattle.litmus_body.specs.Followed.{Differ, Follows, accesses, name_of};
-ghost use Rattle.litmus_body.specs.Limits.{nesting_limit, registers_limit, repeats_limit};
+ghost use Rattle.litmus_syntax.specs.Limits.{nesting_limit, registers_limit, repeats_limit};
 ghost use Rattle.litmus_body.specs.Names.{Names, Parameter};
 ghost use Rattle.litmus_body.specs.States.{State};
 

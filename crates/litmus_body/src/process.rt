@@ -3,7 +3,7 @@
 ghost use Rattle.std.specs.Prelude.{◌≡◌, ◌≤◌, ◌<◌, ◌+◌, ◌==◌, false, length, IsTrue, OnErr, vec_len, IfOk, IfSome, IsSome, OnOk, find, position};
 ghost use Rattle.litmus_cursor.specs.Words.{is_same};
 ghost use Rattle.litmus_cursor.specs.Cursor.{count_left};
-ghost use Rattle.litmus_body.specs.Limits.{nesting_limit, registers_limit, repeats_limit, scoped_limit, statements_limit, turns_limit};
+ghost use Rattle.litmus_syntax.specs.Limits.{nesting_limit, registers_limit, repeats_limit, scoped_limit, statements_limit, turns_limit};
 
 use litmus_cursor::{Cursor, Excess, Refusal, VariableType};
 use std::alloc::Global;

@@ -2,7 +2,7 @@
 
 ghost use Rattle.std.specs.Prelude.{◌≡◌, ◌≤◌, ◌<◌, ◌+◌, ◌^◌, IfOk, OnOk};
 ghost use Rattle.litmus_cursor.specs.Cursor.{count_left};
-ghost use Rattle.litmus_body.specs.Limits.{registers_limit, turns_limit};
+ghost use Rattle.litmus_syntax.specs.Limits.{registers_limit, turns_limit};
 
 use crate::call::is_scoped;
 use crate::process::{Process, Surroundings};

@@ -7,8 +7,7 @@ use Rattle.litmus_syntax.specs.Tree as tree
 use Rattle.litmus_cursor.specs.declared.words.VariableType.{VariableType}
 use Rattle.litmus_cursor.specs.declared.words.Word.TheVariants as words
 use Rattle.litmus_cursor.specs.Words.{Symbol, word, identifier, number, sign}
-use Rattle.litmus_body.specs.Counts.{KeepsLimits}
-use Rattle.litmus_body.specs.Limits.{tasks_limit, variables_limit}
+use Rattle.litmus_syntax.specs.Limits.{BodyKeepsLimits, tasks_limit, variables_limit}
 use Rattle.litmus_body.specs.Names.{Names, Numbered, Parameter}
 use Rattle.litmus_body.specs.Statements.{Statements}
 use Rattle.litmus_parse.specs.Mentions.{Mention, item, parameter}
@@ -93,7 +92,7 @@ pub data IsProcess (task : ℕ) (before : Names) : List Symbol → Process → L
   process : {after registers : Names} {parameters : List Parameter} {symbols middle rest : List Symbol} {body : tree.Block}
       → Parameters before symbols parameters (sign OpenBrace ∷ middle) after
       → Statements parameters 1 [] [] middle body rest registers
-      → KeepsLimits body
+      → BodyKeepsLimits body
       → IsProcess task before (identifier (process_name task) ∷ sign OpenParen ∷ symbols)
       (record { parameters = parameters; registers = registers; body = body }) rest after
 

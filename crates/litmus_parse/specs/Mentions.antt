@@ -7,7 +7,7 @@ use Rattle.litmus_syntax.specs.declared.program.Variable.{Variable}
 use Rattle.litmus_cursor.specs.declared.words.VariableType.{VariableType}
 use Rattle.litmus_cursor.specs.declared.words.VariableType.TheVariants.{Char, Short, Int, Long, Atomic, Lock}
 use Rattle.litmus_cursor.specs.Words.{is_same}
-use Rattle.litmus_body.specs.Limits.{variables_limit}
+use Rattle.litmus_syntax.specs.Limits.{variables_limit}
 use Rattle.litmus_body.specs.Names.{Names, Numbered}
 
 -- an item with or without a type and a value, which counts modulo 2^64, or a parameter with its type

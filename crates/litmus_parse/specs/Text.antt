@@ -1,5 +1,5 @@
 use Rattle.std.specs.Prelude.{◌≡◌, ◌≤◌, ◌⊎◌, ℕ}
-pub use Rattle.litmus_body.specs.Limits.{file_bytes}
+pub use Rattle.litmus_syntax.specs.Limits.{file_bytes}
 
 -- a byte that a litmus text may have: tab, LF, CR, or a blank to `~`
 abbrev pub IsTextByte : ℕ → Type 0

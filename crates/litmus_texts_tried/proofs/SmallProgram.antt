@@ -4,7 +4,7 @@ use Rattle.std.specs.Prelude.{Contains, codes}
 use Rattle.std.specs.Fmt.{digits}
 use Rattle.litmus_cursor.specs.declared.words.VariableType.{VariableType}
 use Rattle.litmus_cursor.specs.declared.words.VariableType.TheVariants.{Int}
-use Rattle.litmus_body.specs.Counts.{KeepsLimits}
+use Rattle.litmus_syntax.specs.Limits.{BodyKeepsLimits}
 use Rattle.litmus_body.specs.Names.{Parameter, IsChanged, IsFree, IsRegister, IsVariable, IsInteger, known, new}
 use Rattle.litmus_body.specs.Expressions.{operand, a_load, plain, stronger}
 use Rattle.litmus_body.specs.Statements.{to_register, simple, Statements, end, next}
@@ -69,7 +69,7 @@ body-spelled =
     let loads = stronger (stronger (stronger (stronger (stronger (stronger (stronger (operand (a_load (plain x-is))))))))) in
     next (simple (λ more e. cc) (to_register changed (record { level = loads; limit = lit≤ tt }))) end
 
-keeps : KeepsLimits small_body
+keeps : BodyKeepsLimits small_body
 keeps = record { statements = lit≤ tt; turns = (tt, tt); repeats = lit≤ tt; scopes = (tt, tt) }
 
 abbrev process : headers.Process
