@@ -1,0 +1,4 @@
+pub mod Run
+pub mod RunList
+pub mod Told
+pub mod Reports

@@ -1,0 +1,50 @@
+//! What is true of every run list.
+
+ghost use Rattle.std.specs.Prelude.{◌≢◌, ℕ, List, AllPairs};
+ghost use Rattle.std.specs.List.Sorted.{IsPermutation};
+ghost use Rattle.run_lists.specs.Reports.{reports_of};
+ghost use Rattle.run_lists.specs.Run.{Run, first_cells, first_words, locks_of};
+ghost use Rattle.run_lists.specs.RunList.{AllHaveEnded, RunList};
+ghost use Rattle.slot_table.specs.Armings.{MeetOnce, armings_taken};
+ghost use Rattle.slot_table.specs.Discipline.{AllAreFinished, LegalInDiscipline};
+ghost use Rattle.slot_table.specs.Hearings.{EachHearsTheOther};
+ghost use Rattle.slot_table.specs.Meetings.{finders_told, setters_heard};
+ghost use Rattle.slot_table.specs.Records.{words_after};
+ghost use Rattle.slot_table.specs.Roles.{Stands};
+ghost use Rattle.slot_table.specs.declared.records.Record.{Record};
+
+use slot_table::laws::{armings_are_met_once, each_hears_the_other, heard_is_told, roles};
+use written_order::the_written_order_keeps_the_discipline;
+
+/// Law: a run list is legal, and each task in it keeps the discipline of watchpoints. Once all tasks
+/// have ended none has a check unfinished. So the laws of `slot_table` hold of it.
+pub fn run_lists_keep_the_discipline()
+    ensures keeps { (run : Run) (records : List Record) → RunList run records
+        → LegalInDiscipline run.rules.slots (locks_of run) (first_cells run) records }
+    ensures finished { (run : Run) (records : List Record) → AllHaveEnded run records
+        → AllAreFinished records }
+{
+    the_written_order_keeps_the_discipline();
+}
+
+/// Law: the watch word at each index tells who is its setter and who its finder, and what the halves
+/// of the pair are. Each taking is of the last arming at its index, and no arming is taken twice.
+/// Setters and finders hear each other's tickets. Once all tasks have ended the pairs that setters
+/// heard are those that finders told.
+pub fn roles_of_run_lists()
+    ensures table { (run : Run) (records : List Record) → RunList run records
+        → (index : ℕ) → Stands (words_after (first_words run) records) records index }
+    ensures met { (run : Run) (records : List Record) → RunList run records → MeetOnce records }
+    ensures taken_once { (run : Run) (records : List Record) → RunList run records
+        → AllPairs ◌≢◌ (armings_taken records) }
+    ensures heard { (run : Run) (records : List Record) → RunList run records
+        → EachHearsTheOther records }
+    ensures bags { (run : Run) (records : List Record) → RunList run records
+        → AllHaveEnded run records → IsPermutation (setters_heard records) (finders_told records) }
+{
+    run_lists_keep_the_discipline();
+    roles();
+    armings_are_met_once();
+    each_hears_the_other();
+    heard_is_told();
+}
