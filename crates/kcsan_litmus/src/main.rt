@@ -2,13 +2,9 @@
 //! programs.
 #![tactic(auto)]
 
-pub mod command;
-pub mod engine;
-pub mod report;
-pub mod sink;
 mod system;
 
-use command::{OUT_OF_MEMORY, USAGE, command};
+use litmus_command::command::{OUT_OF_MEMORY, USAGE, command};
 use std::process::ExitCode;
 use std::{env, io};
 use system::System;
@@ -32,6 +28,3 @@ fn words(rt: &HostRuntime) -> io::Result<Vec<String>> {
     let words = env::args(rt)?.collect(rt.alloc())?;
     Ok(words)
 }
-
-#[cfg(test)]
-mod tests;

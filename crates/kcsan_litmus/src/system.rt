@@ -1,10 +1,10 @@
 //! The desk of the system: the process's standard output and standard error, and its files.
 
 ghost use Rattle.std.specs.Prelude.{None};
-ghost use Rattle.kcsan_litmus.specs.Sink.{CountsFailure};
+ghost use Rattle.litmus_command.specs.Sink.{CountsFailure};
 
-use crate::command::{Desk, ReadFault};
-use crate::sink::{Sink, SinkFault};
+use litmus_command::command::{Desk, ReadFault};
+use litmus_command::sink::{Sink, SinkFault};
 use litmus_lex::{ReadError, Source, SourceFault, read_all};
 use std::alloc::Global;
 use std::fmt;

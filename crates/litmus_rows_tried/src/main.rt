@@ -6,7 +6,6 @@ use row::{Row, outcome};
 use std::io;
 use std::process::ExitCode;
 
-mod escape;
 mod frame;
 mod row;
 

@@ -1,7 +1,7 @@
 //! Rows: texts, and what comes of them.
 
-use crate::escape::unescaped;
 use crate::frame::{Kind, kind_of};
+use escaped_text::unescaped;
 use litmus_parse::{ParseError, Program, parse, print};
 use litmus_syntax::Statement;
 use std::alloc::{AllocError, Global};

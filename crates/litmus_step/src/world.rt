@@ -242,6 +242,3 @@ fn state(program: &Program, run: &TaskRun) -> Stepped
         Stepped::Moved
     }
 }
-
-#[cfg(test)]
-mod tests;
