@@ -83,7 +83,7 @@ module _ (s : Setting) (scopes : List Begun) (begun : Begun) (asked : ℕ) where
   check_parts : Parts moved (Check s scopes begun asked)
   check_parts records passes rest h = (framed_checks (Check s scopes begun asked) (check s scopes begun asked) records passes rest).0 h
 
-  check_joined : (part later : List Record) (passes : Passes) → Check s scopes begun asked part passes [] → Check s scopes begun asked (part ++ later) (moved later passes) later
+  pub check_joined : (part later : List Record) (passes : Passes) → Check s scopes begun asked part passes [] → Check s scopes begun asked (part ++ later) (moved later passes) later
   check_joined part later passes h =
       (framed_checks (Check s scopes begun asked) (check s scopes begun asked) (part ++ later) (moved later passes) later).1 (part, passes, h, refl, refl)
 
@@ -140,7 +140,7 @@ module _ (s : Setting) (a : Access) where
       let own = (framed (λ r l. Operates s a operation r effect l) (operates s a operation effect) records rest).0 h in
       (own.0, effect, own.1, own.2, refl)
 
-  operates_joined : (operation : Option Operation) (part later : List Record) (effect : Effect) → Operates s a operation part effect []
+  pub operates_joined : (operation : Option Operation) (part later : List Record) (effect : Effect) → Operates s a operation part effect []
       → Operates s a operation (part ++ later) effect later
   operates_joined operation part later effect h =
       (framed (λ r l. Operates s a operation r effect l) (operates s a operation effect) (part ++ later) later).1 (part, h, refl)

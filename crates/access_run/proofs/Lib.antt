@@ -4,3 +4,6 @@ pub mod CheckFronts
 pub mod LawLemmas
 pub mod WholeLemmas
 pub mod LeadsLemmas
+pub mod Decisions
+pub mod CheckEnds
+pub mod AccessEnds

@@ -2,6 +2,7 @@
 #![tactic(auto)]
 
 pub mod access;
+pub mod completions;
 pub mod laws;
 pub mod stage;
 
