@@ -250,14 +250,14 @@ impl<'p> Planner<'p> {
         }
     }
 
-    /// The access of an assertion that is no scoped one.
-    fn asserts<'a>(self, variable: usize, claim: Claim) -> Plan<'a>
+    /// The access of an assertion on a variable, of this kind; it is scoped or not.
+    pub fn asserts<'a>(self, variable: usize, kind: Kind) -> Plan<'a>
         ensures { (s : meaning.Setting) → Lays s.places s.variables self.entry.layout.now
-            → plan_of result ≡ check_plan (meaning.bytes_in s variable) (kinds.Assert claim) None goes_on }
+            → plan_of result ≡ check_plan (meaning.bytes_in s variable) kind None goes_on }
     {
         Plan {
             bytes: self.layout.bytes_in(variable),
-            kind: Kind::Assert(claim),
+            kind,
             mask: None,
             operation: None,
             after: Then::GoesOn,
@@ -282,19 +282,23 @@ impl<'p> Planner<'p> {
         }
     }
 
-    /// The access of a call, if it makes one.
+    /// The access of a call, if it makes one, where it is no scoped assertion.
     pub fn call<'a>(self, call: Call) -> Option<Plan<'a>>
         ensures { (s : meaning.Setting) → Lays s.places s.variables self.entry.layout.now
             → option_map plan_of result ≡ call_plan s call }
     {
         match call {
             Call::Barrier(_) | Call::Lock { .. } | Call::Unlock { .. } | Call::Mark(_) => None,
-            Call::AssertWriter { variable, .. } => Some(self.asserts(variable, Claim::NoWrites)),
-            Call::AssertAccess { variable, .. } => Some(self.asserts(variable, Claim::NoAccesses)),
+            Call::AssertWriter { variable, .. } => {
+                Some(self.asserts(variable, Kind::Assert(Claim::NoWrites)))
+            }
+            Call::AssertAccess { variable, .. } => {
+                Some(self.asserts(variable, Kind::Assert(Claim::NoAccesses)))
+            }
             Call::AssertBits { variable, mask } => Some(Plan {
                 mask: Some(mask),
                 after: Then::MarksNext,
-                ..self.asserts(variable, Claim::NoWrites)
+                ..self.asserts(variable, Kind::Assert(Claim::NoWrites))
             }),
             Call::Check { size: 0, .. } => None,
             Call::Check {
