@@ -1,16 +1,19 @@
 -- A layout is that of a program's variables.
-use Rattle.std.specs.Prelude.{◌≡◌, ℕ, suc, List, [], ◌∷◌}
-use Rattle.access_types.specs.declared.history.Bytes.{Bytes}
-use Rattle.litmus_meaning.specs.Layout.{Place, bytes_at}
+use Rattle.std.specs.Prelude.{◌≡◌, Bool, List, false, true}
+use Rattle.litmus_meaning.specs.Layout.{Place, initial_values}
+use Rattle.litmus_syntax.specs.declared.program.Contents.TheVariants.{Lock}
+use Rattle.litmus_syntax.specs.declared.program.Contents.{Contents}
 use Rattle.litmus_syntax.specs.declared.program.Variable.{Variable}
 use Rattle.program_layout.specs.declared.layout.Layout.{Layout}
 
--- the bytes of variables from a number on, in order
-abbrev pub bytes_from : List Place → ℕ → List Variable → List Bytes
-bytes_from places number [] = []
-bytes_from places number (variable ∷ later) =
-    bytes_at places number variable ∷ bytes_from places (suc number) later
-
--- the layout has the bytes of these variables, with these places
+-- the layout has the bytes and the initial values of these variables, with these places
 abbrev pub Lays : List Place → List Variable → Layout → Type 0
-Lays places variables layout = layout.bytes.items ≡ bytes_from places 0 variables
+Lays places variables layout = layout.variables.items ≡ initial_values places 0 variables
+
+-- a lock has no bytes
+abbrev pub holds_lock : Contents → Bool
+holds_lock Lock = true
+holds_lock contents = false
+
+abbrev pub is_lock : Variable → Bool
+is_lock variable = holds_lock variable.contents

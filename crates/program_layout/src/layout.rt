@@ -1,15 +1,19 @@
-//! The bytes of each variable.
+//! The bytes of each variable, and the cells of memory that they lie in.
 
-ghost use Rattle.std.specs.Prelude.{◌≡◌, ◌≤◌, ◌↔◌, ℕ, List, IfOk, IsErrOf, length, slice_get, unwrap_or};
+ghost use Rattle.std.specs.Prelude.{◌≡◌, ◌≤◌, ◌↔◌, ◌*◌, ◌/◌, ℕ, List, IfOk, IsErrOf, OnOk, count_by, fold, length, map, slice_get, unwrap_or};
+ghost use Rattle.std.specs.Option.{option_map};
+ghost use Rattle.access_types.specs.History as memory;
+ghost use Rattle.access_types.specs.History.{initial_memory, value_from};
 ghost use Rattle.litmus_meaning.specs.Layout as spec;
+ghost use Rattle.litmus_meaning.specs.TextSites.{bytes_among};
 ghost use Rattle.litmus_syntax.specs.declared.program.Variable.{Variable};
-ghost use Rattle.program_layout.specs.Lays.{Lays};
+ghost use Rattle.program_layout.specs.Lays.{Lays, is_lock};
 ghost use Rattle.program_layout.specs.Places.{AreFit, places_of};
 
 use crate::place::{Place, are_fit, place_of};
 use access_types::Bytes;
 use litmus_meaning::size_of;
-use litmus_syntax::Variable;
+use litmus_syntax::{Contents, Variable};
 use std::alloc::{AllocError, Global};
 use thiserror::Error;
 
@@ -19,10 +23,10 @@ const FIRST: u64 = 0x10000;
 /// From a variable to the next one.
 const STRIDE: u64 = 64;
 
-/// Where each variable of a program stands.
+/// Where each variable of a program stands, and its initial value as its bytes hold it.
 #[derive(Debug, Drop)]
 pub struct Layout {
-    bytes: Vec<Bytes>,
+    variables: Vec<(Bytes, u64)>,
 }
 
 /// Why variables can't stand where they are placed.
@@ -45,7 +49,8 @@ impl From<AllocError> for LayoutError {
     }
 }
 
-/// The bytes of the variable of a number: at its place, or, where it has none, 64 bytes after the variable before it.
+/// The bytes of the variable of a number: at its place, or, where it has none, 64 bytes from `FIRST` on for each
+/// variable before it.
 fn bytes_at(places: &[Place], number: usize, variable: &Variable) -> Bytes
     requires { number ≤ 32 }
     ensures { result ≡ spec.bytes_at (places_of places.now) number variable.now }
@@ -57,6 +62,20 @@ fn bytes_at(places: &[Place], number: usize, variable: &Variable) -> Bytes
     Bytes {
         addr,
         size: size_of(variable.contents),
+    }
+}
+
+/// The initial value of a variable, as its bytes hold it.
+fn initial_value(contents: Contents) -> u64
+    ensures { result ≡ spec.initial_value contents }
+{
+    match contents {
+        Contents::Char(value) => value.cast_unsigned() as u64,
+        Contents::Short(value) => value.cast_unsigned() as u64,
+        Contents::Int(value) => value.cast_unsigned() as u64,
+        Contents::Atomic(value) => value.cast_unsigned() as u64,
+        Contents::Long(value) => value.cast_unsigned(),
+        Contents::Lock => 0,
     }
 }
 
@@ -72,18 +91,20 @@ impl Layout {
     ) -> Result<Layout, LayoutError>
         requires { length variables.now ≤ 32 }
         ensures lays { IfOk result (Lays (places_of places.now) variables.now) }
+        ensures fit { IfOk result (λ _. AreFit variables.now places.now) }
         ensures bad_place { IsErrOf result LayoutError.BadPlace ↔ (AreFit variables.now places.now → ⊥) }
     {
         if !are_fit(variables, places) {
             return Err(LayoutError::BadPlace);
         }
-        let mut bytes = Vec::with_capacity(alloc, variables.len())?;
+        let mut laid = Vec::with_capacity(alloc, variables.len())?;
         for (number, variable) in variables.iter().enumerate() {
-            if let Err(e) = bytes.push(bytes_at(places, number, variable)) {
+            let bytes = bytes_at(places, number, variable);
+            if let Err(e) = laid.push((bytes, initial_value(variable.contents))) {
                 return Err(AllocError::from(e).into());
             }
         }
-        Ok(Layout { bytes })
+        Ok(Layout { variables: laid })
     }
 
     /// The bytes of the variable of a number; where there is none, none at 0.
@@ -96,11 +117,31 @@ impl Layout {
 
     /// The same, of the bytes that it has.
     fn bytes_of(&self, variable: usize) -> Bytes
-        ensures { result ≡ unwrap_or (slice_get self.now.bytes.items variable) spec.no_bytes }
+        ensures { result
+            ≡ unwrap_or (option_map (λ laid. laid.0) (slice_get self.now.variables.items variable)) spec.no_bytes }
     {
-        match self.bytes.get(variable) {
-            Some(bytes) => *bytes,
+        match self.variables.get(variable) {
+            Some((bytes, _)) => *bytes,
             None => Bytes { addr: 0, size: 0 },
         }
+    }
+
+    /// The bytes of all variables, in their order.
+    pub fn all_bytes(&self, alloc: Global) -> Result<Vec<Bytes>, AllocError>
+        ensures { (places : List spec.Place) (variables : List Variable) → Lays places variables self.now
+            → IfOk result (λ bytes.
+            (variable : ℕ) → bytes_among bytes.items variable ≡ spec.bytes_of_variable places variables variable) }
+    {
+        self.bytes_laid(alloc)
+    }
+
+    /// The same, of the bytes that it has.
+    fn bytes_laid(&self, alloc: Global) -> Result<Vec<Bytes>, AllocError>
+        ensures { IfOk result (λ bytes. bytes.items ≡ map (λ laid. laid.0) self.now.variables.items) }
+    {
+        self.variables
+            .iter()
+            .map(|(bytes, _)| *bytes)
+            .collect(alloc)
     }
 }

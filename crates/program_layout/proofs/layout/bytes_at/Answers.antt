@@ -1,5 +1,5 @@
 -- Placed or not.
-use Rattle.std.proofs.Common.{◌≡◌, ◌∙◌, Some, None, ap, find, sym}
+use Rattle.std.proofs.Common.{◌∙◌, ap, sym}
 use Rattle.std.specs.Option.{option_map}
 use Rattle.program_layout.proofs.PlaceLemmas.{bytes_are, not_placed, placed}
 use Rattle.program_layout.proofs.layout.bytes_at.Goals as goal

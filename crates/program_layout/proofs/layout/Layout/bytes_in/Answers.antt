@@ -4,4 +4,4 @@ use Rattle.program_layout.proofs.LayLemmas.{bytes_got}
 use Rattle.program_layout.proofs.layout.Layout.bytes_in.Goals as goal
 
 pub returns : goal.returns
-returns c = λ places variables lays. c.bytes_of.ensures ∙ bytes_got places variables c.args.self.now.bytes.items c.args.variable lays
+returns c = λ places variables lays. c.bytes_of.ensures ∙ bytes_got places variables c.args.self.now.variables.items c.args.variable lays
