@@ -216,10 +216,10 @@ module _ (s : Setting) (After : Bool → ℕ → List Record → Type 0) (after 
       let last = after true asked in
       (made s.task (steps.Remove index) answers.Done ∷ last.0, nothing_given true asked, last.0, ((refl, refl, (refl, refl)), refl), last.1)
 
-abbrev Some_ : (List Record → Passes → Type 0) → Type 0
-Some_ Begins = (records : List Record) × (passes : Passes) × Begins records passes
+abbrev SomeAre : (List Record → Passes → Type 0) → Type 0
+SomeAre Begins = (records : List Record) × (passes : Passes) × Begins records passes
 
-either : (b : Bool) (P Q : List Record → Passes → Type 0) → Some_ P → Some_ Q → Some_ (λ records all. MatchBool b (P records all) (Q records all))
+either : (b : Bool) (P Q : List Record → Passes → Type 0) → SomeAre P → SomeAre Q → SomeAre (λ records all. MatchBool b (P records all) (Q records all))
 either true P Q p q = p
 either false P Q p q = q
 
@@ -227,7 +227,7 @@ abbrev none_asked : ℕ → Passes
 none_asked asked = record { outcomes = []; asked = asked }
 
 -- checks of scoped assertions
-rechecked : (s : Setting) (scopes : List Begun) (asked : ℕ) (rest : List Record) → Some_ (λ records all. Rechecks s scopes asked records all rest)
+rechecked : (s : Setting) (scopes : List Begun) (asked : ℕ) (rest : List Record) → SomeAre (λ records all. Rechecks s scopes asked records all rest)
 rechecked s [] asked rest = (rest, none_asked asked, (refl, refl))
 rechecked s (scope ∷ scopes) asked rest =
     either scope.silenced (λ records all. Rechecks s scopes asked records all rest)
@@ -239,24 +239,24 @@ rechecked s (scope ∷ scopes) asked rest =
     (own.0, record { outcomes = fallen_of scope.access own.1 ∷ own.4.0.outcomes; asked = own.4.0.asked }, (own.1, own.2, own.4.0.outcomes, own.3, own.4.1, refl)))
 
 module _ (s : Setting) (scopes : List Begun) where
-  checked_all : (begun : Begun) (asked : ℕ) → Some_ (λ records all. ChecksAll s scopes begun asked records all [])
+  checked_all : (begun : Begun) (asked : ℕ) → SomeAre (λ records all. ChecksAll s scopes begun asked records all [])
   checked_all begun asked =
       let own = checks_once s (λ settled now records. (all : Passes) × Rechecks s (left_to_check settled scopes) now records all [])
       (λ settled now. let more = rechecked s (left_to_check settled scopes) now [] in (more.0, (more.1, more.2))) begun.access begun.marked asked in
       (own.0, record { outcomes = fallen_of begun.access own.1 ∷ own.4.0.outcomes; asked = own.4.0.asked }, (own.1, own.2, own.4.0.outcomes, own.3, own.4.1, refl))
 
-  stamped : (begun : Begun) (asked : ℕ) → Some_ (λ records all. ChecksStamped s scopes begun asked records all [])
+  stamped : (begun : Begun) (asked : ℕ) → SomeAre (λ records all. ChecksStamped s scopes begun asked records all [])
   stamped begun asked =
       let own = either begun.silenced (λ records all. (all ≡ none_asked (asked_silenced begun.marked asked)) × ([] ≡ records))
       (λ records all. ChecksAll s scopes begun asked records all []) ([], none_asked (asked_silenced begun.marked asked), (refl, refl)) (checked_all begun asked) in
       (made s.task steps.Clock (answers.Word 0) ∷ own.0, own.1, (refl, refl, own.2))
 
-  role_ends : (role : Role) (settled : Bool) (asked : ℕ) → Some_ (λ records all. RoleLeft s scopes role settled asked records all)
+  role_ends : (role : Role) (settled : Bool) (asked : ℕ) → SomeAre (λ records all. RoleLeft s scopes role settled asked records all)
   role_ends roles.Access settled asked = rechecked s (left_to_check settled scopes) asked []
   role_ends (roles.Scope number) settled asked = rechecked s (drop (number + 1) scopes) asked []
   role_ends roles.Closing settled asked = (made s.task steps.Clock (answers.Word 0) ∷ [], none_asked asked, (refl, (refl, refl, refl)))
 
-  pub stage_ends : (stage : Stage) (asked : ℕ) → Some_ (λ records all. StageLeft s scopes stage asked records all)
+  pub stage_ends : (stage : Stage) (asked : ℕ) → SomeAre (λ records all. StageLeft s scopes stage asked records all)
   stage_ends stages.Rest asked = ([], none_asked asked, (refl, refl))
   stage_ends (stages.Begin begun) asked = stamped begun asked
   stage_ends (stages.Check role begun pass) asked =

@@ -7,3 +7,4 @@ pub mod LeadsLemmas
 pub mod Decisions
 pub mod CheckEnds
 pub mod AccessEnds
+pub mod StampLemmas

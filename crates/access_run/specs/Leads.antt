@@ -2,6 +2,7 @@
 use Rattle.std.specs.Prelude.{◌≡◌, ◌++◌, ◌⊎◌, ℕ, List, [], Option, None, Some, IsSome}
 use Rattle.access_run.specs.Access.{MakesAccess}
 use Rattle.access_run.specs.Moved.{moved}
+use Rattle.access_run.specs.Stamps.{first_stamp, last_stamp}
 use Rattle.access_run.specs.Whole.{IsWhole, NoneWhole}
 use Rattle.access_run.specs.declared.access.AccessRun.{AccessRun}
 use Rattle.access_run.specs.declared.stage.Stage.{Stage}
@@ -93,12 +94,28 @@ StageLeads s scopes begun asked operation records (stages.End effect) checker =
 StageLeads s scopes begun asked operation records (stages.Over effect) checker =
     AccessIsComplete s scopes begun asked operation records effect checker
 
--- an access that begins while these scoped assertions are in force leads, by these records so far,
--- to where it and its task's checker are
-abbrev pub AccessLeads : Setting → List Begun → Begun → ℕ → Option Operation → List Record
-    → AccessRun → Checker → Type 0
-AccessLeads s scopes begun asked operation records run checker =
-    StageLeads s scopes begun asked operation records run.stage checker
+-- at this stage the access isn't over
+abbrev pub IsUnderWay : Stage → Type 0
+IsUnderWay (stages.Check run) = Unit {0}
+IsUnderWay (stages.Operate run) = Unit {0}
+IsUnderWay (stages.End effect) = Unit {0}
+IsUnderWay (stages.Over effect) = ⊥
+
+-- the stamp of the end is there once the access is over: the one that the last record answers
+abbrev pub HasEndStamp : Stage → List Record → Option ℕ → Type 0
+HasEndStamp (stages.Check run) records stamp = stamp ≡ None
+HasEndStamp (stages.Operate run) records stamp = stamp ≡ None
+HasEndStamp (stages.End effect) records stamp = stamp ≡ None
+HasEndStamp (stages.Over effect) records stamp = stamp ≡ last_stamp records
+
+-- An access that begins while these scoped assertions are in force leads, by these records so far, to
+-- where it and its task's checker are; its stamps are those that the records answer.
+pub record AccessLeads (s : Setting) (scopes : List Begun) (begun : Begun) (asked : ℕ)
+    (operation : Option Operation) (records : List Record) (run : AccessRun) (checker : Checker)
+    : Type 0 where
+  pub stage : StageLeads s scopes begun asked operation records run.stage checker
+  pub begin : run.stamps.begin ≡ first_stamp records
+  pub end : HasEndStamp run.stage records run.stamps.end
 
 -- a stage is before this step
 abbrev pub StageSays : Stage → Checker → Step → Type 0

@@ -1,4 +1,5 @@
 pub mod Access
 pub mod Moved
 pub mod Whole
+pub mod Stamps
 pub mod Leads

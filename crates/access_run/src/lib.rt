@@ -5,8 +5,10 @@ pub mod access;
 pub mod completions;
 pub mod laws;
 pub mod stage;
+pub mod stamps;
 
 pub use access::AccessRun;
+pub use stamps::Stamps;
 
 #[cfg(test)]
 mod tests;

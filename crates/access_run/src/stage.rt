@@ -1,7 +1,7 @@
 //! What an access does next.
 
 ghost use Rattle.std.specs.Prelude.{◌≡◌, ◌↔◌, ◌<◌, ◌++◌, ◌∷◌, [], ℕ, List, Option, IsTrue};
-ghost use Rattle.access_run.specs.Leads.{HasCell, IsChecked, IsReady, Runs, StageLeads};
+ghost use Rattle.access_run.specs.Leads.{HasCell, IsChecked, IsReady, IsUnderWay, Runs, StageLeads};
 ghost use Rattle.access_run.specs.Whole.{NoneWhole};
 ghost use Rattle.memory_operation.specs.Operations.{Operates};
 ghost use Rattle.memory_operation.specs.declared.operation.Operation as kinds;
@@ -61,7 +61,8 @@ fn is_checked(checker: &Checker) -> bool
 
 /// What follows on a step of the check.
 pub(crate) fn after_check(checker: &Checker, run: Option<OperationRun>) -> Stage
-    ensures { (s : Setting) (scopes : List Begun) (begun : Begun) (asked : ℕ) (operation : Option kinds.Operation) (records : List Record) (last : Record)
+    ensures going { IsUnderWay result }
+    ensures leads { (s : Setting) (scopes : List Begun) (begun : Begun) (asked : ℕ) (operation : Option kinds.Operation) (records : List Record) (last : Record)
         → Leads s scopes (Checks begun) asked (records ++ last ∷ []) checker.now
         → NoneWhole (Check s scopes begun asked) records → IsReady s begun.access operation run
         → StageLeads s scopes begun asked operation (records ++ last ∷ []) result checker.now }
@@ -80,7 +81,9 @@ pub(crate) fn after_check(checker: &Checker, run: Option<OperationRun>) -> Stage
 
 /// What follows on a step of the operation.
 pub(crate) fn after_step(run: OperationRun) -> Stage
-    ensures { (s : Setting) (scopes : List Begun) (begun : Begun) (asked : ℕ) (operation : Option kinds.Operation) (checked done : List Record) (last : Record) (checker : checkers.Checker)
+    ensures going { IsUnderWay result }
+    ensures leads { (s : Setting) (scopes : List Begun) (begun : Begun) (asked : ℕ) (operation : Option kinds.Operation)
+        (checked done : List Record) (last : Record) (checker : checkers.Checker)
         → IsChecked s scopes begun asked checked checker → NoneWhole (Operates s begun.access operation) done
         → Runs s begun.access operation (done ++ last ∷ []) run
         → StageLeads s scopes begun asked operation (checked ++ (done ++ last ∷ [])) result checker }

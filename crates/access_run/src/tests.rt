@@ -1,7 +1,7 @@
 //! One access of each kind over a board, step by step. The steps and values are worked out by hand,
 //! the lowest byte being the first.
 
-use crate::AccessRun;
+use crate::{AccessRun, Stamps};
 use access_types::{Access, Claim, Kind, Sites};
 use memory_operation::Change::{Exchange, Write};
 use memory_operation::Operation::{Add, Change, Load as Reads};
@@ -137,6 +137,10 @@ fn make_other(rt: &impl Abort, scene: &mut Scene, made: Made) {
     assert_eq!(rt; scene.board.step(made.0), made.1);
 }
 
+fn stamps(begin: Option<u64>, end: Option<u64>) -> Stamps {
+    Stamps { begin, end }
+}
+
 /// Plays an access whose check makes these steps, and its operation those.
 fn play(
     rt: &impl Abort,
@@ -153,6 +157,7 @@ fn play(
     assert!(rt; scene.run.is_over() && !scene.run.stuck(&scene.checker));
     assert_eq!(rt; scene.run.next(&scene.checker), None);
     assert_eq!(rt; scene.run.effect(), Effect { read, written });
+    assert_eq!(rt; scene.run.stamps(), stamps(Some(0), Some(1)));
     assert_eq!(rt; scene.checker.outcomes(), outcomes);
 }
 
@@ -254,6 +259,7 @@ fn a_silenced_access_is_not_checked(rt: HostRuntime) -> Result<(), Fail> {
 #[test]
 fn an_access_is_stuck_in_its_check(rt: HostRuntime) -> Result<(), Fail> {
     let mut scene = begun(&rt, rt.alloc(), Kind::Plain(READ), Some(Reads), false)?;
+    assert_eq!(rt; scene.run.stamps(), stamps(None, None));
     make_all(&rt, &mut scene, &LOOKS);
     make_all(&rt, &mut scene, &watch(R)[..4]);
     make_other(&rt, &mut scene, (TryConsume(17, R), Flag(true)));
@@ -261,6 +267,7 @@ fn an_access_is_stuck_in_its_check(rt: HostRuntime) -> Result<(), Fail> {
     let waits = (PairLoad(17), Halves(TICKET, 0));
     make_all(&rt, &mut scene, &[waits, waits]);
     assert!(rt; scene.run.stuck(&scene.checker) && !scene.run.is_over());
+    assert_eq!(rt; scene.run.stamps(), stamps(Some(0), None));
     assert_eq!(rt; scene.run.next(&scene.checker), None);
     Ok(())
 }

@@ -4,7 +4,7 @@ use Rattle.access_run.proofs.completions.accesses_can_be_completed.Goals as goal
 
 pub returns-clause-leads : goal.returns-clause-leads
 returns-clause-leads c = λ s scopes begun asked operation records run checker leads.
-    access_ends s scopes begun asked operation records run.stage checker leads
+    access_ends s scopes begun asked operation records run.stage checker leads.stage
 
 pub returns-clause-first : goal.returns-clause-first
 returns-clause-first c = some_access

@@ -8,8 +8,8 @@ use Rattle.memory_operation.specs.Operations.{Operates}
 use Rattle.access_run.proofs.LeadsLemmas.{checked_now, not_operated, nothing_operated, still_checked}
 use Rattle.access_run.proofs.stage.after_check.Goals as goal
 
-pub returns-then-not-is_checked : goal.returns-then-not-is_checked
-returns-then-not-is_checked c = λ s scopes begun asked operation records last leads none ready. (
+pub returns-then-not-is_checked-clause-leads : goal.returns-then-not-is_checked-clause-leads
+returns-then-not-is_checked-clause-leads c = λ s scopes begun asked operation records last leads none ready. (
   leads,
   still_checked s scopes begun asked records last none
       (λ done. let yes : c.is_checked.result ≡ true = (c.is_checked.ensures.done s scopes begun asked (records ++ last ∷ []) leads).1 done in
@@ -17,8 +17,8 @@ returns-then-not-is_checked c = λ s scopes begun asked operation records last l
   ready,
 )
 
-pub returns-in-Some : goal.returns-in-Some
-returns-in-Some c = λ s scopes begun asked operation records last leads none ready.
+pub returns-in-Some-clause-leads : goal.returns-in-Some-clause-leads
+returns-in-Some-clause-leads c = λ s scopes begun asked operation records last leads none ready.
     let runs : Runs s begun.access operation [] c.in-Some.run' = subst (λ o. IsReady s begun.access operation o) c.in-Some.is ready in
     let done = (c.is_checked.ensures.done s scopes begun asked (records ++ last ∷ []) leads).0 c.if-not-is_checked.false in (
       records ++ last ∷ [],
@@ -29,8 +29,8 @@ returns-in-Some c = λ s scopes begun asked operation records last leads none re
       runs,
     )
 
-pub returns-in-None : goal.returns-in-None
-returns-in-None c = λ s scopes begun asked operation records last leads none ready.
+pub returns-in-None-clause-leads : goal.returns-in-None-clause-leads
+returns-in-None-clause-leads c = λ s scopes begun asked operation records last leads none ready.
     let is_none : operation ≡ None = subst (λ o. IsReady s begun.access operation o) c.in-None.is ready in
     let done = (c.is_checked.ensures.done s scopes begun asked (records ++ last ∷ []) leads).0 c.if-not-is_checked.false in (
       records ++ last ∷ [],

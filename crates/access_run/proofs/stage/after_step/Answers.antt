@@ -3,8 +3,8 @@ use Rattle.std.proofs.Common.{◌≡◌, ◌++◌, ◌∷◌, [], false, refl, t
 use Rattle.access_run.proofs.LeadsLemmas.{operated_now, still_operates}
 use Rattle.access_run.proofs.stage.after_step.Goals as goal
 
-pub returns-then-is_over : goal.returns-then-is_over
-returns-then-is_over c = λ s scopes begun asked operation checked done last checker whole none runs. (
+pub returns-then-is_over-clause-leads : goal.returns-then-is_over-clause-leads
+returns-then-is_over-clause-leads c = λ s scopes begun asked operation checked done last checker whole none runs. (
   checked,
   done ++ last ∷ [],
   refl,
@@ -14,8 +14,8 @@ returns-then-is_over c = λ s scopes begun asked operation checked done last che
       ((c.is_over.ensures s.task begun.access source of (done ++ last ∷ []) leads).0 c.if-is_over.true)),
 )
 
-pub returns-else-is_over : goal.returns-else-is_over
-returns-else-is_over c = λ s scopes begun asked operation checked done last checker whole none runs. (
+pub returns-else-is_over-clause-leads : goal.returns-else-is_over-clause-leads
+returns-else-is_over-clause-leads c = λ s scopes begun asked operation checked done last checker whole none runs. (
   checked,
   done ++ last ∷ [],
   refl,
