@@ -1,0 +1,3 @@
+pub mod CheckFacts
+pub mod CheckSteps
+pub mod TaskFacts
