@@ -4,3 +4,4 @@ pub mod TextSitesLemmas
 pub mod TicketLemmas
 pub mod RepeatedLemmas
 pub mod TimesLemmas
+pub mod LimitLemmas

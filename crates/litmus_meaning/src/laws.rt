@@ -7,6 +7,7 @@ ghost use Rattle.access_types.specs.declared.history.Happening.TheVariants.{Begi
 ghost use Rattle.litmus_meaning.specs.Meaning.{MeansBlock};
 ghost use Rattle.litmus_meaning.specs.Task.{Progress, Setting};
 ghost use Rattle.litmus_meaning.specs.TextSites.{AllLoopsFit, FitsTickets, IsOfText, block_sites};
+ghost use Rattle.litmus_syntax.specs.Limits.{BodyKeepsLimits};
 ghost use Rattle.litmus_syntax.specs.Sites.{sites_of};
 ghost use Rattle.litmus_syntax.specs.Tree.{Block};
 
@@ -27,8 +28,10 @@ pub fn each_access_has_its_own_ticket()
         → ticket_number a ≢ ticket_number b }
 {}
 
-/// Law: tickets have room for a text of at most 256 statements with an access, whose loops have turns that multiply
-/// to at most 256.
-pub fn texts_within_limits_fit_tickets()
-    ensures { (s : Setting) (body : Block) → length (sites_of body) ≤ 256 → AllLoopsFit 1 body → FitsTickets (block_sites s body) }
+/// Law: tickets have room for the sites of a text that keeps the limits, of which there are 256 at most, and its
+/// loops fit.
+pub fn tickets_have_room()
+    ensures tickets { (s : Setting) (body : Block) → BodyKeepsLimits body → FitsTickets (block_sites s body) }
+    ensures sites { (body : Block) → BodyKeepsLimits body → length (sites_of body) ≤ 256 }
+    ensures loops { (body : Block) → BodyKeepsLimits body → AllLoopsFit 1 body }
 {}
