@@ -1,0 +1,3 @@
+pub mod AddsLemmas
+pub mod TextLemmas
+pub mod ProgramLemmas
