@@ -1,27 +1,26 @@
 -- What a check's own records say: of each tell, who tells and of which word, and of each report of two sides, who made it
 -- and where. Each lemma is told how to go on.
-use Rattle.std.proofs.Common.{◌≡◌, ◌<◌, ◌≤◌, ◌∙◌, ◌∷◌, ◌+◌, ◌++◌, ◌||◌, [], ℕ, suc, Bool, true, false, length, List, Option, None, Some, MatchBool, MatchOption, ap, arith, inl, inr, refl, subst, sym}
+use Rattle.std.proofs.Common.{◌≡◌, ◌<◌, ◌≤◌, ◌∙◌, ◌∷◌, ◌+◌, ◌++◌, [], ℕ, suc, Bool, true, false, length, List, Option, None, Some, MatchBool, MatchOption, ap, arith, inl, inr, refl, subst, sym}
 use Rattle.std.proofs.lemmas.Bool.{eq-eqb}
 use Rattle.access_types.specs.Access.{Access}
 use Rattle.access_types.specs.Ticket.{ticket_number}
 use Rattle.slot.specs.Pair.{Halves}
-use Rattle.slot_table.specs.Armings.{Arming, last_arming, last_arming_number, named_at}
+use Rattle.slot_table.specs.Armings.{last_arming, last_arming_number, named_at}
 use Rattle.slot_table.specs.Discipline.{HasPart, heard, in_hand}
 use Rattle.slot_table.specs.declared.discipline.InHand.{InHand}
 use Rattle.slot_table.specs.declared.discipline.Part.TheVariants as parts
 use Rattle.slot_table.specs.declared.records.Record.{Record}
-use Rattle.slot_table.specs.declared.step.Answer.{Answer}
 use Rattle.slot_table.specs.declared.step.Answer.TheVariants as answers
 use Rattle.slot_table.specs.declared.step.Step.{Step}
-use Rattle.slot_table.specs.declared.step.Step.TheVariants.{CellExchange, CellLoad, Clear, Clock, Consume, Insert, Load, LockStore, LockTry, Name, PairLoad, Remove, Tell, TryConsume}
-use Rattle.watch_word.specs.Word.{word_of}
+use Rattle.slot_table.specs.declared.step.Step.TheVariants.{CellLoad, Clear, Consume, Insert, Load, Name, PairLoad, Remove, Tell, TryConsume}
+use Rattle.watch_word.specs.Word.{Encodable, word_of}
 use Rattle.setup_access.specs.Check as cases
 use Rattle.setup_access.specs.Check.{Check, ChecksOnce, Close, Ends, Fallen, GoesOn, NoneFound, Pass, Passes, Rechecks, fallen_of, left_to_check}
 use Rattle.setup_access.specs.Find.{LooksUp}
 use Rattle.setup_access.specs.Found.{Hears, Takes, Tells, finder_half, setter_half}
 use Rattle.setup_access.specs.Hits.{Hits}
 use Rattle.setup_access.specs.Parts.{made}
-use Rattle.setup_access.specs.Records.{MakesDone, MakesFlag, MakesWord, OnFlag, OnHalves, OnWord}
+use Rattle.setup_access.specs.Records.{MakesDone, MakesFlag, MakesWord}
 use Rattle.setup_access.specs.Setting.{Setting, look_order, slot_of, try_order}
 use Rattle.setup_access.specs.Setup.{Arms, Frees, Judged, Judges, TriesInsert, WatchesAt}
 use Rattle.setup_access.specs.Values.{LoadsFrom, both_values, source_of}
@@ -65,6 +64,7 @@ module _ (s : Setting) (Known : Begun → Type 0) (In : Begun → ℕ → Type 0
     pub by : Begun
     pub known : Known by
     pub unmarked : by.marked ≡ false
+    pub encodable : Encodable a
     pub unsilenced : by.silenced ≡ false
     pub is : by.access ≡ a
     pub index : ℕ
@@ -293,34 +293,39 @@ module _ (s : Setting) (Known : Begun → Type 0) (In : Begun → ℕ → Type 0
     untouched_falls values outcome later own (verdicts.unknown change old new c v is o) = subst (λ (x : Outcome). FallsSo own later its later x) (sym o) tt
     untouched_falls values outcome later own (verdicts.quiet change c v o) = subst (λ (x : Outcome). FallsSo own later its later x) (sym o) tt
 
-    hit_falls : (index number : ℕ) (values : Option (ℕ × ℕ)) (both : Halves) (outcome : Outcome) (later own : List Record) → b.marked ≡ false
+    hit_falls : (index number : ℕ) (values : Option (ℕ × ℕ)) (both : Halves) (outcome : Outcome) (later own : List Record) → (b.marked ≡ false) × Encodable b.access
         → HasNamed its from index number (Some (record { index = index; part = parts.Hit })) own → heard index own ≡ Some both → 0 < both.finder
         → HitOutcome s its values both outcome → length rest ≤ length later → At from total own later → FallsSo own later its later outcome
     hit_falls index number values both outcome later own unmarked it hears above (verdicts.encoding apart o) longer at = subst (λ (x : Outcome). FallsSo own later its later x) (sym o) tt
     hit_falls index number values both outcome later own unmarked it hears above (verdicts.dropped change reason shares c v o) longer at = subst (λ (x : Outcome). FallsSo own later its later x) (sym o) tt
     hit_falls index number values both outcome later own unmarked it hears above (verdicts.reported change shares c v o) longer at =
-        subst (λ (x : Outcome). FallsSo own later its later x) (sym o) ([], refl, record {
-          by = b;
-          known = known;
-          unmarked = unmarked;
-          unsilenced = unsilenced;
-          is = refl;
-          index = index;
-          number = number;
-          has = it.has;
-          hears = hears;
-          above = above;
-          armed = it.armed;
-          numbered = it.numbered;
-          named = it.named;
-          shares = shares;
-          goes = λ count after most.
-              let since : from ≤ number = it.since in
-              let all : length own + length later ≡ total = at.all in
-              window count (omega (arith, since, after)) (omega (arith, all, most, longer));
-        })
+        subst (λ (x : Outcome). FallsSo own later its later x) (sym o) (
+          [],
+          refl,
+          record {
+            by = b;
+            known = known;
+            unmarked = unmarked.0;
+            encodable = unmarked.1;
+            unsilenced = unsilenced;
+            is = refl;
+            index = index;
+            number = number;
+            has = it.has;
+            hears = hears;
+            above = above;
+            armed = it.armed;
+            numbered = it.numbered;
+            named = it.named;
+            shares = shares;
+            goes = λ count after most.
+                let since : from ≤ number = it.since in
+                let all : length own + length later ≡ total = at.all in
+                window count (omega (arith, since, after)) (omega (arith, all, most, longer));
+          },
+        )
 
-    consumed : (index number : ℕ) (values : Option (ℕ × ℕ)) (untouched : Bool) (outcome : Outcome) (records later own : List Record) → b.marked ≡ false
+    consumed : (index number : ℕ) (values : Option (ℕ × ℕ)) (untouched : Bool) (outcome : Outcome) (records later own : List Record) → (b.marked ≡ false) × Encodable b.access
         → HasNamed its from index number (Some (record { index = index; part = parts.Named (ticket_number its) })) own
         → MatchBool untouched (UntouchedOutcome s its values outcome × (later ≡ records))
         ((both : Halves) × Hears finder_half s.task index records both later × HitOutcome s its values both outcome)
@@ -336,13 +341,13 @@ module _ (s : Setting) (Known : Begun → Type 0) (In : Begun → ℕ → Type 0
         records got.0 later o (record { has = refl; since = it.since; armed = it.armed; numbered = it.numbered; named = it.named }) got.1
         (λ r h heard_so above. fell index outcome later r free (hit_falls index number values got.0 outcome later r unmarked h heard_so above got.2 (two_more index later rest free)))
 
-    judges : (index number : ℕ) (values : Option (ℕ × ℕ)) (outcome : Outcome) (records later own : List Record) → b.marked ≡ false
+    judges : (index number : ℕ) (values : Option (ℕ × ℕ)) (outcome : Outcome) (records later own : List Record) → (b.marked ≡ false) × Encodable b.access
         → HasNamed its from index number (Some (record { index = index; part = parts.Named (ticket_number its) })) own
         → Judges s its index values records outcome later → Frees s index later rest → Goes from total (out outcome later) own records
     judges index number values outcome records later own unmarked it h free =
         step_flag from total (out outcome later) (Consume index) _ records own h tt (λ untouched after got. consumed index number values untouched outcome after later own unmarked it got free)
 
-    arms : (index number : ℕ) (outcome : Outcome) (records later own : List Record) → b.marked ≡ false → HasArmed its from index number (inserted_at index word) own
+    arms : (index number : ℕ) (outcome : Outcome) (records later own : List Record) → (b.marked ≡ false) × Encodable b.access → HasArmed its from index number (inserted_at index word) own
         → Arms s its index records outcome later → Frees s index later rest → Goes from total (out outcome later) own records
     arms index number outcome records later own unmarked it h free =
         let outs : List Fallen = out outcome later in
@@ -383,7 +388,7 @@ module _ (s : Setting) (Known : Begun → Type 0) (In : Begun → ℕ → Type 0
     plainly pass outcome is falls own at =
         let g = goes_on own at in (g.0, (subst (λ (x : Outcome). FallsSo own rest its pass.later x) (sym is) (falls own pass.later), g.1))
 
-    watched_at : (asked : ℕ) (place : Option ℕ) (records : List Record) (judged : Option Judged) (later : List Record) (pass : Pass) (own : List Record) → b.marked ≡ false
+    watched_at : (asked : ℕ) (place : Option ℕ) (records : List Record) (judged : Option Judged) (later : List Record) (pass : Pass) (own : List Record) → (b.marked ≡ false) × Encodable b.access
         → HasPlace its from place own → WatchesAt s its place records judged later → Ends s asked judged later pass rest → Goes from total (fallen_of its pass ∷ more) own records
     watched_at asked None records judged later pass own unmarked it h left =
         let none : Ends s asked None later pass rest = subst (λ (j : Option Judged). Ends s asked j later pass rest) h.0 left in
@@ -404,7 +409,7 @@ module _ (s : Setting) (Known : Begun → Type 0) (In : Begun → ℕ → Type 0
         subst (λ (x : List Record). Goes from total (fallen_of its pass ∷ more) own x) r (plainly pass outcomes.Unencodable (ap (λ (p : Pass). p.outcome) is) (λ o l. tt) own)
     none_found asked records pass own (cases.watched judged later unmarked w encodable up left) =
         tries_insert (fallen_of its pass ∷ more) (try_order (slot_of s its)) records up.0 up.1 own up.2
-        (λ o it. watched_at (asked + 1) up.0 up.1 judged later pass o unmarked it up.3 left)
+        (λ o it. watched_at (asked + 1) up.0 up.1 judged later pass o (unmarked, encodable) it up.3 left)
 
     -- what comes of a watchpoint that was found is no report of two sides
     taken_falls : (taken : Bool) (found : Watchpoint) (records : List Record) (outcome : Outcome) (own later : List Record)

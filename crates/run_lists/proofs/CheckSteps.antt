@@ -1,16 +1,16 @@
 -- What is so of the records of one check of an access is so of those of a whole check and of a close.
-use Rattle.std.proofs.Common.{◌≡◌, ◌≤◌, ◌∙◌, ◌∷◌, ◌+◌, ◌++◌, ◌||◌, [], ℕ, suc, Bool, true, false, length, List, Option, None, Some, MatchBool, ap, append_assoc, arith, refl, subst, sym}
+use Rattle.std.proofs.Common.{◌≡◌, ◌≤◌, ◌∙◌, ◌∷◌, ◌+◌, ◌++◌, ◌||◌, [], ℕ, suc, Bool, true, false, length, List, MatchBool, ap, arith, refl, subst, sym}
 use Rattle.std.proofs.lemmas.List.{length-append}
 use Rattle.slot_table.specs.declared.records.Record.{Record}
 use Rattle.slot_table.specs.declared.step.Step.{Step}
 use Rattle.slot_table.specs.declared.step.Step.TheVariants.{Clock}
-use Rattle.setup_access.specs.Check.{Check, ChecksOnce, Close, Fallen, Pass, Passes, Rechecks, fallen_of, left_to_check}
+use Rattle.setup_access.specs.Check.{Check, Close, Fallen, Passes, Rechecks, fallen_of, left_to_check}
 use Rattle.setup_access.specs.Records.{MakesWord}
 use Rattle.setup_access.specs.Setting.{Setting}
 use Rattle.setup_access.specs.declared.begun.Begun.{Begun}
 use Rattle.setup_access.proofs.DisciplineLemmas.{on_word}
 use Rattle.setup_access.proofs.FallLemmas.{EndsWith, rechecks_come}
-use Rattle.run_lists.proofs.CheckFacts.{At, Goes, Good, OnTell, good_step, once}
+use Rattle.run_lists.proofs.CheckFacts.{Goes, Good, OnTell, good_step, once}
 
 -- a list is as long as what it ends with, at least
 pub as_long : (records rest : List Record) → EndsWith records rest → length rest ≤ length records
@@ -105,6 +105,7 @@ module _ (s : Setting) (Known : Begun → Type 0) (In : Begun → ℕ → Type 0
           → (length later ≡ suc (length rest)) × ((o : List Record) → GoodSo o later more)
       ended [] rest more made_so goes = absurd made_so
       ended (first ∷ later) rest more made_so goes =
-          let got = on_word first.answer _ made_so.2 in
-          (ap (λ (r : List Record). suc (length r)) (sym got.2),
-          λ o. clock_step o later first more made_so.1 (subst (λ (r : List Record). GoodSo (first ∷ o) r more) got.2 (goes (first ∷ o))))
+          let got = on_word first.answer _ made_so.2 in (
+            ap (λ (r : List Record). suc (length r)) (sym got.2),
+            λ o. clock_step o later first more made_so.1 (subst (λ (r : List Record). GoodSo (first ∷ o) r more) got.2 (goes (first ∷ o))),
+          )

@@ -1,3 +1,5 @@
 pub mod CheckFacts
 pub mod CheckSteps
 pub mod TaskFacts
+pub mod OwnLasts
+pub mod TwoSides

@@ -1,5 +1,5 @@
 -- What is so of the records of checks is so of all records of a text.
-use Rattle.std.proofs.Common.{◌≡◌, ◌≤◌, ◌∙◌, ◌∷◌, ◌+◌, ◌++◌, ◌||◌, [], ℕ, suc, Bool, true, false, drop, length, map, replicate, IsTrue, List, Option, None, Some, MatchBool, ap, append_assoc, arith, refl, subst, sym}
+use Rattle.std.proofs.Common.{◌≡◌, ◌∙◌, ◌∷◌, ◌++◌, ◌||◌, [], ℕ, Bool, true, false, drop, map, replicate, List, Option, None, Some, MatchBool, ap, append_assoc, refl, subst, sym}
 use Rattle.std.proofs.lemmas.List.{append-nil}
 use Rattle.access_types.specs.Access as access
 use Rattle.access_types.specs.Marked.{CountsAfter, EndsRaised, is_disable, is_enable, marks_of}
@@ -15,9 +15,9 @@ use Rattle.memory_operation.specs.declared.operation.Change.{Change}
 use Rattle.memory_operation.specs.declared.operation.Change.TheVariants as changes
 use Rattle.memory_operation.specs.declared.operation.Operation.{Operation}
 use Rattle.memory_operation.specs.declared.operation.Operation.TheVariants as operations
-use Rattle.setup_access.specs.Check.{Fallen, Passes}
+use Rattle.setup_access.specs.Check.{Fallen}
 use Rattle.setup_access.specs.Own.{IsOwn}
-use Rattle.setup_access.specs.Records.{MakesDone, MakesWord, OnFlag, OnWord}
+use Rattle.setup_access.specs.Records.{MakesDone, MakesWord}
 use Rattle.setup_access.specs.Values.{value_in}
 use Rattle.setup_access.specs.declared.begun.Begun.{Begun}
 use Rattle.setup_access.specs.declared.source.Source.{Source}
@@ -28,7 +28,7 @@ use Rattle.slot_table.specs.declared.step.Answer.TheVariants as answers
 use Rattle.slot_table.specs.declared.step.Step.{Step}
 use Rattle.slot_table.specs.declared.step.Step.TheVariants.{CellExchange, CellLoad, Clear, Clock, Consume, Insert, Load, LockStore, LockTry, Name, PairLoad, Remove, Tell, TryConsume}
 use Rattle.written_order.specs.Access.{Makes, operated}
-use Rattle.written_order.specs.Standing.{BeginsNow, IsDisabled, Setting, Standing, checks_of, counting, doing, lock_number, moments}
+use Rattle.written_order.specs.Standing.{BeginsNow, Setting, Standing, checks_of, counting, doing, lock_number, moments}
 use Rattle.written_order.specs.WrittenOrder.{ClosesScope, OpensScope, SpellsAll, at_first}
 use Rattle.written_order.proofs.AccessLemmas.{counting_progress, makes_did}
 use Rattle.written_order.proofs.Induction.{Kept, by_block}

@@ -1,10 +1,11 @@
 //! What is true of every run list.
 
-ghost use Rattle.std.specs.Prelude.{◌≢◌, ℕ, List, AllPairs};
+ghost use Rattle.std.specs.Prelude.{◌≢◌, ℕ, List, All, AllPairs};
 ghost use Rattle.std.specs.List.Sorted.{IsPermutation};
-ghost use Rattle.run_lists.specs.Reports.{reports_of};
 ghost use Rattle.run_lists.specs.Run.{Run, first_cells, first_words, locks_of};
 ghost use Rattle.run_lists.specs.RunList.{AllHaveEnded, RunList};
+ghost use Rattle.run_lists.specs.Told.{outcomes_of};
+ghost use Rattle.run_lists.specs.TwoSides.{NamesBoth};
 ghost use Rattle.slot_table.specs.Armings.{MeetOnce, armings_taken};
 ghost use Rattle.slot_table.specs.Discipline.{AllAreFinished, LegalInDiscipline};
 ghost use Rattle.slot_table.specs.Hearings.{EachHearsTheOther};
@@ -14,6 +15,7 @@ ghost use Rattle.slot_table.specs.Roles.{Stands};
 ghost use Rattle.slot_table.specs.declared.records.Record.{Record};
 
 use slot_table::laws::{armings_are_met_once, each_hears_the_other, heard_is_told, roles};
+use watch_word::words_read_back;
 use written_order::the_written_order_keeps_the_discipline;
 
 /// Law: a run list is legal, and each task in it keeps the discipline of watchpoints. Once all tasks
@@ -47,4 +49,15 @@ pub fn roles_of_run_lists()
     armings_are_met_once();
     each_hears_the_other();
     heard_is_told();
+}
+
+/// Law: each report of two sides that a run list tells names the access that was checked, as the setter, and one
+/// of another task, as the finder; both are of the program, share a byte, and one of them writes or asserts no
+/// accesses. The pair is the one that the finder told.
+pub fn reports_name_two_sides()
+    ensures { (run : Run) (records : List Record) → (list : RunList run records)
+        → All (NamesBoth run records) (outcomes_of list) }
+{
+    run_lists_keep_the_discipline();
+    words_read_back();
 }

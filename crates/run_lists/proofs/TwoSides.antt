@@ -1,0 +1,278 @@
+-- A report of two sides names its setter and its finder.
+use Rattle.std.proofs.Common.{◌≡◌, ◌==◌, ◌⊎◌, ◌∙◌, ◌+◌, ◌-◌, ◌++◌, ◌||◌, inl, inr, ℕ, suc, Bool, true, false, All, Contains, IsTrue, length, List, [], ◌∷◌, Option, Some, IsSomeAnd, ap, append_assoc, arith, map, refl, reverse, slice_get, subst, sym}
+use Rattle.std.specs.List.{filter}
+use Rattle.std.proofs.lemmas.Bool.Decides.{eqb_tells}
+use Rattle.std.proofs.lemmas.List.{append-nil, length-append, length-reverse, reverse-append, reverse-reverse}
+use Rattle.std.proofs.lemmas.List.Elements.{All-append, All-cons, All-nil}
+use Rattle.std.specs.FinMap as fin
+use Rattle.access_types.specs.Access as access
+use Rattle.access_types.specs.Access.{Breaks, Overlap}
+use Rattle.access_types.specs.Kind.{write_flag}
+use Rattle.access_types.specs.Ticket.{ticket_number}
+use Rattle.access_types.specs.declared.history.Happening.{Happening}
+use Rattle.access_types.specs.declared.history.Happening.TheVariants as happenings
+use Rattle.litmus_meaning.specs.TextSites.{IsOfText}
+use Rattle.litmus_meaning.specs.RunOfProgram.{setting_of}
+use Rattle.litmus_meaning.proofs.TicketLemmas.{of_text}
+use Rattle.setup_access.specs.Check.{Fallen}
+use Rattle.setup_access.specs.Hits.{Hits}
+use Rattle.setup_access.specs.declared.begun.Begun.{Begun}
+use Rattle.setup_access.specs.declared.outcome.Outcome.{Outcome}
+use Rattle.setup_access.specs.declared.outcome.Outcome.TheVariants as outcomes
+use Rattle.slot.specs.Pair.{Halves}
+use Rattle.slot_table.specs.Armings.{Arming}
+use Rattle.slot_table.specs.Discipline.{in_hand}
+use Rattle.slot_table.specs.Hearings.{EachHearsTheOther, HeardItsFinder, HearsTheOther, IsArming, IsTell, SomeRecord}
+use Rattle.slot_table.specs.Meetings.{finders_told}
+use Rattle.slot_table.specs.Records.{records_of}
+use Rattle.slot_table.specs.Roles.{part_of}
+use Rattle.slot_table.specs.declared.discipline.Part.{Part}
+use Rattle.slot_table.specs.declared.discipline.Part.TheVariants.{Hit, Taken}
+use Rattle.slot_table.specs.declared.records.Record.{Record}
+use Rattle.slot_table.specs.declared.step.Step.{Step}
+use Rattle.slot_table.specs.declared.step.Step.TheVariants.{Tell}
+use Rattle.slot_table.proofs.Hearings.{each_hears, heard_finder}
+use Rattle.slot_table.proofs.Lists.{Keeps, keeps_before}
+use Rattle.slot_table.proofs.Moves.{some_same}
+use Rattle.slot_table.proofs.Phases.{meeting}
+use Rattle.slot_table.proofs.Steps.{here_part}
+use Rattle.watch_word.specs.Word.{WordOf, Watches, watch_of, word_of}
+use Rattle.watch_word.specs.declared.layout.Layout.{Layout}
+use Rattle.watch_word.specs.declared.watch.Watch.{Watch}
+use Rattle.written_order.specs.Standing as order
+use Rattle.written_order.specs.Standing.{Standing, checks_of}
+use Rattle.written_order.proofs.MeaningLemmas.{whole_means}
+use Rattle.run_lists.specs.Run.{IsOfProgram, Run, first_cells, locks_of, task_of, task_setting}
+use Rattle.run_lists.specs.RunList.{RunList}
+use Rattle.run_lists.specs.Told.{Came, came_next, came_of, made_by, outcomes_by, to_come}
+use Rattle.run_lists.specs.TwoSides.{IfTwoSided, NamesBoth, NamesTwoSides}
+use Rattle.run_lists.proofs.CheckFacts.{AllFallSo, FallsSo, IsReported, IsTold, OnTell, TellsKnown, back}
+use Rattle.run_lists.proofs.OwnLasts.{finder_told, hears_at, one_arming, own_latest, own_name, own_split, own_word, stands_at, stands_later, still_told}
+use Rattle.run_lists.proofs.TaskFacts.{Anywhere, IsKnown, whole_text}
+
+-- a list and its front
+back_is : (p own : List Record) → back p own ≡ reverse p ++ own
+back_is [] own = refl
+back_is (first ∷ later) own =
+    back_is later (first ∷ own) ∙ (sym (append_assoc (reverse later) (first ∷ []) own)
+    ∙ ap (λ (r : List Record). r ++ own) (sym (reverse-append (first ∷ []) later)))
+
+-- own records are what is read of them
+back_own : (own : List Record) → back (reverse own) [] ≡ own
+back_own own = back_is (reverse own) [] ∙ (append-nil (reverse (reverse own)) ∙ reverse-reverse own)
+
+same_front : (p u q v : List Record) → length p ≡ length u → p ++ q ≡ u ++ v → p ≡ u
+same_front [] [] q v same is = refl
+same_front [] (first ∷ u) q v same is = absurd (omega (arith, same))
+same_front (first ∷ p) [] q v same is = absurd (omega (arith, same))
+same_front (first ∷ p) (other ∷ u) q v same is =
+    let one : first ≡ other = cc in
+    let rest : p ++ q ≡ u ++ v = cc in
+    let shorter : length p ≡ length u = omega (arith, same) in
+    ap (λ (r : Record). r ∷ p) one ∙ ap (λ (r : List Record). other ∷ r) (same_front p u q v shorter rest)
+
+there : (before later : List Happening) (x : Happening) → slice_get (before ++ x ∷ later) (length before) ≡ Some x
+there [] later x = refl
+there (first ∷ before) later x = there before later x
+
+tells_at : (s : order.Setting) (end : Standing) (p q own : List Record) (x : Record)
+    → TellsKnown (checks_of s) (IsKnown s end) (Anywhere s end) own (p ++ x ∷ q) → OnTell (checks_of s) (IsKnown s end) (Anywhere s end) (back p own) x.step
+tells_at s end [] q own x h = h.0
+tells_at s end (first ∷ p) q own x h = tells_at s end p q (first ∷ own) x h.1
+
+all_came : (s : order.Setting) (end : Standing) (records : List Record) (n : ℕ) (Q : Came → Type 0) (outs : List Fallen)
+    → AllFallSo (checks_of s) (IsKnown s end) (Anywhere s end) [] records outs
+    → ((f : Fallen) → FallsSo (checks_of s) (IsKnown s end) (Anywhere s end) [] records f.access f.later f.outcome → length f.later ≡ n → Q (came_of f))
+    → All Q (map came_of (filter (λ f. length f.later == n) outs))
+all_came s end records n Q [] falls each = All-nil Q
+all_came s end records n Q (f ∷ outs) falls each = elim (eqb_tells (length f.later) n) [
+  | inl here ↦ rw here.0 (All-cons Q (came_of f) _ (each f falls.0 here.1) (all_came s end records n Q outs falls.1 each))
+  | inr apart ↦ rw apart.0 (all_came s end records n Q outs falls.1 each)
+]
+
+one_breaks : (first second : Bool) → IsTrue (first || second) → IsTrue first ⊎ IsTrue second
+one_breaks true second h = inl refl
+one_breaks false second h = inr h
+
+taken_word : Option Part → ℕ
+taken_word (Some (Taken word)) = word
+taken_word part = 0
+
+taken_same : (w v : ℕ) → Some (Taken w) ≡ Some (Taken v) → w ≡ v
+unfolding taken_word
+taken_same w v is = ap taken_word is
+
+module _ (run : Run) (records : List Record) (list : RunList run records)
+    (rules : Keeps run.rules.slots (locks_of run) (first_cells run) records)
+    (read_back : (layout : Layout) (a : access.Access) (word : ℕ) → WordOf layout a word → Watches layout word (watch_of layout a)) where
+  abbrev Rules : List Record → Type 0
+  Rules l = Keeps run.rules.slots (locks_of run) (first_cells run) l
+
+  rules_before : (later earlier : List Record) → Rules (later ++ earlier) → Rules earlier
+  rules_before [] earlier kept = kept
+  rules_before (latest ∷ later) earlier kept =
+      rules_before later earlier (keeps_before run.rules.slots (locks_of run) (first_cells run) latest (later ++ earlier) kept)
+
+  abbrev ending : ℕ → Standing
+  ending task = (list.tasks task).whole.end
+
+  abbrev whole : ℕ → List Record
+  whole task = reverse (records_of task records) ++ (list.tasks task).more
+
+  -- an access of a task that has begun is one of the program
+  of_program : (task : ℕ) (b : Begun) → IsKnown (task_setting run task) (ending task) b → IsOfProgram run b.access
+  of_program task b known =
+      let s : order.Setting = task_setting run task in
+      let means = whole_means s (length (task_of run task).registers) (task_of run task).body (whole task) (list.tasks task).whole in
+      let at : slice_get (ending task).progress.did (length known.before) ≡ Some (happenings.Begin b.access) =
+      subst (λ (d : List Happening). slice_get d (length known.before) ≡ Some (happenings.Begin b.access)) (sym known.split) (there known.before known.later (happenings.Begin b.access)) in
+      let text : IsOfText (setting_of run.program run.places task) (task_of run task).body b.access =
+      of_text s.text (task_of run task).body _ (ending task).progress means (length known.before) b.access at in
+      subst (λ (t : ℕ). IsOfText (setting_of run.program run.places t) (task_of run t).body b.access) (sym known.own.task) text
+
+  -- a task's records up to one of them are the front of all of them
+  front_of : (task : ℕ) (later earlier : List Record) → records ≡ later ++ earlier
+      → (rest : List Record) × (whole task ≡ reverse (records_of task earlier) ++ rest)
+  front_of task later earlier is =
+      let own : records_of task records ≡ records_of task later ++ records_of task earlier = ap (λ (r : List Record). records_of task r) is ∙ own_split task later earlier in
+      let more : List Record = (list.tasks task).more in (
+        reverse (records_of task later) ++ more,
+        ap (λ (r : List Record). reverse r ++ more) own
+            ∙ (ap (λ (r : List Record). r ++ more) (reverse-append (records_of task later) (records_of task earlier))
+            ∙ append_assoc (reverse (records_of task earlier)) (reverse (records_of task later)) more),
+      )
+
+  -- what is so of a tell
+  told_by : (task : ℕ) (later earlier : List Record) (latest : Record) (index ticket : ℕ) → records ≡ later ++ latest ∷ earlier → latest.task ≡ task → latest.step ≡ Tell index ticket
+      → IsTold (checks_of (task_setting run task)) (IsKnown (task_setting run task) (ending task)) (Anywhere (task_setting run task) (ending task)) (records_of task earlier) index ticket
+  told_by task later earlier latest index ticket is mine step =
+      let s : order.Setting = task_setting run task in
+      let own : List Record = records_of task earlier in
+      let front = front_of task later (latest ∷ earlier) is in
+      let split : whole task ≡ reverse own ++ latest ∷ front.0 =
+      front.1 ∙ (ap (λ (r : List Record). reverse r ++ front.0) (own_latest task latest earlier mine)
+      ∙ (ap (λ (r : List Record). r ++ front.0) (reverse-append (latest ∷ []) own) ∙ append_assoc (reverse own) (latest ∷ []) front.0)) in
+      let all = whole_text s (length (task_of run task).registers) (task_of run task).body (whole task) (list.tasks task).whole in
+      let tells = subst (λ (r : List Record). TellsKnown (checks_of s) (IsKnown s (ending task)) (Anywhere s (ending task)) [] r) split all.0 in
+      let at = tells_at s (ending task) (reverse own) front.0 [] latest tells in
+      let mine_at = subst (λ (r : List Record). OnTell (checks_of s) (IsKnown s (ending task)) (Anywhere s (ending task)) r latest.step) (back_own own) at in
+      subst (λ (st : Step). OnTell (checks_of s) (IsKnown s (ending task)) (Anywhere s (ending task)) own st) step mine_at
+
+  breaks_of : (layout : Layout) (a b : access.Access) (word : ℕ) → WordOf layout a word → Hits layout b word → Breaks a b
+  breaks_of layout a b word of_a hits =
+      let said = read_back layout a word of_a in
+      let writes : IsTrue ((watch_of layout a).write || write_flag b.kind) =
+      subst (λ (w : Watch). IsTrue (w.write || write_flag b.kind)) (sym said.says) hits.breaks in
+      one_breaks (write_flag a.kind) (write_flag b.kind) writes
+
+  -- a report that fell at a task's record
+  module _ (task : ℕ) (later : List Record) (earlier : List Record) (is : records ≡ later ++ earlier) (a : access.Access) (pair : Halves)
+      (at : IsReported (checks_of (task_setting run task)) (IsKnown (task_setting run task) (ending task)) (Anywhere (task_setting run task) (ending task)) a pair (records_of task earlier)) where
+    kept : Rules earlier
+    kept = rules_before later earlier (subst Rules is rules)
+
+    part : part_of task at.index earlier ≡ Some Hit
+    part = here_part at.index (in_hand (records_of task earlier)) Hit at.has
+
+    abbrev Heard : Type 0
+    Heard = HeardItsFinder task at.index pair earlier
+
+    heard_it : Heard
+    heard_it = heard_finder run.rules.slots (locks_of run) (first_cells run) earlier kept task at.index pair part at.hears at.above
+
+    setter_named : pair.setter ≡ ticket_number a
+    setter_named =
+        let names = own_name run.rules.slots (locks_of run) (first_cells run) earlier at.index (record { setter = task; word = heard_it.word }) kept heard_it.met.armed in
+        some_same (sym heard_it.named ∙ (sym names ∙ at.named))
+
+    setter_word : heard_it.word ≡ word_of run.rules.layout a
+    setter_word =
+        let mine = own_word run.rules.slots (locks_of run) (first_cells run) earlier at.index (record { setter = task; word = heard_it.word }) kept heard_it.met.armed in
+        ap (λ (arming : Arming). arming.word) (some_same (sym mine ∙ at.armed))
+
+    abbrev IsIt : Record → List Record → Type 0
+    IsIt made before = IsTell at.index heard_it.number heard_it.finder pair.finder made before
+
+    names_two : NamesTwoSides run records a pair
+    names_two =
+        let tell = stands_at IsIt earlier heard_it.telling in
+        let finder : ℕ = heard_it.finder in
+        let whole_split : records ≡ (later ++ tell.later) ++ tell.latest ∷ tell.earlier =
+        is ∙ (ap (λ (r : List Record). later ++ r) tell.split ∙ sym (append_assoc later tell.later (tell.latest ∷ tell.earlier))) in
+        let by = told_by finder (later ++ tell.later) tell.earlier tell.latest at.index pair.finder whole_split tell.holds.task tell.holds.step in
+        let each = hears_at tell.later tell.latest tell.earlier
+        (subst EachHearsTheOther tell.split (each_hears run.rules.slots (locks_of run) (first_cells run) earlier kept)) in
+        let heard_so : HearsTheOther finder (Tell at.index pair.finder) tell.earlier =
+        subst (λ (st : Step). HearsTheOther finder st tell.earlier) tell.holds.step (subst (λ (t : ℕ). HearsTheOther t tell.latest.step tell.earlier) tell.holds.task each) in
+        let taken : heard_so.0 ≡ by.word =
+        taken_same heard_so.0 by.word (sym heard_so.2 ∙ here_part at.index (in_hand (records_of finder tell.earlier)) (Taken by.word) by.has) in
+        let number : heard_so.4.number ≡ heard_it.number = some_same (sym heard_so.4.met.last ∙ tell.holds.last) in
+        let arming : SomeRecord (IsArming at.index heard_it.number heard_so.4.setter heard_so.0) tell.earlier =
+        subst (λ (n : ℕ). SomeRecord (IsArming at.index n heard_so.4.setter heard_so.0) tell.earlier) number heard_so.4.met.arming in
+        let arming_there : SomeRecord (IsArming at.index heard_it.number heard_so.4.setter heard_so.0) earlier =
+        subst (λ (r : List Record). SomeRecord (IsArming at.index heard_it.number heard_so.4.setter heard_so.0) r) (sym tell.split)
+        (stands_later (IsArming at.index heard_it.number heard_so.4.setter heard_so.0) tell.later (tell.latest ∷ tell.earlier) (inr arming)) in
+        let one = one_arming at.index heard_it.number heard_so.4.setter heard_so.0 task heard_it.word earlier arming_there heard_it.met.arming in
+        let word : by.word ≡ word_of run.rules.layout a = sym taken ∙ (one.1 ∙ setter_word) in
+        let b : access.Access = by.by.access in
+        let found = finder_told run.rules.slots (locks_of run) (first_cells run) earlier at.index task pair kept part at.hears at.above in
+        let b_is : IsOfProgram run b = of_program finder by.by by.known in
+        let a_is : IsOfProgram run a = subst (λ (x : access.Access). IsOfProgram run x) at.is (of_program task at.by at.known) in
+        let a_task : a.task ≡ task = sym (ap (λ (x : access.Access). x.task) at.is) ∙ at.known.own.task in
+        let stands : fin.get run.sites pair.finder ≡ Some b = (list.sites pair.finder b).1 (by.is, b_is) in
+        record {
+          finder = b;
+          setter_named = setter_named;
+          finder_named = by.is;
+          setter_is = a_is;
+          finder_is = b_is;
+          tasks = λ same. heard_it.met.two (sym by.known.own.task ∙ (sym same ∙ a_task));
+          overlap = subst (λ (o : Option access.Access). IsSomeAnd o (λ f. Overlap a f)) stands at.shares;
+          breaks = breaks_of run.rules.layout a b by.word (record { encodable = at.encodable; is = word }) by.hits;
+          index = at.index;
+          number = found.0;
+          told = subst (λ (r : List Record). Contains (finders_told r) (meeting at.index found.0 pair.setter pair.finder)) (sym is) (still_told later earlier (meeting at.index found.0 pair.setter pair.finder) found.1);
+        }
+
+  -- what came of a check, if it is a report of two sides
+  named : (task : ℕ) (later earlier : List Record) → records ≡ later ++ earlier → (a : access.Access) (outcome : Outcome) (left : List Record)
+      → length left ≡ to_come (list.tasks task) (made_by task earlier)
+      → FallsSo (checks_of (task_setting run task)) (IsKnown (task_setting run task) (ending task)) (Anywhere (task_setting run task) (ending task)) [] (whole task) a left outcome
+      → IfTwoSided run records a outcome
+  named task later earlier is a (outcomes.Report pair seen) left so_many h =
+      let s : order.Setting = task_setting run task in
+      let own : List Record = records_of task earlier in
+      let front = front_of task later earlier is in
+      let all : length (whole task) ≡ length own + length front.0 =
+      ap (λ (r : List Record). length r) front.1 ∙ (length-append (reverse own) front.0 ∙ ap (λ (n : ℕ). n + length front.0) (length-reverse own)) in
+      let parts : length (whole task) ≡ length h.0 + length left = ap (λ (r : List Record). length r) h.1 ∙ length-append h.0 left in
+      let left_is : length left ≡ length (whole task) - length own = so_many in
+      let as_long : length h.0 ≡ length own = omega (arith, all, parts, left_is) in
+      let same : h.0 ≡ reverse own = same_front h.0 (reverse own) left front.0 (as_long ∙ sym (length-reverse own)) (sym h.1 ∙ front.1) in
+      let reached : back h.0 [] ≡ own = ap (λ (r : List Record). back r []) same ∙ back_own own in
+      names_two task later earlier is a pair (subst (λ (r : List Record). IsReported (checks_of s) (IsKnown s (ending task)) (Anywhere s (ending task)) a pair r) reached h.2)
+  named task later earlier is a outcomes.Nothing left so_many h = tt
+  named task later earlier is a outcomes.Lost left so_many h = tt
+  named task later earlier is a (outcomes.Told pair) left so_many h = tt
+  named task later earlier is a outcomes.Capacity left so_many h = tt
+  named task later earlier is a outcomes.Unencodable left so_many h = tt
+  named task later earlier is a outcomes.Quiet left so_many h = tt
+  named task later earlier is a (outcomes.Unknown old new) left so_many h = tt
+  named task later earlier is a (outcomes.Dropped reason) left so_many h = tt
+
+  named_by : (later earlier : List Record) → records ≡ later ++ earlier → All (NamesBoth run records) (outcomes_by list earlier)
+  named_by later [] is = All-nil (NamesBoth run records)
+  named_by later (latest ∷ earlier) is =
+      let task : ℕ = latest.task in
+      let s : order.Setting = task_setting run task in
+      let before = named_by (later ++ latest ∷ []) earlier (is ∙ sym (append_assoc later (latest ∷ []) earlier)) in
+      let facts = (whole_text s (length (task_of run task).registers) (task_of run task).body (whole task) (list.tasks task).whole).1 in
+      let one_more : made_by task earlier + 1 ≡ made_by task (latest ∷ earlier) =
+      let so_many : length (records_of task (latest ∷ earlier)) ≡ suc (length (records_of task earlier)) = ap (λ (r : List Record). length r) (own_latest task latest earlier refl) in
+      omega (arith, so_many) in
+      let now = all_came s (ending task) (whole task) (to_come (list.tasks task) (made_by task earlier + 1)) (NamesBoth run records) (ending task).outcomes facts
+      (λ f falls left. named task later (latest ∷ earlier) is f.access f.outcome f.later (left ∙ ap (λ (n : ℕ). to_come (list.tasks task) n) one_more) falls) in
+      All-append (NamesBoth run records) (outcomes_by list earlier) (came_next list task (made_by task earlier)) before now
+
+  pub all_named : All (NamesBoth run records) (outcomes_by list records)
+  all_named = named_by [] records refl
