@@ -1,1 +1,2 @@
 pub mod TreeLemmas
+pub mod KeptLemmas

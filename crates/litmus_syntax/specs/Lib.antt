@@ -3,3 +3,4 @@ pub mod Sites
 pub mod Views
 pub mod PrintedForm
 pub mod Limits
+pub mod Kept

@@ -3,6 +3,7 @@
 
 pub mod error;
 pub mod expression;
+pub mod limits;
 pub mod names;
 pub mod program;
 pub mod proposition;
