@@ -1,6 +1,8 @@
 //! Whole litmus texts.
 
-ghost use Rattle.std.specs.Prelude.{◌≡◌, ◌≢◌, ◌≤◌, ◌<◌, ◌↔◌, length, Any, IsTrue, IsErrOf, OnOk};
+ghost use Rattle.std.specs.Prelude.{◌≡◌, ◌≢◌, ◌≤◌, ◌<◌, ◌↔◌, length, Any, IfOk, IsTrue, IsErrOf, OnOk};
+ghost use Rattle.litmus_syntax.specs.Limits.{KeepsLimits};
+ghost use Rattle.litmus_syntax.specs.Views.{program_of};
 ghost use Rattle.litmus_parse.specs.Text.{file_bytes, IsTextByte};
 
 use crate::condition::Condition;
@@ -31,6 +33,7 @@ pub fn parse(alloc: Global, text: &[u8]) -> Result<Program, ParseError>
     ensures file_limit { IsErrOf result (ParseError.Limit Limit.File) ↔ (file_bytes < length text.now) }
     ensures not_ascii { IsErrOf result ParseError.NotAscii ↔
         ((length text.now ≤ file_bytes) × Any (λ byte. ¬ IsTextByte byte) text.now) }
+    ensures keeps_limits { IfOk result (λ program. KeepsLimits (program_of program)) }
 {
     if text.len() > FILE_BYTES {
         return Err(ParseError::Limit(Limit::File));
@@ -87,7 +90,9 @@ fn limit_of(excess: Excess) -> Limit
 }
 
 /// Reads the whole text, from left to right.
-fn read(alloc: Global, text: &[u8]) -> Result<Program, Refusal> {
+fn read(alloc: Global, text: &[u8]) -> Result<Program, Refusal>
+    ensures { IfOk result (λ program. KeepsLimits (program_of program)) }
+{
     let head = read_head(text).map_err(|at| Refusal::Syntax { at })?;
     let spots = tokens(alloc, text, head.after)?;
     let cursor = Cursor::new(&spots, text.len());
@@ -95,7 +100,9 @@ fn read(alloc: Global, text: &[u8]) -> Result<Program, Refusal> {
 }
 
 /// Reads the tokens of a text whose test has the name.
-fn program(alloc: Global, name: Name, cursor: Cursor<'_>) -> Result<Program, Refusal> {
+fn program(alloc: Global, name: Name, cursor: Cursor<'_>) -> Result<Program, Refusal>
+    ensures { IfOk result (λ program. KeepsLimits (program_of program)) }
+{
     let mut header = Header {
         alloc,
         cursor,
@@ -114,13 +121,18 @@ fn program(alloc: Global, name: Name, cursor: Cursor<'_>) -> Result<Program, Ref
     if let Some(at) = condition.declarations.contradiction() {
         return Err(Refusal::Unsupported { at });
     }
-    Ok(Program {
+    let program = Program {
         name,
         variables: Sequence::from_vec(condition.declarations.variables(alloc)?),
         tasks: Sequence::from_vec(tasks(alloc, &condition.processes, bodies)?),
         quantifier,
         condition: proposition,
-    })
+    };
+    // Each limit and each type is looked at where it is read. That all are kept is known by this look at the whole.
+    if !program.keeps_limits() {
+        return Err(condition.cursor.offence());
+    }
+    Ok(program)
 }
 
 /// The processes of a text, with their bodies.
