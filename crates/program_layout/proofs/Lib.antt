@@ -1,2 +1,3 @@
 pub mod PlaceLemmas
 pub mod LayLemmas
+pub mod CellLemmas

@@ -1,6 +1,7 @@
 //! The bytes of each variable, and the cells of memory that they lie in.
 
-ghost use Rattle.std.specs.Prelude.{◌≡◌, ◌≤◌, ◌↔◌, ◌*◌, ◌/◌, ℕ, List, IfOk, IsErrOf, OnOk, count_by, fold, length, map, slice_get, unwrap_or};
+ghost use Rattle.std.specs.Prelude.{◌≡◌, ◌≤◌, ◌<◌, ◌↔◌, ◌*◌, ◌/◌, ◌^◌, ◌==◌, ℕ, List, [], IfOk, IsErrOf, OnOk, count_by, fold, length, map, slice_get, unwrap_or};
+ghost use Rattle.std.specs.List.{list_any};
 ghost use Rattle.std.specs.Option.{option_map};
 ghost use Rattle.access_types.specs.History as memory;
 ghost use Rattle.access_types.specs.History.{initial_memory, value_from};
@@ -22,6 +23,9 @@ const FIRST: u64 = 0x10000;
 
 /// From a variable to the next one.
 const STRIDE: u64 = 64;
+
+/// How many bytes a cell has. Each begins at a multiple of it.
+const CELL: u64 = 8;
 
 /// Where each variable of a program stands, and its initial value as its bytes hold it.
 #[derive(Debug, Drop)]
@@ -77,6 +81,37 @@ fn initial_value(contents: Contents) -> u64
         Contents::Long(value) => value.cast_unsigned(),
         Contents::Lock => 0,
     }
+}
+
+/// The byte of a value at an offset, from the lowest on.
+fn byte_of(value: u64, offset: u64) -> u8
+    ensures { result ≡ memory.byte_of value offset }
+{
+    if offset < 8 {
+        (value / 256u64.pow(offset as u32) % 256) as u8
+    } else {
+        0
+    }
+}
+
+/// The cell is one of these.
+fn is_among(cells: &[u64], cell: u64) -> bool
+    ensures { result ≡ list_any (λ other. other == cell) cells.now }
+{
+    cells.contains(&cell)
+}
+
+/// Adds the cell of the bytes of a variable, if it has any and their cell isn't there.
+fn add_cell(cells: &mut Vec<u64>, variable: (Bytes, u64)) -> Result<(), AllocError>
+    ensures { OnOk result (cells.new.items ≡ spec.with_cell cells.old.items variable) }
+{
+    let (bytes, _) = variable;
+    let cell = bytes.addr - bytes.addr % CELL;
+    if bytes.size == 0 || is_among(cells.as_slice(), cell) {
+        return Ok(());
+    }
+    cells.push(cell)?;
+    Ok(())
 }
 
 impl Layout {
@@ -143,5 +178,94 @@ impl Layout {
             .iter()
             .map(|(bytes, _)| *bytes)
             .collect(alloc)
+    }
+
+    /// The addresses of the cells of memory, in the order of the variables that lie in them.
+    pub fn cells(&self, alloc: Global) -> Result<Vec<u64>, AllocError>
+        ensures { (places : List spec.Place) (variables : List Variable) → Lays places variables self.now
+            → IfOk result (λ cells. cells.items ≡ spec.cells_of places variables) }
+    {
+        self.cells_laid(alloc)
+    }
+
+    /// The same, of the bytes that it has.
+    fn cells_laid(&self, alloc: Global) -> Result<Vec<u64>, AllocError>
+        ensures { IfOk result (λ cells. cells.items ≡ fold spec.with_cell [] self.now.variables.items) }
+    {
+        let mut cells = Vec::new(alloc);
+        for variable in &self.variables {
+            add_cell(&mut cells, *variable)?;
+        }
+        Ok(cells)
+    }
+
+    /// What the cells hold at first, in the order of `cells`.
+    pub fn cells_at_first(&self, alloc: Global) -> Result<Vec<u64>, AllocError>
+        ensures { (places : List spec.Place) (variables : List Variable) → Lays places variables self.now
+            → IfOk result (λ words. words.items ≡ spec.cells_at_first places variables) }
+    {
+        let cells = self.cells_laid(alloc)?;
+        self.words_at(alloc, cells.as_slice())
+    }
+
+    /// What the blocks of 8 bytes hold at first in which these addresses lie.
+    fn words_at(&self, alloc: Global, addresses: &[u64]) -> Result<Vec<u64>, AllocError>
+        ensures { IfOk result (λ words.
+            words.items ≡ map (λ address. value_from (initial_memory self.now.variables.items) (8 * (address / 8)) 8) addresses.now) }
+    {
+        let mut words = Vec::with_capacity(alloc, addresses.len())?;
+        for address in addresses {
+            words.push(self.word_at(*address / CELL))?;
+        }
+        Ok(words)
+    }
+
+    /// What the 8 bytes of a block hold at first. Blocks are counted from address 0.
+    fn word_at(&self, block: u64) -> u64
+        requires { block < 2 ^ 61 }
+        ensures { result ≡ value_from (initial_memory self.now.variables.items) (8 * block) 8 }
+    {
+        let first = CELL * block;
+        u64::from_le_bytes([
+            self.byte_at(first),
+            self.byte_at(first + 1),
+            self.byte_at(first + 2),
+            self.byte_at(first + 3),
+            self.byte_at(first + 4),
+            self.byte_at(first + 5),
+            self.byte_at(first + 6),
+            self.byte_at(first + 7),
+        ])
+    }
+
+    /// What the byte at an address holds at first: 0 where no variable stands.
+    fn byte_at(&self, address: u64) -> u8
+        ensures { result ≡ initial_memory self.now.variables.items address }
+    {
+        let mut byte = 0;
+        for (bytes, value) in &self.variables {
+            if bytes.addr <= address && address - bytes.addr < bytes.size {
+                byte = byte_of(*value, address - bytes.addr);
+            }
+        }
+        byte
+    }
+
+    /// How many locks there are.
+    pub fn locks(&self) -> usize
+        ensures { (places : List spec.Place) (variables : List Variable) → Lays places variables self.now
+            → result ≡ count_by is_lock variables }
+    {
+        self.without_bytes()
+    }
+
+    /// How many variables have no bytes.
+    fn without_bytes(&self) -> usize
+        ensures { result ≡ count_by (λ laid. laid.0.size == 0) self.now.variables.items }
+    {
+        self.variables
+            .iter()
+            .filter(|(bytes, _)| bytes.size == 0)
+            .count()
     }
 }

@@ -1,5 +1,5 @@
 -- Accesses that are added one after the other, each under a ticket that wasn't there.
-use Rattle.std.proofs.Common.{◌≡◌, ◌≢◌, ◌<◌, ◌≤◌, ◌⊎◌, ◌∙◌, ◌==◌, ◌+◌, ℕ, Bool, true, false, List, Option, None, Some, ap, arith, cond, inl, inr, length, slice_get, subst, sym, refl}
+use Rattle.std.proofs.Common.{◌≡◌, ◌≢◌, ◌<◌, ◌≤◌, ◌⊎◌, ◌∙◌, ◌==◌, ◌+◌, ℕ, Bool, false, List, Option, None, Some, ap, arith, cond, inl, inr, length, slice_get, subst, sym, refl}
 use Rattle.std.proofs.lemmas.Bool.{cases_lt, eq-eqb}
 use Rattle.std.proofs.lemmas.Bool.Decides.{eqb_tells}
 use Rattle.std.proofs.lemmas.Option.{none-some, same_Some, slice_get_within}

@@ -6,7 +6,7 @@ use Rattle.access_types.specs.declared.history.Bytes.{Bytes}
 use Rattle.access_types.specs.declared.kind.Kind.{Kind}
 use Rattle.access_types.specs.declared.kind.Kind.TheVariants as kinds
 use Rattle.access_types.specs.declared.kind.Claim.TheVariants.{NoWrites}
-use Rattle.litmus_syntax.specs.Limits.{AssignmentTyped, BlockTyped, CallTyped, Sort, StatementTyped}
+use Rattle.litmus_syntax.specs.Limits.{BlockTyped, CallTyped, Sort, StatementTyped}
 use Rattle.litmus_syntax.specs.Tree.{Assignment, Block, Expression, Statement}
 use Rattle.litmus_syntax.specs.Tree as tree
 use Rattle.litmus_syntax.specs.declared.statement.Call.{Call}

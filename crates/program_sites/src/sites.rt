@@ -94,11 +94,7 @@ fn add_task(
 ///
 /// `BadPlace`: a place is no multiple of its variable's size or is above 2^62, its name is unknown, a lock's, or
 /// placed twice.
-pub fn sites_of(
-    alloc: Global,
-    program: &Program,
-    places: &[Place],
-) -> Result<Sites, SitesError>
+pub fn sites_of(alloc: Global, program: &Program, places: &[Place]) -> Result<Sites, SitesError>
     requires { KeepsLimits (program_of program.now) }
     ensures sites { IfOk result (AreSitesOf (program_of program.now) (places_of places.now)) }
     ensures bad_place { IsErrOf result SitesError.BadPlace ↔ (AreFit program.now.variables places.now → ⊥) }

@@ -1,6 +1,5 @@
 -- One repetition more.
 use Rattle.std.proofs.Common.{◌∙◌, ℕ, Option, ap}
-use Rattle.access_types.specs.Access.{Access}
 use Rattle.program_sites.proofs.AddsLemmas.{adds_repetition}
 use Rattle.program_sites.proofs.sites.add_site.Goals as goal
 

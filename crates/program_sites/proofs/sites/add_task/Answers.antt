@@ -1,13 +1,13 @@
 -- One site more.
-use Rattle.std.proofs.Common.{◌≡◌, ◌∙◌, List, Some, ap, arith, inl, slice_get, subst, sym}
+use Rattle.std.proofs.Common.{◌≡◌, ◌∙◌, List, ap, arith, subst, sym}
 use Rattle.std.proofs.lemmas.Option.{slice_get-get_or, slice_get_within}
 use Rattle.access_types.specs.declared.history.Bytes.{Bytes}
 use Rattle.litmus_meaning.specs.TextSites.{AllLoopsFit, block_by, bytes_among}
 use Rattle.litmus_meaning.specs.declared.site.Site.{Site}
 use Rattle.litmus_syntax.specs.Views.{block_of}
 use Rattle.litmus_syntax.specs.declared.statement.Statement.{Statement}
-use Rattle.program_sites.specs.Added.{Adds, HaveAccesses, IsAt}
-use Rattle.program_sites.proofs.AddsLemmas.{adds_none, adds_same, adds_site, below_site}
+use Rattle.program_sites.specs.Added.{HaveAccesses, IsAt}
+use Rattle.program_sites.proofs.AddsLemmas.{adds_same, adds_site}
 use Rattle.program_sites.proofs.sites.add_task.Goals as goal
 
 -- the sites that were found are those of the text

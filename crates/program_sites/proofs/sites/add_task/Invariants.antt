@@ -1,5 +1,5 @@
 -- The accesses at earlier sites are added.
-use Rattle.std.proofs.Common.{◌≡◌, ◌<◌}
+use Rattle.std.proofs.Common.{◌<◌}
 use Rattle.program_sites.specs.Added.{Adds, IsAt}
 use Rattle.program_sites.proofs.sites.add_task.Given as goal
 

@@ -1,5 +1,5 @@
 -- One task more.
-use Rattle.std.proofs.Common.{◌≡◌, ◌≤◌, ◌<◌, ◌∙◌, ◌⊎◌, ◌+◌, ℕ, List, Some, ap, arith, inl, inr, length, map as mapped, refl, slice_get, subst, sym}
+use Rattle.std.proofs.Common.{◌≡◌, ◌<◌, ◌∙◌, ◌+◌, ℕ, List, Some, ap, arith, inl, inr, length, map as mapped, refl, slice_get, subst, sym}
 use Rattle.std.proofs.lemmas.Bool.{cases_lt}
 use Rattle.std.proofs.lemmas.List.{length-map}
 use Rattle.std.proofs.lemmas.Option.{none-some, slice_get-map, slice_get_read}
@@ -7,20 +7,18 @@ use Rattle.std.specs.FinMap as map
 use Rattle.std.specs.FinMap.{get-empty}
 use Rattle.std.specs.Option.{option_map}
 use Rattle.std.specs.Ordering.{nat_cmp}
-use Rattle.access_types.specs.Access.{Access}
 use Rattle.access_types.specs.Sites.{AccessMap}
 use Rattle.access_types.specs.declared.history.Bytes.{Bytes}
 use Rattle.litmus_meaning.proofs.LimitLemmas.{all_loops_fit}
 use Rattle.litmus_meaning.specs.Layout.{bytes_of_variable}
 use Rattle.litmus_meaning.specs.TextSites.{bytes_among}
 use Rattle.litmus_syntax.specs.Limits.{TaskKeepsLimits}
-use Rattle.litmus_syntax.specs.Tree as tree
 use Rattle.litmus_syntax.specs.Views.{block_of, program_of, task_of}
 use Rattle.litmus_syntax.specs.declared.program.Task.{Task}
 use Rattle.litmus_syntax.specs.declared.program.Variable.{Variable}
 use Rattle.program_layout.specs.Places.{AreFit, places_of}
 use Rattle.program_layout.specs.Lays.{Lays}
-use Rattle.program_sites.specs.Added.{Adds, AllBelow, IsAt, first_ticket}
+use Rattle.program_sites.specs.Added.{Adds, first_ticket}
 use Rattle.program_sites.specs.Sites.{IsOfProgram}
 use Rattle.program_sites.proofs.AddsLemmas.{adds_both, below_after}
 use Rattle.program_sites.proofs.ProgramLemmas.{from_program, have_accesses, of_program, task_at, to_program}

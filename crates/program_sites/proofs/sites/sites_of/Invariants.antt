@@ -1,5 +1,5 @@
 -- The accesses of earlier tasks are added.
-use Rattle.std.proofs.Common.{◌≡◌, ◌<◌}
+use Rattle.std.proofs.Common.{◌<◌}
 use Rattle.litmus_syntax.specs.Views.{program_of}
 use Rattle.program_layout.specs.Places.{places_of}
 use Rattle.program_sites.specs.Added.{Adds}
