@@ -119,3 +119,51 @@ fn bad_places_are_refused(rt: HostRuntime) -> Result<(), Fail> {
     assert!(rt; laid(rt.alloc(), variables.as_slice(), &highest).is_ok());
     Ok(())
 }
+
+/// A char at 0x1003, an int at 0x1004, a lock, and a long at its own address.
+#[test]
+fn cells_hold_the_bytes_of_their_variables(rt: HostRuntime) -> Result<(), Fail> {
+    let mut variables = Vec::new(rt.alloc());
+    for (letter, contents) in [
+        ("c", Contents::Char(-1)),
+        ("x", Contents::Int(0x0102_0304)),
+        ("l", Contents::Lock),
+        ("y", Contents::Long(-2)),
+    ] {
+        let name = named(rt.alloc(), letter)?;
+        variables.push(Variable { name, contents })?;
+    }
+    let places = [
+        placed(rt.alloc(), "c", 0x1003)?,
+        placed(rt.alloc(), "x", 0x1004)?,
+    ];
+    let layout = laid(rt.alloc(), variables.as_slice(), &places)?;
+    let cells = layout.cells(rt.alloc())?;
+    assert_eq!(rt; cells.as_slice(), [0x1000, 0x100c0].as_slice());
+    let words = layout.cells_at_first(rt.alloc())?;
+    assert_eq!(rt;
+        words.as_slice(),
+        [0x0102_0304_ff00_0000, 0xffff_ffff_ffff_fffe].as_slice()
+    );
+    assert_eq!(rt; layout.locks(), 1);
+    Ok(())
+}
+
+/// An int that stands on the lower bytes of a long was laid down before it, and is lost.
+#[test]
+fn later_variables_lie_over_earlier_ones(rt: HostRuntime) -> Result<(), Fail> {
+    let mut variables = Vec::new(rt.alloc());
+    for (letter, contents) in [("x", Contents::Int(7)), ("y", Contents::Long(1))] {
+        let name = named(rt.alloc(), letter)?;
+        variables.push(Variable { name, contents })?;
+    }
+    let places = [placed(rt.alloc(), "y", 0x10000)?];
+    let layout = laid(rt.alloc(), variables.as_slice(), &places)?;
+    let cells = layout.cells(rt.alloc())?;
+    assert_eq!(rt; cells.as_slice(), [0x10000].as_slice());
+    let words = layout.cells_at_first(rt.alloc())?;
+    assert_eq!(rt; words.as_slice(), [1].as_slice());
+    assert_eq!(rt; layout.locks(), 0);
+    assert_eq!(rt; layout.all_bytes(rt.alloc())?.len(), 2);
+    Ok(())
+}
