@@ -1,0 +1,5 @@
+pub mod Digits
+pub mod Words
+pub mod Hex
+pub mod FieldTexts
+pub mod LineTexts
