@@ -3,3 +3,5 @@ pub mod CheckSteps
 pub mod TaskFacts
 pub mod OwnLasts
 pub mod TwoSides
+pub mod Ways
+pub mod Histories
