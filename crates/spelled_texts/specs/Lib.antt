@@ -1,0 +1,3 @@
+pub mod Core
+pub mod Begins
+pub mod Fits
