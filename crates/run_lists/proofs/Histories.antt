@@ -25,7 +25,7 @@ use Rattle.run_lists.proofs.OwnLasts.{own_latest}
 use Rattle.run_lists.proofs.Ways.{Chain, by_fewer, by_last, last_of, whole_chain}
 
 -- what of a history is a task's
-of_both : (task : ℕ) (first second : History)
+pub of_both : (task : ℕ) (first second : History)
     → happenings_of task (first ++ second) ≡ happenings_of task first ++ happenings_of task second
 of_both task first second =
     rw (filter-append (λ (moment : Moment). moment.task == task) first second,

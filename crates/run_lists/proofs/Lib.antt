@@ -5,3 +5,4 @@ pub mod OwnLasts
 pub mod TwoSides
 pub mod Ways
 pub mod Histories
+pub mod OwnMarks

@@ -1,19 +1,25 @@
 -- A report of two sides names its setter and its finder.
-use Rattle.std.proofs.Common.{◌≡◌, ◌==◌, ◌⊎◌, ◌∙◌, ◌+◌, ◌-◌, ◌++◌, ◌||◌, inl, inr, ℕ, suc, Bool, true, false, All, Contains, IsTrue, length, List, [], ◌∷◌, Option, Some, IsSomeAnd, ap, append_assoc, arith, map, refl, reverse, slice_get, subst, sym}
+use Rattle.std.proofs.Common.{◌≡◌, ◌<◌, ◌≤◌, ◌==◌, ◌⊎◌, ◌∙◌, ◌+◌, ◌-◌, ◌++◌, ◌||◌, inl, inr, ℕ, suc, zero, Bool, true, false, All, Contains, IsTrue, length, List, [], ◌∷◌, Option, Some, IsSomeAnd, ap, append_assoc, arith, map, refl, reverse, slice_get, slice_index_or, take, subst, sym}
 use Rattle.std.specs.List.{filter}
-use Rattle.std.proofs.lemmas.Bool.Decides.{eqb_tells}
+use Rattle.std.proofs.lemmas.Bool.{eq-eqb}
+use Rattle.std.proofs.lemmas.Bool.Decides.{eqb_tells, leb_tells}
 use Rattle.std.proofs.lemmas.List.{append-nil, length-append, length-reverse, reverse-append, reverse-reverse}
 use Rattle.std.proofs.lemmas.List.Elements.{All-append, All-cons, All-nil}
 use Rattle.std.specs.FinMap as fin
 use Rattle.access_types.specs.Access as access
 use Rattle.access_types.specs.Access.{Breaks, Overlap}
+use Rattle.access_types.specs.History.{History, beginning, happenings_of}
 use Rattle.access_types.specs.Kind.{write_flag}
+use Rattle.access_types.specs.Marked.{BeginsAfter, CountedAsMarked, CountsAfter, EndsRaised, Silenced, is_disable, is_enable, marks_of}
+use Rattle.access_types.specs.declared.history.Mark.{Mark}
 use Rattle.access_types.specs.Ticket.{ticket_number}
 use Rattle.access_types.specs.declared.history.Happening.{Happening}
 use Rattle.access_types.specs.declared.history.Happening.TheVariants as happenings
-use Rattle.litmus_meaning.specs.TextSites.{IsOfText}
+use Rattle.litmus_meaning.specs.TextSites.{IsOfText, block_sites}
 use Rattle.litmus_meaning.specs.RunOfProgram.{setting_of}
-use Rattle.litmus_meaning.proofs.TicketLemmas.{of_text}
+use Rattle.litmus_meaning.proofs.TicketLemmas.{numbered, of_text}
+use Rattle.litmus_meaning.proofs.TextSitesLemmas.{begun_at}
+use Rattle.litmus_syntax.specs.Tree as tree
 use Rattle.setup_access.specs.Check.{Fallen}
 use Rattle.setup_access.specs.Hits.{Hits}
 use Rattle.setup_access.specs.declared.begun.Begun.{Begun}
@@ -39,14 +45,17 @@ use Rattle.slot_table.proofs.Steps.{here_part}
 use Rattle.watch_word.specs.Word.{WordOf, Watches, watch_of, word_of}
 use Rattle.watch_word.specs.declared.layout.Layout.{Layout}
 use Rattle.watch_word.specs.declared.watch.Watch.{Watch}
-use Rattle.written_order.specs.Standing as order
+use Rattle.written_order.specs.Standing as tasks
 use Rattle.written_order.specs.Standing.{Standing, checks_of}
 use Rattle.written_order.proofs.MeaningLemmas.{whole_means}
-use Rattle.run_lists.specs.Run.{IsOfProgram, Run, first_cells, locks_of, task_of, task_setting}
+use Rattle.written_order.proofs.WayLemmas.{Begins}
+use Rattle.run_lists.specs.Run.{IsOfProgram, Run, first_cells, idle, locks_of, task_of, task_setting}
 use Rattle.run_lists.specs.RunList.{RunList}
-use Rattle.run_lists.specs.Told.{Came, came_next, came_of, made_by, outcomes_by, to_come}
+use Rattle.run_lists.specs.Told.{Came, came_next, came_of, did_by, history_of, made_by, moments_of, outcomes_by, to_come}
 use Rattle.run_lists.specs.TwoSides.{IfTwoSided, NamesBoth, NamesTwoSides}
 use Rattle.run_lists.proofs.CheckFacts.{AllFallSo, FallsSo, IsReported, IsTold, OnTell, TellsKnown, back}
+use Rattle.run_lists.proofs.Histories.{did_of_all, of_both, of_task}
+use Rattle.run_lists.proofs.OwnMarks.{begins_once, counts_own, marks_same}
 use Rattle.run_lists.proofs.OwnLasts.{finder_told, hears_at, one_arming, own_latest, own_name, own_split, own_word, stands_at, stands_later, still_told}
 use Rattle.run_lists.proofs.TaskFacts.{Anywhere, IsKnown, whole_text}
 
@@ -75,12 +84,12 @@ there : (before later : List Happening) (x : Happening) → slice_get (before ++
 there [] later x = refl
 there (first ∷ before) later x = there before later x
 
-tells_at : (s : order.Setting) (end : Standing) (p q own : List Record) (x : Record)
+tells_at : (s : tasks.Setting) (end : Standing) (p q own : List Record) (x : Record)
     → TellsKnown (checks_of s) (IsKnown s end) (Anywhere s end) own (p ++ x ∷ q) → OnTell (checks_of s) (IsKnown s end) (Anywhere s end) (back p own) x.step
 tells_at s end [] q own x h = h.0
 tells_at s end (first ∷ p) q own x h = tells_at s end p q (first ∷ own) x h.1
 
-all_came : (s : order.Setting) (end : Standing) (records : List Record) (n : ℕ) (Q : Came → Type 0) (outs : List Fallen)
+all_came : (s : tasks.Setting) (end : Standing) (records : List Record) (n : ℕ) (Q : Came → Type 0) (outs : List Fallen)
     → AllFallSo (checks_of s) (IsKnown s end) (Anywhere s end) [] records outs
     → ((f : Fallen) → FallsSo (checks_of s) (IsKnown s end) (Anywhere s end) [] records f.access f.later f.outcome → length f.later ≡ n → Q (came_of f))
     → All Q (map came_of (filter (λ f. length f.later == n) outs))
@@ -93,6 +102,18 @@ all_came s end records n Q (f ∷ outs) falls each = elim (eqb_tells (length f.l
 one_breaks : (first second : Bool) → IsTrue (first || second) → IsTrue first ⊎ IsTrue second
 one_breaks true second h = inl refl
 one_breaks false second h = inr h
+
+take_front : (p q : List Happening) → take (length p) (p ++ q) ≡ p
+take_front [] q = refl
+take_front (x ∷ p) q = ap (λ (d : List Happening). x ∷ d) (take_front p q)
+
+beyond : (tasks : List tree.Task) (number : ℕ) → length tasks ≤ number → slice_index_or tasks number idle ≡ idle
+beyond [] number past = refl
+beyond (one ∷ tasks) zero past = absurd (omega (arith, past))
+beyond (one ∷ tasks) (suc number) past = beyond tasks number (omega (arith, past))
+
+own_begin : (a : access.Access) (later : History) → happenings_of a.task (beginning a ∷ later) ≡ happenings.Begin a ∷ happenings_of a.task later
+own_begin a later = rw (eq-eqb a.task a.task refl) refl
 
 taken_word : Option Part → ℕ
 taken_word (Some (Taken word)) = word
@@ -122,13 +143,72 @@ module _ (run : Run) (records : List Record) (list : RunList run records)
   -- an access of a task that has begun is one of the program
   of_program : (task : ℕ) (b : Begun) → IsKnown (task_setting run task) (ending task) b → IsOfProgram run b.access
   of_program task b known =
-      let s : order.Setting = task_setting run task in
+      let s : tasks.Setting = task_setting run task in
       let means = whole_means s (length (task_of run task).registers) (task_of run task).body (whole task) (list.tasks task).whole in
       let at : slice_get (ending task).progress.did (length known.before) ≡ Some (happenings.Begin b.access) =
       subst (λ (d : List Happening). slice_get d (length known.before) ≡ Some (happenings.Begin b.access)) (sym known.split) (there known.before known.later (happenings.Begin b.access)) in
       let text : IsOfText (setting_of run.program run.places task) (task_of run task).body b.access =
       of_text s.text (task_of run task).body _ (ending task).progress means (length known.before) b.access at in
       subst (λ (t : ℕ). IsOfText (setting_of run.program run.places t) (task_of run t).body b.access) (sym known.own.task) text
+
+  -- an access of the program is of one of its tasks
+  is_below : (a : access.Access) → IsOfProgram run a → a.task < length run.program.tasks
+  is_below a of = elim (leb_tells (length run.program.tasks) a.task) [
+    | inr below ↦ below.1
+    | inl past ↦
+        let none : task_of run a.task ≡ idle = beyond run.program.tasks a.task past.1 in
+        let empty : slice_get (block_sites (setting_of run.program run.places a.task) tree.empty) a.site ≡ Some of.site =
+        subst (λ (t : tree.Task). slice_get (block_sites (setting_of run.program run.places a.task) t.body) a.site ≡ Some of.site) none of.stands in
+        absurd (cc)
+  ]
+
+  -- an access that has begun begins in the history after what its task had done before it, and never else
+  module _ (task : ℕ) (b : Begun) (known : IsKnown (task_setting run task) (ending task) b) where
+    abbrev its_task : b.access.task ≡ task
+    its_task = known.own.task
+
+    numbered_at : (p q : List Happening) → (ending task).progress.did ≡ p ++ happenings.Begin b.access ∷ q → b.access.rep ≡ begun_at b.access.site p
+    numbered_at p q split =
+        let s : tasks.Setting = task_setting run task in
+        let means = whole_means s (length (task_of run task).registers) (task_of run task).body (whole task) (list.tasks task).whole in
+        let at : slice_get (ending task).progress.did (length p) ≡ Some (happenings.Begin b.access) =
+        subst (λ (d : List Happening). slice_get d (length p) ≡ Some (happenings.Begin b.access)) (sym split) (there p q (happenings.Begin b.access)) in
+        let got = numbered s.text (task_of run task).body _ (ending task).progress means (length p) b.access at in
+        let front : take (length p) (ending task).progress.did ≡ p =
+        ap (λ (d : List Happening). take (length p) d) split ∙ take_front p (happenings.Begin b.access ∷ q) in
+        ap (λ (x : access.Access). x.rep) got.2 ∙ ap (λ (d : List Happening). begun_at b.access.site d) front
+
+    began_after : (before : History) → BeginsAfter (history_of list) b.access before → happenings_of b.access.task before ≡ known.before
+    began_after before begins =
+        let t : ℕ = b.access.task in
+        let below : t < length run.program.tasks = is_below b.access (of_program task b known) in
+        let own : happenings_of t (history_of list) ≡ happenings_of t before ++ happenings.Begin b.access ∷ happenings_of t begins.later =
+        ap (λ (h : History). happenings_of t h) begins.split
+        ∙ (of_both t before (beginning b.access ∷ begins.later)
+        ∙ ap (λ (d : List Happening). happenings_of t before ++ d) (own_begin b.access begins.later)) in
+        let did : Begins (did_by (list.tasks t) (made_by t records)) (list.tasks t).whole.end.progress.did = did_of_all (list.tasks t) (made_by t records) in
+        let whole_did : (ending t).progress.did ≡ (happenings_of t before ++ happenings.Begin b.access ∷ happenings_of t begins.later) ++ did.0 =
+        did.1 ∙ ap (λ (d : List Happening). d ++ did.0) (sym (of_task run records list t below records) ∙ own) in
+        let split : (ending t).progress.did ≡ happenings_of t before ++ happenings.Begin b.access ∷ (happenings_of t begins.later ++ did.0) =
+        whole_did ∙ append_assoc (happenings_of t before) (happenings.Begin b.access ∷ happenings_of t begins.later) did.0 in
+        let here : (ending task).progress.did ≡ happenings_of t before ++ happenings.Begin b.access ∷ (happenings_of t begins.later ++ did.0) =
+        subst (λ (u : ℕ). (ending u).progress.did ≡ happenings_of t before ++ happenings.Begin b.access ∷ (happenings_of t begins.later ++ did.0)) known.own.task split in
+        begins_once b.access (ending task).progress.did (happenings_of t before) (happenings_of t begins.later ++ did.0) known.before known.later here known.split
+        (numbered_at (happenings_of t before) (happenings_of t begins.later ++ did.0) here) (numbered_at known.before known.later known.split)
+
+    unmarked_so : b.marked ≡ false → ¬ CountedAsMarked run.rules.plain_writes_atomic (history_of list) b.access
+    unmarked_so none counted =
+        let own = counts_own run.rules.plain_writes_atomic b.access counted.before counted.counts in
+        let at = subst (λ (d : List Happening). CountsAfter run.rules.plain_writes_atomic b.access (moments_of b.access.task d)) (began_after counted.before counted.begins) own in
+        let mine = subst (λ (t : ℕ). CountsAfter run.rules.plain_writes_atomic b.access (moments_of t known.before)) known.own.task at in
+        known.unmarked none mine
+
+    heard_so : b.silenced ≡ false → ¬ Silenced (history_of list) b.access
+    heard_so none silenced =
+        let own = subst (λ (m : List Mark). EndsRaised is_disable is_enable m) (sym (marks_same b.access.task silenced.before)) silenced.disabled in
+        let at = subst (λ (d : List Happening). EndsRaised is_disable is_enable (marks_of b.access.task (moments_of b.access.task d))) (began_after silenced.before silenced.begins) own in
+        let mine = subst (λ (t : ℕ). EndsRaised is_disable is_enable (marks_of t (moments_of t known.before))) known.own.task at in
+        known.heard none mine
 
   -- a task's records up to one of them are the front of all of them
   front_of : (task : ℕ) (later earlier : List Record) → records ≡ later ++ earlier
@@ -146,7 +226,7 @@ module _ (run : Run) (records : List Record) (list : RunList run records)
   told_by : (task : ℕ) (later earlier : List Record) (latest : Record) (index ticket : ℕ) → records ≡ later ++ latest ∷ earlier → latest.task ≡ task → latest.step ≡ Tell index ticket
       → IsTold (checks_of (task_setting run task)) (IsKnown (task_setting run task) (ending task)) (Anywhere (task_setting run task) (ending task)) (records_of task earlier) index ticket
   told_by task later earlier latest index ticket is mine step =
-      let s : order.Setting = task_setting run task in
+      let s : tasks.Setting = task_setting run task in
       let own : List Record = records_of task earlier in
       let front = front_of task later (latest ∷ earlier) is in
       let split : whole task ≡ reverse own ++ latest ∷ front.0 =
@@ -193,7 +273,7 @@ module _ (run : Run) (records : List Record) (list : RunList run records)
     abbrev IsIt : Record → List Record → Type 0
     IsIt made before = IsTell at.index heard_it.number heard_it.finder pair.finder made before
 
-    names_two : NamesTwoSides run records a pair
+    names_two : NamesTwoSides list a pair
     names_two =
         let tell = stands_at IsIt earlier heard_it.telling in
         let finder : ℕ = heard_it.finder in
@@ -202,17 +282,17 @@ module _ (run : Run) (records : List Record) (list : RunList run records)
         let by = told_by finder (later ++ tell.later) tell.earlier tell.latest at.index pair.finder whole_split tell.holds.task tell.holds.step in
         let each = hears_at tell.later tell.latest tell.earlier
         (subst EachHearsTheOther tell.split (each_hears run.rules.slots (locks_of run) (first_cells run) earlier kept)) in
-        let heard_so : HearsTheOther finder (Tell at.index pair.finder) tell.earlier =
+        let heard : HearsTheOther finder (Tell at.index pair.finder) tell.earlier =
         subst (λ (st : Step). HearsTheOther finder st tell.earlier) tell.holds.step (subst (λ (t : ℕ). HearsTheOther t tell.latest.step tell.earlier) tell.holds.task each) in
-        let taken : heard_so.0 ≡ by.word =
-        taken_same heard_so.0 by.word (sym heard_so.2 ∙ here_part at.index (in_hand (records_of finder tell.earlier)) (Taken by.word) by.has) in
-        let number : heard_so.4.number ≡ heard_it.number = some_same (sym heard_so.4.met.last ∙ tell.holds.last) in
-        let arming : SomeRecord (IsArming at.index heard_it.number heard_so.4.setter heard_so.0) tell.earlier =
-        subst (λ (n : ℕ). SomeRecord (IsArming at.index n heard_so.4.setter heard_so.0) tell.earlier) number heard_so.4.met.arming in
-        let arming_there : SomeRecord (IsArming at.index heard_it.number heard_so.4.setter heard_so.0) earlier =
-        subst (λ (r : List Record). SomeRecord (IsArming at.index heard_it.number heard_so.4.setter heard_so.0) r) (sym tell.split)
-        (stands_later (IsArming at.index heard_it.number heard_so.4.setter heard_so.0) tell.later (tell.latest ∷ tell.earlier) (inr arming)) in
-        let one = one_arming at.index heard_it.number heard_so.4.setter heard_so.0 task heard_it.word earlier arming_there heard_it.met.arming in
+        let taken : heard.0 ≡ by.word =
+        taken_same heard.0 by.word (sym heard.2 ∙ here_part at.index (in_hand (records_of finder tell.earlier)) (Taken by.word) by.has) in
+        let number : heard.4.number ≡ heard_it.number = some_same (sym heard.4.met.last ∙ tell.holds.last) in
+        let arming : SomeRecord (IsArming at.index heard_it.number heard.4.setter heard.0) tell.earlier =
+        subst (λ (n : ℕ). SomeRecord (IsArming at.index n heard.4.setter heard.0) tell.earlier) number heard.4.met.arming in
+        let arming_there : SomeRecord (IsArming at.index heard_it.number heard.4.setter heard.0) earlier =
+        subst (λ (r : List Record). SomeRecord (IsArming at.index heard_it.number heard.4.setter heard.0) r) (sym tell.split)
+        (stands_later (IsArming at.index heard_it.number heard.4.setter heard.0) tell.later (tell.latest ∷ tell.earlier) (inr arming)) in
+        let one = one_arming at.index heard_it.number heard.4.setter heard.0 task heard_it.word earlier arming_there heard_it.met.arming in
         let word : by.word ≡ word_of run.rules.layout a = sym taken ∙ (one.1 ∙ setter_word) in
         let b : access.Access = by.by.access in
         let found = finder_told run.rules.slots (locks_of run) (first_cells run) earlier at.index task pair kept part at.hears at.above in
@@ -229,6 +309,10 @@ module _ (run : Run) (records : List Record) (list : RunList run records)
           tasks = λ same. heard_it.met.two (sym by.known.own.task ∙ (sym same ∙ a_task));
           overlap = subst (λ (o : Option access.Access). IsSomeAnd o (λ f. Overlap a f)) stands at.shares;
           breaks = breaks_of run.rules.layout a b by.word (record { encodable = at.encodable; is = word }) by.hits;
+          unmarked = subst (λ (x : access.Access). ¬ CountedAsMarked run.rules.plain_writes_atomic (history_of list) x) at.is
+              (unmarked_so task at.by at.known at.unmarked);
+          setter_heard = subst (λ (x : access.Access). ¬ Silenced (history_of list) x) at.is (heard_so task at.by at.known at.unsilenced);
+          finder_heard = heard_so finder by.by by.known by.unsilenced;
           index = at.index;
           number = found.0;
           told = subst (λ (r : List Record). Contains (finders_told r) (meeting at.index found.0 pair.setter pair.finder)) (sym is) (still_told later earlier (meeting at.index found.0 pair.setter pair.finder) found.1);
@@ -238,9 +322,9 @@ module _ (run : Run) (records : List Record) (list : RunList run records)
   named : (task : ℕ) (later earlier : List Record) → records ≡ later ++ earlier → (a : access.Access) (outcome : Outcome) (left : List Record)
       → length left ≡ to_come (list.tasks task) (made_by task earlier)
       → FallsSo (checks_of (task_setting run task)) (IsKnown (task_setting run task) (ending task)) (Anywhere (task_setting run task) (ending task)) [] (whole task) a left outcome
-      → IfTwoSided run records a outcome
+      → IfTwoSided list a outcome
   named task later earlier is a (outcomes.Report pair seen) left so_many h =
-      let s : order.Setting = task_setting run task in
+      let s : tasks.Setting = task_setting run task in
       let own : List Record = records_of task earlier in
       let front = front_of task later earlier is in
       let all : length (whole task) ≡ length own + length front.0 =
@@ -260,19 +344,19 @@ module _ (run : Run) (records : List Record) (list : RunList run records)
   named task later earlier is a (outcomes.Unknown old new) left so_many h = tt
   named task later earlier is a (outcomes.Dropped reason) left so_many h = tt
 
-  named_by : (later earlier : List Record) → records ≡ later ++ earlier → All (NamesBoth run records) (outcomes_by list earlier)
-  named_by later [] is = All-nil (NamesBoth run records)
+  named_by : (later earlier : List Record) → records ≡ later ++ earlier → All (NamesBoth list) (outcomes_by list earlier)
+  named_by later [] is = All-nil (NamesBoth list)
   named_by later (latest ∷ earlier) is =
       let task : ℕ = latest.task in
-      let s : order.Setting = task_setting run task in
+      let s : tasks.Setting = task_setting run task in
       let before = named_by (later ++ latest ∷ []) earlier (is ∙ sym (append_assoc later (latest ∷ []) earlier)) in
       let facts = (whole_text s (length (task_of run task).registers) (task_of run task).body (whole task) (list.tasks task).whole).1 in
       let one_more : made_by task earlier + 1 ≡ made_by task (latest ∷ earlier) =
       let so_many : length (records_of task (latest ∷ earlier)) ≡ suc (length (records_of task earlier)) = ap (λ (r : List Record). length r) (own_latest task latest earlier refl) in
       omega (arith, so_many) in
-      let now = all_came s (ending task) (whole task) (to_come (list.tasks task) (made_by task earlier + 1)) (NamesBoth run records) (ending task).outcomes facts
+      let now = all_came s (ending task) (whole task) (to_come (list.tasks task) (made_by task earlier + 1)) (NamesBoth list) (ending task).outcomes facts
       (λ f falls left. named task later (latest ∷ earlier) is f.access f.outcome f.later (left ∙ ap (λ (n : ℕ). to_come (list.tasks task) n) one_more) falls) in
-      All-append (NamesBoth run records) (outcomes_by list earlier) (came_next list task (made_by task earlier)) before now
+      All-append (NamesBoth list) (outcomes_by list earlier) (came_next list task (made_by task earlier)) before now
 
-  pub all_named : All (NamesBoth run records) (outcomes_by list records)
+  pub all_named : All (NamesBoth list) (outcomes_by list records)
   all_named = named_by [] records refl

@@ -1,9 +1,11 @@
 -- What a report of two sides names.
 use Rattle.std.specs.Prelude.{◌≡◌, ◌≢◌, ℕ, List, Contains}
 use Rattle.access_types.specs.Access.{Access, Breaks, Overlap}
+use Rattle.access_types.specs.Marked.{CountedAsMarked, Silenced}
 use Rattle.access_types.specs.Ticket.{ticket_number}
 use Rattle.run_lists.specs.Run.{IsOfProgram, Run}
-use Rattle.run_lists.specs.Told.{Came}
+use Rattle.run_lists.specs.RunList.{RunList}
+use Rattle.run_lists.specs.Told.{Came, history_of}
 use Rattle.setup_access.specs.declared.outcome.Outcome.{Outcome}
 use Rattle.setup_access.specs.declared.outcome.Outcome.TheVariants as outcomes
 use Rattle.slot.specs.Pair.{Halves}
@@ -11,31 +13,36 @@ use Rattle.slot_table.specs.Meetings.{finders_told}
 use Rattle.slot_table.specs.declared.records.Record.{Record}
 
 -- The pair of tickets names the access that was checked, as the setter, and one of another task, as
--- the finder, both of the program. They share a byte and conflict. And it is the pair that the
+-- the finder, both of the program. They share a byte and conflict. In the history that the list
+-- tells the setter doesn't count as marked, and neither is silenced. And it is the pair that the
 -- finder told: its own ticket, and the one that it heard from its setter.
-pub record NamesTwoSides (run : Run) (records : List Record) (a : Access) (pair : Halves) : Type 0
-  where
-    pub finder : Access
-    pub setter_named : pair.setter ≡ ticket_number a
-    pub finder_named : pair.finder ≡ ticket_number finder
-    pub setter_is : IsOfProgram run a
-    pub finder_is : IsOfProgram run finder
-    pub tasks : a.task ≢ finder.task
-    pub overlap : Overlap a finder
-    pub breaks : Breaks a finder
-    pub index : ℕ
-    pub number : ℕ
-    pub told : Contains (finders_told records) (record {
-      index = index;
-      number = number;
-      setter = pair.setter;
-      finder = pair.finder;
-    })
+pub record NamesTwoSides {run : Run} {records : List Record} (list : RunList run records) (a : Access)
+    (pair : Halves) : Type 0 where
+  pub finder : Access
+  pub setter_named : pair.setter ≡ ticket_number a
+  pub finder_named : pair.finder ≡ ticket_number finder
+  pub setter_is : IsOfProgram run a
+  pub finder_is : IsOfProgram run finder
+  pub tasks : a.task ≢ finder.task
+  pub overlap : Overlap a finder
+  pub breaks : Breaks a finder
+  pub unmarked : ¬ CountedAsMarked run.rules.plain_writes_atomic (history_of list) a
+  pub setter_heard : ¬ Silenced (history_of list) a
+  pub finder_heard : ¬ Silenced (history_of list) finder
+  pub index : ℕ
+  pub number : ℕ
+  pub told : Contains (finders_told records) (record {
+    index = index;
+    number = number;
+    setter = pair.setter;
+    finder = pair.finder;
+  })
 
 -- so it is if what came of a check is a report of two sides
-abbrev pub IfTwoSided : Run → List Record → Access → Outcome → Type 0
-IfTwoSided run records a (outcomes.Report pair seen) = NamesTwoSides run records a pair
-IfTwoSided run records a outcome = Unit {0}
+abbrev pub IfTwoSided : {run : Run} {records : List Record} → RunList run records → Access → Outcome
+    → Type 0
+IfTwoSided list a (outcomes.Report pair seen) = NamesTwoSides list a pair
+IfTwoSided list a outcome = Unit {0}
 
-abbrev pub NamesBoth : Run → List Record → Came → Type 0
-NamesBoth run records came = IfTwoSided run records came.access came.outcome
+abbrev pub NamesBoth : {run : Run} {records : List Record} → RunList run records → Came → Type 0
+NamesBoth list came = IfTwoSided list came.access came.outcome

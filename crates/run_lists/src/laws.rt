@@ -1,10 +1,12 @@
 //! What is true of every run list.
 
-ghost use Rattle.std.specs.Prelude.{◌≢◌, ℕ, List, All, AllPairs};
+ghost use Rattle.std.specs.Prelude.{◌≢◌, ℕ, List, All, AllPairs, IfSome, slice_get};
 ghost use Rattle.std.specs.List.Sorted.{IsPermutation};
+ghost use Rattle.access_types.specs.History.{happenings_of};
+ghost use Rattle.litmus_meaning.specs.RunOfProgram.{IsBeginning};
 ghost use Rattle.run_lists.specs.Run.{Run, first_cells, first_words, locks_of};
 ghost use Rattle.run_lists.specs.RunList.{AllHaveEnded, RunList};
-ghost use Rattle.run_lists.specs.Told.{outcomes_of};
+ghost use Rattle.run_lists.specs.Told.{history_of, outcomes_of};
 ghost use Rattle.run_lists.specs.TwoSides.{NamesBoth};
 ghost use Rattle.slot_table.specs.Armings.{MeetOnce, armings_taken};
 ghost use Rattle.slot_table.specs.Discipline.{AllAreFinished, LegalInDiscipline};
@@ -51,12 +53,20 @@ pub fn roles_of_run_lists()
     heard_is_told();
 }
 
+/// Law: of the history that a run list tells the moments of a task of the program are a beginning of what its text
+/// means.
+pub fn each_task_does_what_its_text_means()
+    ensures { (run : Run) (records : List Record) → (list : RunList run records)
+        → (number : ℕ) → IfSome (slice_get run.program.tasks number)
+        (λ task. IsBeginning run.program run.places number task (happenings_of number (history_of list))) }
+{}
+
 /// Law: each report of two sides that a run list tells names the access that was checked, as the setter, and one
 /// of another task, as the finder; both are of the program, share a byte, and one of them writes or asserts no
-/// accesses. The pair is the one that the finder told.
+/// accesses. The setter doesn't count as marked, and neither is silenced. The pair is the one that the finder told.
 pub fn reports_name_two_sides()
     ensures { (run : Run) (records : List Record) → (list : RunList run records)
-        → All (NamesBoth run records) (outcomes_of list) }
+        → All (NamesBoth list) (outcomes_of list) }
 {
     run_lists_keep_the_discipline();
     words_read_back();
