@@ -1,8 +1,7 @@
 -- What is asked of the moments before an access begins is asked of its own task's alone; and an access begins once.
-use Rattle.std.proofs.Common.{◌≡◌, ◌≢◌, ◌==◌, ◌&&◌, ◌<◌, ◌≤◌, ◌+◌, ◌∙◌, ◌++◌, inl, inr, ℕ, zero, suc, Bool, true, false, List, [], ◌∷◌}
-use Rattle.std.proofs.Common.{None, Option, Some, ap, append_assoc, arith, cond, count_by, length, map, refl, slice_get, subst, sym}
-use Rattle.std.specs.List.{filter}
-use Rattle.std.proofs.lemmas.Bool.{and_right, eq-eqb, ne_eqb}
+use Rattle.std.proofs.Common.{◌≡◌, ◌≢◌, ◌==◌, ◌<◌, ◌≤◌, ◌+◌, ◌∙◌, ◌++◌, inl, inr, ℕ, Bool, true, false, List, [], ◌∷◌}
+use Rattle.std.proofs.Common.{ap, arith, cond, count_by, length, refl, subst, sym}
+use Rattle.std.proofs.lemmas.Bool.{and_right, eq-eqb}
 use Rattle.std.proofs.lemmas.List.Sums.{sum_by-cons}
 use Rattle.std.proofs.lemmas.Bool.Decides.{eqb_tells, leb_tells}
 use Rattle.std.proofs.lemmas.List.{map-append}
@@ -13,7 +12,6 @@ use Rattle.access_types.specs.Marked.{CountsAfter, EndsRaised, IsWithinNext, beg
 use Rattle.access_types.specs.declared.history.Happening.{Happening}
 use Rattle.access_types.specs.declared.history.Happening.TheVariants as happenings
 use Rattle.access_types.specs.declared.history.Mark.{Mark}
-use Rattle.access_types.specs.declared.history.Mark.TheVariants.{Next}
 use Rattle.access_types.specs.declared.history.Moment.{Moment}
 use Rattle.litmus_meaning.specs.Task.{begins_at}
 use Rattle.litmus_meaning.proofs.TextSitesLemmas.{begun_append, begun_at, begun_cons}
