@@ -7,7 +7,7 @@ use Rattle.litmus_meaning.specs.TextSites.{bytes_among}
 use Rattle.litmus_syntax.specs.declared.program.Variable.{Variable}
 
 -- the bytes of a number, counted on from a number
-got : (places : List Place) (number : ℕ) (variables : List Variable) (n : ℕ)
+pub got : (places : List Place) (number : ℕ) (variables : List Variable) (n : ℕ)
     → option_map (λ (laid : Bytes × ℕ). laid.0) (slice_get (initial_values places number variables) n)
     ≡ option_map (bytes_at places (n + number)) (slice_get variables n)
 got places number [] n = refl

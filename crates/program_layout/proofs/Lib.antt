@@ -1,3 +1,4 @@
 pub mod PlaceLemmas
 pub mod LayLemmas
 pub mod CellLemmas
+pub mod InCellLemmas

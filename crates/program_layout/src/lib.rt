@@ -1,9 +1,11 @@
 //! Where the variables of a litmus program stand in memory.
 #![tactic(auto)]
 
+pub mod laws;
 pub mod layout;
 pub mod place;
 
+pub use laws::variables_lie_in_one_cell;
 pub use layout::{Layout, LayoutError};
 pub use place::Place;
 

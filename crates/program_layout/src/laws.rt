@@ -1,0 +1,17 @@
+//! What is true of the cells that variables lie in.
+
+ghost use Rattle.std.specs.Prelude.{◌≡◌, ◌≢◌, ℕ, List, Some, slice_get};
+ghost use Rattle.litmus_meaning.specs.Layout.{bytes_at, cells_of};
+ghost use Rattle.litmus_meaning.specs.Values.{size_of};
+ghost use Rattle.litmus_syntax.specs.declared.program.Variable.{Variable};
+ghost use Rattle.program_layout.specs.Cells.{HaveOwnNames, LieInOneCell};
+ghost use Rattle.program_layout.specs.Places.{AreFit, places_of};
+ghost use Rattle.program_layout.specs.declared.place.Place.{Place};
+
+/// Law: where the places fit, and no two variables have one name, the bytes of each variable that has any lie in one
+/// cell of memory.
+pub fn variables_lie_in_one_cell()
+    ensures { (variables : List Variable) (places : List Place) → AreFit variables places → HaveOwnNames variables
+        → (number : ℕ) (variable : Variable) → slice_get variables number ≡ Some variable → size_of variable.contents ≢ 0
+        → LieInOneCell (cells_of (places_of places) variables) (bytes_at (places_of places) number variable) }
+{}
