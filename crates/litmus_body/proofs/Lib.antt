@@ -6,3 +6,4 @@ pub mod Races
 pub mod Unrolled
 pub mod Sound
 pub mod Complete
+pub mod CallLemmas

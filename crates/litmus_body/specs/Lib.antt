@@ -6,3 +6,4 @@ pub mod States
 pub mod NameReader
 pub mod ExpressionReader
 pub mod Followed
+pub mod CallReader

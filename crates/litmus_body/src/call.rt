@@ -1,11 +1,14 @@
 //! Calls of a process that give no value: barriers, locks, assertions, marks and checks.
 
-ghost use Rattle.std.specs.Prelude.{◌≡◌, ◌≤◌, ◌<◌, ◌+◌, ◌^◌, IfOk, OnOk};
+ghost use Rattle.std.specs.Prelude.{◌≡◌, ◌≤◌, ◌<◌, OnOk};
 ghost use Rattle.litmus_cursor.specs.Cursor.{count_left};
+ghost use Rattle.litmus_cursor.specs.Front.{Answers};
+ghost use Rattle.litmus_body.specs.CallReader as reader;
+ghost use Rattle.litmus_body.specs.States.{state_of};
 
 use crate::process::{CHECK_SIZE, Process, Surroundings, Takes};
 use litmus_cursor::{CallWord, Excess, Refusal};
-use litmus_lex::{Sign, Token};
+use litmus_lex::Sign;
 use litmus_syntax::{Call, Mark};
 
 /// Whether the call begins a scope.
@@ -18,8 +21,11 @@ pub fn is_scoped(call: &Call) -> bool {
 
 impl<'a> Process<'a> {
     /// A call, without its `;`.
+    #[tactic(auto, unfolding(crate::specs::CallReader::call_at))]
     pub fn call(&mut self, word: CallWord, around: &Surroundings) -> Result<Call, Refusal>
-        ensures { OnOk result (count_left self.new.cursor < count_left self.old.cursor) }
+        ensures moves { OnOk result (count_left self.new.cursor < count_left self.old.cursor) }
+        ensures reads { Answers result (λ call. (call, state_of self.new))
+            (reader.call_at around.now.turns around.now.scoped word (state_of self.old)) }
     {
         self.count_call(word, around)?;
         self.cursor.advance();
@@ -31,7 +37,9 @@ impl<'a> Process<'a> {
 
     /// Counts the scope and the access of an assertion.
     fn count_call(&mut self, word: CallWord, around: &Surroundings) -> Result<(), Refusal>
-        ensures { self.new.cursor ≡ self.old.cursor }
+        ensures stays { self.new.cursor ≡ self.old.cursor }
+        ensures reads { Answers result (λ _. state_of self.new)
+            (reader.count_call around.now.turns around.now.scoped word (state_of self.old)) }
     {
         match word {
             CallWord::AssertWriter { scoped } | CallWord::AssertAccess { scoped } => {
@@ -46,11 +54,16 @@ impl<'a> Process<'a> {
     }
 
     /// What stands between the parentheses of a call.
+    #[tactic(auto, unfolding(crate::specs::CallReader::arguments))]
     fn call_of_word(&mut self, word: CallWord, around: &Surroundings) -> Result<Call, Refusal>
-        ensures { OnOk result (count_left self.new.cursor ≤ count_left self.old.cursor) }
+        ensures moves { OnOk result (count_left self.new.cursor ≤ count_left self.old.cursor) }
+        ensures reads { Answers result (λ call. (call, state_of self.new))
+            (reader.arguments around.now.turns word (state_of self.old)) }
     {
         match word {
             CallWord::Barrier(barrier) => Ok(Call::Barrier(barrier)),
+            // No word has a count.
+            CallWord::Mark(Mark::Next(_)) => Err(self.cursor.offence()),
             CallWord::Mark(mark) => Ok(Call::Mark(mark)),
             CallWord::AtomicNext => Ok(Call::Mark(Mark::Next(self.cursor.take_number()?))),
             CallWord::Lock => {
@@ -80,20 +93,21 @@ impl<'a> Process<'a> {
     }
 
     /// `VAR , NUMBER` of a check. One of size 0 has no access.
+    #[tactic(auto, unfolding(crate::specs::CallReader::check))]
     fn check(&mut self, write: bool, around: &Surroundings) -> Result<Call, Refusal>
-        ensures { OnOk result (count_left self.new.cursor < count_left self.old.cursor) }
+        ensures moves { OnOk result (count_left self.new.cursor < count_left self.old.cursor) }
+        ensures reads { Answers result (λ call. (call, state_of self.new))
+            (reader.check around.now.turns write (state_of self.old)) }
     {
         let variable = self.take_variable(Takes::Memory)?;
         self.cursor.take(Sign::Comma)?;
-        if let Token::Number(size) = self.cursor.token() {
-            if size > CHECK_SIZE {
-                return Err(Refusal::Limit(Excess::Check));
-            }
-            if size > 0 {
-                self.count_access(around)?;
-            }
-        }
         let size = self.cursor.take_number()?;
+        if size > CHECK_SIZE {
+            return Err(Refusal::Limit(Excess::Check));
+        }
+        if size > 0 {
+            self.count_access(around)?;
+        }
         Ok(Call::Check {
             write,
             variable,
@@ -102,8 +116,10 @@ impl<'a> Process<'a> {
     }
 
     /// `* VAR` of an assertion.
+    #[tactic(auto, unfolding(crate::specs::CallReader::target))]
     fn take_target(&mut self) -> Result<usize, Refusal>
-        ensures { OnOk result (count_left self.new.cursor < count_left self.old.cursor) }
+        ensures moves { OnOk result (count_left self.new.cursor < count_left self.old.cursor) }
+        ensures reads { Answers result (λ variable. (variable, state_of self.new)) (reader.target (state_of self.old)) }
     {
         self.take_star()?;
         self.take_variable(Takes::Memory)

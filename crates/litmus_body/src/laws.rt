@@ -2,12 +2,18 @@
 
 ghost use Rattle.std.specs.Prelude.{◌≡◌, ◌≤◌, ◌+◌, ℕ, List, Some, length, map};
 ghost use Rattle.litmus_syntax.specs.Tree as tree;
-ghost use Rattle.litmus_cursor.specs.Words.{Symbol};
+ghost use Rattle.litmus_syntax.specs.declared.statement.Call.{Call};
+ghost use Rattle.litmus_cursor.specs.declared.words.CallWord.{CallWord};
+ghost use Rattle.litmus_cursor.specs.declared.words.Word.TheVariants as words;
+ghost use Rattle.litmus_cursor.specs.Front.{first};
+ghost use Rattle.litmus_cursor.specs.Words.{Symbol, word};
+ghost use Rattle.litmus_body.specs.CallReader.{ReadsCall, call_accesses, call_at};
 ghost use Rattle.litmus_body.specs.Expressions.{Expression, Load, Pure};
 ghost use Rattle.litmus_body.specs.ExpressionReader.{expression_at, load_at, pure_at};
 ghost use Rattle.litmus_body.specs.Followed.{Differ, Follows, accesses, name_of};
-ghost use Rattle.litmus_syntax.specs.Limits.{nesting_limit, registers_limit, repeats_limit};
+ghost use Rattle.litmus_syntax.specs.Limits.{call_scopes, nesting_limit, registers_limit, repeats_limit, scoped_limit};
 ghost use Rattle.litmus_body.specs.Names.{Names, Parameter};
+ghost use Rattle.litmus_body.specs.Statements.{Calls};
 ghost use Rattle.litmus_body.specs.States.{State};
 
 /// Law: what is read as an expression, as one without a load, or as a load, is spelled so.
@@ -47,4 +53,21 @@ pub fn symbols_spell_one_expression()
         → Expression parameters depth before symbols one rest_one after_one → Follows 7 rest_one
         → Expression parameters depth before symbols two rest_two after_two → Follows 7 rest_two
         → (one ≡ two) × (rest_one ≡ rest_two) × (after_one ≡ after_two) }
+{}
+
+/// Law: what is read as a call is spelled so, and its scope and its access are counted.
+pub fn what_is_read_as_a_call_is_spelled()
+    ensures { (turns scopes : ℕ) (w : CallWord) (s : State) (x : Call × State)
+        → scopes ≤ scoped_limit → first s.symbols ≡ word (words.Call w) → call_at turns scopes w s ≡ Some x
+        → ReadsCall turns scopes s x }
+{}
+
+/// Law: what is spelled as a call is read so, whatever follows it, where its word is asked for and the limits of
+/// scopes and accesses are kept. Names of parameters differ.
+pub fn what_is_spelled_as_a_call_is_read()
+    ensures { (turns scopes : ℕ) (s : State) (c : Call) (rest : List Symbol)
+        → Differ (map name_of s.parameters) → Calls s.parameters s.symbols c rest
+        → scopes + call_scopes c ≤ scoped_limit → s.repeats + call_accesses turns c ≤ repeats_limit
+        → (w : CallWord) × (first s.symbols ≡ word (words.Call w))
+        × (call_at turns scopes w s ≡ Some (c, record s { symbols = rest; repeats = s.repeats + call_accesses turns c })) }
 {}

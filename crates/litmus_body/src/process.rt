@@ -113,7 +113,10 @@ impl Surroundings {
     }
 
     /// The same with one more scoped assertion in force.
-    pub fn asserting(self) -> Result<Surroundings, Refusal> {
+    pub fn asserting(self) -> Result<Surroundings, Refusal>
+        ensures ok { OnOk result ((self.scoped == scoped_limit) ≡ false) }
+        ensures err { OnErr result (IsTrue (self.scoped == scoped_limit)) }
+    {
         if self.scoped == SCOPED {
             return Err(Refusal::Limit(Excess::Scoped));
         }
