@@ -376,7 +376,7 @@ flag_spelled letter bytes = by (past letter bytes) refl
     by None e = refl
     by (Some rest) e = past_is letter bytes rest e
 
-means_spelled : {V : Type 0} (value : V) (text bytes : List ℕ) (other : Option (V × List ℕ)) (found : V × List ℕ) (P : Type 0)
+pub means_spelled : {V : Type 0} (value : V) (text bytes : List ℕ) (other : Option (V × List ℕ)) (found : V × List ℕ) (P : Type 0)
     → either (means value (past text bytes)) other ≡ Some found
     → ((rest : List ℕ) → bytes ≡ text ++ rest → ◌≡◌ {A = V × List ℕ} (value, rest) found → P) → (other ≡ Some found → P) → P
 means_spelled value text bytes other found P e here there = by (past text bytes) refl e
@@ -385,7 +385,7 @@ means_spelled value text bytes other found P e here there = by (past text bytes)
     by None p e = there e
     by (Some rest) p e = here rest (past_is text bytes rest p) (same_given (value, rest) found e)
 
-last_spelled : {V : Type 0} (value : V) (text bytes : List ℕ) (found : V × List ℕ) (P : Type 0)
+pub last_spelled : {V : Type 0} (value : V) (text bytes : List ℕ) (found : V × List ℕ) (P : Type 0)
     → means value (past text bytes) ≡ Some found
     → ((rest : List ℕ) → bytes ≡ text ++ rest → ◌≡◌ {A = V × List ℕ} (value, rest) found → P) → P
 last_spelled value text bytes found P e here = by (past text bytes) refl e

@@ -3,3 +3,4 @@ pub mod Words
 pub mod Hex
 pub mod FieldTexts
 pub mod LineTexts
+pub mod HeadTexts

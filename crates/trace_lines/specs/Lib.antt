@@ -1,3 +1,4 @@
 pub mod Reading
 pub mod FieldReaders
 pub mod LineReaders
+pub mod HeadReading

@@ -2,6 +2,12 @@
 #![tactic(auto)]
 
 mod fields;
+pub mod head;
+pub mod laws;
 pub mod lines;
 
+pub use head::{Head, Shape, read_head};
 pub use lines::read_line;
+
+#[cfg(test)]
+mod tests;
