@@ -1,0 +1,2 @@
+mod CountLemmas
+mod TouchLemmas

@@ -1,0 +1,43 @@
+-- What a task keeps is what the list of its steps says.
+use Rattle.std.specs.Prelude.{◌≡◌, ◌<◌, ◌≤◌, ℕ, List, Option, length, vec_capacity, vec_len}
+use Rattle.slot_table.specs.declared.step.Step.{Step}
+use Rattle.slot_table.specs.declared.step.Step.TheVariants.{Remove, Tell}
+use Rattle.task_log.specs.Arms.{arms_of, takes_of}
+use Rattle.task_log.specs.Counters.{Count}
+use Rattle.task_log.specs.Noted.{armed, heard_finder, heard_setter, last_of, named, settled}
+use Rattle.task_log.specs.Touches.{touches_of}
+use Rattle.task_log.specs.declared.latest.Latest.{Latest}
+use Rattle.task_log.specs.declared.log.TaskLog.{TaskLog}
+use Rattle.task_log.specs.declared.noted.Noted.{Noted}
+
+-- what was last named, set up, heard and settled in a task's steps, the latest first
+pub record IsLatest (own : List Noted) (latest : Latest) : Type 0 where
+  pub named : latest.named ≡ last_of named own
+  pub armed : latest.armed ≡ last_of armed own
+  pub heard_setter : latest.heard_setter ≡ last_of heard_setter own
+  pub heard_finder : latest.heard_finder ≡ last_of heard_finder own
+  pub settled : latest.settled ≡ last_of settled own
+
+-- a task with these steps, the latest first, has at most so many accesses, armings and takings
+pub record Fits (accesses watches : ℕ) (own : List Noted) : Type 0 where
+  pub few_accesses : length (touches_of own) ≤ accesses
+  pub few_arms : length (arms_of own) ≤ watches
+  pub few_takes : length (takes_of own) ≤ watches
+
+-- there is room for the arming that is removed or the taking that is told, if one is
+abbrev pub HasRoom : Step → TaskLog → Type 0
+HasRoom (Remove index) log = vec_len log.arms < vec_capacity log.arms
+HasRoom (Tell index ticket) log = vec_len log.takes < vec_capacity log.takes
+HasRoom step log = Unit {0}
+
+-- what is kept is what a task's steps say, the latest first, and there is room for so many
+-- accesses, armings and takings
+pub record Keeps (accesses watches : ℕ) (own : List Noted) (log : TaskLog) : Type 0 where
+  pub touches : log.touches.items ≡ touches_of own
+  pub arms : log.arms.items ≡ arms_of own
+  pub takes : log.takes.items ≡ takes_of own
+  pub latest : IsLatest own log.latest
+  pub counts : Count own log.counters
+  pub room_for_accesses : accesses ≤ vec_capacity log.touches
+  pub room_for_arms : watches ≤ vec_capacity log.arms
+  pub room_for_takes : watches ≤ vec_capacity log.takes

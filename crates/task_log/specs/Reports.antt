@@ -1,0 +1,16 @@
+-- What is reported at a step.
+use Rattle.std.specs.Prelude.{ℕ, List, [], ◌∷◌, Option, None, Some, unwrap_or}
+use Rattle.access_types.specs.declared.report.Report.{Report}
+use Rattle.access_types.specs.declared.report.Report.TheVariants as reports
+use Rattle.setup_access.specs.declared.outcome.Outcome.{Outcome}
+use Rattle.setup_access.specs.declared.outcome.Outcome.TheVariants as outcomes
+use Rattle.task_log.specs.Arms.{setter_named}
+use Rattle.task_log.specs.declared.noted.Noted.{Noted}
+
+-- what is reported where a setter settles what came of its watchpoint: the two sides by the pair
+-- that it heard, or itself where the origin is unknown
+abbrev pub reported : Option Outcome → List Noted → Option Report
+reported (Some (outcomes.Report pair seen)) earlier = Some (reports.Two pair.setter pair.finder seen)
+reported (Some (outcomes.Unknown old new)) earlier =
+    Some (reports.Unknown (setter_named earlier) old new)
+reported outcome earlier = None

@@ -1,0 +1,185 @@
+//! What a task keeps of its steps.
+
+ghost use Rattle.std.specs.Prelude.{◌≡◌, ◌==◌, ◌<◌, ◌≤◌, ◌++◌, ◌∷◌, [], ℕ, List, IfOk, count_by, vec_capacity, vec_len};
+ghost use Rattle.slot_table.specs.declared.step.Step.TheVariants.{Tell};
+ghost use Rattle.task_log.specs.Arms.{arm_removed, arms_at, arms_of, became_of, takes_at, takes_of};
+ghost use Rattle.task_log.specs.Counters.{Count};
+ghost use Rattle.task_log.specs.Keeps.{Fits, HasRoom, IsLatest, Keeps};
+ghost use Rattle.task_log.specs.Reports.{reported};
+ghost use Rattle.task_log.specs.Touches.{accesses_of};
+ghost use Rattle.task_log.specs.declared.noted.Noted.{Noted};
+
+use crate::counters::Counters;
+use crate::latest::Latest;
+use crate::noted::Noted;
+use crate::touches::{self, Touch};
+use access_types::{Arm, ArmOutcome, HitResult, Report, Stamped, Take};
+use setup_access::Outcome;
+use slot_table::Step;
+use std::alloc::{AllocError, Global};
+use value_filter::Reason;
+
+/// What a task keeps of its steps. It takes all its room when it is made.
+#[derive(Debug, Drop)]
+pub struct TaskLog {
+    touches: Vec<Touch>,
+    arms: Vec<Arm>,
+    takes: Vec<Take>,
+    latest: Latest,
+    counters: Counters,
+}
+
+/// What became of a watchpoint; a hit has its finder.
+fn became(outcome: Option<Outcome>, finder: u32) -> ArmOutcome
+    ensures { result ≡ became_of outcome finder }
+{
+    let result = match outcome {
+        Some(Outcome::Unknown { .. }) => return ArmOutcome::Origin,
+        Some(Outcome::Report { .. }) => HitResult::Report,
+        Some(Outcome::Dropped(Reason::Encoding)) => HitResult::Encoding,
+        Some(Outcome::Dropped(Reason::SameValue)) => HitResult::Same,
+        Some(Outcome::Dropped(Reason::MaskedBits)) => HitResult::Masked,
+        _ => return ArmOutcome::Quiet,
+    };
+    ArmOutcome::Hit { finder, result }
+}
+
+/// How many armings are by the access with this ticket.
+fn armings_of(arms: &[Arm], setter: u32) -> u64
+    ensures { result ≡ count_by (λ arm. arm.setter == setter) arms.now }
+{
+    arms.iter().filter(|arm| arm.setter() == setter).count() as u64
+}
+
+impl TaskLog {
+    /// That of a task that has made no step, with room for so many accesses, and for so many armings
+    /// and takings.
+    pub fn new(alloc: Global, accesses: usize, watches: usize) -> Result<TaskLog, AllocError>
+        ensures { IfOk result (Keeps accesses watches []) }
+    {
+        Ok(TaskLog {
+            touches: Vec::with_capacity(alloc, accesses)?,
+            arms: Vec::with_capacity(alloc, watches)?,
+            takes: Vec::with_capacity(alloc, watches)?,
+            latest: Latest::new(),
+            counters: Counters::new(),
+        })
+    }
+
+    /// The next step is noted. What is reported at it is answered.
+    pub fn note(&mut self, noted: &Noted) -> Option<Report>
+        requires room { (accesses : ℕ) × (watches : ℕ) × (own : List Noted)
+            × (Keeps accesses watches own self.old × Fits accesses watches (noted.now ∷ own)) }
+        ensures keeps { (accesses watches : ℕ) (own : List Noted) → Keeps accesses watches own self.old
+            → Keeps accesses watches (noted.now ∷ own) self.new }
+        ensures reported { (accesses watches : ℕ) (own : List Noted) → Keeps accesses watches own self.old
+            → result ≡ reported noted.now.outcome own }
+    {
+        let report = self.reported(noted);
+        touches::note(&mut self.touches, noted);
+        self.over(noted);
+        self.latest.note(noted);
+        self.counters.note(noted);
+        report
+    }
+
+    /// An arming that is removed and a taking that is told are over.
+    fn over(&mut self, noted: &Noted)
+        requires { HasRoom noted.now.step self.old }
+        ensures arms { (own : List Noted) → IsLatest own self.old.latest → self.new.arms.items ≡ arms_at noted.now.step own self.old.arms.items }
+        ensures takes { (own : List Noted) → IsLatest own self.old.latest → self.new.takes.items ≡ takes_at noted.now.step own self.old.takes.items }
+        ensures kept { self.new ≡ record self.old { arms = self.new.arms; takes = self.new.takes } }
+        ensures room_for_arms { vec_capacity self.old.arms ≤ vec_capacity self.new.arms }
+        ensures room_for_takes { vec_capacity self.old.takes ≤ vec_capacity self.new.takes }
+    {
+        match noted.step {
+            Step::Remove(index) => self.removes(index),
+            Step::Tell(index, ticket) => self.tells(index, ticket),
+            _ => {}
+        }
+    }
+
+    /// The watchpoint that the task set up is removed.
+    fn removes(&mut self, index: usize)
+        requires { vec_len self.old.arms < vec_capacity self.old.arms }
+        ensures arms { (own : List Noted) → IsLatest own self.old.latest
+            → self.new.arms.items ≡ self.old.arms.items ++ arm_removed index own self.old.arms.items ∷ [] }
+        ensures kept { self.new ≡ record self.old { arms = self.new.arms } }
+        ensures room { vec_capacity self.old.arms ≤ vec_capacity self.new.arms }
+    {
+        let setter = self.latest.named.unwrap_or(0);
+        let number = armings_of(self.arms.as_slice(), setter);
+        let word = self.latest.armed.unwrap_or(0);
+        let outcome = became(self.latest.settled, self.latest.heard_finder.unwrap_or(0));
+        let _ = self
+            .arms
+            .push(Arm::new(setter, number, index, word, outcome));
+    }
+
+    /// The setter of the watchpoint that the task took is told the ticket.
+    fn tells(&mut self, index: usize, ticket: u32)
+        requires { vec_len self.old.takes < vec_capacity self.old.takes }
+        ensures takes { (own : List Noted) → IsLatest own self.old.latest
+            → self.new.takes.items ≡ takes_at (Tell index ticket) own self.old.takes.items }
+        ensures kept { self.new ≡ record self.old { takes = self.new.takes } }
+        ensures room { vec_capacity self.old.takes ≤ vec_capacity self.new.takes }
+    {
+        let setter = self.latest.heard_setter.unwrap_or(0);
+        let _ = self.takes.push(Take::new(ticket, index, setter));
+    }
+
+    /// What is reported at a step.
+    fn reported(&self, noted: &Noted) -> Option<Report>
+        ensures { (accesses watches : ℕ) (own : List Noted) → Keeps accesses watches own self.now
+            → result ≡ reported noted.now.outcome own }
+    {
+        match noted.outcome? {
+            Outcome::Report { pair, seen } => {
+                let (setter, finder) = pair.halves();
+                Some(Report::Two {
+                    setter,
+                    finder,
+                    seen,
+                })
+            }
+            Outcome::Unknown { old, new } => Some(Report::Unknown {
+                setter: self.latest.named.unwrap_or(0),
+                old,
+                new,
+            }),
+            _ => None,
+        }
+    }
+
+    /// The accesses that have ended, in the order of their begins.
+    pub fn accesses(&self, alloc: Global) -> Result<Vec<Stamped>, AllocError>
+        ensures { (accesses watches : ℕ) (own : List Noted) → Keeps accesses watches own self.now
+            → IfOk result (λ all. all.items ≡ accesses_of own) }
+    {
+        touches::ended(alloc, self.touches.as_slice())
+    }
+
+    /// The armings that are over, in the order in which they were removed.
+    pub fn arms(&self) -> &[Arm]
+        ensures { (accesses watches : ℕ) (own : List Noted) → Keeps accesses watches own self.now
+            → result.now ≡ arms_of own }
+    {
+        self.arms.as_slice()
+    }
+
+    /// The takings that are over, in the order in which they were told.
+    pub fn takes(&self) -> &[Take]
+        ensures { (accesses watches : ℕ) (own : List Noted) → Keeps accesses watches own self.now
+            → result.now ≡ takes_of own }
+    {
+        self.takes.as_slice()
+    }
+
+    /// How often each thing came of the task's checks.
+    pub fn counters(&self) -> Counters
+        ensures { (accesses watches : ℕ) (own : List Noted) → Keeps accesses watches own self.now
+            → Count own result }
+    {
+        self.counters
+    }
+}
