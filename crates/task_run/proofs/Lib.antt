@@ -1,0 +1,15 @@
+pub mod CountsLemmas
+pub mod StandsLemmas
+pub mod PartLemmas
+pub mod EndLemmas
+pub mod FollowLemmas
+pub mod BeginLemmas
+pub mod PlanLemmas
+pub mod BeginsLemmas
+pub mod LeadsLemmas
+pub mod StageLemmas
+pub mod AnswerLemmas
+pub mod LimitLemmas
+pub mod RunLemmas
+pub mod NextLemmas
+pub mod ReadLemmas

@@ -1,0 +1,16 @@
+-- All that was due so far was over at once, and each small step leaves less of the text.
+use Rattle.std.proofs.Common.{List}
+use Rattle.slot_table.specs.declared.records.Record.{Record}
+use Rattle.task_run.specs.Due.{EndsAtOnce}
+use Rattle.task_run.specs.Stands.{StandsBy}
+use Rattle.task_run.proofs.machine.Machine.advance.Given as goal
+use Rattle.text_walk.specs.Cost.{walk_cost}
+use Rattle.text_walk.specs.Left.{WalkLeft}
+use Rattle.written_order.specs.Standing.{Setting, Standing}
+
+abbrev pub invariant-loop-stage : goal.invariant-loop-stage
+invariant-loop-stage l = (s : Setting) (before : List Record → Standing) → StandsBy s before l.fn.self
+    → EndsAtOnce s (WalkLeft s l.fn.self.walk) before l.self
+
+abbrev pub decreases-loop-stage : goal.decreases-loop-stage
+decreases-loop-stage l = walk_cost l.self.walk

@@ -1,0 +1,16 @@
+-- The access is the one that is planned for the call.
+use Rattle.std.proofs.Common.{◌∙◌, ap, subst, sym}
+use Rattle.std.proofs.lemmas.Result.{IfOk-weaker}
+use Rattle.std.specs.Option.{option_map}
+use Rattle.program_layout.specs.Lays.{Lays}
+use Rattle.task_plan.specs.Views.{plan_of}
+use Rattle.task_run.proofs.PlanLemmas.{begins_call}
+use Rattle.task_run.proofs.machine.Machine.plans.Goals as goal
+
+pub returns-in-Some-clause-begins : goal.returns-in-Some-clause-begins
+returns-in-Some-clause-begins c = IfOk-weaker c.makes.result _ _
+    (λ stage begins s. begins_call s c.args.self.now.walk c.args.site (plan_of c.in-Some.plan) c.args.self.now _ stage c.args.call
+    (λ before stands. sym (c.call.ensures s.text (subst (λ l. Lays s.text.places s.text.variables l) (sym c.planner.ensures.layout) stands.of.layout))
+    ∙ ap (option_map plan_of) c.in-Some.is)
+    (begins s))
+    c.makes.ensures.begins

@@ -1,0 +1,29 @@
+-- The access goes on, or is over, and what follows on it and is left of the text follows.
+use Rattle.std.proofs.Common.{◌≡◌, ◌∙◌, false, subst, sym, true}
+use Rattle.setup_access.specs.Parts.{made}
+use Rattle.task_run.proofs.RunLemmas.{access_ended, access_inside}
+use Rattle.task_run.specs.Says.{StageSays}
+use Rattle.task_run.proofs.run.TaskRun.answers_access.Goals as goal
+use Rattle.written_order.specs.Standing.{checks_of}
+
+pub returns-then-is_over : goal.returns-then-is_over
+returns-then-is_over c = λ is s registers body records step leads says.
+    let checker = c.answers_access-run.new.self.checker in
+    access_ended s registers body records c.args.self.now leads (made s.text.task step c.args.answer) c.args.run c.answers_access-run.result c.args.after
+    c.answers_access-run.new.self is c.answers_access-run.ensures.kept c.answers_access-run.ensures.context
+    (λ scopes begun asked operation so_far sites l. c.answers_access-run.ensures.leads (checks_of s) scopes begun asked operation so_far step sites l
+    (subst (λ stage. StageSays stage c.args.self.now step) is says))
+    c.effect.result
+    (λ scopes begun asked operation so_far l. c.effect.ensures.complete (checks_of s) scopes begun asked operation so_far checker l
+    ((c.is_over.ensures (checks_of s) scopes begun asked operation so_far checker l).0 c.if-is_over.true))
+    c.follows.new.self (λ before stands read. c.follows.ensures s before stands read) _
+    (λ before stands. c.advance-self.ensures s before stands)
+
+pub returns-else-is_over : goal.returns-else-is_over
+returns-else-is_over c = λ is s registers body records step leads says.
+    access_inside s registers body records c.args.self.now leads (made s.text.task step c.args.answer) c.args.run c.answers_access-run.result c.args.after
+    c.answers_access-run.new.self is c.answers_access-run.ensures.kept c.answers_access-run.ensures.context
+    (λ scopes begun asked operation so_far sites l. c.answers_access-run.ensures.leads (checks_of s) scopes begun asked operation so_far step sites l
+    (subst (λ stage. StageSays stage c.args.self.now step) is says))
+    (λ scopes begun asked operation so_far l done. absurd (let no : false ≡ true = sym c.if-is_over.false
+    ∙ (c.is_over.ensures (checks_of s) scopes begun asked operation so_far c.answers_access-run.new.self.checker l).1 done in cc))

@@ -1,0 +1,106 @@
+-- The step of the part under way is the only one that the text goes on with.
+use Rattle.std.proofs.Common.{◌≡◌, ◌∙◌, ℕ, IsNone, Some, ap, false, inl, inr, refl, subst, sym, true}
+use Rattle.access_run.specs.Leads.{AccessOnlyStep}
+use Rattle.memory_operation.specs.LockLeads.{LockSays, OnlyLockStep}
+use Rattle.setup_access.specs.Leads as checks
+use Rattle.slot_table.specs.declared.step.Step.TheVariants.{LockStore}
+use Rattle.task_run.specs.Leads.{OnlyStep}
+use Rattle.task_run.specs.Says.{StageSays}
+use Rattle.task_run.specs.declared.stage.Stage.TheVariants as stages
+use Rattle.written_order.specs.Standing.{checks_of}
+use Rattle.task_run.proofs.NextLemmas.{closing_none, closing_only, locking_none, locking_only, making_none, making_only, none_left, opening_none, opening_only, over_spelled, some_says, step_only, unlocking_only, unlocking_stuck}
+use Rattle.task_run.proofs.run.TaskRun.next.Goals as goal
+
+pub returns-in-Over-clause-none : goal.returns-in-Over-clause-none
+returns-in-Over-clause-none c = λ s registers body records leads.
+    (λ h. inl (over_spelled s registers body records c.args.self.now leads c.in-Over.is), λ h. refl)
+
+pub returns-in-Stopped-clause-none : goal.returns-in-Stopped-clause-none
+returns-in-Stopped-clause-none c = λ s registers body records leads. (λ h. inr (inr c.in-Stopped.is), λ h. refl)
+
+making : goal.returns-in-Making-clause-only
+making c = λ s registers body records leads.
+    step_only c.next.result (OnlyStep s registers body records)
+    (λ step is. making_only s registers body records c.args.self.now leads c.in-Making.run' c.in-Making.field-1 c.in-Making.is step
+    (λ scopes begun asked operation so_far own. some_says c.next.result (AccessOnlyStep (checks_of s) scopes begun asked operation so_far) step is
+    (c.next.ensures.only (checks_of s) scopes begun asked operation so_far own)))
+
+pub returns-in-Making-clause-only : goal.returns-in-Making-clause-only
+returns-in-Making-clause-only c = making c
+
+pub returns-in-Making-clause-none : goal.returns-in-Making-clause-none
+returns-in-Making-clause-none c = λ s registers body records leads.
+    let is = making_none s registers body records c.args.self.now leads c.in-Making.run' c.in-Making.field-1 c.in-Making.is (IsNone c.next.result)
+    (λ scopes begun asked operation so_far own. c.next.ensures.none (checks_of s) scopes begun asked operation so_far own) in
+    none_left s registers body records c.args.self.now leads c.next.result (making c s registers body records leads) is.0 is.1
+    (λ stopped. let no : stages.Making c.in-Making.run' c.in-Making.field-1 ≡ stages.Stopped = sym c.in-Making.is ∙ stopped in cc)
+
+opening : goal.returns-in-Opening-clause-only
+opening c = λ s registers body records leads.
+    step_only c.next-in-Opening.result (OnlyStep s registers body records)
+    (λ step is. opening_only s registers body records c.args.self.now leads c.in-Opening.is step
+    (λ scopes doing asked so_far own. some_says c.next-in-Opening.result (checks.OnlyStep (checks_of s) scopes doing asked so_far) step is
+    (c.next-in-Opening.ensures.only (checks_of s) scopes doing asked so_far own)))
+
+pub returns-in-Opening-clause-only : goal.returns-in-Opening-clause-only
+returns-in-Opening-clause-only c = opening c
+
+pub returns-in-Opening-clause-none : goal.returns-in-Opening-clause-none
+returns-in-Opening-clause-none c = λ s registers body records leads.
+    let is = opening_none s registers body records c.args.self.now leads c.in-Opening.is (IsNone c.next-in-Opening.result)
+    (λ scopes doing asked so_far own. c.next-in-Opening.ensures.none (checks_of s) scopes doing asked so_far own) in
+    none_left s registers body records c.args.self.now leads c.next-in-Opening.result (opening c s registers body records leads) is.0 is.1
+    (λ stopped. let no : stages.Opening ≡ stages.Stopped = sym c.in-Opening.is ∙ stopped in cc)
+
+closing : goal.returns-in-Closing-clause-only
+closing c = λ s registers body records leads.
+    step_only c.next-in-Closing.result (OnlyStep s registers body records)
+    (λ step is. closing_only s registers body records c.args.self.now leads c.in-Closing.is step
+    (λ scopes doing asked so_far own. some_says c.next-in-Closing.result (checks.OnlyStep (checks_of s) scopes doing asked so_far) step is
+    (c.next-in-Closing.ensures.only (checks_of s) scopes doing asked so_far own)))
+
+pub returns-in-Closing-clause-only : goal.returns-in-Closing-clause-only
+returns-in-Closing-clause-only c = closing c
+
+pub returns-in-Closing-clause-none : goal.returns-in-Closing-clause-none
+returns-in-Closing-clause-none c = λ s registers body records leads.
+    let is = closing_none s registers body records c.args.self.now leads c.in-Closing.is (IsNone c.next-in-Closing.result)
+    (λ scopes doing asked so_far own. c.next-in-Closing.ensures.none (checks_of s) scopes doing asked so_far own) in
+    none_left s registers body records c.args.self.now leads c.next-in-Closing.result (closing c s registers body records leads) is.0 is.1
+    (λ stopped. let no : stages.Closing ≡ stages.Stopped = sym c.in-Closing.is ∙ stopped in cc)
+
+locking : goal.returns-in-Locking-clause-only
+locking c = λ s registers body records leads.
+    step_only c.next-in-Locking.result (OnlyStep s registers body records)
+    (λ step is. locking_only s registers body records c.args.self.now leads c.in-Locking.wait c.in-Locking.field-1 c.in-Locking.is
+    (some_says c.next-in-Locking.result (λ x. LockSays c.in-Locking.wait x) step is c.next-in-Locking.ensures.says).0 step
+    (λ lock so_far own. some_says c.next-in-Locking.result (OnlyLockStep s.text.task lock so_far) step is
+    (c.next-in-Locking.ensures.only s.text.task lock so_far own)))
+
+pub returns-in-Locking-clause-only : goal.returns-in-Locking-clause-only
+returns-in-Locking-clause-only c = locking c
+
+pub returns-in-Locking-clause-none : goal.returns-in-Locking-clause-none
+returns-in-Locking-clause-none c = λ s registers body records leads.
+    let is = locking_none s registers body records c.args.self.now leads c.in-Locking.wait c.in-Locking.field-1 c.in-Locking.is (IsNone c.next-in-Locking.result)
+    (λ lock so_far own. c.next-in-Locking.ensures.none s.text.task lock so_far own) in
+    none_left s registers body records c.args.self.now leads c.next-in-Locking.result (locking c s registers body records leads) is.0 is.1
+    (λ stopped. let no : stages.Locking c.in-Locking.wait c.in-Locking.field-1 ≡ stages.Stopped = sym c.in-Locking.is ∙ stopped in cc)
+
+pub returns-in-Unlocking-clause-says : goal.returns-in-Unlocking-clause-says
+returns-in-Unlocking-clause-says c = subst (λ x. StageSays x c.args.self.now (LockStore c.lock_number.result)) (sym c.in-Unlocking.is) (ap LockStore c.lock_number.ensures.value)
+
+unlocking : goal.returns-in-Unlocking-clause-only
+unlocking c = λ s registers body records leads.
+    subst (λ (n : ℕ). OnlyStep s registers body records (LockStore n)) (sym c.lock_number.ensures.value)
+    (unlocking_only s registers body records c.args.self.now leads c.in-Unlocking.variable c.in-Unlocking.is)
+
+pub returns-in-Unlocking-clause-only : goal.returns-in-Unlocking-clause-only
+returns-in-Unlocking-clause-only c = unlocking c
+
+pub returns-in-Unlocking-clause-none : goal.returns-in-Unlocking-clause-none
+returns-in-Unlocking-clause-none c = λ s registers body records leads.
+    none_left s registers body records c.args.self.now leads (Some (LockStore c.lock_number.result)) (unlocking c s registers body records leads)
+    (λ h. absurd (let no : true ≡ false = h in cc))
+    (λ stuck. absurd (unlocking_stuck s registers body records c.args.self.now leads c.in-Unlocking.variable c.in-Unlocking.is stuck))
+    (λ stopped. let no : stages.Unlocking c.in-Unlocking.variable ≡ stages.Stopped = sym c.in-Unlocking.is ∙ stopped in cc)

@@ -1,0 +1,69 @@
+-- Records of a task that lead to its machine.
+use Rattle.std.specs.Prelude.{◌≡◌, ◌↔◌, ◌++◌, ℕ, List, [], ◌∷◌}
+use Rattle.litmus_syntax.specs.Tree.{Block}
+use Rattle.access_run.specs.Leads.{AccessIsStuck}
+use Rattle.memory_operation.specs.Leads.{GoesOn}
+use Rattle.memory_operation.specs.LockLeads.{IsStuckAtLock}
+use Rattle.setup_access.specs.Parts.{made}
+use Rattle.setup_access.specs.Waits.{IsStuckBy}
+use Rattle.setup_access.specs.declared.begun.Begun.{Begun}
+use Rattle.slot_table.specs.declared.records.Record.{Record}
+use Rattle.slot_table.specs.declared.step.Answer.{Answer}
+use Rattle.slot_table.specs.declared.step.Step.{Step}
+use Rattle.task_run.specs.Agrees.{Agrees}
+use Rattle.task_run.specs.Part.{Part, PartLeft, closes, locks, makes, opens, over, stops, unlocks}
+use Rattle.task_run.specs.Says.{Says}
+use Rattle.task_run.specs.declared.run.TaskRun.{TaskRun}
+use Rattle.written_order.specs.Standing.{BeginsNow, Setting, Standing, checks_of, lock_number}
+use Rattle.written_order.specs.WrittenOrder.{SpellsAll, StepsOfBlock, at_first}
+
+-- The records so far, of a task with so many registers, lead to the machine: it is in a part of the
+-- text, by the last of the records, and whatever completes the records completes the part and what is
+-- left of the text. Where the task stood when the part began is told by the records that were to come
+-- then, since a standing counts these.
+pub record Leads (s : Setting) (registers : ℕ) (body : Block) (records : List Record) (run : TaskRun) :
+    Type 0 where
+  pub part : Part
+  pub earlier : List Record
+  pub mine : List Record
+  pub spelled : records ≡ earlier ++ mine
+  pub now : List Record → Standing
+  pub agrees : (later : List Record) → Agrees s part (now later) mine run.machine run.stage
+  pub left : (later : List Record) (end : Standing)
+      → StepsOfBlock s 0 body (at_first registers) (records ++ later) end []
+      ↔ PartLeft s part run.machine.walk (now (mine ++ later)) (mine ++ later) end []
+
+-- where the task stands, with these records still to come
+abbrev pub stands_at : {s : Setting} {registers : ℕ} {body : Block} {records : List Record} {run : TaskRun}
+    → Leads s registers body records run → List Record → Standing
+stands_at leads later = leads.now (leads.mine ++ later)
+
+-- whatever completes the records so far goes on with this step
+abbrev pub OnlyStep : Setting → ℕ → Block → List Record → Step → Type 0
+OnlyStep s registers body records step =
+    (later : List Record) → SpellsAll s registers body (records ++ later) → GoesOn s.text.task step later
+
+-- one record more, of the step that the machine is before, leads on
+abbrev pub LeadsOn : TaskRun → TaskRun → Answer → Type 0
+LeadsOn old new answer =
+    (s : Setting) (registers : ℕ) (body : Block) (records : List Record) (step : Step)
+    → Leads s registers body records old → Says old step
+    → Leads s registers body (records ++ made s.text.task step answer ∷ []) new
+
+-- a wait of the part had as many vain tries as the rules allow, by the records of the part so far
+abbrev pub WaitsTooLong : Setting → Part → Standing → List Record → Type 0
+WaitsTooLong s (makes a operation follow) before mine =
+    (begun : Begun) × BeginsNow s before a begun
+    × AccessIsStuck (checks_of s) before.scopes begun before.asked operation mine
+WaitsTooLong s (opens a) before mine = IsStuckBy s.rules.turns mine
+WaitsTooLong s closes before mine = IsStuckBy s.rules.turns mine
+WaitsTooLong s (locks variable) before mine =
+    IsStuckAtLock s.rules.turns s.text.task (lock_number s variable) mine
+WaitsTooLong s over before mine = ⊥
+WaitsTooLong s (stops due) before mine = ⊥
+WaitsTooLong s (unlocks variable) before mine = ⊥
+
+-- the task is in a wait that had as many vain tries as the rules allow
+abbrev pub IsStuck : {s : Setting} {registers : ℕ} {body : Block} {records : List Record} {run : TaskRun}
+    → Leads s registers body records run → Type 0
+IsStuck {s = s} leads = WaitsTooLong s leads.part (leads.now leads.mine) leads.mine

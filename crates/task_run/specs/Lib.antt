@@ -1,0 +1,9 @@
+pub mod Errors
+pub mod Part
+pub mod Plans
+pub mod Stands
+pub mod Agrees
+pub mod Follows
+pub mod Due
+pub mod Says
+pub mod Leads

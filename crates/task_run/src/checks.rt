@@ -1,0 +1,87 @@
+//! What a task's accesses and its checks of scoped assertions do with an answer.
+
+ghost use Rattle.std.specs.Prelude.{◌≡◌, ◌+◌, ◌-◌, ◌<◌, ◌↔◌, ◌++◌, ◌∷◌, [], ℕ, List, IsTrue, None, Option, Some, length};
+ghost use Rattle.access_run.specs.Leads.{AccessLeads, AccessSays};
+ghost use Rattle.memory_operation.specs.declared.operation.Operation.{Operation};
+ghost use Rattle.setup_access.specs.Checker.{Doing};
+ghost use Rattle.setup_access.specs.Leads as checks;
+ghost use Rattle.setup_access.specs.Own.{IsOwn};
+ghost use Rattle.setup_access.specs.Parts.{made};
+ghost use Rattle.setup_access.specs.Setting as settings;
+ghost use Rattle.setup_access.specs.Shown.{context_of};
+ghost use Rattle.setup_access.specs.declared.begun.Begun.{Begun};
+ghost use Rattle.slot_table.specs.Answer.{Answers};
+ghost use Rattle.slot_table.specs.declared.records.Record.{Record};
+ghost use Rattle.slot_table.specs.declared.step.Step.{Step};
+
+use crate::machine::Machine;
+use access_run::AccessRun;
+use setup_access::Checker;
+use slot_table::Answer;
+
+/// The check that is under way is over: no step follows, and it isn't stuck.
+fn is_over(checker: &Checker) -> bool
+    ensures done { (s : settings.Setting) (scopes : List Begun) (doing : Doing) (asked : ℕ) (records : List Record)
+        → checks.Leads s scopes doing asked records checker.now → (IsTrue result ↔ checks.IsDone s scopes doing asked records) }
+    ensures complete { (s : settings.Setting) (scopes : List Begun) (doing : Doing) (asked : ℕ) (records : List Record)
+        → checks.Leads s scopes doing asked records checker.now → checks.IsDone s scopes doing asked records
+        → checks.IsComplete s scopes doing asked records checker.now }
+{
+    match checker.next() {
+        Some(_) => false,
+        None => !checker.stuck(),
+    }
+}
+
+impl<'a> Machine<'a> {
+    /// An access that is under way takes the answer.
+    pub(crate) fn answers_access(&mut self, run: AccessRun, answer: Answer) -> AccessRun
+        requires { (step : Step) × AccessSays run self.old.checker step × Answers step answer }
+        ensures leads { (s : settings.Setting) (scopes : List Begun) (begun : Begun) (asked : ℕ) (operation : Option Operation) (records : List Record) (step : Step)
+            → s.sites ≡ self.old.sites → AccessLeads s scopes begun asked operation records run self.old.checker → AccessSays run self.old.checker step
+            → AccessLeads s scopes begun asked operation (records ++ made s.task step answer ∷ []) result self.new.checker }
+        ensures context { context_of self.new.checker ≡ context_of self.old.checker }
+        ensures kept { self.new ≡ record self.old { checker = self.new.checker } }
+    {
+        let mut run = run;
+        run.answer(&mut self.checker, answer, &self.sites);
+        run
+    }
+
+    /// The check that is under way takes the answer, and is over or not.
+    pub(crate) fn answers_check(&mut self, answer: Answer) -> bool
+        requires { (step : Step) × checks.Says self.old.checker step × Answers step answer }
+        ensures leads { (s : settings.Setting) (scopes : List Begun) (doing : Doing) (asked : ℕ) (records : List Record) (step : Step)
+            → s.sites ≡ self.old.sites → checks.Leads s scopes doing asked records self.old.checker → checks.Says self.old.checker step
+            → checks.Leads s scopes doing asked (records ++ made s.task step answer ∷ []) self.new.checker }
+        ensures over { (s : settings.Setting) (scopes : List Begun) (doing : Doing) (asked : ℕ) (records : List Record)
+            → checks.Leads s scopes doing asked records self.new.checker → (IsTrue result ↔ checks.IsDone s scopes doing asked records) }
+        ensures complete { (s : settings.Setting) (scopes : List Begun) (doing : Doing) (asked : ℕ) (records : List Record)
+            → checks.Leads s scopes doing asked records self.new.checker → checks.IsDone s scopes doing asked records
+            → checks.IsComplete s scopes doing asked records self.new.checker }
+        ensures context { context_of self.new.checker ≡ context_of self.old.checker }
+        ensures kept { self.new ≡ record self.old { checker = self.new.checker } }
+    {
+        self.checker.answer(answer, &self.sites);
+        is_over(&self.checker)
+    }
+
+    /// The scoped assertion whose check is over is in force from now on.
+    pub(crate) fn opened(&mut self)
+        ensures opens { (s : settings.Setting) (scopes : List Begun) (begun : Begun) (asked : ℕ) → checks.Rests s scopes asked (Some begun) self.old.checker
+            → IsOwn s begun.access → length scopes < 8 → checks.Rests s (scopes ++ begun ∷ []) asked None self.new.checker }
+        ensures in_force { self.old.in_force < 8 → self.new.in_force ≡ self.old.in_force + 1 }
+        ensures context { context_of self.new.checker ≡ context_of self.old.checker }
+        ensures kept { self.new ≡ record self.old { checker = self.new.checker; in_force = self.new.in_force } }
+    {
+        self.checker.open_scoped();
+        self.in_force = self.in_force.saturating_add(1);
+    }
+
+    /// The newest scoped assertion was in force up to now.
+    pub(crate) fn closed(&mut self)
+        ensures { self.new ≡ record self.old { in_force = self.old.in_force - 1 } }
+    {
+        self.in_force = self.in_force.saturating_sub(1);
+    }
+}

@@ -1,0 +1,64 @@
+//! What follows on an access that is over.
+
+ghost use Rattle.std.specs.Prelude.{◌≡◌, List};
+ghost use Rattle.slot_table.specs.declared.records.Record.{Record};
+ghost use Rattle.task_run.specs.Due.{EndsAtOnce};
+ghost use Rattle.task_run.specs.Follows.{IsRead};
+ghost use Rattle.task_run.specs.Part.{FollowLeft, TakerLeft};
+ghost use Rattle.task_run.specs.Stands.{StandsBy};
+ghost use Rattle.task_plan.specs.Views.{follow_of, taker_of};
+ghost use Rattle.written_order.specs.Standing.{Setting, Standing};
+
+use crate::machine::Machine;
+use litmus_meaning::{loading_value, sign_extended};
+use memory_operation::Effect;
+use task_plan::follow::so_often;
+use task_plan::{Taker, Then};
+
+impl<'a> Machine<'a> {
+    /// An access is over, of which this came.
+    pub(crate) fn follows(&mut self, after: Then<'a>, effect: Effect)
+        ensures { (s : Setting) (before : List Record → Standing) → StandsBy s before self.old → IsRead (follow_of after.entry) effect
+            → EndsAtOnce s (FollowLeft s self.old.walk (follow_of after.entry) effect) before self.new }
+    {
+        match after {
+            Then::GoesOn => {}
+            Then::MarksNext => self.marks_next(1),
+            Then::Assigned { data_race } => self.enable(so_often(data_race)),
+            Then::Loaded {
+                size,
+                data_races,
+                taker,
+            } => {
+                self.enable(data_races);
+                if let Some(old) = effect.read {
+                    self.takes(taker, sign_extended(old, size));
+                }
+            }
+        }
+    }
+
+    /// The value of a load is taken.
+    fn takes(&mut self, taker: Taker<'a>, loaded: u64)
+        ensures { (s : Setting) (before : List Record → Standing) → StandsBy s before self.old
+            → EndsAtOnce s (TakerLeft s self.old.walk (taker_of taker.entry) loaded) before self.new }
+    {
+        match taker {
+            Taker::Nobody => {}
+            Taker::Register {
+                register,
+                value,
+                data_race,
+            } => {
+                let value = loading_value(value, self.progress.registers(), loaded);
+                self.progress.assign(register, value);
+                self.enable(so_often(data_race));
+            }
+            Taker::Condition(value) => {
+                if loading_value(value, self.progress.registers(), loaded) != 0 {
+                    self.walk.holds();
+                }
+            }
+        }
+    }
+}

@@ -1,0 +1,13 @@
+//! One task of a litmus program as a machine: which step it makes next, from its first statement to
+//! its last.
+#![tactic(auto)]
+
+mod begins;
+mod checks;
+mod follows;
+mod machine;
+mod marks;
+pub mod run;
+mod stage;
+
+pub use run::{TaskRun, TaskRunError};

@@ -1,0 +1,269 @@
+//! A task of a program, under way.
+
+ghost use Rattle.std.specs.Prelude.{◌≡◌, ◌↔◌, ◌<◌, ◌≤◌, ◌⊎◌, [], ℕ, List, IfOk, IfSome, IsErrOf, IsNone, IsTrue, Some, length, slice_get};
+
+use crate::machine::Machine;
+use crate::stage::Stage;
+use access_run::AccessRun;
+use access_types::Sites;
+use litmus_syntax::{Program, Task};
+use memory_operation::LockWait;
+use program_layout::{Layout, LayoutError, Place};
+use setup_access::{Checker, CheckerError, Rules};
+use slot_table::{Answer, Step};
+use std::alloc::{AllocError, Global};
+use task_plan::{Progress, Then};
+use text_walk::Walk;
+use thiserror::Error;
+
+/// A task of a program, from its first statement to its last: the step that it makes next, and what it
+/// goes on with after the answer. It makes no step itself, so it runs over any words.
+#[derive(Drop)]
+pub struct TaskRun<'a> {
+    pub(crate) machine: Machine<'a>,
+    /// What it is doing.
+    pub(crate) stage: Stage<'a>,
+}
+
+/// Why there is no task.
+#[derive(Clone, Copy, Debug, PartialEq, Eq, Error)]
+pub enum TaskRunError {
+    /// There are fewer than 3 page slots, or more than 1,024.
+    #[error("there are 3 to 1024 slots")]
+    BadSlots,
+    /// A place is no multiple of its variable's size or is above 2^62, its name is unknown, a lock's,
+    /// or placed twice.
+    #[error("bad place")]
+    BadPlace,
+    #[error("out of memory")]
+    OutOfMemory,
+}
+
+impl From<AllocError> for TaskRunError {
+    ghost use Rattle.task_run.specs.declared.run.TaskRunError.TheVariants.{OutOfMemory};
+
+    ghost from_gives = { λ _ e. e ≡ OutOfMemory };
+
+    fn from(_: AllocError) -> TaskRunError {
+        TaskRunError::OutOfMemory
+    }
+}
+
+impl From<LayoutError> for TaskRunError {
+    ghost use Rattle.task_run.specs.Errors.{of_layout};
+
+    ghost from_gives = { λ error e. e ≡ of_layout error };
+
+    fn from(error: LayoutError) -> TaskRunError {
+        match error {
+            LayoutError::BadPlace => TaskRunError::BadPlace,
+            LayoutError::OutOfMemory => TaskRunError::OutOfMemory,
+        }
+    }
+}
+
+impl From<CheckerError> for TaskRunError {
+    ghost use Rattle.task_run.specs.Errors.{of_checker};
+
+    ghost from_gives = { λ error e. e ≡ of_checker error };
+
+    fn from(error: CheckerError) -> TaskRunError {
+        match error {
+            CheckerError::BadSlots => TaskRunError::BadSlots,
+            CheckerError::OutOfMemory => TaskRunError::OutOfMemory,
+        }
+    }
+}
+
+impl<'a> TaskRun<'a> {
+    ghost use Rattle.litmus_meaning.specs.Layout.{cells_of};
+    ghost use Rattle.litmus_syntax.specs.Limits.{KeepsLimits};
+    ghost use Rattle.litmus_syntax.specs.Tree.{Block};
+    ghost use Rattle.litmus_syntax.specs.Views.{block_of, program_of};
+    ghost use Rattle.program_layout.specs.Places.{AreFit, places_of};
+    ghost use Rattle.memory_operation.specs.LockLeads.{LockSays};
+    ghost use Rattle.setup_access.specs.Leads as checks;
+    ghost use Rattle.slot_table.specs.Answer.{Answers};
+    ghost use Rattle.slot_table.specs.declared.records.Record.{Record};
+    ghost use Rattle.slot_table.specs.declared.step.Answer.TheVariants.{Done};
+    ghost use Rattle.slot_table.specs.declared.step.Step.{Step};
+    ghost use Rattle.task_run.specs.Leads.{IsStuck, Leads, LeadsOn, OnlyStep, stands_at};
+    ghost use Rattle.task_plan.specs.Counts.{up_to_last};
+    ghost use Rattle.access_run.specs.Leads.{AccessSays};
+    ghost use Rattle.task_run.specs.Says.{IsStopped, Says};
+    ghost use Rattle.task_run.specs.declared.run.TaskRunError.TheVariants.{BadPlace, BadSlots};
+    ghost use Rattle.task_run.specs.declared.stage.Stage.TheVariants.{Closing, Locking, Making, Opening, Unlocking};
+    ghost use Rattle.written_order.specs.Standing.{Setting};
+    ghost use Rattle.written_order.specs.WrittenOrder.{SpellsAll};
+
+    /// A task that has made no step yet. `cells` are the addresses of the cells of memory, and `sites`
+    /// the accesses of the whole program. It takes all its room, and no call after it takes memory.
+    ///
+    /// `BadSlots`: there are fewer than 3 page slots, or more than 1,024. `BadPlace`: a place is no
+    /// multiple of its variable's size or is above 2^62, its name is unknown, a lock's, or placed twice.
+    pub fn new(
+        alloc: Global,
+        program: &'a Program,
+        number: u32,
+        task: &'a Task,
+        rules: &Rules,
+        places: &[Place],
+        cells: &[u64],
+        sites: Sites,
+    ) -> Result<TaskRun<'a>, TaskRunError>
+        requires limits { KeepsLimits (program_of program.now) }
+        requires task { slice_get program.now.tasks number ≡ Some task.now }
+        requires cells { cells.now ≡ cells_of (places_of places.now) program.now.variables }
+        ensures leads { IfOk result (λ run. Leads (record {
+          text = record { task = number; variables = program.now.variables; places = places_of places.now };
+          rules = rules.now;
+          sites = sites;
+        }) (length task.now.registers) (block_of task.now.body.items) [] run) }
+        ensures bad_slots { IsErrOf result BadSlots → (rules.now.slots < 3 ⊎ 1024 < rules.now.slots) }
+        ensures slots { IfOk result (λ run. (3 ≤ rules.now.slots) × (rules.now.slots ≤ 1024)) }
+        ensures bad_place { IsErrOf result BadPlace ↔ (AreFit program.now.variables places.now → ⊥) }
+    {
+        let variables = program.variables.as_slice();
+        let registers = task.registers.as_slice().len();
+        let mut machine = Machine {
+            task: number,
+            turns: rules.turns,
+            variables,
+            layout: Layout::new(alloc, variables, places)?,
+            sites,
+            walk: Walk::new(alloc, task.body.as_slice())?,
+            progress: Progress::new(alloc, registers, variables.len())?,
+            in_force: 0,
+            checker: Checker::new(alloc, number, rules, cells)?,
+        };
+        let stage = machine.advance();
+        Ok(TaskRun { machine, stage })
+    }
+
+    /// The step that the task makes next; none where its text is over, or a wait of it is stuck.
+    pub fn next(&self) -> Option<Step>
+        ensures says { IfSome result (λ step. Says self.now step) }
+        ensures only { (s : Setting) (registers : ℕ) (body : Block) (records : List Record) → Leads s registers body records self.now
+            → IfSome result (OnlyStep s registers body records) }
+        ensures none { (s : Setting) (registers : ℕ) (body : Block) (records : List Record) → (leads : Leads s registers body records self.now)
+            → (IsNone result ↔ (SpellsAll s registers body records ⊎ (IsStuck leads ⊎ IsStopped self.now))) }
+    {
+        match self.stage {
+            Stage::Over => None,
+            Stage::Stopped => None,
+            Stage::Making(run, _) => run.next(&self.machine.checker),
+            Stage::Opening => self.machine.checker.next(),
+            Stage::Closing => self.machine.checker.next(),
+            Stage::Locking(wait, _) => wait.next(self.machine.turns),
+            Stage::Unlocking(variable) => {
+                Some(Step::LockStore(self.machine.lock_number(variable)))
+            }
+        }
+    }
+
+    /// A wait of the task had as many vain tries as the rules allow.
+    pub fn stuck(&self) -> bool
+        ensures { (s : Setting) (registers : ℕ) (body : Block) (records : List Record) → (leads : Leads s registers body records self.now)
+            → (IsTrue result ↔ IsStuck leads) }
+    {
+        match self.stage {
+            Stage::Over => false,
+            Stage::Stopped => false,
+            Stage::Unlocking(_) => false,
+            Stage::Making(run, _) => run.stuck(&self.machine.checker),
+            Stage::Opening => self.machine.checker.stuck(),
+            Stage::Closing => self.machine.checker.stuck(),
+            Stage::Locking(wait, _) => wait.stuck(self.machine.turns),
+        }
+    }
+
+    /// Takes the answer of the step.
+    pub fn answer(&mut self, answer: Answer)
+        requires { (step : Step) × Says self.old step × Answers step answer }
+        ensures { LeadsOn self.old self.new answer }
+    {
+        match self.stage {
+            Stage::Over | Stage::Stopped => unreachable!(),
+            Stage::Making(run, after) => self.answers_access(run, after, answer),
+            Stage::Opening => self.answers_open(answer),
+            Stage::Closing => self.answers_close(answer),
+            Stage::Locking(wait, variable) => self.answers_lock(wait, variable, answer),
+            Stage::Unlocking(variable) => self.answers_unlock(variable),
+        }
+    }
+
+    /// An access takes the answer. Once it is over, what follows on it is done.
+    fn answers_access(&mut self, run: AccessRun, after: Then<'a>, answer: Answer)
+        requires { (step : Step) × AccessSays run self.old.machine.checker step × Answers step answer }
+        ensures { self.old.stage ≡ Making run after.entry → LeadsOn self.old self.new answer }
+    {
+        let run = self.machine.answers_access(run, answer);
+        if run.is_over() {
+            self.machine.follows(after, run.effect());
+            self.stage = self.machine.advance();
+        } else {
+            self.stage = Stage::Making(run, after);
+        }
+    }
+
+    /// The check of a scoped assertion takes the answer. Once it is over, the assertion is in force.
+    fn answers_open(&mut self, answer: Answer)
+        requires { (step : Step) × checks.Says self.old.machine.checker step × Answers step answer }
+        ensures { self.old.stage ≡ Opening → LeadsOn self.old self.new answer }
+    {
+        if self.machine.answers_check(answer) {
+            self.machine.opened();
+            self.stage = self.machine.advance();
+        }
+    }
+
+    /// The last check of a scoped assertion takes the answer.
+    fn answers_close(&mut self, answer: Answer)
+        requires { (step : Step) × checks.Says self.old.machine.checker step × Answers step answer }
+        ensures { self.old.stage ≡ Closing → LeadsOn self.old self.new answer }
+    {
+        if self.machine.answers_check(answer) {
+            self.machine.closed();
+            self.stage = self.machine.advance();
+        }
+    }
+
+    /// The wait for a lock takes the answer. Once it is over, the task has the lock.
+    fn answers_lock(&mut self, wait: LockWait, variable: usize, answer: Answer)
+        requires { (step : Step) × LockSays wait step × Answers step answer }
+        ensures { self.old.stage ≡ Locking wait variable → LeadsOn self.old self.new answer }
+    {
+        let mut wait = wait;
+        wait.answer(answer);
+        if wait.is_taken() {
+            self.machine.progress.set_lock(variable, true);
+            self.stage = self.machine.advance();
+        } else {
+            self.stage = Stage::Locking(wait, variable);
+        }
+    }
+
+    /// The lock is given back.
+    fn answers_unlock(&mut self, variable: usize)
+        ensures { self.old.stage ≡ Unlocking variable → LeadsOn self.old self.new Done }
+    {
+        self.machine.progress.set_lock(variable, false);
+        self.stage = self.machine.advance();
+    }
+
+    /// The values of the task's registers, by number.
+    pub fn registers(&self) -> &[u64]
+        ensures { (s : Setting) (registers : ℕ) (body : Block) (records : List Record) → (leads : Leads s registers body records self.now)
+            → (later : List Record) → result.now ≡ (stands_at leads later).progress.registers }
+    {
+        self.machine.progress.registers()
+    }
+
+    /// How many of its calls had nothing to end, up to the largest number that there is.
+    pub fn unbalanced(&self) -> u64
+        ensures { (s : Setting) (registers : ℕ) (body : Block) (records : List Record) → (leads : Leads s registers body records self.now)
+            → (later : List Record) → result ≡ up_to_last (stands_at leads later).unbalanced }
+    {
+        self.machine.progress.unbalanced()
+    }
+}

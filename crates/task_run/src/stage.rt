@@ -1,0 +1,25 @@
+//! The part of its text that a task is in.
+
+use access_run::AccessRun;
+use memory_operation::LockWait;
+use task_plan::Then;
+
+/// What a task is doing: a part of its text with at least one step, or nothing more.
+#[derive(Clone, Copy, Debug)]
+pub(crate) enum Stage<'a> {
+    /// Nothing: the text is over.
+    Over,
+    /// Nothing: what is due needs more than the machine has room for, as more accesses at one site than
+    /// tickets tell apart. No program that `parse` reads has such a part.
+    Stopped,
+    /// An access, and what follows on it.
+    Making(AccessRun, Then<'a>),
+    /// The check of a scoped assertion, which is in force afterwards.
+    Opening,
+    /// The last check of the newest scoped assertion in force.
+    Closing,
+    /// The tries of a lock, by the number of its variable.
+    Locking(LockWait, usize),
+    /// The step that gives a lock back, by the number of its variable.
+    Unlocking(usize),
+}
