@@ -77,7 +77,7 @@ pub begun_more : (at : ℕ) (did : List Happening) (a : Access)
     → count_by (begins_at at) (did ++ happenings.Begin a ∷ []) ≡ count_by (begins_at at) did + one_at a.site at
 begun_more at did a =
     let parts : count_by (begins_at at) (did ++ happenings.Begin a ∷ []) ≡ count_by (begins_at at) did + count_by (begins_at at) (happenings.Begin a ∷ []) =
-      sum_by-append (counted at) did (happenings.Begin a ∷ []) in
+    sum_by-append (counted at) did (happenings.Begin a ∷ []) in
     let last : count_by (begins_at at) (happenings.Begin a ∷ []) ≡ one_at a.site at + 0 = sum_by-cons (counted at) (happenings.Begin a) [] in
     omega (arith, parts, last)
 
@@ -150,24 +150,24 @@ some_access s at a operation own some others has =
           let passes : Passes = moved checked check.1 in
           let end : Standing = ends_at a operation (standing at way outcomes) (check.0 ++ checked) checked done rest operates.1 passes in
           let all : (check.0 ++ (operates.0 ++ clock)) ++ rest ≡ check.0 ++ checked =
-            append_assoc check.0 (operates.0 ++ clock) rest ∙ ap (λ (r : List Record). check.0 ++ r) (append_assoc operates.0 clock rest) in
+          append_assoc check.0 (operates.0 ++ clock) rest ∙ ap (λ (r : List Record). check.0 ++ r) (append_assoc operates.0 clock rest) in
           let makes : Makes s (standing at way outcomes) a operation (check.0 ++ checked) operates.1
-            (standing (after_access at a operation operates.1 check.1.asked) end.way end.outcomes) rest =
-            record {
-              begun = begun.0;
-              passes = passes;
-              checked = checked;
-              done = done;
-              begins = record { own = begun.1.own; access = begun.1.access; marked = begun.1.marked; silenced = begun.1.silenced };
-              check = check_joined (checks_of s) at.scopes begun.0 at.asked check.0 checked check.1 check.2;
-              operates = operates_joined (checks_of s) a operation operates.0 done operates.1 operates.2;
-              ends = (refl, refl, refl);
-              comes_to = comes_to at way outcomes a operation (check.0 ++ checked) checked done rest operates.1 passes;
-            } in (
+          (standing (after_access at a operation operates.1 check.1.asked) end.way end.outcomes) rest =
+          record {
+            begun = begun.0;
+            passes = passes;
+            checked = checked;
+            done = done;
+            begins = record { own = begun.1.own; access = begun.1.access; marked = begun.1.marked; silenced = begun.1.silenced };
+            check = check_joined (checks_of s) at.scopes begun.0 at.asked check.0 checked check.1 check.2;
+            operates = operates_joined (checks_of s) a operation operates.0 done operates.1 operates.2;
+            ends = (refl, refl, refl);
+            comes_to = comes_to at way outcomes a operation (check.0 ++ checked) checked done rest operates.1 passes;
+          } in (
             end.way,
             end.outcomes,
             subst (λ (r : List Record). Makes s (standing at way outcomes) a operation r operates.1
-            (standing (after_access at a operation operates.1 check.1.asked) end.way end.outcomes) rest) (sym all) makes,
+                (standing (after_access at a operation operates.1 check.1.asked) end.way end.outcomes) rest) (sym all) makes,
           );
       reads = λ reads. operation_reads (checks_of s) a operation operates.0 operates.1 [] reads operates.2;
       counts = λ site. begun_in site a operation operates.1 at.progress.did;

@@ -58,7 +58,7 @@ module _ (s : Setting) (placed : ArePlaced s) where
   opens at site scoped below few own has =
       let a : Access = scoped_access s.text site at.progress scoped in
       let is_own : IsOwn (checks_of s) a =
-        own_access s placed site at.progress (bytes_in s.text scoped.variable) scoped.kind None below few (in_range s placed scoped.variable has) (no_mask s placed) in
+      own_access s placed site at.progress (bytes_in s.text scoped.variable) scoped.kind None below few (in_range s placed scoped.variable has) (no_mask s placed) in
       let begun = begins_now s (standing at [] []) a is_own has.some in
       let begun_own : IsOwn (checks_of s) begun.0.access = subst (λ (b : Access). IsOwn (checks_of s) b) (sym begun.1.access) is_own in
       let check = some_check (checks_of s) at.scopes begun.0 at.asked begun_own own in
@@ -133,7 +133,7 @@ module _ (s : Setting) (placed : ArePlaced s) where
               comes_to = refl;
             } in
             let all : (open_it.2 ++ (inside.records ++ close_it.0)) ++ rest ≡ open_it.2 ++ second =
-              append_assoc open_it.2 (inside.records ++ close_it.0) rest ∙ ap (λ (r : List Record). open_it.2 ++ r) (append_assoc inside.records close_it.0 rest) in (
+            append_assoc open_it.2 (inside.records ++ close_it.0) rest ∙ ap (λ (r : List Record). open_it.2 ++ r) (append_assoc inside.records close_it.0 rest) in (
               close_end.way,
               close_end.outcomes,
               subst (λ (r : List Record). StepsInBlock s site (Some scoped) Own Later (standing at way outcomes) r (standing after close_end.way close_end.outcomes) rest)
@@ -236,8 +236,8 @@ module _ (s : Setting) (placed : ArePlaced s) where
         let value = expression_spelled s placed registers at site e typed.0 inside.1 (λ k. let all = room k in omega (arith, all)) own in
         let next : Core = value.1.after in
         let body_spelled = block_spelled registers body next (after_condition site e) typed.1 inside.0
-          (λ k. let all = room k in let one = value.1.counts k in omega (arith, all, one))
-          (subst (λ (scopes : List Begun). AreOwn (checks_of s) scopes) (sym value.1.scopes) own) in
+        (λ k. let all = room k in let one = value.1.counts k in omega (arith, all, one))
+        (subst (λ (scopes : List Begun). AreOwn (checks_of s) scopes) (sym value.1.scopes) own) in
         let both = chosen value.0 (StepsOfBlock s (after_condition site e) body) Nothing next (block_begins (after_condition site e) body) (λ k. 0) body_spelled (nothing_spelled next) in
         let Choice : Steps = λ before records after rest. Chooses value.0 (StepsOfBlock s (after_condition site e) body before records after rest) (Nothing before records after rest) in
         spelled_as (Both (Says site e value.0) Choice) (StepsOf s site (tree.if_block e body)) at
@@ -254,9 +254,9 @@ module _ (s : Setting) (placed : ArePlaced s) where
         let next_own : AreOwn (checks_of s) next.scopes = subst (λ (scopes : List Begun). AreOwn (checks_of s) scopes) (sym value.1.scopes) own in
         let within = inside.0 in
         let holds = block_spelled registers body next first typed.1.0 (omega (arith, within, lengths))
-          (λ k. let all = room k in let one = value.1.counts k in omega (arith, all, one)) next_own in
+        (λ k. let all = room k in let one = value.1.counts k in omega (arith, all, one)) next_own in
         let fails = block_spelled registers otherwise next second typed.1.1 (omega (arith, within, lengths))
-          (λ k. let all = room k in let one = value.1.counts k in omega (arith, all, one)) next_own in
+        (λ k. let all = room k in let one = value.1.counts k in omega (arith, all, one)) next_own in
         let both = chosen value.0 (StepsOfBlock s first body) (StepsOfBlock s second otherwise) next (block_begins first body) (block_begins second otherwise) holds fails in
         let Choice : Steps = λ before records after rest. Chooses value.0 (StepsOfBlock s first body before records after rest) (StepsOfBlock s second otherwise before records after rest) in
         spelled_as (Both (Says site e value.0) Choice) (StepsOf s site (tree.if_else e body otherwise)) at

@@ -119,7 +119,7 @@ begins_now s before a own some =
     let plain = s.rules.plain_writes_atomic in
     let context = some_context plain a.task (moments s before) in
     let marked : Told (CountsAfter plain a (moments s before)) =
-      told (CountsAfter plain a (moments s before)) (counts_or_not plain a (moments s before) context.0 context.1) in
+    told (CountsAfter plain a (moments s before)) (counts_or_not plain a (moments s before) context.0 context.1) in
     let silenced : Told (IsDisabled s before) = disabled_told s before in (
       record { access = a; marked = marked.0; silenced = silenced.0; has_bytes = some },
       record { own = own; access = refl; marked = marked.1; silenced = silenced.1 },

@@ -41,8 +41,8 @@ mutual
   statement_within (tree.if_block e body) site at =
       let own : List Statement = itself (tree.if_block e body) in
       let inside : Within (block_begins (after_condition site e) body at) (site + length own) at (length (sites_of body)) =
-        subst (λ (n : ℕ). Within (block_begins (after_condition site e) body at) n at (length (sites_of body)))
-        (after_is (expression_has_access e) (tree.if_block e body) site) (block_within body (after_condition site e) at) in
+      subst (λ (n : ℕ). Within (block_begins (after_condition site e) body at) n at (length (sites_of body)))
+      (after_is (expression_has_access e) (tree.if_block e body) site) (block_within body (after_condition site e) at) in
       subst (λ (n : ℕ). Within (statement_begins site (tree.if_block e body) at) site at n) (sym (length-append own (sites_of body)))
       (both_within (own_begins (expression_has_access e) site at) (block_begins (after_condition site e) body at) site at (length own) (length (sites_of body))
       (own_within (expression_has_access e) (tree.if_block e body) site at) inside)
@@ -52,12 +52,12 @@ mutual
       let second : ℕ = first + length (sites_of body) in
       let counts : ℕ = block_begins first body at + block_begins second otherwise at in
       let both : Within counts first at (length (sites_of body) + length (sites_of otherwise)) =
-        both_within (block_begins first body at) (block_begins second otherwise at) first at (length (sites_of body)) (length (sites_of otherwise))
-        (block_within body first at) (block_within otherwise second at) in
+      both_within (block_begins first body at) (block_begins second otherwise at) first at (length (sites_of body)) (length (sites_of otherwise))
+      (block_within body first at) (block_within otherwise second at) in
       let inside : Within counts (site + length own) at (length (sites_of body ++ sites_of otherwise)) =
-        subst (λ (n : ℕ). Within counts n at (length (sites_of body ++ sites_of otherwise)))
-        (after_is (expression_has_access e) (tree.if_else e body otherwise) site)
-        (subst (λ (n : ℕ). Within counts first at n) (sym (length-append (sites_of body) (sites_of otherwise))) both) in
+      subst (λ (n : ℕ). Within counts n at (length (sites_of body ++ sites_of otherwise)))
+      (after_is (expression_has_access e) (tree.if_else e body otherwise) site)
+      (subst (λ (n : ℕ). Within counts first at n) (sym (length-append (sites_of body) (sites_of otherwise))) both) in
       subst (λ (n : ℕ). Within (statement_begins site (tree.if_else e body otherwise) at) site at n)
       (sym (length-append own (sites_of body ++ sites_of otherwise)))
       (both_within (own_begins (expression_has_access e) site at) counts site at (length own) (length (sites_of body ++ sites_of otherwise))
@@ -100,8 +100,8 @@ mutual
   statement_few turns (tree.if_block e body) site at few keeps =
       let own : List Statement = itself (tree.if_block e body) in
       let inside : Within (block_begins (after_condition site e) body at) (site + length own) at (length (sites_of body)) =
-        subst (λ (n : ℕ). Within (block_begins (after_condition site e) body at) n at (length (sites_of body)))
-        (after_is (expression_has_access e) (tree.if_block e body) site) (block_within body (after_condition site e) at) in
+      subst (λ (n : ℕ). Within (block_begins (after_condition site e) body at) n at (length (sites_of body)))
+      (after_is (expression_has_access e) (tree.if_block e body) site) (block_within body (after_condition site e) at) in
       both_few turns (own_begins (expression_has_access e) site at) (block_begins (after_condition site e) body at) site at (length own) (length (sites_of body))
       (own_within (expression_has_access e) (tree.if_block e body) site at) inside
       (own_few turns (expression_has_access e) site at few) (block_few turns body (after_condition site e) at few keeps)
@@ -111,11 +111,11 @@ mutual
       let second : ℕ = first + length (sites_of body) in
       let counts : ℕ = block_begins first body at + block_begins second otherwise at in
       let both : Within counts first at (length (sites_of body) + length (sites_of otherwise)) =
-        both_within (block_begins first body at) (block_begins second otherwise at) first at (length (sites_of body)) (length (sites_of otherwise))
-        (block_within body first at) (block_within otherwise second at) in
+      both_within (block_begins first body at) (block_begins second otherwise at) first at (length (sites_of body)) (length (sites_of otherwise))
+      (block_within body first at) (block_within otherwise second at) in
       let inside : Within counts (site + length own) at (length (sites_of body) + length (sites_of otherwise)) =
-        subst (λ (n : ℕ). Within counts n at (length (sites_of body) + length (sites_of otherwise)))
-        (after_is (expression_has_access e) (tree.if_else e body otherwise) site) both in
+      subst (λ (n : ℕ). Within counts n at (length (sites_of body) + length (sites_of otherwise)))
+      (after_is (expression_has_access e) (tree.if_else e body otherwise) site) both in
       both_few turns (own_begins (expression_has_access e) site at) counts site at (length own) (length (sites_of body) + length (sites_of otherwise))
       (own_within (expression_has_access e) (tree.if_else e body otherwise) site at) inside
       (own_few turns (expression_has_access e) site at few)

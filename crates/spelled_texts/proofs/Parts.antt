@@ -83,10 +83,10 @@ module _ (s : checks.Setting) (Body : Steps) (register : ℕ) (most : ℕ → �
   turns_spelled (suc left) turn at room own =
       let start : Core = set_at at register turn in
       let body : Spelled Body start most =
-        each start (λ site. let all = room site in let parts = suc-mul left (most site) in omega (arith, all, parts)) own in
+      each start (λ site. let all = room site in let parts = suc-mul left (most site) in omega (arith, all, parts)) own in
       let others = turns_spelled left (suc turn) body.after
-        (λ site. let all = room site in let parts = suc-mul left (most site) in let one = body.counts site in omega (arith, all, parts, one))
-        (subst (λ (scopes : List _). AreOwn s scopes) (sym body.scopes) own) in
+      (λ site. let all = room site in let parts = suc-mul left (most site) in let one = body.counts site in omega (arith, all, parts, one))
+      (subst (λ (scopes : List _). AreOwn s scopes) (sym body.scopes) own) in
       record {
         after = others.after;
         records = body.records ++ others.records;

@@ -168,11 +168,11 @@ module _ (s : Setting) (placed : ArePlaced s) where
       let off : List Happening = replicate load.data_races (happenings.Mark marks.Disable) in
       let on : List Happening = replicate load.data_races (happenings.Mark marks.Enable) in
       let begun_off : (k : ℕ) → begun_at k (doing_at at off) ≡ begun_at k at =
-        λ k. begun_still k at.progress.did off (marks_other load.data_races marks.Disable) in
+      λ k. begun_still k at.progress.did off (marks_other load.data_races marks.Disable) in
       let operation : Operation = fetch_operation at.progress.registers load.fetch in
       let few_off : begun_at site (doing_at at off) < 256 = (let same = begun_off site in omega (arith, same, few)) in
       let made : Made s (doing_at at off) (access_now s.text site (doing_at at off).progress (bytes_in s.text (variable_of load.fetch)) (fetch_kind load.fetch) None) (Some operation) =
-        made_to (doing_at at off) site (variable_of load.fetch) (fetch_kind load.fetch) operation below few_off own has in
+      made_to (doing_at at off) site (variable_of load.fetch) (fetch_kind load.fetch) operation below few_off own has in
       let old = made.reads (fetch_reads at.progress.registers load.fetch) in (
         sign_extended (bytes_in s.text (variable_of load.fetch)).size old.0,
         record {
@@ -187,7 +187,7 @@ module _ (s : Setting) (placed : ArePlaced s) where
               let first = begun_off k in
               let more = made.counts k in
               let last : begun_at k (doing_at made.after on) ≡ begun_at k made.after =
-                begun_still k made.after.progress.did on (marks_other load.data_races marks.Enable) in
+              begun_still k made.after.progress.did on (marks_other load.data_races marks.Enable) in
               omega (arith, first, more, last);
           scopes = made.scopes;
         },
@@ -295,9 +295,9 @@ module _ (s : Setting) (placed : ArePlaced s) where
       let off : List Happening = replicate count (happenings.Mark marks.Disable) in
       let on : List Happening = replicate count (happenings.Mark marks.Enable) in
       let begun_off : (k : ℕ) → begun_at k (doing_at at off) ≡ begun_at k at =
-        λ k. begun_still k at.progress.did off (marks_other count marks.Disable) in
+      λ k. begun_still k at.progress.did off (marks_other count marks.Disable) in
       let spelled = assignment_spelled registers (doing_at at off) site a typed below
-        (λ k. let same = begun_off k in let all = room k in omega (arith, same, all)) own in
+      (λ k. let same = begun_off k in let all = room k in omega (arith, same, all)) own in
       record {
         after = doing_at spelled.after on;
         records = spelled.records;
@@ -310,7 +310,7 @@ module _ (s : Setting) (placed : ArePlaced s) where
             let first = begun_off k in
             let more = spelled.counts k in
             let last : begun_at k (doing_at spelled.after on) ≡ begun_at k spelled.after =
-              begun_still k spelled.after.progress.did on (marks_other count marks.Enable) in
+            begun_still k spelled.after.progress.did on (marks_other count marks.Enable) in
             omega (arith, first, more, last);
         scopes = spelled.scopes;
       }
@@ -326,7 +326,7 @@ module _ (s : Setting) (placed : ArePlaced s) where
   pub begun_same : (at : Core) (does : List Happening) (k : ℕ) → count_by (begins_at k) does ≡ 0 → begun_at k (doing_at at does) ≡ begun_at k at
   begun_same at does k none =
       let parts : begun_at k (doing_at at does) ≡ begun_at k at + count_by (begins_at k) does =
-        sum_by-append (λ (h : Happening). if begins_at k h then 1 else 0) at.progress.did does in
+      sum_by-append (λ (h : Happening). if begins_at k h then 1 else 0) at.progress.did does in
       omega (arith, parts, none)
 
   marked_spelled : (at : Core) (m : Mark) (told : Bool)
