@@ -15,8 +15,9 @@ ghost use Rattle.memory_operation.specs.declared.lock.LockWait.{LockWait};
 ghost use Rattle.memory_operation.specs.declared.operation.Operation.{Operation};
 ghost use Rattle.memory_operation.specs.declared.run.OperationRun.{OperationRun};
 ghost use Rattle.setup_access.specs.declared.source.Source.{Source};
-ghost use Rattle.setup_access.specs.Check.{Check, Close, Passes};
+ghost use Rattle.setup_access.specs.Check.{Check, Close, Fallen, Passes};
 ghost use Rattle.setup_access.specs.Checker.{Does, Doing};
+ghost use Rattle.setup_access.specs.Fallen.{HaveFallen};
 ghost use Rattle.setup_access.specs.Leads.{Leads};
 ghost use Rattle.setup_access.specs.Own.{AreOwn, IsOwn};
 ghost use Rattle.setup_access.specs.Setting.{Setting};
@@ -34,6 +35,13 @@ pub fn checks_can_be_completed()
         → (records : List Record) × (passes : Passes) × Check s scopes begun asked records passes [] }
     ensures close { (s : Setting) (scope : Begun) (silenced : Bool) (asked : ℕ) → IsOwn s scope.access
         → (records : List Record) × (passes : Passes) × Close s scope silenced asked records passes [] }
+{}
+
+/// Law: by records that lead to a checker one list of outcomes has fallen, and no other.
+pub fn outcomes_that_fell_are_known()
+    ensures { (s : Setting) (scopes : List Begun) (doing : Doing) (asked : ℕ) (records : List Record) (checker : Checker) (first second : List Fallen)
+        → Leads s scopes doing asked records checker → HaveFallen s scopes doing asked records first
+        → HaveFallen s scopes doing asked records second → first ≡ second }
 {}
 
 /// Law: what leads to an operation on memory can be completed, and some records are an operation.
