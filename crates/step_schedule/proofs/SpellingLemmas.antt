@@ -1,4 +1,4 @@
-use Rattle.std.proofs.Common.{◌≡◌, ◌≢◌, ◌<◌, ◌≤◌, ◌+◌, ◌^◌, ◌++◌, ◌↔◌, ◌∙◌, ℕ, zero, suc, List, [], ◌∷◌, Bor}
+use Rattle.std.proofs.Common.{◌≡◌, ◌≢◌, ◌<◌, ◌^◌, ◌++◌, ◌↔◌, ◌∙◌, ℕ, zero, suc, List, [], ◌∷◌, Bor}
 use Rattle.std.proofs.Common.{Option, None, Some, Result, Ok, Err, true, false, ap, arith, get_or, length}
 use Rattle.std.proofs.Common.{map, refl, sym, subst, take}
 use Rattle.std.specs.Prelude.{All, MatchOption, ◌==◌}

@@ -1,6 +1,6 @@
 -- Armings with their remove and takings with their tell, as a task's steps say them. Between an
 -- insertion and its remove a task names, hears and settles nothing of another watchpoint.
-use Rattle.std.specs.Prelude.{◌==◌, ℕ, List, [], ◌∷◌, ◌++◌, Option, None, Some, count_by, unwrap_or}
+use Rattle.std.specs.Prelude.{◌==◌, ℕ, List, [], ◌∷◌, ◌++◌, Option, Some, count_by, unwrap_or}
 use Rattle.access_types.specs.Arms.{Arm}
 use Rattle.access_types.specs.Takes.{Take}
 use Rattle.access_types.specs.declared.arms.ArmOutcome.{ArmOutcome}

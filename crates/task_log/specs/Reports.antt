@@ -1,5 +1,5 @@
 -- What is reported at a step.
-use Rattle.std.specs.Prelude.{ℕ, List, [], ◌∷◌, Option, None, Some, unwrap_or}
+use Rattle.std.specs.Prelude.{List, Option, None, Some}
 use Rattle.access_types.specs.declared.report.Report.{Report}
 use Rattle.access_types.specs.declared.report.Report.TheVariants as reports
 use Rattle.setup_access.specs.declared.outcome.Outcome.{Outcome}

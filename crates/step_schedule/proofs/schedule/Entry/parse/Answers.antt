@@ -1,4 +1,3 @@
-use Rattle.std.proofs.Common.{◌≡◌, Some, ap, refl, sym, ◌∙◌}
 use Rattle.step_schedule.proofs.SpellingLemmas.{entry-no_steps, entry-no_task, entry-parts, entry-read}
 use Rattle.step_schedule.proofs.schedule.Entry.parse.Goals as goal
 

@@ -1,4 +1,4 @@
-use Rattle.std.proofs.Common.{◌≡◌, ◌∙◌, ap, arith, subst, sym}
+use Rattle.std.proofs.Common.{◌∙◌, ap, arith, subst, sym}
 use Rattle.std.specs.Prelude.{vec_capacity}
 use Rattle.task_log.specs.Arms.{arms_at, takes_at}
 use Rattle.task_log.specs.Counters.{Count}
