@@ -6,3 +6,4 @@ pub mod TwoSides
 pub mod Ways
 pub mod Histories
 pub mod OwnMarks
+pub mod Tried
