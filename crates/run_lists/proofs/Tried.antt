@@ -1,7 +1,6 @@
 -- What a small list tells.
-use Rattle.std.proofs.Common.{◌≡◌, ◌<◌, ◌≤◌, ◌∙◌, ◌++◌, ◌↔◌, ℕ, zero, suc, Bool, true, false, List, [], ◌∷◌, None, Option, Some, IsTrue, arith, lit<, lit≤, refl, reverse, slice_get, subst, sym}
+use Rattle.std.proofs.Common.{◌≡◌, ◌∙◌, ℕ, zero, suc, Bool, true, false, List, [], ◌∷◌, None, Some, IsTrue, arith, lit<, lit≤, refl, slice_get, subst, sym}
 use Rattle.std.proofs.lemmas.Bool.{ne_eqb}
-use Rattle.access_types.specs.History.{History}
 use Rattle.access_types.specs.Sites.{map_of}
 use Rattle.access_types.proofs.SiteEntries.{get-lookup}
 use Rattle.access_types.specs.declared.history.Happening.{Happening}
@@ -16,16 +15,15 @@ use Rattle.litmus_syntax.specs.Tree as tree
 use Rattle.litmus_syntax.specs.declared.program.Contents.TheVariants.{Lock}
 use Rattle.litmus_syntax.specs.declared.proposition.Quantifier.TheVariants as quantifiers
 use Rattle.litmus_syntax.specs.declared.statement.Call.TheVariants as calls
-use Rattle.setup_access.specs.declared.rules.Rules.{Rules}
 use Rattle.slot_table.specs.Records.{records_of}
 use Rattle.slot_table.specs.declared.records.Record.{Record}
 use Rattle.slot_table.specs.declared.step.Answer.TheVariants as answers
 use Rattle.slot_table.specs.declared.step.Step.TheVariants as steps
 use Rattle.watch_word.specs.declared.layout.Layout.TheVariants.{W64}
-use Rattle.written_order.specs.Standing.{Setting, Standing, doing}
+use Rattle.written_order.specs.Standing.{Standing, doing}
 use Rattle.written_order.specs.Waits.{WithinTurns}
-use Rattle.written_order.specs.WrittenOrder.{WrittenOrder, at_first}
-use Rattle.run_lists.specs.Run.{Run, task_of, task_setting}
+use Rattle.written_order.specs.WrittenOrder.{at_first}
+use Rattle.run_lists.specs.Run.{Run, task_of}
 use Rattle.run_lists.specs.RunList.{InWrittenOrder, RunList}
 use Rattle.run_lists.specs.Told.{history_of}
 
