@@ -1,5 +1,5 @@
 -- Some records are an access, from wherever its task stands.
-use Rattle.std.proofs.Common.{◌≡◌, ◌≢◌, ◌<◌, ◌≤◌, ◌∙◌, ◌+◌, ◌-◌, ◌^◌, ◌==◌, ◌++◌, ℕ, Bool, true, false, List, [], ◌∷◌, Option, None, Some, IsSome, ap, append_assoc, arith, count_by, drop, le_refl, refl, subst, sym, zero-add, if◌then◌else◌}
+use Rattle.std.proofs.Common.{◌≡◌, ◌<◌, ◌∙◌, ◌+◌, ◌++◌, ℕ, true, false, List, [], ◌∷◌, Option, None, Some, IsSome, ap, append_assoc, arith, count_by, drop, refl, subst, sym, if◌then◌else◌}
 use Rattle.std.proofs.lemmas.List.Sums.{sum_by-append, sum_by-cons}
 use Rattle.access_run.proofs.AccessEnds.{some_operation}
 use Rattle.access_run.proofs.CheckEnds.{some_check}

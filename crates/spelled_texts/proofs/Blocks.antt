@@ -1,5 +1,5 @@
 -- Each block is spelled by some records where it fits.
-use Rattle.std.proofs.Common.{◌≡◌, ◌≢◌, ◌<◌, ◌≤◌, ◌⊎◌, ◌∙◌, ◌+◌, ◌*◌, ◌==◌, ◌++◌, ℕ, Bool, true, false, List, [], ◌∷◌, Option, None, Some, ap, append_assoc, arith, count_by, drop, inl, inr, le_refl, length, length-append, refl, subst, sym, if◌then◌else◌}
+use Rattle.std.proofs.Common.{◌≡◌, ◌<◌, ◌≤◌, ◌∙◌, ◌+◌, ◌++◌, ℕ, Bool, true, false, List, [], ◌∷◌, Option, None, Some, ap, append_assoc, arith, drop, inl, inr, le_refl, length, length-append, refl, subst, sym, if◌then◌else◌}
 use Rattle.std.proofs.lemmas.Bool.{cases_eq}
 use Rattle.access_run.proofs.CheckEnds.{some_check, some_close}
 use Rattle.access_run.proofs.CheckFronts.{close, framed_checks}
@@ -12,12 +12,11 @@ use Rattle.litmus_meaning.specs.Meaning.{Chooses, after_condition}
 use Rattle.litmus_meaning.specs.Task as meaning
 use Rattle.litmus_meaning.specs.Task.{access_now, bytes_in}
 use Rattle.litmus_syntax.specs.Limits.{BlockTyped, IsVariable, StatementTyped}
-use Rattle.litmus_syntax.specs.Sites.{accesses_of, assignment_has_access, call_has_access, expression_has_access, has_access, itself, sites_of}
+use Rattle.litmus_syntax.specs.Sites.{accesses_of, assignment_has_access, call_has_access, expression_has_access, sites_of}
 use Rattle.litmus_syntax.specs.Tree.{Block, Expression, Statement}
 use Rattle.litmus_syntax.specs.Tree as tree
-use Rattle.litmus_syntax.specs.declared.statement.Call.{Call}
 use Rattle.litmus_syntax.specs.declared.statement.Call.TheVariants as calls
-use Rattle.setup_access.specs.Check.{Check, Close, Fallen, Passes}
+use Rattle.setup_access.specs.Check.{Check, Close, Passes}
 use Rattle.setup_access.specs.Own.{AreOwn, IsOwn}
 use Rattle.setup_access.specs.Setting as checks
 use Rattle.setup_access.specs.declared.begun.Begun.{Begun}
@@ -25,13 +24,13 @@ use Rattle.slot_table.specs.declared.records.Record.{Record}
 use Rattle.spelled_texts.proofs.Accesses.{begun_more}
 use Rattle.spelled_texts.proofs.Decided.{begins_now, disabled_told}
 use Rattle.spelled_texts.proofs.Parts.{Both, Spelled, spelled_as, spelled_both, turns_spelled}
-use Rattle.spelled_texts.proofs.Statements.{assign_spelled, begun_same, call_spelled, doing_at, expression_spelled, few_at, in_range, load_spelled, fetch_bytes, memory_bytes, no_mask, own_access}
+use Rattle.spelled_texts.proofs.Statements.{assign_spelled, call_spelled, expression_spelled, few_at, in_range, load_spelled, fetch_bytes, memory_bytes, no_mask, own_access}
 use Rattle.spelled_texts.specs.Begins.{block_begins, one_at, own_begins, statement_begins}
 use Rattle.spelled_texts.specs.Core.{Core, begun_at, standing}
 use Rattle.spelled_texts.specs.Fits.{ArePlaced, HasBytes}
 use Rattle.task_plan.proofs.KeepsLemmas.{begun_still}
-use Rattle.written_order.specs.Standing.{BeginsNow, IsDisabled, Point, Setting, Standing, checks_of, doing}
-use Rattle.written_order.specs.WrittenOrder.{ClosesScope, OpensScope, Steps, StepsInBlock, StepsOf, StepsOfBlock, StepsOfExpression, StepsOfTurns}
+use Rattle.written_order.specs.Standing.{BeginsNow, Setting, Standing, checks_of, doing}
+use Rattle.written_order.specs.WrittenOrder.{ClosesScope, OpensScope, Steps, StepsInBlock, StepsOf, StepsOfBlock, StepsOfExpression}
 
 own_more : (s : checks.Setting) (scopes : List Begun) (begun : Begun) → AreOwn s scopes → IsOwn s begun.access → AreOwn s (scopes ++ begun ∷ [])
 own_more s [] begun are is = (is, tt)

@@ -4,7 +4,7 @@ use Rattle.std.proofs.lemmas.Bool.{cases_Bool, cases_lt}
 use Rattle.access_types.specs.Access.{Access}
 use Rattle.access_types.specs.History.{History}
 use Rattle.access_types.specs.Kind.{is_assertion, is_marked}
-use Rattle.access_types.specs.Marked.{CountsAfter, EndsRaised, IsFlatOpen, IsWithinNext, is_atomic_write, is_disable, is_enable, is_nest_close, is_nest_open, marks_of}
+use Rattle.access_types.specs.Marked.{CountsAfter, EndsRaised, IsWithinNext, is_atomic_write, is_disable, is_enable, is_nest_close, is_nest_open, marks_of}
 use Rattle.access_types.specs.Marked.CountsAfter.{atomic_write, declared, in_flat, in_nest, within_next}
 use Rattle.access_types.specs.declared.history.Mark.{Mark}
 use Rattle.access_types.specs.declared.history.Mark.TheVariants.{Disable, Enable, FlatBegin, FlatEnd, NestClose, NestOpen, Next}

@@ -6,3 +6,4 @@ pub mod Statements
 pub mod Blocks
 pub mod LimitLemmas
 pub mod TextLemmas
+pub mod PlacedLemmas

@@ -1,5 +1,5 @@
 -- Where a text keeps its limits, no more than 256 accesses begin at a site.
-use Rattle.std.proofs.Common.{◌≡◌, ◌<◌, ◌≤◌, ◌⊎◌, ◌∙◌, ◌+◌, ◌*◌, ◌==◌, ◌++◌, ℕ, Bool, true, false, List, [], ◌∷◌, add-zero, ap, arith, eq-eqb, inl, inr, length, length-append, ne_eqb, refl, subst, sym, zero-add, if◌then◌else◌}
+use Rattle.std.proofs.Common.{◌≡◌, ◌<◌, ◌≤◌, ◌⊎◌, ◌∙◌, ◌+◌, ◌*◌, ◌==◌, ◌++◌, ℕ, Bool, true, false, List, [], ◌∷◌, add-zero, ap, arith, inl, inr, length, length-append, ne_eqb, refl, subst, sym, zero-add, if◌then◌else◌}
 use Rattle.std.proofs.Math.Nat.{mul-zero, mul_assoc}
 use Rattle.std.proofs.lemmas.Bool.{cases_eq}
 use Rattle.litmus_meaning.specs.Meaning.{after_condition}
@@ -7,7 +7,7 @@ use Rattle.litmus_syntax.specs.Limits.{BlockTurns, StatementTurns}
 use Rattle.litmus_syntax.specs.Sites.{accesses_of, assignment_has_access, call_has_access, expression_has_access, itself, sites_of}
 use Rattle.litmus_syntax.specs.Tree.{Block, Statement}
 use Rattle.litmus_syntax.specs.Tree as tree
-use Rattle.spelled_texts.specs.Begins.{block_begins, one_at, own_begins, statement_begins}
+use Rattle.spelled_texts.specs.Begins.{block_begins, own_begins, statement_begins}
 
 -- none begin at a site, or it is one of so many from a site on
 abbrev Within : ℕ → ℕ → ℕ → ℕ → Type 0

@@ -1,5 +1,5 @@
 -- Parts of a text that some records spell, from a place on.
-use Rattle.std.proofs.Common.{◌≡◌, ◌≤◌, ◌∙◌, ◌+◌, ◌*◌, ◌++◌, ℕ, zero, suc, List, [], ◌∷◌, ap, append_assoc, arith, le_refl, refl, subst, sym}
+use Rattle.std.proofs.Common.{◌≡◌, ◌≤◌, ◌∙◌, ◌+◌, ◌*◌, ◌++◌, ℕ, zero, suc, List, [], append_assoc, arith, refl, subst, sym}
 use Rattle.std.proofs.Math.Nat.{suc-mul}
 use Rattle.litmus_meaning.specs.Task as meaning
 use Rattle.setup_access.specs.Check.{Fallen}

@@ -1,9 +1,8 @@
 -- Each statement without a block is spelled by some records where it fits.
-use Rattle.std.proofs.Common.{◌≡◌, ◌≢◌, ◌<◌, ◌≤◌, ◌⊎◌, ◌∙◌, ◌+◌, ◌-◌, ◌^◌, ◌==◌, ◌++◌, ℕ, zero, suc, Bool, true, false, List, [], ◌∷◌, ◌↔◌, IsTrue, Option, None, Some, MatchBool, IsSome, ap, arith, count_by, eq-eqb, inl, inr, le_refl, length, not, refl, replicate, slice_get, subst, sym, zero-add, if◌then◌else◌}
-use Rattle.std.proofs.lemmas.Bool.{cases_Bool, cases_eq}
+use Rattle.std.proofs.Common.{◌≡◌, ◌≢◌, ◌<◌, ◌≤◌, ◌⊎◌, ◌+◌, ◌-◌, ◌^◌, ◌==◌, ◌++◌, ℕ, zero, suc, Bool, true, false, List, [], ◌∷◌, ◌↔◌, IsTrue, Option, None, Some, MatchBool, arith, count_by, eq-eqb, inl, inr, le_refl, not, refl, replicate, if◌then◌else◌}
+use Rattle.std.proofs.lemmas.Bool.{cases_Bool}
 use Rattle.std.proofs.lemmas.List.Sums.{sum_by-append}
-use Rattle.access_run.specs.Leads.{HasCell}
-use Rattle.access_types.specs.Access.{Access, proper_mask}
+use Rattle.access_types.specs.Access.{proper_mask}
 use Rattle.access_types.specs.declared.history.Bytes.{Bytes}
 use Rattle.access_types.specs.declared.history.Happening.{Happening}
 use Rattle.access_types.specs.declared.history.Happening.TheVariants as happenings
@@ -19,13 +18,12 @@ use Rattle.litmus_meaning.specs.Loads.{exchange_kind, fetch_kind, load_in, varia
 use Rattle.litmus_meaning.specs.Task as meaning
 use Rattle.litmus_meaning.specs.Task.{access_now, begins_at, bytes_in, has_lock}
 use Rattle.litmus_meaning.specs.Values.{sign_extended}
-use Rattle.litmus_syntax.specs.Limits.{AssignmentTyped, CallTyped, ExpressionTyped, FetchTyped, IsLock, IsOfSort, IsVariable, LoadingTyped, Sort, atomics, integers, locks, memory, write_takes}
+use Rattle.litmus_syntax.specs.Limits.{AssignmentTyped, CallTyped, ExpressionTyped, FetchTyped, IsLock, IsOfSort, IsVariable, LoadingTyped, atomics, integers, locks, memory, write_takes}
 use Rattle.litmus_syntax.specs.Sites.{assignment_has_access, call_has_access, expression_has_access}
 use Rattle.litmus_syntax.specs.Tree.{Assignment, Expression, Fetch, Load, Loading}
 use Rattle.litmus_syntax.specs.Tree as tree
 use Rattle.litmus_syntax.specs.declared.program.Contents.{Contents}
 use Rattle.litmus_syntax.specs.declared.program.Contents.TheVariants.{Atomic, Char, Int, Lock, Long, Short}
-use Rattle.litmus_syntax.specs.declared.program.Variable.{Variable}
 use Rattle.litmus_syntax.specs.declared.expression.ReadForm.TheVariants as reads
 use Rattle.litmus_syntax.specs.declared.statement.Call.{Call}
 use Rattle.litmus_syntax.specs.declared.statement.Call.TheVariants as calls
@@ -50,10 +48,8 @@ use Rattle.spelled_texts.specs.Begins.{one_at, own_begins}
 use Rattle.spelled_texts.specs.Core.{Core, begun_at, standing}
 use Rattle.spelled_texts.specs.Fits.{ArePlaced, HasBytes}
 use Rattle.task_plan.proofs.KeepsLemmas.{begun_still, marks_other}
-use Rattle.task_plan.specs.Alike.{AreOther}
-use Rattle.written_order.specs.Access.{Makes}
 use Rattle.written_order.specs.Standing.{EndsNothing, IsLockAt, Point, Setting, Standing, checks_of, coming, counting, doing, is_lock, lock_number, registered}
-use Rattle.written_order.specs.WrittenOrder.{ChecksAt, MakesTo, Only, Steps, StepsInDataRace, StepsOfAssignment, StepsOfCall, StepsOfExpression, StepsOfLoad, fetch_operation, marked_so_often}
+use Rattle.written_order.specs.WrittenOrder.{ChecksAt, MakesTo, Only, Steps, StepsInDataRace, StepsOfAssignment, StepsOfCall, StepsOfExpression, StepsOfLoad, fetch_operation}
 
 -- after the task has done this
 abbrev pub doing_at : Core → List Happening → Core

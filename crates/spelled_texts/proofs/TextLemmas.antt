@@ -1,12 +1,9 @@
 -- A text that keeps its limits fits where its task begins, and is spelled by some records.
-use Rattle.std.proofs.Common.{◌≡◌, ◌≤◌, ◌+◌, ◌*◌, ◌++◌, ◌∷◌, [], ℕ, List, arith, length, subst, sym, zero-add}
-use Rattle.std.proofs.Math.Nat.{one-mul}
+use Rattle.std.proofs.Common.{◌≡◌, ◌≤◌, ◌+◌, ◌*◌, ◌++◌, [], ℕ, List, arith, length, subst}
 use Rattle.std.proofs.lemmas.List.{append-nil}
 use Rattle.litmus_meaning.proofs.LimitLemmas.{few_sites}
 use Rattle.litmus_syntax.specs.Limits.{TaskKeepsLimits}
-use Rattle.litmus_syntax.specs.Sites.{sites_of}
 use Rattle.litmus_syntax.specs.Tree.{Block, Task}
-use Rattle.setup_access.specs.Check.{Fallen}
 use Rattle.slot_table.specs.declared.records.Record.{Record}
 use Rattle.spelled_texts.proofs.Blocks.{block_spelled}
 use Rattle.spelled_texts.proofs.LimitLemmas.{block_few}

@@ -1,3 +1,4 @@
 pub mod Core
 pub mod Begins
 pub mod Fits
+pub mod Aligned

@@ -1,9 +1,10 @@
 //! What is true of texts that fit.
 
-ghost use Rattle.std.specs.Prelude.{◌≡◌, ◌≤◌, ◌+◌, ◌++◌, [], ℕ, List, length};
+ghost use Rattle.std.specs.Prelude.{◌≡◌, ◌<◌, ◌≤◌, ◌+◌, ◌++◌, [], ℕ, List, length};
 ghost use Rattle.litmus_syntax.specs.Limits.{TaskKeepsLimits};
 ghost use Rattle.litmus_syntax.specs.Tree.{Block, Task};
 ghost use Rattle.slot_table.specs.declared.records.Record.{Record};
+ghost use Rattle.spelled_texts.specs.Aligned.{AreAligned};
 ghost use Rattle.spelled_texts.specs.Begins.{block_begins};
 ghost use Rattle.spelled_texts.specs.Core.{begun_at, core_of};
 ghost use Rattle.spelled_texts.specs.Fits.{ArePlaced, Fits};
@@ -29,4 +30,10 @@ pub fn texts_within_limits_are_spelled()
         → (records : List Record) × SpellsAll s (length task.registers) task.body records }
     ensures begins { (s : Setting) (task : Task) → ArePlaced s → TaskKeepsLimits s.text.variables task
         → WrittenOrder s (length task.registers) task.body [] }
+{}
+
+/// Law: where each variable but the locks stands at a multiple of its size, at 2^62 at most, the variables are placed:
+/// each lies in a cell.
+pub fn aligned_variables_are_placed()
+    ensures { (s : Setting) → s.text.task < 16 → AreAligned s.text.places s.text.variables → ArePlaced s }
 {}
