@@ -7,3 +7,4 @@ pub mod NameReader
 pub mod ExpressionReader
 pub mod Followed
 pub mod CallReader
+pub mod StoreReader

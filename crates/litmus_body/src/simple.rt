@@ -46,6 +46,11 @@ impl Simple {
 }
 
 impl<'a> Process<'a> {
+    ghost use Rattle.litmus_syntax.specs.Views.{assignment_of};
+    ghost use Rattle.litmus_cursor.specs.Front.{Answers};
+    ghost use Rattle.litmus_body.specs.StoreReader as reader;
+    ghost use Rattle.litmus_body.specs.States.{state_of};
+
     /// A simple statement, without what ends it.
     pub fn simple(&mut self, around: &Surroundings) -> Result<Simple, Refusal>
         ensures enclosed { IfOk result (λ simple. data_races_of simple < count_left self.old.cursor) }
@@ -122,8 +127,11 @@ impl<'a> Process<'a> {
     }
 
     /// A call that changes a variable.
+    #[tactic(auto, unfolding(crate::specs::StoreReader::store_at))]
     fn store(&mut self, word: StoreWord, around: &Surroundings) -> Result<Assignment, Refusal>
-        ensures { OnOk result (count_left self.new.cursor < count_left self.old.cursor) }
+        ensures moves { OnOk result (count_left self.new.cursor < count_left self.old.cursor) }
+        ensures reads { Answers result (λ found. (assignment_of found, state_of self.new))
+            (reader.store_at around.now.turns around.now.depth word (state_of self.old)) }
     {
         self.count_access(around)?;
         self.cursor.advance();
@@ -134,12 +142,15 @@ impl<'a> Process<'a> {
     }
 
     /// What stands between the parentheses of a call that changes a variable.
+    #[tactic(auto, unfolding(crate::specs::StoreReader::stored))]
     fn store_of_word(
         &mut self,
         word: StoreWord,
         around: &Surroundings,
     ) -> Result<Assignment, Refusal>
-        ensures { OnOk result (count_left self.new.cursor < count_left self.old.cursor) }
+        ensures moves { OnOk result (count_left self.new.cursor < count_left self.old.cursor) }
+        ensures reads { Answers result (λ found. (assignment_of found, state_of self.new))
+            (reader.stored around.now.turns around.now.depth word (state_of self.old)) }
     {
         match word {
             StoreWord::Write(form) => self.write(form, around),
@@ -160,17 +171,36 @@ impl<'a> Process<'a> {
         }
     }
 
-    /// `* VAR , pure` for `WRITE_ONCE`, `VAR , pure` for the others.
+    /// `* VAR , pure` for `WRITE_ONCE`, `VAR , pure` for the others. No word is a plain write.
+    #[tactic(auto, unfolding(crate::specs::StoreReader::write))]
     fn write(&mut self, form: WriteForm, around: &Surroundings) -> Result<Assignment, Refusal>
-        ensures { OnOk result (count_left self.new.cursor < count_left self.old.cursor) }
+        ensures moves { OnOk result (count_left self.new.cursor < count_left self.old.cursor) }
+        ensures reads { Answers result (λ found. (assignment_of found, state_of self.new))
+            (reader.write around.now.turns around.now.depth form (state_of self.old)) }
     {
-        if form == WriteForm::Once {
-            self.take_star()?;
+        match form {
+            WriteForm::Plain => Err(self.cursor.offence()),
+            WriteForm::Once => {
+                self.take_star()?;
+                self.written(Takes::Integers, form, around)
+            }
+            WriteForm::Release => self.written(Takes::Integers, form, around),
+            WriteForm::Atomic => self.written(Takes::Atomics, form, around),
         }
-        let takes = match form {
-            WriteForm::Atomic => Takes::Atomics,
-            WriteForm::Plain | WriteForm::Once | WriteForm::Release => Takes::Integers,
-        };
+    }
+
+    /// `VAR , pure`
+    #[tactic(auto, unfolding(crate::specs::StoreReader::written))]
+    fn written(
+        &mut self,
+        takes: Takes,
+        form: WriteForm,
+        around: &Surroundings,
+    ) -> Result<Assignment, Refusal>
+        ensures moves { OnOk result (count_left self.new.cursor < count_left self.old.cursor) }
+        ensures reads { Answers result (λ found. (assignment_of found, state_of self.new))
+            (reader.written around.now.turns around.now.depth takes form (state_of self.old)) }
+    {
         let variable = self.take_variable(takes)?;
         self.cursor.take(Sign::Comma)?;
         let value = self.pure(around)?;
