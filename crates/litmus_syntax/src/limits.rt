@@ -1,7 +1,8 @@
 //! Whether a program keeps the limits and the rules of types.
 
 ghost use Rattle.std.specs.Prelude.{◌≡◌, ◌≤◌, ◌+◌, ◌*◌, ◌^◌, All, IfSome, IsTrue, map, if◌then◌else◌};
-ghost use Rattle.litmus_syntax.specs.Limits.{AssignmentTyped, CallTyped, ExpressionTyped, FetchTyped, IsVariable, KeepsLimits, LoadingTyped, PureTyped, TaskKeepsLimits, assignment_rises, atomics, call_rises, call_scopes, expression_rises, integers, loading_rises, locks, memory, scopes_of};
+ghost use Rattle.litmus_syntax.specs.Limits.{AssignmentTyped, CallTyped, ExpressionTyped, FetchTyped, IsVariable, KeepsLimits, LoadingTyped, PureTyped, TaskKeepsLimits};
+ghost use Rattle.litmus_syntax.specs.Limits.{assignment_rises, atomics, call_rises, call_scopes, expression_rises, integers, loading_rises, locks, memory, scopes_of};
 ghost use Rattle.litmus_syntax.specs.Views.{assignment_of, block_of, expression_of, fetch_of, load_of, loading_of, program_of, pure_of, statement_of, task_of};
 
 use crate::expression::{Expression, Fetch, Load, Loading, Pure, ReadForm};
