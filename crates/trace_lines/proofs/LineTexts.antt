@@ -244,7 +244,7 @@ line_there (lines.Report (Unknown setter old new)) rest is =
 chained : {a c d : List ℕ} (b : List ℕ) → a ≡ b ++ c → c ≡ d → a ≡ b ++ d
 chained b e f = e ∙ ap (λ xs. b ++ xs) f
 
-mask_kept : (mask : ℕ) → (proper_mask (proper_mask (Some mask)) ≡ proper_mask (Some mask)) × (unwrap_or (proper_mask (Some mask)) 0 ≡ mask)
+pub mask_kept : (mask : ℕ) → (proper_mask (proper_mask (Some mask)) ≡ proper_mask (Some mask)) × (unwrap_or (proper_mask (Some mask)) 0 ≡ mask)
 mask_kept mask = by (mask == 0) refl
   where
     by : (t : Bool) → (mask == 0) ≡ t
