@@ -1,5 +1,5 @@
 -- What is so of the records of one check of an access is so of those of a whole check and of a close.
-use Rattle.std.proofs.Common.{◌≡◌, ◌≤◌, ◌∙◌, ◌∷◌, ◌+◌, ◌++◌, ◌||◌, [], ℕ, suc, Bool, true, false, length, List, MatchBool, ap, arith, refl, subst, sym}
+use Rattle.std.proofs.Common.{◌≡◌, ◌<◌, ◌≤◌, ◌∙◌, ◌∷◌, ◌+◌, ◌++◌, ◌||◌, [], ℕ, suc, Bool, true, false, length, List, MatchBool, ap, arith, refl, subst, sym}
 use Rattle.std.proofs.lemmas.List.{length-append}
 use Rattle.slot_table.specs.declared.records.Record.{Record}
 use Rattle.slot_table.specs.declared.step.Step.{Step}
@@ -9,7 +9,7 @@ use Rattle.setup_access.specs.Records.{MakesWord}
 use Rattle.setup_access.specs.Setting.{Setting}
 use Rattle.setup_access.specs.declared.begun.Begun.{Begun}
 use Rattle.setup_access.proofs.DisciplineLemmas.{on_word}
-use Rattle.setup_access.proofs.FallLemmas.{EndsWith, rechecks_come}
+use Rattle.setup_access.proofs.FallLemmas.{EndsWith, once_comes, rechecks_come}
 use Rattle.run_lists.proofs.CheckFacts.{Goes, Good, OnTell, good_step, once}
 
 -- a list is as long as what it ends with, at least
@@ -21,6 +21,36 @@ as_long records rest h =
 by_silence : (silenced : Bool) (Yes No Goal : Type 0) → MatchBool silenced Yes No → (Yes → Goal) → (silenced ≡ false → No → Goal) → Goal
 by_silence true Yes No Goal h at_true at_false = at_true h
 by_silence false Yes No Goal h at_true at_false = at_false refl h
+
+-- the clock makes one step
+pub clock_long : (task : ℕ) (records rest : List Record) → MakesWord task Clock (λ stamp after. rest ≡ after) records → length records ≡ suc (length rest)
+clock_long task [] rest h = absurd h
+clock_long task (first ∷ later) rest h =
+    let got = on_word first.answer _ h.2 in
+    let same : length rest ≡ length later = ap (λ (r : List Record). length r) got.2 in omega (arith, same)
+
+-- a check makes a step at least, and so does a close
+pub check_shorter : (s : Setting) (scopes : List Begun) (begun : Begun) (asked : ℕ) (records : List Record) (passes : Passes) (rest : List Record)
+    → Check s scopes begun asked records passes rest → length rest < length records
+check_shorter s scopes begun asked [] passes rest h = absurd h.2
+check_shorter s scopes begun asked (first ∷ later) passes rest h =
+    let got = on_word first.answer _ h.2.2 in
+    by_silence begun.silenced _ _ (length rest < suc (length later)) got.2
+    (λ quiet. let same : length rest ≡ length later = ap (λ (r : List Record). length r) quiet.1 in omega (arith, same))
+    (λ unsilenced now.
+    let left : List Begun = left_to_check now.0.settled scopes in
+    let one : length now.1 ≤ length later = as_long later now.1 (once_comes s begun.access begun.marked asked later now.0 now.1 now.3).1 in
+    let more : length rest ≤ length now.1 =
+    as_long now.1 rest (rechecks_come s left now.0.asked now.1 (record { outcomes = now.2; asked = passes.asked }) rest now.4).1 in
+    omega (arith, one, more))
+
+pub close_shorter : (s : Setting) (scope : Begun) (silenced : Bool) (asked : ℕ) (records : List Record) (passes : Passes) (rest : List Record)
+    → Close s scope silenced asked records passes rest → length rest < length records
+close_shorter s scope silenced asked records passes rest h =
+    let ends : length h.1.0 ≤ length records = as_long records h.1.0
+    (rechecks_come s (record scope { silenced = scope.silenced || silenced } ∷ []) asked records passes h.1.0 h.1.1).1 in
+    let one : length h.1.0 ≡ suc (length rest) = clock_long s.task h.1.0 rest h.1.2 in
+    omega (arith, ends, one)
 
 module _ (s : Setting) (Known : Begun → Type 0) (In : Begun → ℕ → Type 0) where
   -- the access is in progress as long as this
@@ -67,7 +97,8 @@ module _ (s : Setting) (Known : Begun → Type 0) (In : Begun → ℕ → Type 0
   pub check : (scopes : List Begun) (begun : Begun) (asked : ℕ) (records : List Record) (passes : Passes) (rest : List Record) → Check s scopes begun asked records passes rest
       → (own : List Record) → Known begun → IsIn begun (suc (length own)) (length own + length records) (length rest)
       → AreIn scopes (suc (length own)) (length own + length records) (length rest)
-      → (more : List Fallen) → ((o : List Record) → GoodSo o rest more) → GoodSo own records (passes.outcomes ++ more)
+      → (more : List Fallen) → ((o : List Record) → length o + length rest ≡ length own + length records → GoodSo o rest more)
+      → GoodSo own records (passes.outcomes ++ more)
   check scopes begun asked [] passes rest h own known goes_so all more goes = absurd h.2
   check scopes begun asked (first ∷ later) passes rest h own known goes_so all more goes =
       let got = on_word first.answer _ h.2.2 in
@@ -76,7 +107,9 @@ module _ (s : Setting) (Known : Begun → Type 0) (In : Begun → ℕ → Type 0
       clock_step own later first (passes.outcomes ++ more) h.2.1
       (by_silence begun.silenced _ _ _ got.2
       (λ quiet.
-      let on : GoodSo (first ∷ own) rest (passes.outcomes ++ more) = subst (λ (p : Passes). GoodSo (first ∷ own) rest (p.outcomes ++ more)) (sym quiet.0) (goes (first ∷ own)) in
+      let same : length rest ≡ length later = ap (λ (r : List Record). length r) quiet.1 in
+      let on : GoodSo (first ∷ own) rest (passes.outcomes ++ more) =
+      subst (λ (p : Passes). GoodSo (first ∷ own) rest (p.outcomes ++ more)) (sym quiet.0) (goes (first ∷ own) (omega (arith, same))) in
       subst (λ (r : List Record). GoodSo (first ∷ own) r (passes.outcomes ++ more)) quiet.1 on)
       (λ unsilenced now.
       let left : List Begun = left_to_check now.0.settled scopes in
@@ -84,28 +117,34 @@ module _ (s : Setting) (Known : Begun → Type 0) (In : Begun → ℕ → Type 0
       let one : G from total (fallen_of begun.access now.0 ∷ (now.2 ++ more)) (first ∷ own) later =
       once s Known In begun known unsilenced (now.2 ++ more) from total now.1 (λ count from_on most. goes_so count from_on (omega (arith, most, longer)))
       (λ o. rechecks from total more rest left now.0.asked now.1 (record { outcomes = now.2; asked = passes.asked })
-      (scopes_left now.0.settled scopes from total (length rest) all) now.4 (λ r at. goes r) o)
+      (scopes_left now.0.settled scopes from total (length rest) all) now.4 (λ r at. goes r at.all) o)
       asked later now.0 (first ∷ own) now.3 in
       subst (λ (o : List Fallen). GoodSo (first ∷ own) later (o ++ more)) (sym now.5) (one (record { begun = omega arith; all = omega arith }))))
 
   pub close : (scope : Begun) (silenced : Bool) (asked : ℕ) (records : List Record) (passes : Passes) (rest : List Record) → Close s scope silenced asked records passes rest
       → (own : List Record) → Known (record scope { silenced = scope.silenced || silenced })
       → IsIn (record scope { silenced = scope.silenced || silenced }) (length own) (length own + length records) (suc (length rest))
-      → (more : List Fallen) → ((o : List Record) → GoodSo o rest more) → GoodSo own records (passes.outcomes ++ more)
+      → (more : List Fallen) → ((o : List Record) → length o + length rest ≡ length own + length records → GoodSo o rest more)
+      → GoodSo own records (passes.outcomes ++ more)
   close scope silenced asked records passes rest h own known goes_so more goes =
       let last : Begun = record scope { silenced = scope.silenced || silenced } in
-      let ends : (later : List Record) → MakesWord s.task Clock (λ stamp after. rest ≡ after) later → (length later ≡ suc (length rest)) × ((o : List Record) → GoodSo o later more) =
-      λ later made_so. ended later rest more made_so goes in
+      let ends : (later : List Record) → MakesWord s.task Clock (λ stamp after. rest ≡ after) later → (length later ≡ suc (length rest))
+      × ((o : List Record) → length o + length later ≡ length own + length records → GoodSo o later more) =
+      λ later made_so. ended (length own + length records) later rest more made_so goes in
       let ended_so = ends h.1.0 h.1.2 in
       rechecks (length own) (length own + length records) more h.1.0 (last ∷ []) asked records passes
       ((known, λ count from_on most. goes_so count from_on (let same : length h.1.0 ≡ suc (length rest) = ended_so.0 in omega (arith, most, same))), tt) h.1.1
-      (λ o at. ended_so.1 o) own (record { begun = omega arith; all = refl })
+      (λ o at. ended_so.1 o at.all) own (record { begun = omega arith; all = refl })
     where
-      ended : (later rest : List Record) (more : List Fallen) → MakesWord s.task Clock (λ stamp after. rest ≡ after) later → ((o : List Record) → GoodSo o rest more)
-          → (length later ≡ suc (length rest)) × ((o : List Record) → GoodSo o later more)
-      ended [] rest more made_so goes = absurd made_so
-      ended (first ∷ later) rest more made_so goes =
-          let got = on_word first.answer _ made_so.2 in (
+      ended : (total : ℕ) (later rest : List Record) (more : List Fallen) → MakesWord s.task Clock (λ stamp after. rest ≡ after) later
+          → ((o : List Record) → length o + length rest ≡ total → GoodSo o rest more)
+          → (length later ≡ suc (length rest)) × ((o : List Record) → length o + length later ≡ total → GoodSo o later more)
+      ended total [] rest more made_so goes = absurd made_so
+      ended total (first ∷ later) rest more made_so goes =
+          let got = on_word first.answer _ made_so.2 in
+          let same : length rest ≡ length later = ap (λ (r : List Record). length r) got.2 in (
             ap (λ (r : List Record). suc (length r)) (sym got.2),
-            λ o. clock_step o later first more made_so.1 (subst (λ (r : List Record). GoodSo (first ∷ o) r more) got.2 (goes (first ∷ o))),
+            λ o at. clock_step o later first more made_so.1
+                (subst (λ (r : List Record). GoodSo (first ∷ o) r more) got.2
+                (goes (first ∷ o) (let all : length o + suc (length later) ≡ total = at in omega (arith, all, same)))),
           )

@@ -1,13 +1,15 @@
 -- The history of a run list has of each task what that did.
-use Rattle.std.proofs.Common.{◌≡◌, ◌==◌, ◌≢◌, ◌<◌, ◌≤◌, ◌+◌, ◌∙◌, ◌++◌, inl, inr, ℕ, zero, suc, IfSome, List, [], ◌∷◌}
-use Rattle.std.proofs.Common.{None, Option, Some, ap, arith, drop, length, refl, reverse, slice_get, slice_index_or, subst, sym}
+use Rattle.std.proofs.Common.{◌≡◌, ◌==◌, ◌≢◌, ◌<◌, ◌≤◌, ◌+◌, ◌∙◌, ◌++◌, inl, inr, ℕ, zero, suc, false, Contains, IfSome, List, [], ◌∷◌}
+use Rattle.std.proofs.Common.{None, Option, Some, ap, append_assoc, arith, drop, length, refl, reverse, slice_get, slice_index_or, subst, sym, take}
 use Rattle.std.specs.List.{filter}
 use Rattle.std.proofs.lemmas.Bool.{eq-eqb, ne_eqb}
 use Rattle.std.proofs.lemmas.Bool.Decides.{eqb_tells}
 use Rattle.std.proofs.lemmas.List.{append-nil, map-append}
 use Rattle.std.proofs.lemmas.List.Elements.{filter-append}
-use Rattle.access_types.specs.History.{History, happenings_of}
+use Rattle.access_types.specs.Access.{Access}
+use Rattle.access_types.specs.History.{History, InProgress, beginning, ending, happenings_of}
 use Rattle.access_types.specs.declared.history.Happening.{Happening}
+use Rattle.access_types.specs.declared.history.Happening.TheVariants as happenings
 use Rattle.access_types.specs.declared.history.Moment.{Moment}
 use Rattle.litmus_meaning.specs.RunOfProgram.{IsBeginning}
 use Rattle.litmus_syntax.specs.Tree.{Block, Task}
@@ -21,6 +23,7 @@ use Rattle.written_order.proofs.WayLemmas.{Begins}
 use Rattle.run_lists.specs.Run.{Run, idle, task_of, task_setting}
 use Rattle.run_lists.specs.RunList.{InWrittenOrder, RunList}
 use Rattle.run_lists.specs.Told.{did_by, did_next, first_moments, history_by, history_of, made_by, moments_of, to_come}
+use Rattle.run_lists.proofs.Intervals.{Has, IsOpen, contains_has, has_contains}
 use Rattle.run_lists.proofs.OwnLasts.{own_latest}
 use Rattle.run_lists.proofs.Ways.{Chain, by_fewer, by_last, last_of, whole_chain}
 
@@ -76,6 +79,50 @@ module _ {s : order.Setting} {registers : ℕ} {body : Block} {records : List Re
   did_of_all made =
       subst (λ (d : List Happening). Begins (did_by written made) d) chain.1
       (by_last (first_point (to_come written 0) registers) written.whole.end.way (to_come written made) chain.0)
+
+-- what of a history is a task's is of it, and what of it is the task's is what that did
+own_first : (task : ℕ) (first : Moment) (later : History) → first.task ≡ task
+    → happenings_of task (first ∷ later) ≡ first.happening ∷ happenings_of task later
+own_first task first later is = rw (eq-eqb first.task task is) refl
+
+own_skipped : (task : ℕ) (first : Moment) (later : History) → (first.task == task) ≡ false
+    → happenings_of task (first ∷ later) ≡ happenings_of task later
+own_skipped task first later differs = rw differs refl
+
+pub own_has : (task : ℕ) (history : History) (x : Happening) → Has (happenings_of task history) x
+    → Has history (record { task = task; happening = x })
+own_has task [] x h = absurd h
+own_has task (first ∷ later) x h = elim (eqb_tells first.task task) [
+  | inl mine ↦
+      elim (subst (λ (d : List Happening). Has d x) (own_first task first later mine.1) h) [
+        | inl here ↦
+            inl (ap (λ (t : ℕ). record { task = t; happening = first.happening }) mine.1
+            ∙ ap (λ (y : Happening). record { task = task; happening = y }) here)
+        | inr more ↦ inr (own_has task later x more)
+      ]
+  | inr others ↦
+      inr (own_has task later x (subst (λ (d : List Happening). Has d x) (own_skipped task first later others.0) h))
+]
+
+pub has_own : (task : ℕ) (history : History) (x : Happening) → Has history (record { task = task; happening = x })
+    → Has (happenings_of task history) x
+has_own task [] x h = absurd h
+has_own task (first ∷ later) x h = elim h [
+  | inl here ↦
+      subst (λ (d : List Happening). Has d x)
+      (sym (own_first task first later (ap (λ (moment : Moment). moment.task) here)))
+      (inl (ap (λ (moment : Moment). moment.happening) here))
+  | inr more ↦ elim (eqb_tells first.task task) [
+    | inl mine ↦
+        subst (λ (d : List Happening). Has d x) (sym (own_first task first later mine.1)) (inr (has_own task later x more))
+    | inr others ↦
+        subst (λ (d : List Happening). Has d x) (sym (own_skipped task first later others.0)) (has_own task later x more)
+  ]
+]
+
+taken_front : (p q : History) → take (length p) (p ++ q) ≡ p
+taken_front [] q = refl
+taken_front (x ∷ p) q = ap (λ (d : History). x ∷ d) (taken_front p q)
 
 module _ (run : Run) (records : List Record) (list : RunList run records) where
   abbrev count : ℕ
@@ -134,6 +181,40 @@ module _ (run : Run) (records : List Record) (list : RunList run records) where
             ∙ (of_task task below earlier
             ∙ ap (λ (r : List Record). did_by (list.tasks task) (length r)) (sym same)))
       ]
+
+  -- what is told by earlier records is the front of what is told by all
+  told_more : (later earlier : List Record) → (more : History) × (history_by list (later ++ earlier) ≡ history_by list earlier ++ more)
+  told_more [] earlier = ([], sym (append-nil (history_by list earlier)))
+  told_more (latest ∷ later) earlier =
+      let its : History = moments_of latest.task (did_next (list.tasks latest.task) (made_by latest.task (later ++ earlier))) in
+      let it = told_more later earlier in
+      (it.0 ++ its, ap (λ (h : History). h ++ its) it.1 ∙ append_assoc (history_by list earlier) it.0 its)
+
+  told_front : (later earlier : List Record) → records ≡ later ++ earlier
+      → take (length (history_by list earlier)) (history_of list) ≡ history_by list earlier
+  told_front later earlier is =
+      let it = told_more later earlier in
+      let front : List Record → Type 0 = λ r. take (length (history_by list earlier)) (history_by list r) ≡ history_by list earlier in
+      subst front (sym is)
+      (ap (λ (h : History). take (length (history_by list earlier)) h) it.1 ∙ taken_front (history_by list earlier) it.0)
+
+  -- so an access is in progress after the moments of these records where it is by what its task did with its own
+  pub in_progress : (later earlier : List Record) → records ≡ later ++ earlier → (a : Access) → a.task < count
+      → IsOpen (did_by (list.tasks a.task) (made_by a.task earlier)) a
+      → InProgress (history_of list) a (length (history_by list earlier))
+  in_progress later earlier is a below goes =
+      let told : History = history_by list earlier in
+      let front : take (length told) (history_of list) ≡ told = told_front later earlier is in
+      let own : happenings_of a.task told ≡ did_by (list.tasks a.task) (made_by a.task earlier) = of_task a.task below earlier in
+      record {
+        begun = subst (λ (h : History). Contains h (beginning a)) (sym front)
+            (has_contains told (beginning a) (own_has a.task told (happenings.Begin a)
+            (subst (λ (d : List Happening). Has d (happenings.Begin a)) (sym own) goes.begun)));
+        unended = λ ended. goes.unended
+            (subst (λ (d : List Happening). Has d (happenings.End a)) own
+            (has_own a.task told (happenings.End a)
+            (contains_has told (ending a) (subst (λ (h : History). Contains h (ending a)) front ended))));
+      }
 
   get_below : (tasks : List Task) (number : ℕ) (task : Task) → slice_get tasks number ≡ Some task
       → (number < length tasks) × (slice_index_or tasks number idle ≡ task)

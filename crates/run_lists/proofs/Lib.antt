@@ -4,6 +4,7 @@ pub mod TaskFacts
 pub mod OwnLasts
 pub mod TwoSides
 pub mod Ways
+pub mod Intervals
 pub mod Histories
 pub mod OwnMarks
 pub mod Tried

@@ -1,10 +1,11 @@
 -- What a list says of the last arming at an index its setter's own records say too, and records of one arming are one.
-use Rattle.std.proofs.Common.{◌≡◌, ◌≢◌, ◌<◌, ◌∙◌, ◌++◌, inl, inr, ℕ, suc, true, eqb, length, List, [], ◌∷◌, Option, None, Some, Contains, ap, arith, refl, subst, sym}
+use Rattle.std.proofs.Common.{◌≡◌, ◌≢◌, ◌<◌, ◌+◌, ◌==◌, ◌&&◌, ◌⊎◌, ◌∙◌, ◌++◌, if◌then◌else◌, inl, inr, ℕ, suc, Bool, true, false, eqb, length, List, [], ◌∷◌, Option, None, Some, Contains, ap, arith, refl, subst, sym}
 use Rattle.std.proofs.lemmas.Bool.{eq-eqb}
 use Rattle.std.proofs.lemmas.Bool.Decides.{eqb_tells}
+use Rattle.std.proofs.lemmas.List.{length-append}
 use Rattle.std.proofs.lemmas.List.Elements.{All-contains, All-contains_itself, All-filter}
 use Rattle.slot.specs.Pair.{Halves}
-use Rattle.slot_table.specs.Armings.{Arming, armed_after, last_arming, last_arming_number, named_after, named_at}
+use Rattle.slot_table.specs.Armings.{Arming, armed_after, last_arming, last_arming_number, named_after, named_at, number_after, number_made, number_made_after}
 use Rattle.slot_table.specs.Discipline.{Allows, heard, in_hand}
 use Rattle.slot_table.specs.Hearings.{EachHearsTheOther, HearsTheOther, IsArming, SomeRecord}
 use Rattle.slot_table.specs.Meetings.{Meeting, finders_told, meetings_at, told_by, told_to}
@@ -175,7 +176,7 @@ hears_at [] latest earlier each = each.1
 hears_at (last ∷ later) latest earlier each = hears_at later latest earlier each.0
 
 -- armings of one number are one
-number_below : (index number setter word : ℕ) (records : List Record) → SomeRecord (IsArming index number setter word) records → number < length records
+pub number_below : (index number setter word : ℕ) (records : List Record) → SomeRecord (IsArming index number setter word) records → number < length records
 number_below index number setter word [] h = absurd h
 number_below index number setter word (latest ∷ earlier) h = elim h [
   | inl here ↦ let is : length earlier ≡ number = here.counts in omega (arith, is)
@@ -212,3 +213,65 @@ own_split task (latest ∷ later) earlier = elim (eqb_tells latest.task task) [
 
 pub own_latest : (task : ℕ) (latest : Record) (earlier : List Record) → latest.task ≡ task → records_of task (latest ∷ earlier) ≡ latest ∷ records_of task earlier
 own_latest task latest earlier is = rw (eq-eqb latest.task task is) refl
+
+-- where a task's last arming keeps its number, the task arms nothing there meanwhile
+not_now : (here : Bool) (n number now : ℕ) (before own : Option ℕ) → (if here && true then Some n else before) ≡ Some number → number < n
+    → (before ≡ Some number) × ((if here then Some now else own) ≡ own)
+not_now true n number now before own made below = let is : n ≡ number = some_same made in absurd (omega (arith, is, below))
+not_now false n number now before own made below = (made, refl)
+
+never : (here : Bool) (n number : ℕ) (before : Option ℕ) → (if here && false then Some n else before) ≡ Some number → before ≡ Some number
+never true n number before made = made
+never false n number before made = made
+
+arms_no_more : (task index maker : ℕ) (step : Step) (answer : Answer) (n number now : ℕ) (before own : Option ℕ) → (maker == task) ≡ true
+    → number_made_after task index maker step answer n before ≡ Some number → number < n
+    → (before ≡ Some number) × (number_after index step answer now own ≡ own)
+arms_no_more task index maker (Insert at word) (answers.Flag true) n number now before own mine made below =
+    not_now (at == index) n number now before own
+    (subst (λ (c : Bool). (if (at == index) && c then Some n else before) ≡ Some number) mine made) below
+arms_no_more task index maker step answer n number now before own mine made below = (made, refl)
+
+others_arm : (task index maker : ℕ) (step : Step) (answer : Answer) (n number : ℕ) (before : Option ℕ) → (maker == task) ≡ false
+    → number_made_after task index maker step answer n before ≡ Some number → before ≡ Some number
+others_arm task index maker (Insert at word) (answers.Flag true) n number before others made =
+    never (at == index) n number before (subst (λ (c : Bool). (if (at == index) && c then Some n else before) ≡ Some number) others made)
+others_arm task index maker step answer n number before others made = made
+
+pub same_arming : (task index number : ℕ) (later base : List Record) → number_made task index (later ++ base) ≡ Some number → number < length base
+    → last_arming_number index (records_of task (later ++ base)) ≡ last_arming_number index (records_of task base)
+same_arming task index number [] base made below = refl
+same_arming task index number (latest ∷ later) base made below =
+    let parts : length (later ++ base) ≡ length later + length base = length-append later base in
+    let under : number < length (later ++ base) = omega (arith, parts, below) in
+    let own : List Record = records_of task (later ++ base) in
+    elim (eqb_tells latest.task task) [
+      | inl mine ↦
+          let it = arms_no_more task index latest.task latest.step latest.answer (length (later ++ base)) number (length own)
+          (number_made task index (later ++ base)) (last_arming_number index own) mine.0 made under in
+          ap (λ (r : List Record). last_arming_number index r) (own_latest task latest (later ++ base) mine.1)
+          ∙ (it.1 ∙ same_arming task index number later base it.0 below)
+      | inr others ↦
+          let skipped : records_of task (latest ∷ (later ++ base)) ≡ own = rw others.0 refl in
+          ap (λ (r : List Record). last_arming_number index r) skipped
+          ∙ same_arming task index number later base
+          (others_arm task index latest.task latest.step latest.answer (length (later ++ base)) number (number_made task index (later ++ base)) others.0 made) below
+    ]
+
+-- an arming's number is below how many records there are
+one_of : (here : Bool) (now number : ℕ) (before : Option ℕ) → (if here then Some now else before) ≡ Some number → (now ≡ number) ⊎ (before ≡ Some number)
+one_of true now number before is = inl (some_same is)
+one_of false now number before is = inr is
+
+number_from : (index : ℕ) (step : Step) (answer : Answer) (now number : ℕ) (before : Option ℕ) → number_after index step answer now before ≡ Some number
+    → (now ≡ number) ⊎ (before ≡ Some number)
+number_from index (Insert at word) (answers.Flag true) now number before is = one_of (at == index) now number before is
+number_from index step answer now number before is = inr is
+
+pub last_below : (index number : ℕ) (records : List Record) → last_arming_number index records ≡ Some number → number < length records
+last_below index number [] is = let none : None ≡ Some number = is in absurd (cc)
+last_below index number (latest ∷ earlier) is =
+    elim (number_from index latest.step latest.answer (length earlier) number (last_arming_number index earlier) is) [
+      | inl here ↦ let same : length earlier ≡ number = here in omega (arith, same)
+      | inr before ↦ let below : number < length earlier = last_below index number earlier before in omega (arith, below)
+    ]

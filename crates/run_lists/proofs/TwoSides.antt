@@ -26,7 +26,7 @@ use Rattle.setup_access.specs.declared.begun.Begun.{Begun}
 use Rattle.setup_access.specs.declared.outcome.Outcome.{Outcome}
 use Rattle.setup_access.specs.declared.outcome.Outcome.TheVariants as outcomes
 use Rattle.slot.specs.Pair.{Halves}
-use Rattle.slot_table.specs.Armings.{Arming}
+use Rattle.slot_table.specs.Armings.{Arming, last_arming_number, number_made}
 use Rattle.slot_table.specs.Discipline.{in_hand}
 use Rattle.slot_table.specs.Hearings.{EachHearsTheOther, HeardItsFinder, HearsTheOther, IsArming, IsTell, SomeRecord}
 use Rattle.slot_table.specs.Meetings.{finders_told}
@@ -46,18 +46,21 @@ use Rattle.watch_word.specs.Word.{WordOf, Watches, watch_of, word_of}
 use Rattle.watch_word.specs.declared.layout.Layout.{Layout}
 use Rattle.watch_word.specs.declared.watch.Watch.{Watch}
 use Rattle.written_order.specs.Standing as tasks
-use Rattle.written_order.specs.Standing.{Standing, checks_of}
+use Rattle.written_order.specs.Standing.{Point, Standing, checks_of}
+use Rattle.written_order.specs.WrittenOrder.{first_point}
 use Rattle.written_order.proofs.MeaningLemmas.{whole_means}
 use Rattle.written_order.proofs.WayLemmas.{Begins}
 use Rattle.run_lists.specs.Run.{IsOfProgram, Run, first_cells, idle, locks_of, task_of, task_setting}
 use Rattle.run_lists.specs.RunList.{RunList}
-use Rattle.run_lists.specs.Told.{Came, came_next, came_of, did_by, history_of, made_by, moments_of, outcomes_by, to_come}
+use Rattle.run_lists.specs.Told.{Came, came_next, came_of, did_by, history_by, history_of, made_by, moments_of, outcomes_by, to_come}
 use Rattle.run_lists.specs.TwoSides.{IfTwoSided, NamesBoth, NamesTwoSides}
 use Rattle.run_lists.proofs.CheckFacts.{AllFallSo, FallsSo, IsReported, IsTold, OnTell, TellsKnown, back}
-use Rattle.run_lists.proofs.Histories.{did_of_all, of_both, of_task}
+use Rattle.run_lists.proofs.Histories.{did_of_all, in_progress, of_both, of_task}
+use Rattle.run_lists.proofs.Intervals.{IsOpen}
 use Rattle.run_lists.proofs.OwnMarks.{begins_once, counts_own, marks_same}
-use Rattle.run_lists.proofs.OwnLasts.{finder_told, hears_at, one_arming, own_latest, own_name, own_split, own_word, stands_at, stands_later, still_told}
-use Rattle.run_lists.proofs.TaskFacts.{Anywhere, IsKnown, whole_text}
+use Rattle.run_lists.proofs.OwnLasts.{finder_told, hears_at, one_arming, own_latest, own_name, own_split, own_word, last_below, number_below, same_arming, stands_at, stands_later, still_told}
+use Rattle.run_lists.proofs.TaskFacts.{AreGood, During, IsKnown, whole_text}
+use Rattle.run_lists.proofs.Ways.{whole_chain}
 
 -- a list and its front
 back_is : (p own : List Record) → back p own ≡ reverse p ++ own
@@ -84,19 +87,19 @@ there : (before later : List Happening) (x : Happening) → slice_get (before ++
 there [] later x = refl
 there (first ∷ before) later x = there before later x
 
-tells_at : (s : tasks.Setting) (end : Standing) (p q own : List Record) (x : Record)
-    → TellsKnown (checks_of s) (IsKnown s end) (Anywhere s end) own (p ++ x ∷ q) → OnTell (checks_of s) (IsKnown s end) (Anywhere s end) (back p own) x.step
-tells_at s end [] q own x h = h.0
-tells_at s end (first ∷ p) q own x h = tells_at s end p q (first ∷ own) x h.1
+tells_at : (s : tasks.Setting) (end : Standing) (In : Begun → ℕ → Type 0) (p q own : List Record) (x : Record)
+    → TellsKnown (checks_of s) (IsKnown s end) In own (p ++ x ∷ q) → OnTell (checks_of s) (IsKnown s end) In (back p own) x.step
+tells_at s end In [] q own x h = h.0
+tells_at s end In (first ∷ p) q own x h = tells_at s end In p q (first ∷ own) x h.1
 
-all_came : (s : tasks.Setting) (end : Standing) (records : List Record) (n : ℕ) (Q : Came → Type 0) (outs : List Fallen)
-    → AllFallSo (checks_of s) (IsKnown s end) (Anywhere s end) [] records outs
-    → ((f : Fallen) → FallsSo (checks_of s) (IsKnown s end) (Anywhere s end) [] records f.access f.later f.outcome → length f.later ≡ n → Q (came_of f))
+all_came : (s : tasks.Setting) (end : Standing) (In : Begun → ℕ → Type 0) (records : List Record) (n : ℕ) (Q : Came → Type 0) (outs : List Fallen)
+    → AllFallSo (checks_of s) (IsKnown s end) In [] records outs
+    → ((f : Fallen) → FallsSo (checks_of s) (IsKnown s end) In [] records f.access f.later f.outcome → length f.later ≡ n → Q (came_of f))
     → All Q (map came_of (filter (λ f. length f.later == n) outs))
-all_came s end records n Q [] falls each = All-nil Q
-all_came s end records n Q (f ∷ outs) falls each = elim (eqb_tells (length f.later) n) [
-  | inl here ↦ rw here.0 (All-cons Q (came_of f) _ (each f falls.0 here.1) (all_came s end records n Q outs falls.1 each))
-  | inr apart ↦ rw apart.0 (all_came s end records n Q outs falls.1 each)
+all_came s end In records n Q [] falls each = All-nil Q
+all_came s end In records n Q (f ∷ outs) falls each = elim (eqb_tells (length f.later) n) [
+  | inl here ↦ rw here.0 (All-cons Q (came_of f) _ (each f falls.0 here.1) (all_came s end In records n Q outs falls.1 each))
+  | inr apart ↦ rw apart.0 (all_came s end In records n Q outs falls.1 each)
 ]
 
 one_breaks : (first second : Bool) → IsTrue (first || second) → IsTrue first ⊎ IsTrue second
@@ -140,6 +143,13 @@ module _ (run : Run) (records : List Record) (list : RunList run records)
   abbrev whole : ℕ → List Record
   whole task = reverse (records_of task records) ++ (list.tasks task).more
 
+  -- where it stood before its first step, and its accesses in progress after so many of its records
+  abbrev first_of : ℕ → Point
+  first_of task = first_point (to_come (list.tasks task) 0) (length (task_of run task).registers)
+
+  abbrev during : ℕ → Begun → ℕ → Type 0
+  during task = During (task_setting run task) (ending task) (first_of task) (length (whole task))
+
   -- an access of a task that has begun is one of the program
   of_program : (task : ℕ) (b : Begun) → IsKnown (task_setting run task) (ending task) b → IsOfProgram run b.access
   of_program task b known =
@@ -162,21 +172,35 @@ module _ (run : Run) (records : List Record) (list : RunList run records)
         absurd (cc)
   ]
 
+  -- each access begins once in all that a task does
+  begins_as : (task : ℕ) (a : access.Access) (p q : List Happening) → (ending task).progress.did ≡ p ++ happenings.Begin a ∷ q → a.rep ≡ begun_at a.site p
+  begins_as task a p q split =
+      let s : tasks.Setting = task_setting run task in
+      let means = whole_means s (length (task_of run task).registers) (task_of run task).body (whole task) (list.tasks task).whole in
+      let at : slice_get (ending task).progress.did (length p) ≡ Some (happenings.Begin a) =
+      subst (λ (d : List Happening). slice_get d (length p) ≡ Some (happenings.Begin a)) (sym split) (there p q (happenings.Begin a)) in
+      let got = numbered s.text (task_of run task).body _ (ending task).progress means (length p) a at in
+      let front : take (length p) (ending task).progress.did ≡ p =
+      ap (λ (d : List Happening). take (length p) d) split ∙ take_front p (happenings.Begin a ∷ q) in
+      ap (λ (x : access.Access). x.rep) got.2 ∙ ap (λ (d : List Happening). begun_at a.site d) front
+
+  once : (task : ℕ) (a : access.Access) (p q r t : List Happening) → (ending task).progress.did ≡ p ++ happenings.Begin a ∷ q
+      → (ending task).progress.did ≡ r ++ happenings.Begin a ∷ t → p ≡ r
+  once task a p q r t first second =
+      begins_once a (ending task).progress.did p q r t first second (begins_as task a p q first) (begins_as task a r t second)
+
+  -- all records of a task are good
+  good_of : (task : ℕ) → AreGood (task_setting run task) (ending task) (first_of task) (length (whole task)) [] (whole task) (ending task).outcomes
+  good_of task =
+      let s : tasks.Setting = task_setting run task in
+      let written = list.tasks task in
+      whole_text s (length (task_of run task).registers) (task_of run task).body (whole task) written.whole (first_of task) refl
+      (whole_chain s (length (task_of run task).registers) (task_of run task).body (whole task) written.whole (first_of task) refl).0 (once task)
+
   -- an access that has begun begins in the history after what its task had done before it, and never else
   module _ (task : ℕ) (b : Begun) (known : IsKnown (task_setting run task) (ending task) b) where
     abbrev its_task : b.access.task ≡ task
     its_task = known.own.task
-
-    numbered_at : (p q : List Happening) → (ending task).progress.did ≡ p ++ happenings.Begin b.access ∷ q → b.access.rep ≡ begun_at b.access.site p
-    numbered_at p q split =
-        let s : tasks.Setting = task_setting run task in
-        let means = whole_means s (length (task_of run task).registers) (task_of run task).body (whole task) (list.tasks task).whole in
-        let at : slice_get (ending task).progress.did (length p) ≡ Some (happenings.Begin b.access) =
-        subst (λ (d : List Happening). slice_get d (length p) ≡ Some (happenings.Begin b.access)) (sym split) (there p q (happenings.Begin b.access)) in
-        let got = numbered s.text (task_of run task).body _ (ending task).progress means (length p) b.access at in
-        let front : take (length p) (ending task).progress.did ≡ p =
-        ap (λ (d : List Happening). take (length p) d) split ∙ take_front p (happenings.Begin b.access ∷ q) in
-        ap (λ (x : access.Access). x.rep) got.2 ∙ ap (λ (d : List Happening). begun_at b.access.site d) front
 
     began_after : (before : History) → BeginsAfter (history_of list) b.access before → happenings_of b.access.task before ≡ known.before
     began_after before begins =
@@ -193,8 +217,7 @@ module _ (run : Run) (records : List Record) (list : RunList run records)
         whole_did ∙ append_assoc (happenings_of t before) (happenings.Begin b.access ∷ happenings_of t begins.later) did.0 in
         let here : (ending task).progress.did ≡ happenings_of t before ++ happenings.Begin b.access ∷ (happenings_of t begins.later ++ did.0) =
         subst (λ (u : ℕ). (ending u).progress.did ≡ happenings_of t before ++ happenings.Begin b.access ∷ (happenings_of t begins.later ++ did.0)) known.own.task split in
-        begins_once b.access (ending task).progress.did (happenings_of t before) (happenings_of t begins.later ++ did.0) known.before known.later here known.split
-        (numbered_at (happenings_of t before) (happenings_of t begins.later ++ did.0) here) (numbered_at known.before known.later known.split)
+        once task b.access (happenings_of t before) (happenings_of t begins.later ++ did.0) known.before known.later here known.split
 
     unmarked_so : b.marked ≡ false → ¬ CountedAsMarked run.rules.plain_writes_atomic (history_of list) b.access
     unmarked_so none counted =
@@ -224,7 +247,7 @@ module _ (run : Run) (records : List Record) (list : RunList run records)
 
   -- what is so of a tell
   told_by : (task : ℕ) (later earlier : List Record) (latest : Record) (index ticket : ℕ) → records ≡ later ++ latest ∷ earlier → latest.task ≡ task → latest.step ≡ Tell index ticket
-      → IsTold (checks_of (task_setting run task)) (IsKnown (task_setting run task) (ending task)) (Anywhere (task_setting run task) (ending task)) (records_of task earlier) index ticket
+      → IsTold (checks_of (task_setting run task)) (IsKnown (task_setting run task) (ending task)) (during task) (records_of task earlier) index ticket
   told_by task later earlier latest index ticket is mine step =
       let s : tasks.Setting = task_setting run task in
       let own : List Record = records_of task earlier in
@@ -232,11 +255,11 @@ module _ (run : Run) (records : List Record) (list : RunList run records)
       let split : whole task ≡ reverse own ++ latest ∷ front.0 =
       front.1 ∙ (ap (λ (r : List Record). reverse r ++ front.0) (own_latest task latest earlier mine)
       ∙ (ap (λ (r : List Record). r ++ front.0) (reverse-append (latest ∷ []) own) ∙ append_assoc (reverse own) (latest ∷ []) front.0)) in
-      let all = whole_text s (length (task_of run task).registers) (task_of run task).body (whole task) (list.tasks task).whole in
-      let tells = subst (λ (r : List Record). TellsKnown (checks_of s) (IsKnown s (ending task)) (Anywhere s (ending task)) [] r) split all.0 in
-      let at = tells_at s (ending task) (reverse own) front.0 [] latest tells in
-      let mine_at = subst (λ (r : List Record). OnTell (checks_of s) (IsKnown s (ending task)) (Anywhere s (ending task)) r latest.step) (back_own own) at in
-      subst (λ (st : Step). OnTell (checks_of s) (IsKnown s (ending task)) (Anywhere s (ending task)) own st) step mine_at
+      let all = good_of task in
+      let tells = subst (λ (r : List Record). TellsKnown (checks_of s) (IsKnown s (ending task)) (during task) [] r) split all.0 in
+      let at = tells_at s (ending task) (during task) (reverse own) front.0 [] latest tells in
+      let mine_at = subst (λ (r : List Record). OnTell (checks_of s) (IsKnown s (ending task)) (during task) r latest.step) (back_own own) at in
+      subst (λ (st : Step). OnTell (checks_of s) (IsKnown s (ending task)) (during task) own st) step mine_at
 
   breaks_of : (layout : Layout) (a b : access.Access) (word : ℕ) → WordOf layout a word → Hits layout b word → Breaks a b
   breaks_of layout a b word of_a hits =
@@ -247,7 +270,7 @@ module _ (run : Run) (records : List Record) (list : RunList run records)
 
   -- a report that fell at a task's record
   module _ (task : ℕ) (later : List Record) (earlier : List Record) (is : records ≡ later ++ earlier) (a : access.Access) (pair : Halves)
-      (at : IsReported (checks_of (task_setting run task)) (IsKnown (task_setting run task) (ending task)) (Anywhere (task_setting run task) (ending task)) a pair (records_of task earlier)) where
+      (at : IsReported (checks_of (task_setting run task)) (IsKnown (task_setting run task) (ending task)) (during task) a pair (records_of task earlier)) where
     kept : Rules earlier
     kept = rules_before later earlier (subst Rules is rules)
 
@@ -299,6 +322,31 @@ module _ (run : Run) (records : List Record) (list : RunList run records)
         let b_is : IsOfProgram run b = of_program finder by.by by.known in
         let a_is : IsOfProgram run a = subst (λ (x : access.Access). IsOfProgram run x) at.is (of_program task at.by at.known) in
         let a_task : a.task ≡ task = sym (ap (λ (x : access.Access). x.task) at.is) ∙ at.known.own.task in
+        let base : List Record = tell.earlier in
+        let grown : List Record = tell.later ++ tell.latest ∷ [] in
+        let regrouped : earlier ≡ grown ++ base = tell.split ∙ sym (append_assoc tell.later (tell.latest ∷ []) base) in
+        let under : heard_it.number < length base = number_below at.index heard_it.number heard.4.setter heard.0 base arming in
+        let same_number : last_arming_number at.index (records_of task earlier) ≡ last_arming_number at.index (records_of task base) =
+        ap (λ (r : List Record). last_arming_number at.index (records_of task r)) regrouped
+        ∙ same_arming task at.index heard_it.number grown base
+        (subst (λ (r : List Record). number_made task at.index r ≡ Some heard_it.number) regrouped heard_it.met.made) under in
+        let armed_before : at.number < made_by task base = last_below at.index at.number (records_of task base) (sym same_number ∙ at.numbered) in
+        let own_parts : length (records_of task earlier) ≡ length (records_of task grown) + made_by task base =
+        ap (λ (r : List Record). length (records_of task r)) regrouped
+        ∙ (ap (λ (r : List Record). length r) (own_split task grown base) ∙ length-append (records_of task grown) (records_of task base)) in
+        let setter_goes : During (task_setting run task) (ending task) (first_of task) (length (whole task)) at.by (made_by task base) =
+        at.goes (made_by task base) armed_before (omega (arith, own_parts)) in
+        let a_below : a.task < length run.program.tasks = is_below a a_is in
+        let b_below : b.task < length run.program.tasks = is_below b b_is in
+        let setter_open : IsOpen (did_by (list.tasks a.task) (made_by a.task base)) a =
+        subst (λ (t : ℕ). IsOpen (did_by (list.tasks t) (made_by t base)) a) (sym a_task)
+        (subst (λ (x : access.Access). IsOpen (did_by (list.tasks task) (made_by task base)) x) at.is setter_goes) in
+        let finder_open : IsOpen (did_by (list.tasks b.task) (made_by b.task base)) b =
+        subst (λ (t : ℕ). IsOpen (did_by (list.tasks t) (made_by t base)) b) (sym by.known.own.task) by.goes in
+        let before : List Record = (later ++ tell.later) ++ tell.latest ∷ [] in
+        let all_split : records ≡ before ++ base = whole_split ∙ sym (append_assoc (later ++ tell.later) (tell.latest ∷ []) base) in
+        let setter_unmarked : ¬ CountedAsMarked run.rules.plain_writes_atomic (history_of list) a =
+        subst (λ (x : access.Access). ¬ CountedAsMarked run.rules.plain_writes_atomic (history_of list) x) at.is (unmarked_so task at.by at.known at.unmarked) in
         let stands : fin.get run.sites pair.finder ≡ Some b = (list.sites pair.finder b).1 (by.is, b_is) in
         record {
           finder = b;
@@ -306,13 +354,18 @@ module _ (run : Run) (records : List Record) (list : RunList run records)
           finder_named = by.is;
           setter_is = a_is;
           finder_is = b_is;
-          tasks = λ same. heard_it.met.two (sym by.known.own.task ∙ (sym same ∙ a_task));
-          overlap = subst (λ (o : Option access.Access). IsSomeAnd o (λ f. Overlap a f)) stands at.shares;
-          breaks = breaks_of run.rules.layout a b by.word (record { encodable = at.encodable; is = word }) by.hits;
-          unmarked = subst (λ (x : access.Access). ¬ CountedAsMarked run.rules.plain_writes_atomic (history_of list) x) at.is
-              (unmarked_so task at.by at.known at.unmarked);
-          setter_heard = subst (λ (x : access.Access). ¬ Silenced (history_of list) x) at.is (heard_so task at.by at.known at.unsilenced);
-          finder_heard = heard_so finder by.by by.known by.unsilenced;
+          race = record {
+            tasks = λ same. heard_it.met.two (sym by.known.own.task ∙ (sym same ∙ a_task));
+            overlap = subst (λ (o : Option access.Access). IsSomeAnd o (λ f. Overlap a f)) stands at.shares;
+            breaks = breaks_of run.rules.layout a b by.word (record { encodable = at.encodable; is = word }) by.hits;
+            unmarked = λ both. setter_unmarked both.0;
+            first_heard = subst (λ (x : access.Access). ¬ Silenced (history_of list) x) at.is (heard_so task at.by at.known at.unsilenced);
+            second_heard = heard_so finder by.by by.known by.unsilenced;
+            moment = length (history_by list base);
+            first_goes = in_progress run records list before base all_split a a_below setter_open;
+            second_goes = in_progress run records list before base all_split b b_below finder_open;
+          };
+          unmarked = setter_unmarked;
           index = at.index;
           number = found.0;
           told = subst (λ (r : List Record). Contains (finders_told r) (meeting at.index found.0 pair.setter pair.finder)) (sym is) (still_told later earlier (meeting at.index found.0 pair.setter pair.finder) found.1);
@@ -321,7 +374,7 @@ module _ (run : Run) (records : List Record) (list : RunList run records)
   -- what came of a check, if it is a report of two sides
   named : (task : ℕ) (later earlier : List Record) → records ≡ later ++ earlier → (a : access.Access) (outcome : Outcome) (left : List Record)
       → length left ≡ to_come (list.tasks task) (made_by task earlier)
-      → FallsSo (checks_of (task_setting run task)) (IsKnown (task_setting run task) (ending task)) (Anywhere (task_setting run task) (ending task)) [] (whole task) a left outcome
+      → FallsSo (checks_of (task_setting run task)) (IsKnown (task_setting run task) (ending task)) (during task) [] (whole task) a left outcome
       → IfTwoSided list a outcome
   named task later earlier is a (outcomes.Report pair seen) left so_many h =
       let s : tasks.Setting = task_setting run task in
@@ -334,7 +387,7 @@ module _ (run : Run) (records : List Record) (list : RunList run records)
       let as_long : length h.0 ≡ length own = omega (arith, all, parts, left_is) in
       let same : h.0 ≡ reverse own = same_front h.0 (reverse own) left front.0 (as_long ∙ sym (length-reverse own)) (sym h.1 ∙ front.1) in
       let reached : back h.0 [] ≡ own = ap (λ (r : List Record). back r []) same ∙ back_own own in
-      names_two task later earlier is a pair (subst (λ (r : List Record). IsReported (checks_of s) (IsKnown s (ending task)) (Anywhere s (ending task)) a pair r) reached h.2)
+      names_two task later earlier is a pair (subst (λ (r : List Record). IsReported (checks_of s) (IsKnown s (ending task)) (during task) a pair r) reached h.2)
   named task later earlier is a outcomes.Nothing left so_many h = tt
   named task later earlier is a outcomes.Lost left so_many h = tt
   named task later earlier is a (outcomes.Told pair) left so_many h = tt
@@ -350,11 +403,11 @@ module _ (run : Run) (records : List Record) (list : RunList run records)
       let task : ℕ = latest.task in
       let s : tasks.Setting = task_setting run task in
       let before = named_by (later ++ latest ∷ []) earlier (is ∙ sym (append_assoc later (latest ∷ []) earlier)) in
-      let facts = (whole_text s (length (task_of run task).registers) (task_of run task).body (whole task) (list.tasks task).whole).1 in
+      let facts = (good_of task).1 in
       let one_more : made_by task earlier + 1 ≡ made_by task (latest ∷ earlier) =
       let so_many : length (records_of task (latest ∷ earlier)) ≡ suc (length (records_of task earlier)) = ap (λ (r : List Record). length r) (own_latest task latest earlier refl) in
       omega (arith, so_many) in
-      let now = all_came s (ending task) (whole task) (to_come (list.tasks task) (made_by task earlier + 1)) (NamesBoth list) (ending task).outcomes facts
+      let now = all_came s (ending task) (during task) (whole task) (to_come (list.tasks task) (made_by task earlier + 1)) (NamesBoth list) (ending task).outcomes facts
       (λ f falls left. named task later (latest ∷ earlier) is f.access f.outcome f.later (left ∙ ap (λ (n : ℕ). to_come (list.tasks task) n) one_more) falls) in
       All-append (NamesBoth list) (outcomes_by list earlier) (came_next list task (made_by task earlier)) before now
 

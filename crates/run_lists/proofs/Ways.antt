@@ -90,11 +90,11 @@ by_last last points n chain = elim_last last points n chain
 
 -- a way is such a chain, which ends with what was done
 module _ (first : Point) where
-  record IsWay (st : Standing) : Type 0 where
-    chain : Chain first st.way
-    end : (last_of first st.way).progress.did ≡ st.progress.did
+  pub record IsWay (st : Standing) : Type 0 where
+    pub chain : Chain first st.way
+    pub end : (last_of first st.way).progress.did ≡ st.progress.did
 
-  abbrev GoesOn : Standing → List Record → Standing → List Record → Type 0
+  abbrev pub GoesOn : Standing → List Record → Standing → List Record → Type 0
   GoesOn before records after rest = IsWay before → IsWay after
 
   comes : (before : Standing) (later : List Record) (progress : meaning.Progress)
@@ -108,7 +108,7 @@ module _ (first : Point) where
         end = ap (λ (p : Point). p.progress.did) (last_with first before.way one);
       }
 
-  does : (before : Standing) (later : List Record) (more : List Happening) → IsWay before
+  pub does : (before : Standing) (later : List Record) (more : List Happening) → IsWay before
       → IsWay (doing before later more)
   does before later more = comes before later (meaning.doing before.progress more) (more, refl)
 
@@ -116,7 +116,7 @@ module _ (first : Point) where
   counts true before way = record { chain = way.chain; end = way.end }
   counts false before way = way
 
-  operates : (a : access.Access) (operation : Option Operation) (before : Standing)
+  pub operates : (a : access.Access) (operation : Option Operation) (before : Standing)
       (records : List Record) (effect : Effect) (rest : List Record) → IsWay before
       → IsWay (operated a operation before records effect rest)
   operates a None before records effect rest way = way
@@ -130,14 +130,14 @@ module _ (first : Point) where
       does before rest (moments_of a effect) way
 
   -- what else changes is no part of a way
-  same_way : (before after : Standing) → after.way ≡ before.way → after.progress.did ≡ before.progress.did
+  pub same_way : (before after : Standing) → after.way ≡ before.way → after.progress.did ≡ before.progress.did
       → IsWay before → IsWay after
   same_way before after way did is = record {
     chain = subst (λ (w : List Point). Chain first w) (sym way) is.chain;
     end = ap (λ (w : List Point). (last_of first w).progress.did) way ∙ (is.end ∙ sym did);
   }
 
-  kept_way : (s : Setting) → Kept s GoesOn
+  pub kept_way : (s : Setting) → Kept s GoesOn
   kept_way s = record {
     still = λ before records way. way;
     joins = λ before between after records later rest p q way. q (p way);

@@ -1,7 +1,8 @@
 -- What a report of two sides names.
-use Rattle.std.specs.Prelude.{◌≡◌, ◌≢◌, ℕ, List, Contains}
-use Rattle.access_types.specs.Access.{Access, Breaks, Overlap}
-use Rattle.access_types.specs.Marked.{CountedAsMarked, Silenced}
+use Rattle.std.specs.Prelude.{◌≡◌, ℕ, List, Contains}
+use Rattle.access_types.specs.Access.{Access}
+use Rattle.access_types.specs.Marked.{CountedAsMarked}
+use Rattle.access_types.specs.Race.{TrueRace}
 use Rattle.access_types.specs.Ticket.{ticket_number}
 use Rattle.run_lists.specs.Run.{IsOfProgram, Run}
 use Rattle.run_lists.specs.RunList.{RunList}
@@ -13,9 +14,9 @@ use Rattle.slot_table.specs.Meetings.{finders_told}
 use Rattle.slot_table.specs.declared.records.Record.{Record}
 
 -- The pair of tickets names the access that was checked, as the setter, and one of another task, as
--- the finder, both of the program. They share a byte and conflict. In the history that the list
--- tells the setter doesn't count as marked, and neither is silenced. And it is the pair that the
--- finder told: its own ticket, and the one that it heard from its setter.
+-- the finder, both of the program. In the history that the list tells the two race, and the setter
+-- doesn't count as marked. And it is the pair that the finder told: its own ticket, and the one that
+-- it heard from its setter.
 pub record NamesTwoSides {run : Run} {records : List Record} (list : RunList run records) (a : Access)
     (pair : Halves) : Type 0 where
   pub finder : Access
@@ -23,12 +24,8 @@ pub record NamesTwoSides {run : Run} {records : List Record} (list : RunList run
   pub finder_named : pair.finder ≡ ticket_number finder
   pub setter_is : IsOfProgram run a
   pub finder_is : IsOfProgram run finder
-  pub tasks : a.task ≢ finder.task
-  pub overlap : Overlap a finder
-  pub breaks : Breaks a finder
+  pub race : TrueRace run.rules.plain_writes_atomic (history_of list) a finder
   pub unmarked : ¬ CountedAsMarked run.rules.plain_writes_atomic (history_of list) a
-  pub setter_heard : ¬ Silenced (history_of list) a
-  pub finder_heard : ¬ Silenced (history_of list) finder
   pub index : ℕ
   pub number : ℕ
   pub told : Contains (finders_told records) (record {

@@ -61,9 +61,10 @@ pub fn each_task_does_what_its_text_means()
         (λ task. IsBeginning run.program run.places number task (happenings_of number (history_of list))) }
 {}
 
-/// Law: each report of two sides that a run list tells names the access that was checked, as the setter, and one
-/// of another task, as the finder; both are of the program, share a byte, and one of them writes or asserts no
-/// accesses. The setter doesn't count as marked, and neither is silenced. The pair is the one that the finder told.
+/// Law: each report of two sides that a run list tells names a true race in the history that the list tells, setter
+/// first: the access that was checked, as the setter, and one of another task, as the finder. Both are of the
+/// program, share a byte and conflict, neither is silenced, and they are in progress at one moment. The setter
+/// doesn't count as marked. The pair is the one that the finder told.
 pub fn reports_name_two_sides()
     ensures { (run : Run) (records : List Record) → (list : RunList run records)
         → All (NamesBoth list) (outcomes_of list) }
