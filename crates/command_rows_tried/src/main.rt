@@ -67,10 +67,12 @@ fn comes_as_said(rt: &HostRuntime, texts: &Texts, line: &str) -> io::Result<bool
     let comes = row.comes_as_said(alloc);
     match kind {
         "row" => Ok(comes),
-        "writes" => Ok(comes
-            && [0, 1, 7, usize::MAX]
-                .iter()
-                .all(|room| row.fails_as_said(alloc, *room))),
+        "writes" => Ok(
+            comes
+                && [0, 1, 7, usize::MAX]
+                    .iter()
+                    .all(|room| row.fails_as_said(alloc, *room)),
+        ),
         _ => Ok(false),
     }
 }

@@ -60,9 +60,10 @@ impl<'t> Row<'t> {
         let Some((start, end)) = line.split_once(" => ") else {
             return Ok(None);
         };
-        let (Some((words, file)), Some((status, streams))) =
-            (start.split_once("| "), end.split_once(' '))
-        else {
+        let (Some((words, file)), Some((status, streams))) = (
+            start.split_once("| "),
+            end.split_once(' '),
+        ) else {
             return Ok(None);
         };
         let words = words_of(alloc, words)?;
@@ -105,7 +106,11 @@ impl<'t> Row<'t> {
         let Wanted::Is(whole) = self.output else {
             return false;
         };
-        let writes = if room == 0 { 1 } else { whole.len().div_ceil(room) };
+        let writes = if room == 0 {
+            1
+        } else {
+            whole.len().div_ceil(room)
+        };
         for writes_left in 0..writes {
             let mut table = Table::narrow(alloc, self.file, room, writes_left as u64);
             let status = command(alloc, &self.words, &mut table);

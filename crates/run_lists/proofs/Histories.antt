@@ -31,10 +31,12 @@ use Rattle.run_lists.proofs.Ways.{Chain, by_fewer, by_last, last_of, whole_chain
 pub of_both : (task : ℕ) (first second : History)
     → happenings_of task (first ++ second) ≡ happenings_of task first ++ happenings_of task second
 of_both task first second =
-    rw (filter-append (λ (moment : Moment). moment.task == task) first second,
-    map-append (λ (moment : Moment). moment.happening)
-    (filter (λ (moment : Moment). moment.task == task) first)
-    (filter (λ (moment : Moment). moment.task == task) second)) refl
+    rw (
+      filter-append (λ (moment : Moment). moment.task == task) first second,
+      map-append (λ (moment : Moment). moment.happening)
+          (filter (λ (moment : Moment). moment.task == task) first)
+          (filter (λ (moment : Moment). moment.task == task) second),
+    ) refl
 
 of_own : (task : ℕ) (did : List Happening) → happenings_of task (moments_of task did) ≡ did
 of_own task [] = refl

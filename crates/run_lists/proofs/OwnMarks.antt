@@ -129,12 +129,12 @@ begins_once a did p q r t first second before before_too = elim (leb_tells (leng
       let is : it.0 ≡ happenings.Begin a = let both : happenings.Begin a ∷ q ≡ it.0 ∷ (it.1 ++ happenings.Begin a ∷ t) = it.3 in cc in
       let more = more_begun a p r it.1 it.0 is it.2 in absurd (omega (arith, more, before, before_too))
   | inl fits ↦ let most : length r ≤ length p = fits.1 in elim (eqb_tells (length p) (length r)) [
-      | inl same ↦ front_same p (happenings.Begin a ∷ q) r (happenings.Begin a ∷ t) (sym first ∙ second) same.1
-      | inr differs ↦
-          let apart : length p ≢ length r = differs.1 in
-          let shorter : length r < length p = omega (arith, most, apart) in
-          let it = front_more r (happenings.Begin a ∷ t) p (happenings.Begin a ∷ q) (sym second ∙ first) shorter in
-          let is : it.0 ≡ happenings.Begin a = let both : happenings.Begin a ∷ t ≡ it.0 ∷ (it.1 ++ happenings.Begin a ∷ q) = it.3 in cc in
-          let more = more_begun a r p it.1 it.0 is it.2 in absurd (omega (arith, more, before, before_too))
-    ]
+    | inl same ↦ front_same p (happenings.Begin a ∷ q) r (happenings.Begin a ∷ t) (sym first ∙ second) same.1
+    | inr differs ↦
+        let apart : length p ≢ length r = differs.1 in
+        let shorter : length r < length p = omega (arith, most, apart) in
+        let it = front_more r (happenings.Begin a ∷ t) p (happenings.Begin a ∷ q) (sym second ∙ first) shorter in
+        let is : it.0 ≡ happenings.Begin a = let both : happenings.Begin a ∷ t ≡ it.0 ∷ (it.1 ++ happenings.Begin a ∷ q) = it.3 in cc in
+        let more = more_begun a r p it.1 it.0 is it.2 in absurd (omega (arith, more, before, before_too))
+  ]
 ]

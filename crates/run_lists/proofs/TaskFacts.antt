@@ -406,8 +406,8 @@ module _ (s : Setting) (end : Standing) where
                 w.to_end ∙ (ap (λ (points : List Point). points ++ w.ahead) after_way ∙ append_assoc (began.way ++ more.0) (last ∷ []) w.ahead) in
                 let goes_so : IsInWhile a (length h.checked) (length (drop 1 records)) =
                 λ n above below. open_from end.progress.did once a first end.way began.way more.0 w.ahead last n before.progress.did moments_in
-                    (happenings.End a ∷ w.begins.0) chain way_is (began_from a before records n w.behind below)
-                    (omega (arith, above, not_longer, one_left)) began_way.end stood w.paired (paired_none moments_in (none_of_effect a effect)) all in
+                (happenings.End a ∷ w.begins.0) chain way_is (began_from a before records n w.behind below)
+                (omega (arith, above, not_longer, one_left)) began_way.end stood w.paired (paired_none moments_in (none_of_effect a effect)) all in
                 let its : IsInWhile h.begun.access (length h.checked) (length (drop 1 records)) =
                 subst (λ (b : access.Access). IsInWhile b (length h.checked) (length (drop 1 records))) (sym h.begins.access) goes_so in
                 record {
@@ -479,7 +479,7 @@ module _ (s : Setting) (end : Standing) where
                 λ n below. subst (λ (points : List Point). AllFrom n points) (sym opened_way) (began_from a before records n w.behind below) in
                 let goes_so : IsInWhile a (suc (length rest)) (length (drop 1 records)) =
                 λ n above below. open_from end.progress.did once a first end.way opened.way inner.points w.ahead last n before.progress.did inner.begins.0
-                    from_closing.0 chain way_is (behind_so n below) (omega (arith, above)) (opened_runs.end ∙ opened_did) stood w.paired inner.paired all in
+                from_closing.0 chain way_is (behind_so n below) (omega (arith, above)) (opened_runs.end ∙ opened_did) stood w.paired inner.paired all in
                 let its : IsInWhile begun.access (suc (length rest)) (length (drop 1 records)) =
                 subst (λ (b : access.Access). IsInWhile b (suc (length rest)) (length (drop 1 records))) (sym opens.begins.access) goes_so in
                 let its_inside : IsInWhile begun.access (length later) (length inside) =

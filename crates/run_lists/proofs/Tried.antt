@@ -70,10 +70,22 @@ first_part =
       more = [];
       whole = record {
         end = four;
-        steps = (one, tried 0 true ∷ freed ∷ [], (false, (λ h. none h, λ h. absurd h), (refl, refl)),
-            (two, freed ∷ [], (refl, (refl, refl, refl), refl),
-            (three, freed ∷ [], (false, (λ h. none h, λ h. absurd h), (refl, refl)),
-            (four, [], ((refl, refl, (refl, refl)), refl), (refl, refl)))));
+        steps = (
+          one,
+          tried 0 true ∷ freed ∷ [],
+          (false, (λ h. none h, λ h. absurd h), (refl, refl)),
+          (
+            two,
+            freed ∷ [],
+            (refl, (refl, refl, refl), refl),
+            (
+              three,
+              freed ∷ [],
+              (false, (λ h. none h, λ h. absurd h), (refl, refl)),
+              (four, [], ((refl, refl, (refl, refl)), refl), (refl, refl)),
+            ),
+          ),
+        );
       };
     }
 
@@ -86,8 +98,12 @@ second_part =
       more = [];
       whole = record {
         end = two;
-        steps = (one, tried 1 false ∷ tried 1 true ∷ [], (false, (λ h. none h, λ h. absurd h), (refl, refl)),
-            (two, [], (refl, (refl, refl, (refl, refl, refl)), refl), (refl, refl)));
+        steps = (
+          one,
+          tried 1 false ∷ tried 1 true ∷ [],
+          (false, (λ h. none h, λ h. absurd h), (refl, refl)),
+          (two, [], (refl, (refl, refl, (refl, refl, refl)), refl), (refl, refl)),
+        );
       };
     }
 

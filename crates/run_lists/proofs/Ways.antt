@@ -80,6 +80,7 @@ by_last last points n chain = elim_last last points n chain
     to_last last (next ∷ points) chain =
         begins_on last.progress.did next.progress.did (last_of next points).progress.did chain.0
         (to_last next points chain.1)
+
     elim_last : (last : Point) (points : List Point) (n : ℕ) → Chain last points
         → Begins (point_by n last points).progress.did (last_of last points).progress.did
     elim_last last [] n chain = begins_same last.progress.did
