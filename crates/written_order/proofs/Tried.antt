@@ -1,37 +1,20 @@
 -- The records of small texts, for given answers.
-use Rattle.std.proofs.Common.{◌≡◌, ◌<◌, ◌≤◌, ◌+◌, ◌++◌, ◌↔◌, ℕ, Bool, true, false, List, [], ◌∷◌, None, Some, IsTrue, arith, count_by, drop, inl, inr, lit<, lit≤, pos, refl, subst}
-use Rattle.std.proofs.Math.Seq.{drop-nil}
-use Rattle.access_types.specs.Access as access
-use Rattle.access_types.specs.Marked.{EndsRaised, declared, is_disable, is_enable}
+use Rattle.std.proofs.Common.{◌≡◌, ◌<◌, ◌≤◌, ℕ, Bool, true, false, List, [], ◌∷◌, arith, lit<, lit≤, pos, refl}
 use Rattle.access_types.specs.Sites.{map_of}
-use Rattle.access_types.specs.declared.history.Happening.{Happening}
 use Rattle.access_types.specs.declared.history.Happening.TheVariants as happenings
-use Rattle.access_types.specs.declared.history.Mark.{Mark}
-use Rattle.access_types.specs.declared.kind.Kind.TheVariants as kinds
-use Rattle.access_types.specs.declared.kind.Operation.{Operation}
-use Rattle.access_types.specs.declared.kind.Operation.TheVariants as does
-use Rattle.litmus_meaning.specs.Task.{Progress}
 use Rattle.litmus_syntax.specs.Tree.{Block, Statement}
 use Rattle.litmus_syntax.specs.Tree as tree
-use Rattle.litmus_syntax.specs.declared.expression.ReadForm.TheVariants as reads
 use Rattle.litmus_syntax.specs.declared.program.Contents.TheVariants.{Int, Lock}
-use Rattle.litmus_syntax.specs.declared.program.Variable.{Variable}
 use Rattle.litmus_syntax.specs.declared.statement.Call.TheVariants as calls
-use Rattle.litmus_syntax.specs.declared.statement.WriteForm.TheVariants as writes
-use Rattle.setup_access.specs.Check as cases
-use Rattle.setup_access.specs.Check.{Check}
-use Rattle.setup_access.specs.Setting as checks
-use Rattle.setup_access.specs.declared.begun.Begun.{Begun}
-use Rattle.setup_access.specs.declared.outcome.Outcome.TheVariants as outcomes
 use Rattle.setup_access.specs.declared.rules.Rules.{Rules}
 use Rattle.slot_table.specs.declared.records.Record.{Record}
 use Rattle.slot_table.specs.declared.step.Answer.{Answer}
 use Rattle.slot_table.specs.declared.step.Answer.TheVariants as answers
 use Rattle.slot_table.specs.declared.step.Step.{Step}
 use Rattle.slot_table.specs.declared.step.Step.TheVariants as steps
-use Rattle.written_order.specs.Standing.{BeginsNow, Setting, Standing, checks_of, doing}
-use Rattle.written_order.specs.Waits.{WithinTurns}
-use Rattle.written_order.specs.WrittenOrder.{SpellsAll, WrittenOrder, at_first, stands_after}
+use Rattle.written_order.specs.Standing.{Setting, Standing, doing}
+use Rattle.written_order.specs.Waits.{IsTooMuch, WithinTurns}
+use Rattle.written_order.specs.WrittenOrder.{WrittenOrder, at_first, stands_after}
 
 -- an int x, which stands at 0x10000, and two locks
 abbrev setting : Rules → Setting
@@ -76,9 +59,23 @@ has_one : (rules : Rules) → (stands_after (deadlock rules)).progress.did ≡ h
 unfolding deadlock
 has_one rules = refl
 
--- with three turns the task goes on no more: the step that would be the fourth try isn't allowed
-within : WithinTurns 3 (locked 1 false ∷ locked 1 false ∷ locked 1 false ∷ locked 0 true ∷ [])
-within = ((((tt, lit≤ tt), lit≤ tt), lit≤ tt), lit≤ tt)
+few : (tries : ℕ) → tries < 3 → ¬ (Unit {0} × (3 ≤ tries))
+few tries fewer h = let enough : 3 ≤ tries = h.1 in omega arith
 
-beyond : WithinTurns 3 (locked 1 true ∷ locked 1 false ∷ locked 1 false ∷ locked 1 false ∷ locked 0 true ∷ []) → ⊥
-beyond h = let more : 3 ≤ 2 = h.1 in omega arith
+-- with three turns the task goes on no more: the step that would be the fourth try is one too much
+within : WithinTurns 3 (locked 1 false ∷ locked 1 false ∷ locked 1 false ∷ locked 0 true ∷ [])
+within = ((((tt, few 0 (lit< tt)), few 0 (lit< tt)), few 1 (lit< tt)), few 2 (lit< tt))
+
+beyond : ¬ WithinTurns 3 (locked 1 true ∷ locked 1 false ∷ locked 1 false ∷ locked 1 false ∷ locked 0 true ∷ [])
+beyond h = h.1 (tt, lit≤ tt)
+
+-- with none not even a first try is made
+none_tried : ¬ WithinTurns 0 (locked 0 true ∷ [])
+none_tried h = h.1 (tt, lit≤ tt)
+
+-- an exchange is a try of a wait once it was refused
+first_exchange : ¬ IsTooMuch 0 (steps.CellExchange 0 3 7) (made (steps.CellLoad 0) (answers.Word 3) ∷ [])
+first_exchange h = let some : 0 < 0 = h.0 in omega arith
+
+next_exchange : IsTooMuch 1 (steps.CellExchange 0 4 7) (made (steps.CellExchange 0 3 7) (answers.Word 4) ∷ made (steps.CellLoad 0) (answers.Word 3) ∷ [])
+next_exchange = (lit< tt, lit≤ tt)

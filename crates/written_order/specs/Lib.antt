@@ -2,3 +2,4 @@ pub mod Standing
 pub mod Access
 pub mod WrittenOrder
 pub mod Waits
+pub mod Told

@@ -1,10 +1,14 @@
--- How often a task tries in vain.
-use Rattle.std.specs.Prelude.{◌==◌, ◌&&◌, ◌-◌, ◌≤◌, ℕ, suc, Bool, true, false, List, [], ◌∷◌, if◌then◌else◌}
+-- How often a task tries in vain, and when it is stuck.
+use Rattle.std.specs.Prelude.{◌==◌, ◌&&◌, ◌++◌, ◌<◌, ◌≤◌, ℕ, suc, Bool, true, false, List, [], ◌∷◌, if◌then◌else◌, reverse}
+use Rattle.litmus_syntax.specs.Tree.{Block}
+use Rattle.memory_operation.specs.Leads.{GoesOn}
 use Rattle.slot_table.specs.declared.records.Record.{Record}
 use Rattle.slot_table.specs.declared.step.Answer.{Answer}
 use Rattle.slot_table.specs.declared.step.Answer.TheVariants as answers
 use Rattle.slot_table.specs.declared.step.Step.{Step}
 use Rattle.slot_table.specs.declared.step.Step.TheVariants.{CellExchange, LockTry, PairLoad}
+use Rattle.written_order.specs.Standing.{Setting}
+use Rattle.written_order.specs.WrittenOrder.{SpellsAll, WrittenOrder}
 
 -- the cell that a step exchanges, the lock that it tries, or the index whose pair it loads, is this
 abbrev pub exchanges_in : ℕ → Step → Bool
@@ -45,8 +49,33 @@ vain_tries step [] = 0
 vain_tries step (before ∷ earlier) =
     if was_vain before.step before.answer step then suc (vain_tries before.step earlier) else 0
 
--- no step of the task, the latest first, goes on with a wait that has had so many tries in vain
+-- The step, after these records with the latest first, is a try of a wait: a load of a pair, a try of a
+-- lock, or an exchange that is tried again after it was refused.
+abbrev pub IsTry : Step → List Record → Type 0
+IsTry (PairLoad index) earlier = Unit {0}
+IsTry (LockTry lock task) earlier = Unit {0}
+IsTry (CellExchange cell seen new) earlier = 0 < vain_tries (CellExchange cell seen new) earlier
+IsTry step earlier = ⊥
+
+-- it is a try of a wait that has had so many tries in vain as are allowed
+abbrev pub IsTooMuch : ℕ → Step → List Record → Type 0
+IsTooMuch turns step earlier = IsTry step earlier × (turns ≤ vain_tries step earlier)
+
+-- none of the task's steps, the latest first, is a try too much
 abbrev pub WithinTurns : ℕ → List Record → Type 0
 WithinTurns turns [] = Unit {0}
 WithinTurns turns (latest ∷ earlier) =
-    WithinTurns turns earlier × (vain_tries latest.step earlier ≤ turns - 1)
+    WithinTurns turns earlier × ¬ IsTooMuch turns latest.step earlier
+
+-- whatever completes the records so far goes on with this step
+abbrev pub OnlyStep : Setting → ℕ → Block → List Record → Step → Type 0
+OnlyStep s registers body records step =
+    (later : List Record) → SpellsAll s registers body (records ++ later) → GoesOn s.text.task step later
+
+-- after these records in the written order, the oldest first, the task is stuck: the only step that they
+-- go on with is a try too much
+pub record IsStuck (s : Setting) (registers : ℕ) (body : Block) (records : List Record) : Type 0 where
+  pub step : Step
+  pub written : WrittenOrder s registers body records
+  pub only : OnlyStep s registers body records step
+  pub tried : IsTooMuch s.rules.turns step (reverse records)
