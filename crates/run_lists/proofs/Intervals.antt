@@ -1,6 +1,6 @@
 -- An access is in progress from the point on its task's way at which it begins up to that at which it ends.
 use Rattle.std.proofs.Common.{◌≡◌, ◌⊎◌, ◌<◌, ◌≤◌, ◌+◌, ◌∙◌, ◌++◌, inl, inr, ℕ, zero, suc, Contains, List, [], ◌∷◌}
-use Rattle.std.proofs.Common.{None, Option, Some, ap, append_assoc, arith, drop, length, refl, replicate, subst, sym}
+use Rattle.std.proofs.Common.{None, Option, Some, ap, append_assoc, arith, length, refl, replicate, subst, sym}
 use Rattle.std.proofs.lemmas.Bool.{le-leb}
 use Rattle.std.proofs.lemmas.Bool.Decides.{leb_tells}
 use Rattle.std.proofs.lemmas.List.{length-append}

@@ -1,5 +1,5 @@
 -- What a small list tells.
-use Rattle.std.proofs.Common.{◌≡◌, ◌∙◌, ℕ, zero, suc, Bool, true, false, List, [], ◌∷◌, None, Some, IsTrue, arith, lit<, lit≤, refl, slice_get, subst, sym}
+use Rattle.std.proofs.Common.{◌≡◌, ◌∙◌, ℕ, zero, suc, Bool, true, false, List, [], ◌∷◌, None, Some, IsTrue, ◌≤◌, arith, lit<, refl, slice_get, subst, sym}
 use Rattle.std.proofs.lemmas.Bool.{ne_eqb}
 use Rattle.access_types.specs.Sites.{map_of}
 use Rattle.access_types.proofs.SiteEntries.{get-lookup}
@@ -117,8 +117,8 @@ parts (suc (suc n)) = subst (λ (own : List Record). InWrittenOrder run (suc (su
     (record { more = []; whole = record { end = at_first 0; steps = (refl, refl) } })
 
 turns : (task : ℕ) → WithinTurns 3 (records_of task made)
-turns zero = ((tt, lit≤ tt), lit≤ tt)
-turns (suc zero) = ((tt, lit≤ tt), lit≤ tt)
+turns zero = ((tt, λ h. let more : 3 ≤ 0 = h.1 in omega arith), λ h. h.0)
+turns (suc zero) = ((tt, λ h. let more : 3 ≤ 0 = h.1 in omega arith), λ h. let more : 3 ≤ 1 = h.1 in omega arith)
 turns (suc (suc n)) = subst (λ (own : List Record). WithinTurns 3 own) (sym (nobody_else n)) tt
 
 no_sites : (task number : ℕ) (site : Site) → slice_get (block_sites (setting_of run.program run.places task) (task_of run task).body) number ≡ Some site → ⊥

@@ -52,7 +52,8 @@ use Rattle.written_order.proofs.MeaningLemmas.{whole_means}
 use Rattle.written_order.proofs.WayLemmas.{Begins}
 use Rattle.run_lists.specs.Run.{IsOfProgram, Run, first_cells, idle, locks_of, task_of, task_setting}
 use Rattle.run_lists.specs.RunList.{RunList}
-use Rattle.run_lists.specs.Told.{Came, came_next, came_of, did_by, history_by, history_of, made_by, moments_of, outcomes_by, to_come}
+use Rattle.run_lists.specs.Told.{came_next, history_by, history_of, made_by, moments_of, outcomes_by}
+use Rattle.written_order.specs.Told.{Came, came_of, did_by, to_come}
 use Rattle.run_lists.specs.TwoSides.{IfTwoSided, NamesBoth, NamesTwoSides}
 use Rattle.run_lists.proofs.CheckFacts.{AllFallSo, FallsSo, IsReported, IsTold, OnTell, TellsKnown, back}
 use Rattle.run_lists.proofs.Histories.{did_of_all, in_progress, of_both, of_task}

@@ -1,47 +1,12 @@
 -- What a list of steps tells: what its tasks did, moment by moment, and what came of their checks.
--- What its tasks would still do is as it completes their records in the written order.
-use Rattle.std.specs.Prelude.{◌+◌, ◌-◌, ◌++◌, ◌==◌, ℕ, zero, suc, List, [], ◌∷◌, drop, length, map}
-use Rattle.std.specs.List.{filter}
-use Rattle.access_types.specs.Access.{Access}
+use Rattle.std.specs.Prelude.{◌++◌, ℕ, zero, suc, List, [], ◌∷◌, length, map}
 use Rattle.access_types.specs.History.{History}
 use Rattle.access_types.specs.declared.history.Happening.{Happening}
-use Rattle.litmus_syntax.specs.Tree.{Block}
 use Rattle.run_lists.specs.Run.{Run}
 use Rattle.run_lists.specs.RunList.{RunList}
-use Rattle.setup_access.specs.Check.{Fallen}
-use Rattle.setup_access.specs.declared.outcome.Outcome.{Outcome}
 use Rattle.slot_table.specs.Records.{records_of}
 use Rattle.slot_table.specs.declared.records.Record.{Record}
-use Rattle.written_order.specs.Standing.{Point, Setting, point_by}
-use Rattle.written_order.specs.WrittenOrder.{WrittenOrder, first_point}
-
--- how many records of a task were still to come after so many of them
-abbrev pub to_come : {s : Setting} {registers : ℕ} {body : Block} {records : List Record}
-    → WrittenOrder s registers body records → ℕ → ℕ
-to_come {records = records} written made = length (records ++ written.more) - made
-
--- where the task stood then: what it computes between two steps it has computed after the earlier one
-abbrev pub stands_by : {s : Setting} {registers : ℕ} {body : Block} {records : List Record}
-    → WrittenOrder s registers body records → ℕ → Point
-stands_by {registers = registers} written made =
-    point_by (to_come written made) (first_point (to_come written 0) registers)
-    written.whole.end.way
-
--- what it had done by then
-abbrev pub did_by : {s : Setting} {registers : ℕ} {body : Block} {records : List Record}
-    → WrittenOrder s registers body records → ℕ → List Happening
-did_by written made = (stands_by written made).progress.did
-
--- what it did with its next record, up to the one after that
-abbrev pub did_next : {s : Setting} {registers : ℕ} {body : Block} {records : List Record}
-    → WrittenOrder s registers body records → ℕ → List Happening
-did_next written made = drop (length (did_by written made)) (did_by written (made + 1))
-
--- the outcomes of its checks that fell at its next record
-abbrev pub fell_next : {s : Setting} {registers : ℕ} {body : Block} {records : List Record}
-    → WrittenOrder s registers body records → ℕ → List Fallen
-fell_next written made =
-    filter (λ fallen. length fallen.later == to_come written (made + 1)) written.whole.end.outcomes
+use Rattle.written_order.specs.Told.{Came, came_of, did_by, did_next, fell_next}
 
 -- what a task did, as moments
 abbrev pub moments_of : ℕ → List Happening → History
@@ -65,14 +30,6 @@ history_by {run = run} list [] = first_moments list (length run.program.tasks)
 history_by list (latest ∷ earlier) =
     history_by list earlier
     ++ moments_of latest.task (did_next (list.tasks latest.task) (made_by latest.task earlier))
-
--- what came of checking an access once
-pub record Came : Type 0 where
-  pub access : Access
-  pub outcome : Outcome
-
-abbrev pub came_of : Fallen → Came
-came_of fallen = record { access = fallen.access; outcome = fallen.outcome }
 
 -- the outcomes of its checks that fell at a record of a task, after so many of its records
 abbrev pub came_next : {run : Run} {all : List Record} → RunList run all → ℕ → ℕ → List Came

@@ -6,7 +6,8 @@ use Rattle.access_types.specs.Race.{TrueRace}
 use Rattle.access_types.specs.Ticket.{ticket_number}
 use Rattle.run_lists.specs.Run.{IsOfProgram, Run}
 use Rattle.run_lists.specs.RunList.{RunList}
-use Rattle.run_lists.specs.Told.{Came, history_of}
+use Rattle.run_lists.specs.Told.{history_of}
+use Rattle.written_order.specs.Told.{Came}
 use Rattle.setup_access.specs.declared.outcome.Outcome.{Outcome}
 use Rattle.setup_access.specs.declared.outcome.Outcome.TheVariants as outcomes
 use Rattle.slot.specs.Pair.{Halves}

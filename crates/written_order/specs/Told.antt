@@ -2,9 +2,11 @@
 -- still do is as it completes its records in the written order.
 use Rattle.std.specs.Prelude.{◌+◌, ◌-◌, ◌++◌, ◌==◌, ℕ, List, drop, length}
 use Rattle.std.specs.List.{filter}
+use Rattle.access_types.specs.Access.{Access}
 use Rattle.access_types.specs.declared.history.Happening.{Happening}
 use Rattle.litmus_syntax.specs.Tree.{Block}
 use Rattle.setup_access.specs.Check.{Fallen}
+use Rattle.setup_access.specs.declared.outcome.Outcome.{Outcome}
 use Rattle.slot_table.specs.declared.records.Record.{Record}
 use Rattle.written_order.specs.Standing.{Point, Setting, point_by}
 use Rattle.written_order.specs.WrittenOrder.{WrittenOrder, first_point}
@@ -36,3 +38,11 @@ abbrev pub fell_next : {s : Setting} {registers : ℕ} {body : Block} {records :
     → WrittenOrder s registers body records → ℕ → List Fallen
 fell_next written made =
     filter (λ fallen. length fallen.later == to_come written (made + 1)) written.whole.end.outcomes
+
+-- what came of checking an access once
+pub record Came : Type 0 where
+  pub access : Access
+  pub outcome : Outcome
+
+abbrev pub came_of : Fallen → Came
+came_of fallen = record { access = fallen.access; outcome = fallen.outcome }
