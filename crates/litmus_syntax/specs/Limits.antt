@@ -1,5 +1,5 @@
 -- How much a litmus program can have, and what each program keeps that is read.
-use Rattle.std.specs.Prelude.{◌≡◌, ◌+◌, ◌*◌, ◌^◌, ◌≤◌, ◌<◌, ℕ, All, List, Some, if◌then◌else◌, length, slice_get}
+use Rattle.std.specs.Prelude.{◌≡◌, ◌≢◌, ◌+◌, ◌*◌, ◌^◌, ◌≤◌, ◌<◌, ℕ, All, AllPairs, List, Some, if◌then◌else◌, length, slice_get}
 use Rattle.access_types.specs.declared.history.Mark.{Mark}
 use Rattle.access_types.specs.declared.history.Mark.TheVariants as marks
 use Rattle.litmus_syntax.specs.Sites.{has_access}
@@ -335,9 +335,14 @@ pub record TaskKeepsLimits (variables : List Variable) (task : Task) : Type 0 wh
   pub rises : block_rises task.body ≤ 2 ^ 32
   pub typed : BlockTyped (IsVariable variables) (length task.registers) task.body
 
--- a program keeps the limits and the rules of types
+-- no two variables have one name
+abbrev pub HaveOwnNames : List Variable → Type 0
+HaveOwnNames variables = AllPairs (λ variable later. variable.name ≢ later.name) variables
+
+-- a program keeps the limits and the rules of types, and no two of its variables have one name
 pub record KeepsLimits (program : Program) : Type 0 where
   pub some_task : 0 < length program.tasks
   pub tasks : length program.tasks ≤ tasks_limit
   pub variables : length program.variables ≤ variables_limit
+  pub names : HaveOwnNames program.variables
   pub each_task : All (TaskKeepsLimits program.variables) program.tasks

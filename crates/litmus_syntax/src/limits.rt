@@ -1,11 +1,12 @@
 //! Whether a program keeps the limits and the rules of types.
 
-ghost use Rattle.std.specs.Prelude.{◌≡◌, ◌≤◌, ◌+◌, ◌*◌, ◌^◌, All, IfSome, IsTrue, map, if◌then◌else◌};
-ghost use Rattle.litmus_syntax.specs.Limits.{AssignmentTyped, CallTyped, ExpressionTyped, FetchTyped, IsVariable, KeepsLimits, LoadingTyped, PureTyped, TaskKeepsLimits};
+ghost use Rattle.std.specs.Prelude.{◌≡◌, ◌≢◌, ◌≤◌, ◌+◌, ◌*◌, ◌^◌, All, IfSome, IsTrue, map, if◌then◌else◌};
+ghost use Rattle.litmus_syntax.specs.Limits.{AssignmentTyped, CallTyped, ExpressionTyped, FetchTyped, HaveOwnNames, IsVariable, KeepsLimits, LoadingTyped, PureTyped, TaskKeepsLimits};
 ghost use Rattle.litmus_syntax.specs.Limits.{assignment_rises, atomics, call_rises, call_scopes, expression_rises, integers, loading_rises, locks, memory, scopes_of};
 ghost use Rattle.litmus_syntax.specs.Views.{assignment_of, block_of, expression_of, fetch_of, load_of, loading_of, program_of, pure_of, statement_of, task_of};
 
 use crate::expression::{Expression, Fetch, Load, Loading, Pure, ReadForm};
+use crate::names::Name;
 use crate::program::{Contents, Program, Task, Variable};
 use crate::statement::{Assignment, Call, Statement, WriteForm};
 use access_types::Mark;
@@ -489,8 +490,31 @@ fn all_keep_limits(tasks: &[Task], variables: &[Variable]) -> bool
     true
 }
 
+/// Whether each of the variables has another name than this one.
+fn have_other_names(variables: &[Variable], name: &Name) -> bool
+    ensures { IsTrue result → All (λ variable. name.now ≢ variable.name) variables.now }
+{
+    for variable in variables {
+        if variable.name == *name {
+            return false;
+        }
+    }
+    true
+}
+
+/// Whether no two variables have one name.
+fn have_own_names(variables: &[Variable]) -> bool
+    ensures { IsTrue result → HaveOwnNames variables.now }
+{
+    match variables.split_first() {
+        Some((variable, later)) => have_other_names(later, &variable.name) && have_own_names(later),
+        None => true,
+    }
+}
+
 impl Program {
-    /// Whether the program keeps the limits and the rules of types. A text is read only into one that does.
+    /// Whether the program keeps the limits and the rules of types, and no two of its variables have one name. A text
+    /// is read only into one that does.
     pub fn keeps_limits(&self) -> bool
         ensures { IsTrue result → KeepsLimits (program_of self.now) }
     {
@@ -499,6 +523,6 @@ impl Program {
         if tasks.is_empty() || tasks.len() > TASKS || variables.len() > VARIABLES {
             return false;
         }
-        all_keep_limits(tasks, variables)
+        have_own_names(variables) && all_keep_limits(tasks, variables)
     }
 }
