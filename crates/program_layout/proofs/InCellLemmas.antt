@@ -1,19 +1,20 @@
 -- A variable that has bytes stands at a multiple of their number, and so lies in one cell.
-use Rattle.std.proofs.Common.{◌≡◌, ◌≢◌, ◌≤◌, ◌∙◌, ◌+◌, ◌*◌, ◌%◌, ◌++◌, ◌==◌, ◌||◌, ℕ, zero, suc, Bool, true, false, Contains, IsSomeAnd, List, [], ◌∷◌, Option, None, Some, ap, arith, bytes_eq, cond, find, fold, option_map, refl, slice_get, subst, sym, if◌then◌else◌}
-use Rattle.std.proofs.lemmas.Bool.{eqb-true}
+use Rattle.std.proofs.Common.{◌≡◌, ◌≢◌, ◌≤◌, ◌∙◌, ◌+◌, ◌*◌, ◌%◌, ◌++◌, ◌==◌, ◌||◌, ◌<◌, ◌⊎◌, inl, inr, get_or, ℕ, zero, suc, Bool, true, false, Contains, IsSomeAnd, List, [], ◌∷◌, Option, None, Some, ap, arith, bytes_eq, cond, find, fold, option_map, refl, slice_get, subst, sym, if◌then◌else◌}
+use Rattle.std.proofs.lemmas.Bool.{cases_order, eqb-true}
 use Rattle.std.proofs.lemmas.List.Elements.{Contains-append_left, Contains-push}
-use Rattle.std.proofs.lemmas.Option.{same_Some}
+use Rattle.std.proofs.lemmas.Option.{get_or_from_slice_get, same_Some, slice_get_within}
 use Rattle.std.proofs.lemmas.Slice.Eq.{bytes_eq-Decides}
 use Rattle.std.specs.List.{list_any}
 use Rattle.access_types.specs.declared.history.Bytes.{Bytes}
 use Rattle.litmus_meaning.specs.Layout.{address_of, block_of, bytes_at, cells_of, initial_values, with_cell}
 use Rattle.litmus_meaning.specs.Values.{size_of}
+use Rattle.litmus_syntax.specs.Limits.{HaveOwnNames}
 use Rattle.litmus_syntax.specs.declared.program.Contents.TheVariants.{Atomic, Char, Int, Lock, Long, Short}
 use Rattle.litmus_syntax.specs.declared.program.Contents.{Contents}
 use Rattle.litmus_syntax.specs.declared.program.Variable.{Variable}
 use Rattle.program_layout.proofs.LayLemmas.{got}
 use Rattle.program_layout.proofs.PlaceLemmas.{not_placed, placed}
-use Rattle.program_layout.specs.Cells.{HaveOwnNames, LieInOneCell}
+use Rattle.program_layout.specs.Cells.{LieInOneCell}
 use Rattle.program_layout.specs.Places.{AreFit, IsFit, Suits, is_for, named, places_of}
 use Rattle.program_layout.specs.declared.place.Place.{Place}
 
@@ -47,6 +48,23 @@ named_stands [] name found is = cc
 named_stands (variable ∷ later) name found is =
     named_first variable later name (bytes_eq variable.name name) found refl (λ same. named_stands later name found same) is
 
+-- variables of one name are one
+same_name : (variables : List Variable) → HaveOwnNames variables → (i j : ℕ) (v w : Variable) → slice_get variables i ≡ Some v
+    → slice_get variables j ≡ Some w → v.name ≡ w.name → v ≡ w
+same_name variables own i j v w v_there w_there named_so = cases (cases_order i j) where
+  v_is : get_or variables i v ≡ v
+  v_is = get_or_from_slice_get variables i v v v_there
+  w_is : get_or variables j v ≡ w
+  w_is = get_or_from_slice_get variables j w v w_there
+  cases : (i ≡ j) ⊎ ((i < j) ⊎ (j < i)) → v ≡ w
+  cases (inl same) = same_Some v w (sym v_there ∙ ap (slice_get variables) same ∙ w_there)
+  cases (inr (inl below)) =
+      absurd (own i j v below (slice_get_within variables j w w_there)
+      (ap (λ (x : Variable). x.name) v_is ∙ named_so ∙ sym (ap (λ (x : Variable). x.name) w_is)))
+  cases (inr (inr below)) =
+      absurd (own j i v below (slice_get_within variables i v v_there)
+      (ap (λ (x : Variable). x.name) w_is ∙ sym named_so ∙ sym (ap (λ (x : Variable). x.name) v_is)))
+
 -- a place for a variable is a multiple of its size
 suits : (variables : List Variable) → HaveOwnNames variables → (number : ℕ) (variable : Variable) → slice_get variables number ≡ Some variable
     → (place : Place) → place.name ≡ variable.name → IsFit variables place → place.addr % size_of variable.contents ≡ 0
@@ -56,7 +74,7 @@ suits variables own number variable stands place named_so fit = cases (named var
   cases (Some w) is =
       let w_suits : Suits w place.addr = subst (λ (o : Option Variable). IsSomeAnd o (λ (v : Variable). Suits v place.addr)) is fit in
       let there = named_stands variables place.name w is in
-      let same : w ≡ variable = own there.0 number w variable there.1 stands (there.2 ∙ named_so) in
+      let same : w ≡ variable = same_name variables own there.0 number w variable there.1 stands (there.2 ∙ named_so) in
       subst (λ (v : Variable). place.addr % size_of v.contents ≡ 0) same w_suits.aligned
 
 default_aligned : (contents : Contents) (number : ℕ) → size_of contents ≢ 0 → (0x10000 + 64 * number) % size_of contents ≡ 0

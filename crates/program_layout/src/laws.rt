@@ -3,8 +3,9 @@
 ghost use Rattle.std.specs.Prelude.{◌≡◌, ◌≢◌, ℕ, List, Some, slice_get};
 ghost use Rattle.litmus_meaning.specs.Layout.{bytes_at, cells_of};
 ghost use Rattle.litmus_meaning.specs.Values.{size_of};
+ghost use Rattle.litmus_syntax.specs.Limits.{HaveOwnNames};
 ghost use Rattle.litmus_syntax.specs.declared.program.Variable.{Variable};
-ghost use Rattle.program_layout.specs.Cells.{HaveOwnNames, LieInOneCell};
+ghost use Rattle.program_layout.specs.Cells.{LieInOneCell};
 ghost use Rattle.program_layout.specs.Places.{AreFit, places_of};
 ghost use Rattle.program_layout.specs.declared.place.Place.{Place};
 
