@@ -1,8 +1,9 @@
 -- the head of a trace, both ways
-use Rattle.std.proofs.Common.{◌≡◌, ◌∙◌, ◌++◌, ◌<◌, ◌||◌, ◌^◌, ℕ, List, Bool, true, false, Option, Some, None, ap, append_assoc, arith, nat_lt, refl, subst}
+use Rattle.std.proofs.Common.{◌≡◌, ◌∙◌, ◌++◌, ◌<◌, ◌||◌, ◌^◌, ℕ, List, Bool, true, false, Option, Some, None, ap, append_assoc, arith, nat_lt, refl, subst, sym}
 use Rattle.std.proofs.lemmas.Bool.Decides.{nat_tests}
 use Rattle.std.specs.Fmt.{decimal}
-use Rattle.std.specs.Prelude.{if◌then◌else◌, codes}
+use Rattle.std.specs.Borrow.{Bor}
+use Rattle.std.specs.Prelude.{MatchOption, if◌then◌else◌, codes}
 use Rattle.watch_word.specs.declared.layout.Layout.{Layout}
 use Rattle.watch_word.specs.declared.layout.Layout.TheVariants.{W64, W32}
 use Rattle.report_text.specs.Faults.{BeginsWith, MayHaveSlots}
@@ -10,6 +11,7 @@ use Rattle.report_text.specs.TraceText.{shape_line, width_word}
 use Rattle.trace_lines.specs.declared.head.Shape.{Shape}
 use Rattle.trace_lines.specs.FieldReaders.{decimal_at, means, past}
 use Rattle.trace_lines.specs.HeadReading.{IsShapeAt, layout_at, shape_at}
+use Rattle.trace_lines.specs.Reading.{seen_rest}
 use Rattle.trace_lines.proofs.FieldTexts.{decimal_spelled, decimal_there, ends, last_spelled, means_spelled}
 use Rattle.trace_lines.proofs.Words.{bind_then, past_is, past_there, same_given}
 
@@ -18,6 +20,12 @@ pub nowhere : (text bytes : List ℕ) → None ≡ past text bytes → ¬ Begins
 nowhere text bytes none begins =
     let there = ap (past text) begins.1 ∙ past_there text begins.0 in
     let e = none ∙ there in absurd cc
+
+-- what is read behind the text stands behind it
+pub behind : (text bytes : List ℕ) (found : Option (Bor (List ℕ))) → seen_rest found ≡ past text bytes
+    → MatchOption found (¬ BeginsWith text bytes) (λ rest. bytes ≡ text ++ rest.now)
+behind text bytes None e = nowhere text bytes e
+behind text bytes (Some rest) e = past_is text bytes rest.now (sym e)
 
 layout_text : Layout → List ℕ
 layout_text layout = codes " " ++ (width_word layout ++ codes "\n")

@@ -4,3 +4,5 @@ pub mod Hex
 pub mod FieldTexts
 pub mod LineTexts
 pub mod HeadTexts
+pub mod PlainTruth
+pub mod Mapped

@@ -7,7 +7,7 @@ pub mod laws;
 pub mod lines;
 
 pub use head::{Head, Shape, read_head};
-pub use lines::read_line;
+pub use lines::{read_end, read_line};
 
 #[cfg(test)]
 mod tests;

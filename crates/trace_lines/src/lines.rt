@@ -1,6 +1,8 @@
 //! The lines of a trace.
 
-ghost use Rattle.std.specs.Prelude.{◌≡◌};
+ghost use Rattle.std.specs.Prelude.{◌≡◌, ◌++◌, MatchOption};
+ghost use Rattle.report_text.specs.Faults.{BeginsWith};
+ghost use Rattle.report_text.specs.TraceText.{end_line};
 ghost use Rattle.trace_lines.specs.FieldReaders.{AreInLimits};
 ghost use Rattle.trace_lines.specs.LineReaders.{access_at, access_of, arm_at, line_at, origin_at, race_at, take_at};
 ghost use Rattle.trace_lines.specs.Reading.{IsLineAt, Reads, seen};
@@ -17,6 +19,13 @@ pub fn read_line(bytes: &[u8]) -> Option<(Line, &[u8])>
     ensures { Reads (IsLineAt bytes.now) (seen result) }
 {
     line(bytes)
+}
+
+/// The bytes behind the last line, or `None` where the bytes don't begin with it.
+pub fn read_end(bytes: &[u8]) -> Option<&[u8]>
+    ensures { MatchOption result (¬ BeginsWith end_line bytes.now) (λ rest. bytes.now ≡ end_line ++ rest.now) }
+{
+    past(bytes, b"end\n")
 }
 
 /// A line and the bytes behind it.
