@@ -14,20 +14,20 @@ use Rattle.litmus_cursor.specs.declared.words.VariableType.TheVariants as types
 use Rattle.litmus_cursor.specs.declared.words.Word.TheVariants as words
 use Rattle.litmus_cursor.specs.Front.{◌>>=◌, first, number_of, others, take_number, take_sign}
 use Rattle.litmus_cursor.specs.Words.{Symbol, word, identifier, number, sign, fault}
-use Rattle.litmus_body.specs.declared.process.Takes.{Takes}
-use Rattle.litmus_body.specs.declared.process.Takes.TheVariants.{Locks, Memory}
+use Rattle.litmus_expression.specs.declared.process.Takes.{Takes}
+use Rattle.litmus_expression.specs.declared.process.Takes.TheVariants.{Locks, Memory}
 use Rattle.litmus_body.specs.CallReader.{ReadsCall, arguments, call_accesses, call_at, check, count_assertion, count_call, count_check, marked, sized, target}
-use Rattle.litmus_body.specs.ExpressionReader.{take_star}
-use Rattle.litmus_body.specs.Followed.{Differ, name_of}
-use Rattle.litmus_body.specs.Names.{HasBytes, IsLock, IsVariable, Names, Parameter}
-use Rattle.litmus_body.specs.NameReader.{count_access, take_variable, takes_type, variable_of}
+use Rattle.litmus_expression.specs.ExpressionReader.{take_star}
+use Rattle.litmus_expression.specs.Followed.{Differ, name_of}
+use Rattle.litmus_expression.specs.Names.{HasBytes, IsLock, IsVariable, Names, Parameter}
+use Rattle.litmus_expression.specs.NameReader.{count_access, take_variable, takes_type, variable_of}
 use Rattle.litmus_body.specs.Statements as grammar
 use Rattle.litmus_body.specs.Statements.{Calls}
-use Rattle.litmus_body.specs.States.{State, with_left}
-use Rattle.litmus_body.proofs.Complete.{placed}
-use Rattle.litmus_body.proofs.Named.{named_there}
-use Rattle.litmus_body.proofs.Sound.{Moved, ReadsVariable, variable_reads}
-use Rattle.litmus_body.proofs.Taken.{bind_some, front, guarded, same_given, sign_taken}
+use Rattle.litmus_expression.specs.States.{State, with_left}
+use Rattle.litmus_expression.proofs.Complete.{placed}
+use Rattle.litmus_expression.proofs.Named.{named_there}
+use Rattle.litmus_expression.proofs.Sound.{Moved, ReadsVariable, variable_reads}
+use Rattle.litmus_expression.proofs.Taken.{bind_some, front, guarded, same_given, sign_taken}
 
 -- ---- variables and numbers
 

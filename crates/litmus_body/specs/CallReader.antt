@@ -10,11 +10,11 @@ use Rattle.litmus_syntax.specs.declared.statement.Call.TheVariants as calls
 use Rattle.litmus_cursor.specs.declared.words.CallWord.{CallWord}
 use Rattle.litmus_cursor.specs.declared.words.CallWord.TheVariants as asks
 use Rattle.litmus_cursor.specs.Front.{◌>>=◌, others, take_number, take_sign}
-use Rattle.litmus_body.specs.declared.process.Takes.TheVariants.{Locks, Memory}
-use Rattle.litmus_body.specs.ExpressionReader.{take_star}
-use Rattle.litmus_body.specs.NameReader.{count_access, take_variable}
+use Rattle.litmus_expression.specs.declared.process.Takes.TheVariants.{Locks, Memory}
+use Rattle.litmus_expression.specs.ExpressionReader.{take_star}
+use Rattle.litmus_expression.specs.NameReader.{count_access, take_variable}
 use Rattle.litmus_body.specs.Statements.{Calls}
-use Rattle.litmus_body.specs.States.{State, with_left}
+use Rattle.litmus_expression.specs.States.{State, with_left}
 
 -- an assertion is counted, of which so many scoped ones are in force
 abbrev pub count_assertion : (turns scopes : ℕ) (scoped : Bool) → State → Option State

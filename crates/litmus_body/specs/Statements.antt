@@ -14,9 +14,9 @@ use Rattle.litmus_cursor.specs.declared.words.Word.TheVariants as words
 use Rattle.litmus_cursor.specs.declared.words.StoreWord.TheVariants as stores
 use Rattle.litmus_cursor.specs.declared.words.CallWord.TheVariants as asks
 use Rattle.litmus_cursor.specs.Words.{Symbol, word, identifier, number, sign}
-use Rattle.litmus_body.specs.Expressions.{Load, Pure, Expression, enclosed_once}
+use Rattle.litmus_expression.specs.Expressions.{Load, Pure, Expression, enclosed_once}
 use Rattle.litmus_syntax.specs.Limits.{check_limit, nesting_limit}
-use Rattle.litmus_body.specs.Names.{Names, Parameter, IsVariable, IsInteger, IsAtomic, IsLock, HasBytes, IsChanged}
+use Rattle.litmus_expression.specs.Names.{Names, Parameter, IsVariable, IsInteger, IsAtomic, IsLock, HasBytes, IsChanged}
 
 -- a load or an assignment, which may stand alone or inside data_race( )
 pub data Enclosable : Type 0 where

@@ -7,11 +7,11 @@ use Rattle.litmus_syntax.specs.declared.statement.WriteForm.TheVariants as write
 use Rattle.litmus_cursor.specs.declared.words.StoreWord.{StoreWord}
 use Rattle.litmus_cursor.specs.declared.words.StoreWord.TheVariants as stores
 use Rattle.litmus_cursor.specs.Front.{◌>>=◌, others, take_sign}
-use Rattle.litmus_body.specs.declared.process.Takes.{Takes}
-use Rattle.litmus_body.specs.declared.process.Takes.TheVariants.{Integers, Atomics}
-use Rattle.litmus_body.specs.ExpressionReader.{pure_at, take_star}
-use Rattle.litmus_body.specs.NameReader.{count_access, take_variable}
-use Rattle.litmus_body.specs.States.{State, with_left}
+use Rattle.litmus_expression.specs.declared.process.Takes.{Takes}
+use Rattle.litmus_expression.specs.declared.process.Takes.TheVariants.{Integers, Atomics}
+use Rattle.litmus_expression.specs.ExpressionReader.{pure_at, take_star}
+use Rattle.litmus_expression.specs.NameReader.{count_access, take_variable}
+use Rattle.litmus_expression.specs.States.{State, with_left}
 
 -- `VAR , pure`
 unfoldable pub written : (turns depth : ℕ) → Takes → WriteForm → State → Option (tree.Assignment × State)

@@ -11,7 +11,7 @@ use Rattle.litmus_cursor.specs.declared.words.VariableType.TheVariants.{Lock}
 use Rattle.litmus_cursor.specs.declared.words.Word.TheVariants as words
 use Rattle.litmus_cursor.specs.Words.{Symbol, word, identifier, number, sign}
 use Rattle.litmus_syntax.specs.Limits.{nesting_limit}
-use Rattle.litmus_body.specs.Names.{Names, IsRegister}
+use Rattle.litmus_expression.specs.Names.{Names, IsRegister}
 use Rattle.litmus_parse.specs.Headers.{Process, Signed}
 use Rattle.litmus_parse.specs.Mentions.{Mention, HasType}
 

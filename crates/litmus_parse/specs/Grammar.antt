@@ -6,7 +6,7 @@ use Rattle.litmus_lex.specs.Tokens.{Placed}
 use Rattle.litmus_syntax.specs.Tree.{Program, Task}
 use Rattle.litmus_cursor.specs.Words.{Symbol, sign, symbol_of}
 use Rattle.litmus_syntax.specs.Limits.{connectives, file_bytes, operators_limit}
-use Rattle.litmus_body.specs.Names.{Names, Parameter}
+use Rattle.litmus_expression.specs.Names.{Names, Parameter}
 use Rattle.litmus_parse.specs.Conditions.{Disjoined, Quantifies}
 use Rattle.litmus_parse.specs.Headers.{Items, Process, Processes, mention_of}
 use Rattle.litmus_parse.specs.Mentions.{AreDeclared, AreNumbered, Mention}

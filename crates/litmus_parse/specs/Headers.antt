@@ -8,7 +8,7 @@ use Rattle.litmus_cursor.specs.declared.words.VariableType.{VariableType}
 use Rattle.litmus_cursor.specs.declared.words.Word.TheVariants as words
 use Rattle.litmus_cursor.specs.Words.{Symbol, word, identifier, number, sign}
 use Rattle.litmus_syntax.specs.Limits.{BodyKeepsLimits, tasks_limit, variables_limit}
-use Rattle.litmus_body.specs.Names.{Names, Numbered, Parameter}
+use Rattle.litmus_expression.specs.Names.{Names, Numbered, Parameter}
 use Rattle.litmus_body.specs.Statements.{Statements}
 use Rattle.litmus_parse.specs.Mentions.{Mention, item, parameter}
 

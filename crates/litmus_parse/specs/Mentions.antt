@@ -8,7 +8,7 @@ use Rattle.litmus_cursor.specs.declared.words.VariableType.{VariableType}
 use Rattle.litmus_cursor.specs.declared.words.VariableType.TheVariants.{Char, Short, Int, Long, Atomic, Lock}
 use Rattle.litmus_cursor.specs.Words.{is_same}
 use Rattle.litmus_syntax.specs.Limits.{variables_limit}
-use Rattle.litmus_body.specs.Names.{Names, Numbered}
+use Rattle.litmus_expression.specs.Names.{Names, Numbered}
 
 -- an item with or without a type and a value, which counts modulo 2^64, or a parameter with its type
 pub data Said : Type 0 where

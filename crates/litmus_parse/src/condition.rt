@@ -4,8 +4,8 @@ ghost use Rattle.std.specs.Prelude.{◌≡◌, ◌≤◌, ◌<◌, OnOk};
 ghost use Rattle.litmus_cursor.specs.Cursor.{count_left};
 
 use crate::declaration::Declarations;
-use litmus_body::{NESTING, OPERATORS, Process};
 use litmus_cursor::{Cursor, Excess, Refusal, Word};
+use litmus_expression::{NESTING, OPERATORS, Process};
 use litmus_lex::{Sign, Token};
 use litmus_syntax::{Proposition, Quantifier};
 use std::alloc::Global;

@@ -4,8 +4,8 @@ ghost use Rattle.std.specs.Prelude.{◌≡◌, ◌≤◌, ◌<◌, OnOk};
 ghost use Rattle.litmus_cursor.specs.Cursor.{count_left};
 
 use crate::declaration::Declarations;
-use litmus_body::Parameter;
 use litmus_cursor::{Cursor, Refusal, VariableType, Word, word_of};
+use litmus_expression::Parameter;
 use litmus_lex::{Sign, Token};
 use std::alloc::Global;
 

@@ -8,8 +8,9 @@ ghost use Rattle.litmus_parse.specs.Text.{file_bytes, IsTextByte};
 use crate::condition::Condition;
 use crate::declaration::{Declarations, name_of};
 use crate::initialization::Header;
-use litmus_body::{Process, Surroundings};
+use litmus_body::read_block;
 use litmus_cursor::{Cursor, Excess, Refusal, tokens};
+use litmus_expression::{Process, Surroundings};
 use litmus_lex::{Token, line_of, read_head};
 use litmus_syntax::{Limit, Name, ParseError, Program, Sequence, Statement, Task};
 use std::alloc::{AllocError, Global};
@@ -157,7 +158,7 @@ fn read_processes<'a>(header: &mut Header<'a>) -> Result<Processes<'a>, Refusal>
         header.cursor.advance();
         let mut process = Process::new(alloc, header.cursor, header.parameters()?);
         process.cursor = header.cursor;
-        bodies.push(process.block(Surroundings::new())?)?;
+        bodies.push(read_block(&mut process, Surroundings::new())?)?;
         header.cursor = process.cursor;
         processes.push(process)?;
     }

@@ -13,10 +13,10 @@ use Rattle.litmus_cursor.specs.declared.words.VariableType.{VariableType}
 use Rattle.litmus_cursor.specs.declared.words.VariableType.TheVariants.{Int, Atomic}
 use Rattle.litmus_cursor.specs.declared.words.Word.TheVariants as words
 use Rattle.litmus_cursor.specs.Words.{Symbol, word, identifier, number, sign, fault}
-use Rattle.litmus_body.specs.Names.{Names, Numbered, known, new, Parameter, IsFree, IsVariable, IsInteger}
-use Rattle.litmus_body.specs.Expressions.{Applied, to_pure, to_loading, Combined, none, left, right, Level, operand, prefixed, stronger, infixed, sign_of_binary, sign_of_unary}
-use Rattle.litmus_body.specs.Expressions.{Operand, a_number, a_register, parenthesized, Load, plain, once, acquire, atomic, exchange, compare_exchange, enclosed, Pure, whole}
-use Rattle.litmus_body.specs.Expressions as expressions
+use Rattle.litmus_expression.specs.Names.{Names, Numbered, known, new, Parameter, IsFree, IsVariable, IsInteger}
+use Rattle.litmus_expression.specs.Expressions.{Applied, to_pure, to_loading, Combined, none, left, right, Level, operand, prefixed, stronger, infixed, sign_of_binary, sign_of_unary}
+use Rattle.litmus_expression.specs.Expressions.{Operand, a_number, a_register, parenthesized, Load, plain, once, acquire, atomic, exchange, compare_exchange, enclosed, Pure, whole}
+use Rattle.litmus_expression.specs.Expressions as expressions
 use Rattle.litmus_body.specs.Statements.{Enclosable, Simple, Calls, Statement, Body, Declared, kept, alone, raced, IsNoElse}
 use Rattle.litmus_body.specs.Statements as rules
 use Rattle.litmus_texts_tried.specs.Examples.{x, a_counted, two_loads, atomic_read, own_counter, dangling, outer_else}

@@ -6,7 +6,7 @@ use Rattle.litmus_syntax.specs.Tree.{Proposition}
 use Rattle.litmus_cursor.specs.declared.words.VariableType.{VariableType}
 use Rattle.litmus_cursor.specs.declared.words.VariableType.TheVariants.{Char, Lock}
 use Rattle.litmus_cursor.specs.Words.{Symbol, identifier, sign}
-use Rattle.litmus_body.specs.Names.{Names, Parameter}
+use Rattle.litmus_expression.specs.Names.{Names, Parameter}
 use Rattle.litmus_parse.specs.Conditions.{IsKnown, Atom, Disjoined, Conjoined, Negation}
 use Rattle.litmus_parse.specs.Conditions as conditions
 use Rattle.litmus_parse.specs.Headers.{Listed, Parameters, Item, Items, Process, Value, name_of}

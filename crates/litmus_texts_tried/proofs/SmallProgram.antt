@@ -5,8 +5,8 @@ use Rattle.std.specs.Fmt.{digits}
 use Rattle.litmus_cursor.specs.declared.words.VariableType.{VariableType}
 use Rattle.litmus_cursor.specs.declared.words.VariableType.TheVariants.{Int}
 use Rattle.litmus_syntax.specs.Limits.{BodyKeepsLimits}
-use Rattle.litmus_body.specs.Names.{Parameter, IsChanged, IsFree, IsRegister, IsVariable, IsInteger, known, new}
-use Rattle.litmus_body.specs.Expressions.{operand, a_load, plain, stronger}
+use Rattle.litmus_expression.specs.Names.{Parameter, IsChanged, IsFree, IsRegister, IsVariable, IsInteger, known, new}
+use Rattle.litmus_expression.specs.Expressions.{operand, a_load, plain, stronger}
 use Rattle.litmus_body.specs.Statements.{to_register, simple, Statements, end, next}
 use Rattle.litmus_parse.specs.Conditions as conditions
 use Rattle.litmus_parse.specs.Grammar.{Grammar}

@@ -9,9 +9,9 @@ use Rattle.litmus_syntax.specs.declared.expression.ReadForm.TheVariants.{Plain}
 use Rattle.litmus_syntax.specs.Tree as tree
 use Rattle.litmus_cursor.specs.declared.words.VariableType.TheVariants.{Int}
 use Rattle.litmus_cursor.specs.Words.{Symbol, number, sign}
-use Rattle.litmus_body.specs.Names.{Names, Parameter, IsFree, IsRegister, IsVariable, IsInteger, new}
-use Rattle.litmus_body.specs.Expressions.{Level, operand, prefixed, stronger, infixed, Operand, a_number, a_register, a_load, parenthesized, Load}
-use Rattle.litmus_body.specs.Expressions.{plain, once, acquire, atomic, exchange, compare_exchange, enclosed, to_loading, none, bare, Expression, sign_of_unary}
+use Rattle.litmus_expression.specs.Names.{Names, Parameter, IsFree, IsRegister, IsVariable, IsInteger, new}
+use Rattle.litmus_expression.specs.Expressions.{Level, operand, prefixed, stronger, infixed, Operand, a_number, a_register, a_load, parenthesized, Load}
+use Rattle.litmus_expression.specs.Expressions.{plain, once, acquire, atomic, exchange, compare_exchange, enclosed, to_loading, none, bare, Expression, sign_of_unary}
 use Rattle.litmus_texts_tried.specs.Examples.{differences, differences_tree, factors, factors_tree, masks, masks_tree, loads, loads_tree, r0_r1, x}
 
 -- from the level of sums to that of all

@@ -12,7 +12,7 @@ use Rattle.litmus_syntax.specs.Tree as tree
 use Rattle.litmus_cursor.specs.declared.words.VariableType.TheVariants.{Char, Int, Atomic, Lock}
 use Rattle.litmus_cursor.specs.declared.words.Word.TheVariants as words
 use Rattle.litmus_cursor.specs.Words.{Symbol, word, identifier, number, sign}
-use Rattle.litmus_body.specs.Names.{Names, Parameter}
+use Rattle.litmus_expression.specs.Names.{Names, Parameter}
 use Rattle.litmus_parse.specs.Mentions.{Mention, parameter}
 
 -- 1 - 2 - 3 ;

@@ -5,8 +5,8 @@ ghost use Rattle.litmus_lex.specs.declared.sign.Sign.TheVariants.{Plus, Semicolo
 ghost use Rattle.litmus_syntax.specs.Tree as tree;
 ghost use Rattle.litmus_cursor.specs.declared.words.VariableType.{VariableType};
 ghost use Rattle.litmus_cursor.specs.Words.{Symbol, sign};
-ghost use Rattle.litmus_body.specs.Expressions.{Expression};
-ghost use Rattle.litmus_body.specs.Names.{Names, Parameter};
+ghost use Rattle.litmus_expression.specs.Expressions.{Expression};
+ghost use Rattle.litmus_expression.specs.Names.{Names, Parameter};
 ghost use Rattle.litmus_body.specs.Statements.{Statement};
 ghost use Rattle.litmus_parse.specs.Conditions.{Disjoined};
 ghost use Rattle.litmus_parse.specs.Grammar.{Grammar};

@@ -1,0 +1,450 @@
+//! Expressions of a process: operators by strength, operands, and the one load.
+
+ghost use Rattle.std.specs.Prelude.{◌≡◌, ◌≤◌, ◌<◌, ◌+◌, false, IfOk, IsSome, OnErr, OnOk, IsTrue, option_map};
+ghost use Rattle.litmus_syntax.specs.Views.{expression_of, fetch_of, load_of, pure_of};
+ghost use Rattle.litmus_cursor.specs.Front.{Answers, first, symbol_of_token, symbols_left};
+ghost use Rattle.litmus_expression.specs.Expressions.{level_of};
+ghost use Rattle.litmus_expression.specs.ExpressionReader as reader;
+ghost use Rattle.litmus_expression.specs.States.{state_of};
+ghost use Rattle.litmus_cursor.specs.Cursor.{count_left, is_end};
+
+use crate::process::{Process, Surroundings, Takes};
+use litmus_cursor::{Cursor, Excess, LoadWord, Refusal, Word};
+use litmus_lex::{Sign, Token};
+use litmus_syntax::{
+    BinaryOperator, Expression, Fetch, Load, Loading, Pure, ReadForm, UnaryOperator,
+};
+use std::alloc::{AllocError, Global};
+
+/// How many operators one expression or proposition can have.
+pub const OPERATORS: usize = 256;
+
+/// The level of the weakest binary operators.
+const WEAKEST: usize = 7;
+
+/// What the rest of an expression may still have.
+#[derive(Clone, Copy)]
+struct Rest {
+    operators: usize,
+    may_load: bool,
+}
+
+impl Rest {
+    ghost use Rattle.litmus_cursor.specs.Front.{Answers};
+    ghost use Rattle.litmus_expression.specs.ExpressionReader as reader;
+
+    /// Counts an operator.
+    fn take_operator(&mut self) -> Result<(), Refusal>
+        ensures { Answers result (λ _. self.new) (reader.take_operator self.old) }
+    {
+        if self.operators == 0 {
+            return Err(Refusal::Limit(Excess::Operators));
+        }
+        self.operators -= 1;
+        Ok(())
+    }
+}
+
+/// The unary operator of a token.
+fn unary_operator(token: Token<'_>) -> Option<UnaryOperator>
+    ensures exact { result ≡ reader.unary_at (symbol_of_token token.entry) }
+    ensures some { IsSome result → is_end token.entry ≡ false }
+{
+    match token {
+        Token::Sign(Sign::Minus) => Some(UnaryOperator::Negate),
+        Token::Sign(Sign::Not) => Some(UnaryOperator::Not),
+        Token::Sign(Sign::Tilde) => Some(UnaryOperator::Complement),
+        _ => None,
+    }
+}
+
+/// The binary operator of a token, with its level: the higher it is, the weaker the operator.
+fn binary_operator(token: Token<'_>) -> Option<(BinaryOperator, usize)>
+    ensures { result ≡ option_map (λ operator. (operator, level_of operator)) (reader.binary_at (symbol_of_token token.entry)) }
+{
+    match token {
+        Token::Sign(Sign::Star) => Some((BinaryOperator::Multiply, 1)),
+        Token::Sign(Sign::Plus) => Some((BinaryOperator::Add, 2)),
+        Token::Sign(Sign::Minus) => Some((BinaryOperator::Subtract, 2)),
+        Token::Sign(Sign::Less) => Some((BinaryOperator::Less, 3)),
+        Token::Sign(Sign::Greater) => Some((BinaryOperator::Greater, 3)),
+        Token::Sign(Sign::LessEqual) => Some((BinaryOperator::LessOrEqual, 3)),
+        Token::Sign(Sign::GreaterEqual) => Some((BinaryOperator::GreaterOrEqual, 3)),
+        Token::Sign(Sign::Equal) => Some((BinaryOperator::Equal, 4)),
+        Token::Sign(Sign::NotEqual) => Some((BinaryOperator::NotEqual, 4)),
+        Token::Sign(Sign::Ampersand) => Some((BinaryOperator::BitAnd, 5)),
+        Token::Sign(Sign::Caret) => Some((BinaryOperator::BitXor, 6)),
+        Token::Sign(Sign::Bar) => Some((BinaryOperator::BitOr, WEAKEST)),
+        _ => None,
+    }
+}
+
+/// The binary operator of a token, if it is of the level.
+fn operator_at(token: Token<'_>, level: usize) -> Option<BinaryOperator>
+    ensures { result ≡ reader.of_level level (reader.binary_at (symbol_of_token token.entry)) }
+{
+    match binary_operator(token) {
+        Some((operator, found)) if found == level => Some(operator),
+        _ => None,
+    }
+}
+
+/// Whether the token is an operator of C that no expression takes.
+fn is_foreign_operator(token: Token<'_>) -> bool
+    ensures { result ≡ reader.is_foreign (symbol_of_token token.entry) }
+{
+    matches!(
+        token,
+        Token::Sign(
+            Sign::Slash
+                | Sign::Percent
+                | Sign::ShiftLeft
+                | Sign::ShiftRight
+                | Sign::LogicalAnd
+                | Sign::LogicalOr
+                | Sign::Question
+        )
+    )
+}
+
+/// An operator before an operand.
+fn applied(
+    alloc: Global,
+    operator: UnaryOperator,
+    operand: Expression,
+) -> Result<Expression, AllocError>
+    ensures { IfOk result (λ whole. expression_of whole ≡ reader.applied operator (expression_of operand)) }
+{
+    match operand {
+        Expression::Pure(operand) => {
+            let operand = Box::new(alloc, operand)?;
+            Ok(Expression::Pure(Pure::Unary(operator, operand)))
+        }
+        Expression::Loading(operand) => {
+            let operand = Box::new(alloc, operand)?;
+            Ok(Expression::Loading(Loading::Unary(operator, operand)))
+        }
+    }
+}
+
+/// An operator between two operands. None: both hold a load.
+fn combined(
+    alloc: Global,
+    left: Expression,
+    operator: BinaryOperator,
+    right: Expression,
+) -> Result<Option<Expression>, AllocError>
+    ensures { IfOk result (λ whole. option_map expression_of whole ≡ reader.combined (expression_of left) operator (expression_of right)) }
+{
+    match left {
+        Expression::Pure(left) => {
+            let combined = match right {
+                Expression::Pure(right) => {
+                    let left = Box::new(alloc, left)?;
+                    let right = Box::new(alloc, right)?;
+                    Expression::Pure(Pure::Binary(operator, left, right))
+                }
+                Expression::Loading(right) => {
+                    let right = Box::new(alloc, right)?;
+                    Expression::Loading(Loading::Right(operator, left, right))
+                }
+            };
+            Ok(Some(combined))
+        }
+        Expression::Loading(left) => match right {
+            Expression::Pure(right) => {
+                let left = Box::new(alloc, left)?;
+                Ok(Some(Expression::Loading(Loading::Left(operator, left, right))))
+            }
+            Expression::Loading(_) => Ok(None),
+        },
+    }
+}
+
+/// Whether `data_race` is next.
+fn is_at_data_race(cursor: &Cursor<'_>) -> bool
+    ensures exact { result ≡ reader.is_data_race (first (symbols_left cursor.now)) }
+    ensures some { IsTrue result → 0 < count_left cursor.now }
+{
+    matches!(cursor.word(), Some(Word::DataRace))
+}
+
+/// Takes each `data_race (` that is next, and answers how many.
+#[tactic(auto, using(crate::proofs::Races::opened_unrolls))]
+fn open_data_races(cursor: &mut Cursor<'_>) -> Result<u64, Refusal>
+    ensures moves { IfOk result (λ count. count + count_left cursor.new ≤ count_left cursor.old) }
+    ensures reads { Answers result (λ count. (count, symbols_left cursor.new)) (reader.opened 0 (symbols_left cursor.old)) }
+{
+    let mut count = 0;
+    while is_at_data_race(cursor) {
+        cursor.advance();
+        cursor.take(Sign::OpenParen)?;
+        count += 1;
+    }
+    Ok(count)
+}
+
+/// Takes so many `)`.
+#[tactic(auto, using(crate::proofs::Races::closing))]
+fn close_data_races(cursor: &mut Cursor<'_>, count: u64) -> Result<(), Refusal>
+    ensures moves { OnOk result (count_left cursor.new ≤ count_left cursor.old) }
+    ensures reads { Answers result (λ _. symbols_left cursor.new) (reader.closed count (symbols_left cursor.old)) }
+{
+    for _ in 0..count {
+        cursor.take(Sign::CloseParen)?;
+    }
+    Ok(())
+}
+
+impl<'a> Process<'a> {
+    /// An expression with one load at most.
+    #[tactic(auto, unfolding(crate::specs::ExpressionReader::expression_at))]
+    pub fn expression(&mut self, around: &Surroundings) -> Result<Expression, Refusal>
+        ensures moves { OnOk result (count_left self.new.cursor < count_left self.old.cursor) }
+        ensures reads { Answers result (λ found. (expression_of found, state_of self.new)) (reader.expression_at around.now.turns around.now.depth (state_of self.old)) }
+    {
+        let mut rest = Rest {
+            operators: OPERATORS,
+            may_load: true,
+        };
+        self.level(WEAKEST, around, &mut rest)
+    }
+
+    /// An expression without a load.
+    #[cycle(expression)]
+    #[tactic(auto, using(crate::proofs::Unrolled::unrolls))]
+    pub fn pure(&mut self, around: &Surroundings) -> Result<Pure, Refusal>
+        ensures moves { OnOk result (count_left self.new.cursor < count_left self.old.cursor) }
+        ensures reads { Answers result (λ found. (pure_of found, state_of self.new)) (reader.pure_at around.now.turns around.now.depth (state_of self.old)) }
+    {
+        let unsupported = self.cursor.unsupported();
+        let mut rest = Rest {
+            operators: OPERATORS,
+            may_load: false,
+        };
+        match self.level(WEAKEST, around, &mut rest)? {
+            Expression::Pure(pure) => Ok(pure),
+            Expression::Loading(_) => Err(unsupported),
+        }
+    }
+
+    /// An expression whose binary operators outside parentheses are of the level or stronger, from the
+    /// left. At level 0 there is none.
+    #[cycle(expression)]
+    #[tactic(auto, using(crate::proofs::Unrolled::unrolls))]
+    fn level(
+        &mut self,
+        level: usize,
+        around: &Surroundings,
+        rest: &mut Rest,
+    ) -> Result<Expression, Refusal>
+        ensures moves { OnOk result (count_left self.new.cursor < count_left self.old.cursor) }
+        ensures reads { Answers result (λ found. (expression_of found, state_of self.new, rest.new)) (reader.level_at around.now.turns around.now.depth level (state_of self.old) rest.old) }
+    {
+        if level == 0 {
+            return self.prefixed(around, rest);
+        }
+        let mut left = self.level(level - 1, around, rest)?;
+        while let Some(operator) = operator_at(self.cursor.token(), level) {
+            let unsupported = self.cursor.unsupported();
+            rest.take_operator()?;
+            self.cursor.advance();
+            let right = self.level(level - 1, around, rest)?;
+            left = combined(self.alloc, left, operator, right)?.ok_or(unsupported)?;
+        }
+        Ok(left)
+    }
+
+    /// An operand, behind any number of unary operators.
+    #[cycle(expression)]
+    #[tactic(auto, using(crate::proofs::Unrolled::unrolls))]
+    fn prefixed(&mut self, around: &Surroundings, rest: &mut Rest) -> Result<Expression, Refusal>
+        ensures moves { OnOk result (count_left self.new.cursor < count_left self.old.cursor) }
+        ensures reads { Answers result (λ found. (expression_of found, state_of self.new, rest.new)) (reader.prefixed_at around.now.turns around.now.depth (state_of self.old) rest.old) }
+    {
+        let Some(operator) = unary_operator(self.cursor.token()) else {
+            let operand = self.operand(around, rest)?;
+            // Another operator may stand here.
+            self.refuse_foreign_operator()?;
+            return Ok(operand);
+        };
+        rest.take_operator()?;
+        self.cursor.advance();
+        let operand = self.prefixed(around, rest)?;
+        Ok(applied(self.alloc, operator, operand)?)
+    }
+
+    /// A number, a register, a load, or an expression in parentheses.
+    #[cycle(expression)]
+    #[tactic(auto, using(crate::proofs::Unrolled::unrolls))]
+    fn operand(&mut self, around: &Surroundings, rest: &mut Rest) -> Result<Expression, Refusal>
+        ensures moves { OnOk result (count_left self.new.cursor < count_left self.old.cursor) }
+        ensures reads { Answers result (λ found. (expression_of found, state_of self.new, rest.new)) (reader.operand_at around.now.turns around.now.depth (state_of self.old) rest.old) }
+    {
+        match self.cursor.token() {
+            Token::Number(number) => {
+                self.cursor.advance();
+                Ok(Expression::Pure(Pure::Number(number)))
+            }
+            Token::Sign(Sign::OpenParen) => {
+                let inside = around.deeper()?;
+                self.cursor.advance();
+                let expression = self.level(WEAKEST, &inside, rest)?;
+                self.cursor.take(Sign::CloseParen)?;
+                Ok(expression)
+            }
+            Token::Sign(Sign::Star) => self.loading(around, rest),
+            Token::Name(_) => match self.cursor.word() {
+                Some(Word::DataRace | Word::Load(_)) => self.loading(around, rest),
+                Some(_) => Err(self.cursor.offence()),
+                None => self.register_operand(),
+            },
+            _ => {
+                self.refuse_foreign_operator()?;
+                self.cursor.refuse_address()?;
+                Err(self.cursor.offence())
+            }
+        }
+    }
+
+    /// A register as an operand.
+    #[tactic(auto, unfolding(crate::specs::ExpressionReader::register_operand))]
+    fn register_operand(&mut self) -> Result<Expression, Refusal>
+        ensures moves { OnOk result (count_left self.new.cursor < count_left self.old.cursor) }
+        ensures reads { Answers result (λ found. (expression_of found, state_of self.new)) (reader.register_operand (state_of self.old)) }
+    {
+        self.cursor.refuse_call()?;
+        Ok(Expression::Pure(Pure::Register(self.take_register()?)))
+    }
+
+    /// A load as an operand. A second one is unsupported, and so is one where a pure expression stands.
+    #[cycle(expression)]
+    #[tactic(auto, using(crate::proofs::Unrolled::unrolls))]
+    fn loading(&mut self, around: &Surroundings, rest: &mut Rest) -> Result<Expression, Refusal>
+        ensures moves { OnOk result (count_left self.new.cursor < count_left self.old.cursor) }
+        ensures reads { Answers result (λ found. (expression_of found, state_of self.new, rest.new)) (reader.loading_at around.now.turns around.now.depth (state_of self.old) rest.old) }
+    {
+        if !rest.may_load {
+            return Err(self.cursor.unsupported());
+        }
+        rest.may_load = false;
+        Ok(Expression::Loading(Loading::Load(self.load(around)?)))
+    }
+
+    /// A load, inside any number of `data_race( )`.
+    #[cycle(expression)]
+    #[tactic(auto, using(crate::proofs::Unrolled::unrolls))]
+    pub fn load(&mut self, around: &Surroundings) -> Result<Load, Refusal>
+        ensures reads { Answers result (λ found. (load_of found, state_of self.new)) (reader.load_at around.now.turns around.now.depth (state_of self.old)) }
+        ensures moves { OnOk result (count_left self.new.cursor < count_left self.old.cursor) }
+        ensures enclosed { IfOk result (λ load. load.data_races < count_left self.old.cursor) }
+    {
+        self.count_access(around)?;
+        let data_races = open_data_races(&mut self.cursor)?;
+        let fetch = self.fetch(around)?;
+        close_data_races(&mut self.cursor, data_races)?;
+        Ok(Load { data_races, fetch })
+    }
+
+    /// A load without `data_race`.
+    #[cycle(expression)]
+    #[tactic(auto, using(crate::proofs::Unrolled::unrolls))]
+    fn fetch(&mut self, around: &Surroundings) -> Result<Fetch, Refusal>
+        ensures moves { OnOk result (count_left self.new.cursor < count_left self.old.cursor) }
+        ensures reads { Answers result (λ found. (fetch_of found, state_of self.new)) (reader.fetch_at around.now.turns around.now.depth (state_of self.old)) }
+    {
+        if self.cursor.accept(Sign::Star) {
+            return self.read(ReadForm::Plain);
+        }
+        match self.cursor.word() {
+            Some(Word::Load(word)) => {
+                self.cursor.advance();
+                self.cursor.take(Sign::OpenParen)?;
+                let fetch = self.fetch_of_word(word, around)?;
+                self.cursor.take(Sign::CloseParen)?;
+                Ok(fetch)
+            }
+            Some(_) => Err(self.cursor.offence()),
+            None => {
+                self.cursor.refuse_call()?;
+                self.cursor.refuse_address()?;
+                Err(self.cursor.offence())
+            }
+        }
+    }
+
+    /// What stands between the parentheses of a load.
+    #[cycle(expression)]
+    #[tactic(auto, using(crate::proofs::Unrolled::unrolls))]
+    fn fetch_of_word(&mut self, word: LoadWord, around: &Surroundings) -> Result<Fetch, Refusal>
+        ensures moves { OnOk result (count_left self.new.cursor < count_left self.old.cursor) }
+        ensures reads { Answers result (λ found. (fetch_of found, state_of self.new)) (reader.arguments_at around.now.turns around.now.depth word (state_of self.old)) }
+    {
+        match word {
+            // No word is a plain read.
+            LoadWord::Read(ReadForm::Plain) => Err(self.cursor.offence()),
+            LoadWord::Read(ReadForm::Once) => {
+                self.take_star()?;
+                self.read(ReadForm::Once)
+            }
+            LoadWord::Read(form) => self.read(form),
+            LoadWord::Exchange => {
+                let variable = self.take_variable(Takes::Integers)?;
+                self.cursor.take(Sign::Comma)?;
+                let value = self.pure(around)?;
+                Ok(Fetch::Exchange { variable, value })
+            }
+            LoadWord::CompareExchange => {
+                let variable = self.take_variable(Takes::Integers)?;
+                self.cursor.take(Sign::Comma)?;
+                let expected = self.pure(around)?;
+                self.cursor.take(Sign::Comma)?;
+                let replacement = self.pure(around)?;
+                Ok(Fetch::CompareExchange {
+                    variable,
+                    expected,
+                    replacement,
+                })
+            }
+        }
+    }
+
+    /// The variable that a load of the form reads.
+    #[tactic(auto, unfolding(crate::specs::ExpressionReader::read_of))]
+    fn read(&mut self, form: ReadForm) -> Result<Fetch, Refusal>
+        ensures moves { OnOk result (count_left self.new.cursor < count_left self.old.cursor) }
+        ensures reads { Answers result (λ found. (fetch_of found, state_of self.new)) (reader.read_of form (state_of self.old)) }
+    {
+        let takes = match form {
+            ReadForm::Atomic => Takes::Atomics,
+            ReadForm::Plain | ReadForm::Once | ReadForm::Acquire => Takes::Integers,
+        };
+        let variable = self.take_variable(takes)?;
+        Ok(Fetch::Read { form, variable })
+    }
+
+    /// Takes the `*` before a variable.
+    #[tactic(auto, unfolding(crate::specs::ExpressionReader::take_star, litmus_cursor::specs::Front::take_sign))]
+    pub fn take_star(&mut self) -> Result<(), Refusal>
+        ensures moves { OnOk result (count_left self.new.cursor < count_left self.old.cursor) }
+        ensures reads { Answers result (λ _. state_of self.new) (reader.take_star (state_of self.old)) }
+    {
+        if self.cursor.accept(Sign::Star) {
+            return Ok(());
+        }
+        self.cursor.refuse_address()?;
+        Err(self.cursor.offence())
+    }
+
+    /// Refuses an operator that no expression takes, where an operator or an operand may stand.
+    fn refuse_foreign_operator(&self) -> Result<(), Refusal>
+        ensures ok { OnOk result (reader.is_foreign (first (symbols_left self.now.cursor)) ≡ false) }
+        ensures err { OnErr result (IsTrue (reader.is_foreign (first (symbols_left self.now.cursor)))) }
+    {
+        if is_foreign_operator(self.cursor.token()) {
+            Err(self.cursor.unsupported())
+        } else {
+            Ok(())
+        }
+    }
+}
