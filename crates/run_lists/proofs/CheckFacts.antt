@@ -1,6 +1,6 @@
--- What a check's own records say: of each tell, who tells and of which word, and of each report of two sides, who made it
+-- What a check's own records say: of each tell, who tells and of which word, and of each answer to a taking, who gave it
 -- and where. Each lemma is told how to go on.
-use Rattle.std.proofs.Common.{◌≡◌, ◌<◌, ◌≤◌, ◌∙◌, ◌∷◌, ◌+◌, ◌++◌, [], ℕ, suc, Bool, true, false, length, List, Option, None, Some, MatchBool, MatchOption, ap, arith, inl, inr, refl, subst, sym}
+use Rattle.std.proofs.Common.{◌≡◌, ◌<◌, ◌≤◌, ◌∙◌, ◌∷◌, ◌+◌, ◌++◌, [], ℕ, suc, Bool, true, false, length, List, IsTrue, Option, None, Some, MatchBool, MatchOption, ap, arith, inl, inr, refl, subst, sym}
 use Rattle.std.proofs.lemmas.Bool.{eq-eqb}
 use Rattle.access_types.specs.Access.{Access}
 use Rattle.access_types.specs.Ticket.{ticket_number}
@@ -25,13 +25,14 @@ use Rattle.setup_access.specs.Setting.{Setting, look_order, slot_of, try_order}
 use Rattle.setup_access.specs.Setup.{Arms, Frees, Judged, Judges, TriesInsert, WatchesAt}
 use Rattle.setup_access.specs.Values.{LoadsFrom, both_values, source_of}
 use Rattle.setup_access.specs.Verdicts as verdicts
-use Rattle.setup_access.specs.Verdicts.{HitOutcome, SharesByte, UntouchedOutcome}
+use Rattle.setup_access.specs.Verdicts.{HitOutcome, UntouchedOutcome}
 use Rattle.setup_access.specs.declared.begun.Begun.{Begun}
 use Rattle.setup_access.specs.declared.outcome.Outcome.{Outcome}
 use Rattle.setup_access.specs.declared.outcome.Outcome.TheVariants as outcomes
 use Rattle.setup_access.specs.declared.outcome.Watchpoint.{Watchpoint}
 use Rattle.setup_access.specs.declared.source.Source.{Source}
 use Rattle.setup_access.proofs.DisciplineLemmas.{on_flag, on_halves, on_word, record_is}
+use Rattle.run_lists.specs.Answers.{is_answer}
 
 -- own records after more of them
 abbrev pub back : List Record → List Record → List Record
@@ -59,8 +60,11 @@ module _ (s : Setting) (Known : Begun → Type 0) (In : Begun → ℕ → Type 0
   TellsKnown own [] = Unit {0}
   TellsKnown own (first ∷ later) = OnTell own first.step × TellsKnown (first ∷ own) later
 
-  -- a report of two sides, which fell at the last of these own records
-  pub record IsReported (a : Access) (pair : Halves) (own : List Record) : Type 0 where
+  -- an answer to a taking, which fell at the last of these own records
+  pub record IsAnswered (a : Access) (outcome : Outcome) (own : List Record) : Type 0 where
+    pub pair : Halves
+    pub values : Option (ℕ × ℕ)
+    pub verdict : HitOutcome s a values pair outcome
     pub by : Begun
     pub known : Known by
     pub unmarked : by.marked ≡ false
@@ -75,13 +79,11 @@ module _ (s : Setting) (Known : Begun → Type 0) (In : Begun → ℕ → Type 0
     pub armed : last_arming index own ≡ Some (record { setter = s.task; word = word_of s.rules.layout a })
     pub numbered : last_arming_number index own ≡ Some number
     pub named : named_at index own ≡ Some (ticket_number a)
-    pub shares : SharesByte s.sites a pair.finder
     pub goes : (count : ℕ) → number < count → count ≤ length own → In by count
 
   abbrev pub FallsSo : List Record → List Record → Access → List Record → Outcome → Type 0
-  FallsSo own records a later (outcomes.Report pair seen) =
-      (p : List Record) × (records ≡ p ++ later) × IsReported a pair (back p own)
-  FallsSo own records a later outcome = Unit {0}
+  FallsSo own records a later outcome =
+      IsTrue (is_answer outcome) → (p : List Record) × (records ≡ p ++ later) × IsAnswered a outcome (back p own)
 
   abbrev pub AllFallSo : List Record → List Record → List Fallen → Type 0
   AllFallSo own records [] = Unit {0}
@@ -91,15 +93,7 @@ module _ (s : Setting) (Known : Begun → Type 0) (In : Begun → ℕ → Type 0
   Good own records outs = TellsKnown own records × AllFallSo own records outs
 
   falls_step : (own later rest : List Record) (first : Record) (a : Access) (outcome : Outcome) → FallsSo (first ∷ own) later a rest outcome → FallsSo own (first ∷ later) a rest outcome
-  falls_step own later rest first a (outcomes.Report pair seen) h = (first ∷ h.0, ap (λ (r : List Record). first ∷ r) h.1, h.2)
-  falls_step own later rest first a outcomes.Nothing h = tt
-  falls_step own later rest first a outcomes.Lost h = tt
-  falls_step own later rest first a (outcomes.Told pair) h = tt
-  falls_step own later rest first a outcomes.Capacity h = tt
-  falls_step own later rest first a outcomes.Unencodable h = tt
-  falls_step own later rest first a outcomes.Quiet h = tt
-  falls_step own later rest first a (outcomes.Unknown old new) h = tt
-  falls_step own later rest first a (outcomes.Dropped reason) h = tt
+  falls_step own later rest first a outcome h = λ answers. let it = h answers in (first ∷ it.0, ap (λ (r : List Record). first ∷ r) it.1, it.2)
 
   all_step : (own later : List Record) (first : Record) (outs : List Fallen) → AllFallSo (first ∷ own) later outs → AllFallSo own (first ∷ later) outs
   all_step own later first [] h = tt
@@ -284,46 +278,50 @@ module _ (s : Setting) (Known : Begun → Type 0) (In : Begun → ℕ → Type 0
     abbrev out : Outcome → List Record → List Fallen
     out outcome later = record { access = its; outcome = outcome; later = later } ∷ more
 
+    no_answer : (own records later : List Record) (outcome none : Outcome) → outcome ≡ none → is_answer none ≡ false → FallsSo own records its later outcome
+    unfolding is_answer
+    no_answer own records later outcome none is apart answers =
+        absurd (let yes : is_answer outcome ≡ true = answers in let both : false ≡ true = sym apart ∙ (ap is_answer (sym is) ∙ yes) in cc)
+
     fell : (index : ℕ) (outcome : Outcome) (later own : List Record) → Frees s index later rest → (At from total own later → FallsSo own later its later outcome)
         → Goes from total (out outcome later) own later
     fell index outcome later own h falls at =
         let g = frees from total more b known unsilenced rest window goes_on index later own h at in (g.0, (falls at, g.1))
 
     untouched_falls : (values : Option (ℕ × ℕ)) (outcome : Outcome) (later own : List Record) → UntouchedOutcome s its values outcome → FallsSo own later its later outcome
-    untouched_falls values outcome later own (verdicts.unknown change old new c v is o) = subst (λ (x : Outcome). FallsSo own later its later x) (sym o) tt
-    untouched_falls values outcome later own (verdicts.quiet change c v o) = subst (λ (x : Outcome). FallsSo own later its later x) (sym o) tt
+    untouched_falls values outcome later own (verdicts.unknown change old new c v is o) = no_answer own later later outcome (outcomes.Unknown old new) o refl
+    untouched_falls values outcome later own (verdicts.quiet change c v o) = no_answer own later later outcome outcomes.Quiet o refl
 
     hit_falls : (index number : ℕ) (values : Option (ℕ × ℕ)) (both : Halves) (outcome : Outcome) (later own : List Record) → (b.marked ≡ false) × Encodable b.access
         → HasNamed its from index number (Some (record { index = index; part = parts.Hit })) own → heard index own ≡ Some both → 0 < both.finder
         → HitOutcome s its values both outcome → length rest ≤ length later → At from total own later → FallsSo own later its later outcome
-    hit_falls index number values both outcome later own unmarked it hears above (verdicts.encoding apart o) longer at = subst (λ (x : Outcome). FallsSo own later its later x) (sym o) tt
-    hit_falls index number values both outcome later own unmarked it hears above (verdicts.dropped change reason shares c v o) longer at = subst (λ (x : Outcome). FallsSo own later its later x) (sym o) tt
-    hit_falls index number values both outcome later own unmarked it hears above (verdicts.reported change shares c v o) longer at =
-        subst (λ (x : Outcome). FallsSo own later its later x) (sym o) (
-          [],
-          refl,
-          record {
-            by = b;
-            known = known;
-            unmarked = unmarked.0;
-            encodable = unmarked.1;
-            unsilenced = unsilenced;
-            is = refl;
-            index = index;
-            number = number;
-            has = it.has;
-            hears = hears;
-            above = above;
-            armed = it.armed;
-            numbered = it.numbered;
-            named = it.named;
-            shares = shares;
-            goes = λ count after most.
-                let since : from ≤ number = it.since in
-                let all : length own + length later ≡ total = at.all in
-                window count (omega (arith, since, after)) (omega (arith, all, most, longer));
-          },
-        )
+    hit_falls index number values both outcome later own unmarked it hears above verdict longer at = λ answers. (
+      [],
+      refl,
+      record {
+        pair = both;
+        values = values;
+        verdict = verdict;
+        by = b;
+        known = known;
+        unmarked = unmarked.0;
+        encodable = unmarked.1;
+        unsilenced = unsilenced;
+        is = refl;
+        index = index;
+        number = number;
+        has = it.has;
+        hears = hears;
+        above = above;
+        armed = it.armed;
+        numbered = it.numbered;
+        named = it.named;
+        goes = λ count after most.
+            let since : from ≤ number = it.since in
+            let all : length own + length later ≡ total = at.all in
+            window count (omega (arith, since, after)) (omega (arith, all, most, longer));
+      },
+    )
 
     consumed : (index number : ℕ) (values : Option (ℕ × ℕ)) (untouched : Bool) (outcome : Outcome) (records later own : List Record) → (b.marked ≡ false) × Encodable b.access
         → HasNamed its from index number (Some (record { index = index; part = parts.Named (ticket_number its) })) own
@@ -382,7 +380,7 @@ module _ (s : Setting) (Known : Begun → Type 0) (In : Begun → ℕ → Type 0
           step_flag from total outs (Insert index word) _ records own h tt (λ accepted later got.
           stood accepted index place mid later own _ at.begun got on (λ tries. tries_insert indices later place mid (made s.task (Insert index word) (answers.Flag accepted) ∷ own) tries on)) at
 
-    -- where the outcome is no report of two sides
+    -- where the outcome is no answer to a taking
     plainly : (pass : Pass) (outcome : Outcome) → pass.outcome ≡ outcome → ((own later : List Record) → FallsSo own rest its later outcome)
         → (own : List Record) → Goes from total (fallen_of its pass ∷ more) own rest
     plainly pass outcome is falls own at =
@@ -393,7 +391,7 @@ module _ (s : Setting) (Known : Begun → Type 0) (In : Begun → ℕ → Type 0
     watched_at asked None records judged later pass own unmarked it h left =
         let none : Ends s asked None later pass rest = subst (λ (j : Option Judged). Ends s asked j later pass rest) h.0 left in
         subst (λ (r : List Record). Goes from total (fallen_of its pass ∷ more) own r) (none.1 ∙ h.1)
-        (plainly pass outcomes.Capacity (ap (λ (p : Pass). p.outcome) none.0) (λ o r. tt) own)
+        (plainly pass outcomes.Capacity (ap (λ (p : Pass). p.outcome) none.0) (λ o r. no_answer o rest r outcomes.Capacity outcomes.Capacity refl refl) own)
     watched_at asked (Some index) records judged later pass own unmarked it h left =
         let some : Ends s asked (Some (record { index = index; outcome = h.0 })) later pass rest = subst (λ (j : Option Judged). Ends s asked j later pass rest) h.2 left in
         subst (λ (p : Pass). Goes from total (fallen_of its p ∷ more) own records) (sym some.0)
@@ -402,33 +400,34 @@ module _ (s : Setting) (Known : Begun → Type 0) (In : Begun → ℕ → Type 0
     none_found : (asked : ℕ) (records : List Record) (pass : Pass) (own : List Record) → NoneFound s its b.marked asked records pass rest
         → Goes from total (fallen_of its pass ∷ more) own records
     none_found asked records pass own (cases.counts_as_marked m is r) =
-        subst (λ (x : List Record). Goes from total (fallen_of its pass ∷ more) own x) r (plainly pass outcomes.Nothing (ap (λ (p : Pass). p.outcome) is) (λ o l. tt) own)
+        subst (λ (x : List Record). Goes from total (fallen_of its pass ∷ more) own x) r (plainly pass outcomes.Nothing (ap (λ (p : Pass). p.outcome) is) (λ o l. no_answer o rest l outcomes.Nothing outcomes.Nothing refl refl) own)
     none_found asked records pass own (cases.skipped m n is r) =
-        subst (λ (x : List Record). Goes from total (fallen_of its pass ∷ more) own x) r (plainly pass outcomes.Nothing (ap (λ (p : Pass). p.outcome) is) (λ o l. tt) own)
+        subst (λ (x : List Record). Goes from total (fallen_of its pass ∷ more) own x) r (plainly pass outcomes.Nothing (ap (λ (p : Pass). p.outcome) is) (λ o l. no_answer o rest l outcomes.Nothing outcomes.Nothing refl refl) own)
     none_found asked records pass own (cases.unencodable m w n is r) =
-        subst (λ (x : List Record). Goes from total (fallen_of its pass ∷ more) own x) r (plainly pass outcomes.Unencodable (ap (λ (p : Pass). p.outcome) is) (λ o l. tt) own)
+        subst (λ (x : List Record). Goes from total (fallen_of its pass ∷ more) own x) r (plainly pass outcomes.Unencodable (ap (λ (p : Pass). p.outcome) is) (λ o l. no_answer o rest l outcomes.Unencodable outcomes.Unencodable refl refl) own)
     none_found asked records pass own (cases.watched judged later unmarked w encodable up left) =
         tries_insert (fallen_of its pass ∷ more) (try_order (slot_of s its)) records up.0 up.1 own up.2
         (λ o it. watched_at (asked + 1) up.0 up.1 judged later pass o (unmarked, encodable) it up.3 left)
 
-    -- what comes of a watchpoint that was found is no report of two sides
+    -- what comes of a watchpoint that was found is no answer to a taking
     taken_falls : (taken : Bool) (found : Watchpoint) (records : List Record) (outcome : Outcome) (own later : List Record)
         → MatchBool taken (Tells s its found.index records outcome rest) ((outcome ≡ outcomes.Lost) × (rest ≡ records)) → FallsSo own rest its later outcome
-    taken_falls true found records outcome own later h = subst (λ (x : Outcome). FallsSo own rest its later x) (sym (told_is h.1 h.3)) tt
+    taken_falls true found records outcome own later h =
+        no_answer own rest later outcome (outcomes.Told (record { setter = h.0.setter; finder = ticket_number its })) (told_is h.1 h.3) refl
       where
         told_is : (records : List Record) → MakesDone s.task (Tell found.index (ticket_number its)) (λ after.
             (outcome ≡ outcomes.Told (record { setter = h.0.setter; finder = ticket_number its })) × (rest ≡ after)) records
             → outcome ≡ outcomes.Told (record { setter = h.0.setter; finder = ticket_number its })
         told_is [] made_so = absurd made_so
         told_is (first ∷ more_records) made_so = made_so.2.1.0
-    taken_falls false found records outcome own later h = subst (λ (x : Outcome). FallsSo own rest its later x) (sym h.0) tt
+    taken_falls false found records outcome own later h = no_answer own rest later outcome outcomes.Lost h.0 refl
 
     found_falls : (mask : Option ℕ) (found : Watchpoint) (records : List Record) (outcome : Outcome) (own later : List Record)
         → MatchOption mask (Takes s its found records outcome rest) (λ m. (outcome ≡ outcomes.Nothing) × (rest ≡ records)) → FallsSo own rest its later outcome
     found_falls None found [] outcome own later h = absurd h
     found_falls None found (first ∷ records) outcome own later h =
         let got = on_flag first.answer _ h.2 in taken_falls got.0 found records outcome own later got.2
-    found_falls (Some m) found records outcome own later h = subst (λ (x : Outcome). FallsSo own rest its later x) (sym h.0) tt
+    found_falls (Some m) found records outcome own later h = no_answer own rest later outcome outcomes.Nothing h.0 refl
 
     goes_from : (asked : ℕ) (found : Option Watchpoint) (records : List Record) (pass : Pass) (own : List Record) → FoundSo its found
         → GoesOn s its b.marked asked found records pass rest → Goes from total (fallen_of its pass ∷ more) own records

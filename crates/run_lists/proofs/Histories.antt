@@ -17,13 +17,13 @@ use Rattle.slot_table.specs.Records.{records_of}
 use Rattle.slot_table.specs.declared.records.Record.{Record}
 use Rattle.written_order.specs.Standing as order
 use Rattle.written_order.specs.Standing.{Point, point_by}
+use Rattle.written_order.specs.Told.{did_by, did_next, to_come}
 use Rattle.written_order.specs.WrittenOrder.{WrittenOrder, first_point}
 use Rattle.written_order.proofs.MeaningLemmas.{whole_means}
 use Rattle.written_order.proofs.WayLemmas.{Begins}
 use Rattle.run_lists.specs.Run.{Run, idle, task_of, task_setting}
 use Rattle.run_lists.specs.RunList.{InWrittenOrder, RunList}
 use Rattle.run_lists.specs.Told.{first_moments, history_by, history_of, made_by, moments_of}
-use Rattle.written_order.specs.Told.{did_by, did_next, to_come}
 use Rattle.run_lists.proofs.Intervals.{Has, IsOpen, contains_has, has_contains}
 use Rattle.run_lists.proofs.OwnLasts.{own_latest}
 use Rattle.run_lists.proofs.Ways.{Chain, by_fewer, by_last, last_of, whole_chain}

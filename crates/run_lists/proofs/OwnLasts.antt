@@ -118,19 +118,19 @@ module _ (page_slots locks : ℕ) (cells : List ℕ) where
   told_in index phase v h task both is e heard_so stands above = absurd (cc)
 
   told_of : (index : ℕ) (v : View) (task : ℕ) (both : Halves) → Fits index v → v.part task ≡ Some Hit → v.hears task ≡ Some both → 0 < both.finder
-      → (number : ℕ) × Contains v.told (meeting index number both.setter both.finder)
+      → (number : ℕ) × (v.last.number ≡ Some number) × Contains v.told (meeting index number both.setter both.finder)
   told_of index v task both (hears, inl idle) has heard_so above = let none = idle.nobody task in absurd (cc)
   told_of index v task both (hears, inr (phase, h)) has heard_so above =
       let it = is_setter index phase v h task Hit has (λ other e. cc) in
-      (h.number, told_in index phase v h task both it.0 it.1 heard_so (hears task Hit both has heard_so) above)
+      (h.number, h.numbered, told_in index phase v h task both it.0 it.1 heard_so (hears task Hit both has heard_so) above)
 
   pub finder_told : (records : List Record) (index task : ℕ) (both : Halves) → Keeps page_slots locks cells records → part_of task index records ≡ Some Hit
       → heard index (records_of task records) ≡ Some both → 0 < both.finder
-      → (number : ℕ) × Contains (finders_told records) (meeting index number both.setter both.finder)
+      → (number : ℕ) × (last_arming_number index records ≡ Some number) × Contains (finders_told records) (meeting index number both.setter both.finder)
   finder_told records index task both rules has heard_so above =
       let it = told_of index (view_of page_slots locks cells records index) task both (fits_all page_slots locks cells records rules index) has heard_so above in
       let all = All-filter (λ (met : Meeting). eqb met.index index) (Contains (finders_told records)) (finders_told records) (All-contains_itself (finders_told records)) in
-      (it.0, All-contains (Contains (finders_told records)) (meetings_at index (finders_told records)) (meeting index it.0 both.setter both.finder) all it.1)
+      (it.0, it.1, All-contains (Contains (finders_told records)) (meetings_at index (finders_told records)) (meeting index it.0 both.setter both.finder) all it.2)
 
 -- what was told stays told
 told_on : (index ticket : ℕ) (last : Option ℕ) (both : Option Halves) (before : List Meeting) (met : Meeting) → Contains before met → Contains (told_to index ticket last both before) met

@@ -42,7 +42,7 @@ use Rattle.run_lists.proofs.Ways as ways
 use Rattle.run_lists.proofs.Ways.{Chain, IsWay, last_of}
 
 -- the step is none of a check's
-abbrev IsPlain : Step → Type 0
+abbrev pub IsPlain : Step → Type 0
 IsPlain (CellLoad cell) = Unit {0}
 IsPlain (CellExchange cell seen new) = Unit {0}
 IsPlain (LockTry lock task) = Unit {0}
@@ -166,7 +166,7 @@ module _ (s : Setting) where
   operated_adds a (Some (operations.Change change)) before records effect rest h =
       (comes_at before rest (meaning.doing before.progress (moments_of a effect)) ∷ [], refl, (omega arith, tt))
 
-counting_outcomes : (ends_nothing : Bool) (before : Standing) → (counting ends_nothing before).outcomes ≡ before.outcomes
+pub counting_outcomes : (ends_nothing : Bool) (before : Standing) → (counting ends_nothing before).outcomes ≡ before.outcomes
 counting_outcomes true before = refl
 counting_outcomes false before = refl
 

@@ -1,6 +1,7 @@
--- A report of two sides names its setter and its finder.
-use Rattle.std.proofs.Common.{◌≡◌, ◌<◌, ◌≤◌, ◌==◌, ◌⊎◌, ◌∙◌, ◌+◌, ◌-◌, ◌++◌, ◌||◌, inl, inr, ℕ, suc, zero, Bool, true, false, All, Contains, IsTrue, length, List, [], ◌∷◌, Option, Some, IsSomeAnd, ap, append_assoc, arith, map, refl, reverse, slice_get, slice_index_or, take, subst, sym}
+-- An answer to a taking names its setter and its finder, and a report of two sides a true race.
+use Rattle.std.proofs.Common.{◌≡◌, ◌≢◌, ◌↔◌, ◌<◌, ◌≤◌, ◌==◌, ◌⊎◌, ◌∙◌, ◌+◌, ◌-◌, ◌++◌, ◌||◌, inl, inr, ℕ, suc, zero, Bool, true, false, All, Contains, IsTrue, length, List, [], ◌∷◌, Option, Some, IsSomeAnd, ap, append_assoc, arith, map, refl, reverse, slice_get, slice_index_or, take, subst, sym}
 use Rattle.std.specs.List.{filter}
+use Rattle.std.specs.Option.{option_map}
 use Rattle.std.proofs.lemmas.Bool.{eq-eqb}
 use Rattle.std.proofs.lemmas.Bool.Decides.{eqb_tells, leb_tells}
 use Rattle.std.proofs.lemmas.List.{append-nil, length-append, length-reverse, reverse-append, reverse-reverse}
@@ -12,6 +13,7 @@ use Rattle.access_types.specs.History.{History, beginning, happenings_of}
 use Rattle.access_types.specs.Kind.{write_flag}
 use Rattle.access_types.specs.Marked.{BeginsAfter, CountedAsMarked, CountsAfter, EndsRaised, Silenced, is_disable, is_enable, marks_of}
 use Rattle.access_types.specs.declared.history.Mark.{Mark}
+use Rattle.access_types.specs.Race.{TrueRace}
 use Rattle.access_types.specs.Ticket.{ticket_number}
 use Rattle.access_types.specs.declared.history.Happening.{Happening}
 use Rattle.access_types.specs.declared.history.Happening.TheVariants as happenings
@@ -25,13 +27,24 @@ use Rattle.setup_access.specs.Hits.{Hits}
 use Rattle.setup_access.specs.declared.begun.Begun.{Begun}
 use Rattle.setup_access.specs.declared.outcome.Outcome.{Outcome}
 use Rattle.setup_access.specs.declared.outcome.Outcome.TheVariants as outcomes
+use Rattle.setup_access.specs.Setting as checks
+use Rattle.setup_access.specs.Verdicts as verdicts
+use Rattle.setup_access.specs.Verdicts.{HitOutcome, SharesByte}
+use Rattle.setup_access.proofs.LawLemmas.{shares}
+use Rattle.value_filter.specs.Verdict as table
+use Rattle.value_filter.specs.Verdict.{VerdictOf}
+use Rattle.value_filter.specs.declared.verdict.Change.{Change}
+use Rattle.value_filter.specs.declared.verdict.Reason.{Reason}
+use Rattle.value_filter.specs.declared.verdict.Reason.TheVariants.{Encoding}
+use Rattle.value_filter.specs.declared.verdict.Verdict.TheVariants as verdict
 use Rattle.slot.specs.Pair.{Halves}
 use Rattle.slot_table.specs.Armings.{Arming, last_arming_number, number_made}
 use Rattle.slot_table.specs.Discipline.{in_hand}
-use Rattle.slot_table.specs.Hearings.{EachHearsTheOther, HeardItsFinder, HearsTheOther, IsArming, IsTell, SomeRecord}
+use Rattle.slot_table.specs.Hearings.{EachHearsTheOther, HeardItsFinder, HearsTheOther, IsArming, IsMet, IsTell, SomeRecord}
 use Rattle.slot_table.specs.Meetings.{finders_told}
 use Rattle.slot_table.specs.Records.{records_of}
 use Rattle.slot_table.specs.Roles.{part_of}
+use Rattle.slot_table.specs.declared.discipline.InHand.{InHand}
 use Rattle.slot_table.specs.declared.discipline.Part.{Part}
 use Rattle.slot_table.specs.declared.discipline.Part.TheVariants.{Hit, Taken}
 use Rattle.slot_table.specs.declared.records.Record.{Record}
@@ -47,15 +60,16 @@ use Rattle.watch_word.specs.declared.layout.Layout.{Layout}
 use Rattle.watch_word.specs.declared.watch.Watch.{Watch}
 use Rattle.written_order.specs.Standing as tasks
 use Rattle.written_order.specs.Standing.{Point, Standing, checks_of}
+use Rattle.written_order.specs.Told.{did_by, fell_next, to_come}
 use Rattle.written_order.specs.WrittenOrder.{first_point}
 use Rattle.written_order.proofs.MeaningLemmas.{whole_means}
 use Rattle.written_order.proofs.WayLemmas.{Begins}
 use Rattle.run_lists.specs.Run.{IsOfProgram, Run, first_cells, idle, locks_of, task_of, task_setting}
 use Rattle.run_lists.specs.RunList.{RunList}
-use Rattle.run_lists.specs.Told.{came_next, history_by, history_of, made_by, moments_of, outcomes_by}
-use Rattle.written_order.specs.Told.{Came, came_of, did_by, to_come}
+use Rattle.run_lists.specs.Answers.{AnswersTaking, IfAnswer, IsOfPair, is_answer}
+use Rattle.run_lists.specs.Told.{Armed, OutcomeAt, armed_by, armed_in, came_next, outcome_at, history_by, history_of, made_by, moments_of, outcomes_by, outcomes_of}
 use Rattle.run_lists.specs.TwoSides.{IfTwoSided, NamesBoth, NamesTwoSides}
-use Rattle.run_lists.proofs.CheckFacts.{AllFallSo, FallsSo, IsReported, IsTold, OnTell, TellsKnown, back}
+use Rattle.run_lists.proofs.CheckFacts.{AllFallSo, FallsSo, IsAnswered, IsTold, OnTell, TellsKnown, back}
 use Rattle.run_lists.proofs.Histories.{did_of_all, in_progress, of_both, of_task}
 use Rattle.run_lists.proofs.Intervals.{IsOpen}
 use Rattle.run_lists.proofs.OwnMarks.{begins_once, counts_own, marks_same}
@@ -93,15 +107,37 @@ tells_at : (s : tasks.Setting) (end : Standing) (In : Begun → ℕ → Type 0) 
 tells_at s end In [] q own x h = h.0
 tells_at s end In (first ∷ p) q own x h = tells_at s end In p q (first ∷ own) x h.1
 
-all_came : (s : tasks.Setting) (end : Standing) (In : Begun → ℕ → Type 0) (records : List Record) (n : ℕ) (Q : Came → Type 0) (outs : List Fallen)
-    → AllFallSo (checks_of s) (IsKnown s end) In [] records outs
-    → ((f : Fallen) → FallsSo (checks_of s) (IsKnown s end) In [] records f.access f.later f.outcome → length f.later ≡ n → Q (came_of f))
-    → All Q (map came_of (filter (λ f. length f.later == n) outs))
-all_came s end In records n Q [] falls each = All-nil Q
-all_came s end In records n Q (f ∷ outs) falls each = elim (eqb_tells (length f.later) n) [
-  | inl here ↦ rw here.0 (All-cons Q (came_of f) _ (each f falls.0 here.1) (all_came s end In records n Q outs falls.1 each))
-  | inr apart ↦ rw apart.0 (all_came s end In records n Q outs falls.1 each)
+all_came : (s : tasks.Setting) (end : Standing) (In : Begun → ℕ → Type 0) (records : List Record) (n at : ℕ) (arming : Option Armed) (Q : OutcomeAt → Type 0)
+    (outs : List Fallen) → AllFallSo (checks_of s) (IsKnown s end) In [] records outs
+    → ((f : Fallen) → FallsSo (checks_of s) (IsKnown s end) In [] records f.access f.later f.outcome → length f.later ≡ n → Q (outcome_at at arming f))
+    → All Q (map (outcome_at at arming) (filter (λ f. length f.later == n) outs))
+all_came s end In records n at arming Q [] falls each = All-nil Q
+all_came s end In records n at arming Q (f ∷ outs) falls each = elim (eqb_tells (length f.later) n) [
+  | inl here ↦ rw here.0 (All-cons Q (outcome_at at arming f) _ (each f falls.0 here.1) (all_came s end In records n at arming Q outs falls.1 each))
+  | inr apart ↦ rw apart.0 (all_came s end In records n at arming Q outs falls.1 each)
 ]
+
+-- the verdict is the one for words that met alone exactly where the two share no byte
+never_encoding : (a : access.Access) (change : Change) (only : Bool) (reason : Reason) → VerdictOf a true change only (verdict.Drop reason) → reason ≢ Encoding
+never_encoding a change only reason (table.taken_seen t c v) is = absurd (cc)
+never_encoding a change only reason (table.taken_ruled t c v) is = absurd (cc)
+never_encoding a change only reason (table.taken_unseen t c m v) is = absurd (cc)
+never_encoding a change only reason (table.taken_same t c m o v) is = absurd (cc)
+never_encoding a change only reason (table.taken_any t c m o v) is = absurd (cc)
+never_encoding a change only reason (table.untaken_seen t c v) is = absurd (cc)
+never_encoding a change only reason (table.untaken t c v) is = absurd (cc)
+
+drops_encoding : (s : checks.Setting) (a : access.Access) (values : Option (ℕ × ℕ)) (both : Halves) (outcome : Outcome) → HitOutcome s a values both outcome
+    → (outcome ≡ outcomes.Dropped Encoding) ↔ (¬ SharesByte s.sites a both.finder)
+drops_encoding s a values both outcome (verdicts.encoding apart o) = (λ is. apart, λ none. o)
+drops_encoding s a values both outcome (verdicts.reported change shares c v o) = (λ is. absurd (cc), λ none. absurd (none shares))
+drops_encoding s a values both outcome (verdicts.dropped change reason shares c v o) =
+    (λ is. let same : reason ≡ Encoding = cc in absurd (never_encoding a change s.rules.value_change_only reason v same), λ none. absurd (none shares))
+
+of_pair : (s : checks.Setting) (a : access.Access) (values : Option (ℕ × ℕ)) (both : Halves) (outcome : Outcome) → HitOutcome s a values both outcome → IsOfPair both outcome
+of_pair s a values both outcome (verdicts.encoding apart o) = subst (λ (x : Outcome). IsOfPair both x) (sym o) tt
+of_pair s a values both outcome (verdicts.reported change shares c v o) = subst (λ (x : Outcome). IsOfPair both x) (sym o) refl
+of_pair s a values both outcome (verdicts.dropped change reason shares c v o) = subst (λ (x : Outcome). IsOfPair both x) (sym o) tt
 
 one_breaks : (first second : Bool) → IsTrue (first || second) → IsTrue first ⊎ IsTrue second
 one_breaks true second h = inl refl
@@ -269,9 +305,12 @@ module _ (run : Run) (records : List Record) (list : RunList run records)
       subst (λ (w : Watch). IsTrue (w.write || write_flag b.kind)) (sym said.says) hits.breaks in
       one_breaks (write_flag a.kind) (write_flag b.kind) writes
 
-  -- a report that fell at a task's record
-  module _ (task : ℕ) (later : List Record) (earlier : List Record) (is : records ≡ later ++ earlier) (a : access.Access) (pair : Halves)
-      (at : IsReported (checks_of (task_setting run task)) (IsKnown (task_setting run task) (ending task)) (during task) a pair (records_of task earlier)) where
+  -- an answer that fell at a task's record, the latest of these
+  module _ (task : ℕ) (later : List Record) (earlier : List Record) (is : records ≡ later ++ earlier) (a : access.Access) (outcome : Outcome)
+      (at : IsAnswered (checks_of (task_setting run task)) (IsKnown (task_setting run task) (ending task)) (during task) a outcome (records_of task earlier)) where
+    abbrev pair : Halves
+    pair = at.pair
+
     kept : Rules earlier
     kept = rules_before later earlier (subst Rules is rules)
 
@@ -297,8 +336,19 @@ module _ (run : Run) (records : List Record) (list : RunList run records)
     abbrev IsIt : Record → List Record → Type 0
     IsIt made before = IsTell at.index heard_it.number heard_it.finder pair.finder made before
 
-    names_two : NamesTwoSides list a pair
-    names_two =
+    -- the answer names its taking, and where the two share a byte they race
+    record Names (came : OutcomeAt) : Type 0 where
+      answer : AnswersTaking list came
+      race : Overlap came.access answer.finder → TrueRace run.rules.plain_writes_atomic (history_of list) came.access answer.finder
+      unmarked : ¬ CountedAsMarked run.rules.plain_writes_atomic (history_of list) came.access
+
+    armed_now : (number : ℕ) → last_arming_number at.index earlier ≡ Some number → armed_by task earlier ≡ Some (record { index = at.index; number = number })
+    armed_now number last =
+        ap (λ (hand : Option InHand). armed_in hand earlier) at.has
+        ∙ ap (λ (n : Option ℕ). option_map (λ (x : ℕ). record { index = at.index; number = x }) n) last
+
+    names : (count : ℕ) → length earlier ≡ suc count → Names (record { access = a; outcome = outcome; at = count; arming = armed_by task earlier })
+    names count so_long =
         let tell = stands_at IsIt earlier heard_it.telling in
         let finder : ℕ = heard_it.finder in
         let whole_split : records ≡ (later ++ tell.later) ++ tell.latest ∷ tell.earlier =
@@ -349,15 +399,38 @@ module _ (run : Run) (records : List Record) (list : RunList run records)
         let setter_unmarked : ¬ CountedAsMarked run.rules.plain_writes_atomic (history_of list) a =
         subst (λ (x : access.Access). ¬ CountedAsMarked run.rules.plain_writes_atomic (history_of list) x) at.is (unmarked_so task at.by at.known at.unmarked) in
         let stands : fin.get run.sites pair.finder ≡ Some b = (list.sites pair.finder b).1 (by.is, b_is) in
+        let encoding = drops_encoding (checks_of (task_setting run task)) a at.values pair outcome at.verdict in
+        let same : found.0 ≡ heard_it.number = some_same (sym found.1 ∙ heard_it.met.last) in
         record {
-          finder = b;
-          setter_named = setter_named;
-          finder_named = by.is;
-          setter_is = a_is;
-          finder_is = b_is;
-          race = record {
-            tasks = λ same. heard_it.met.two (sym by.known.own.task ∙ (sym same ∙ a_task));
-            overlap = subst (λ (o : Option access.Access). IsSomeAnd o (λ f. Overlap a f)) stands at.shares;
+          answer = record {
+            finder = b;
+            setter_is = a_is;
+            finder_is = b_is;
+            pair = pair;
+            setter_named = setter_named;
+            finder_named = by.is;
+            index = at.index;
+            number = heard_it.number;
+            armed = armed_now heard_it.number heard_it.met.last;
+            later = later;
+            by_then = earlier;
+            split = is;
+            at = so_long;
+            met = subst (λ (w : ℕ). IsMet earlier at.index heard_it.number a.task b.task w) setter_word
+                (subst (λ (t : ℕ). IsMet earlier at.index heard_it.number t b.task heard_it.word) (sym a_task)
+                (subst (λ (t : ℕ). IsMet earlier at.index heard_it.number task t heard_it.word) (sym by.known.own.task) heard_it.met));
+            told = subst (λ (n : ℕ). Contains (finders_told earlier) (meeting at.index n pair.setter pair.finder)) same found.2;
+            values = at.values;
+            verdict = subst (λ (t : ℕ). HitOutcome (checks_of (task_setting run t)) a at.values pair outcome) (sym a_task) at.verdict;
+            of_pair = of_pair (checks_of (task_setting run task)) a at.values pair outcome at.verdict;
+            encoding = (
+              λ dropped shares_one. encoding.0 dropped (subst (λ (o : Option access.Access). IsSomeAnd o (λ f. Overlap a f)) (sym stands) shares_one),
+              λ none. encoding.1 (λ shares_one. none (subst (λ (o : Option access.Access). IsSomeAnd o (λ f. Overlap a f)) stands shares_one)),
+            );
+          };
+          race = λ shares_one. record {
+            tasks = λ same_task. heard_it.met.two (sym by.known.own.task ∙ (sym same_task ∙ a_task));
+            overlap = shares_one;
             breaks = breaks_of run.rules.layout a b by.word (record { encodable = at.encodable; is = word }) by.hits;
             unmarked = λ both. setter_unmarked both.0;
             first_heard = subst (λ (x : access.Access). ¬ Silenced (history_of list) x) at.is (heard_so task at.by at.known at.unsilenced);
@@ -367,39 +440,58 @@ module _ (run : Run) (records : List Record) (list : RunList run records)
             second_goes = in_progress run records list before base all_split b b_below finder_open;
           };
           unmarked = setter_unmarked;
-          index = at.index;
-          number = found.0;
-          told = subst (λ (r : List Record). Contains (finders_told r) (meeting at.index found.0 pair.setter pair.finder)) (sym is) (still_told later earlier (meeting at.index found.0 pair.setter pair.finder) found.1);
         }
 
-  -- what came of a check, if it is a report of two sides
-  named : (task : ℕ) (later earlier : List Record) → records ≡ later ++ earlier → (a : access.Access) (outcome : Outcome) (left : List Record)
-      → length left ≡ to_come (list.tasks task) (made_by task earlier)
-      → FallsSo (checks_of (task_setting run task)) (IsKnown (task_setting run task) (ending task)) (during task) [] (whole task) a left outcome
-      → IfTwoSided list a outcome
-  named task later earlier is a (outcomes.Report pair seen) left so_many h =
+  -- what came of a check, if it is an answer, and if it is a report of two sides
+  abbrev IsNamed : OutcomeAt → Type 0
+  IsNamed came = IfAnswer list came × NamesBoth list came
+
+  reported : (came : OutcomeAt) (outcome : Outcome) → came.outcome ≡ outcome
+      → (IsTrue (is_answer came.outcome) → (answer : AnswersTaking list came)
+      × (Overlap came.access answer.finder → TrueRace run.rules.plain_writes_atomic (history_of list) came.access answer.finder)
+      × (¬ CountedAsMarked run.rules.plain_writes_atomic (history_of list) came.access)) → IfTwoSided list came outcome
+  reported came (outcomes.Report pair seen) is names =
+      let it = names (subst (λ (o : Outcome). IsTrue (is_answer o)) (sym is) refl) in
+      let s : checks.Setting = checks_of (task_setting run came.access.task) in
+      let shared = shares s came.access it.0.values it.0.pair pair seen
+      (subst (λ (o : Outcome). HitOutcome s came.access it.0.values it.0.pair o) is it.0.verdict) in
+      let stands : fin.get run.sites pair.finder ≡ Some it.0.finder =
+      (list.sites pair.finder it.0.finder).1 (ap (λ (both : Halves). both.finder) shared.0 ∙ it.0.finder_named, it.0.finder_is) in
+      record {
+        answer = it.0;
+        is = shared.0;
+        race = it.1 (subst (λ (o : Option access.Access). IsSomeAnd o (λ f. Overlap came.access f)) stands shared.1);
+        unmarked = it.2;
+      }
+  reported came outcome is names = tt
+
+  named : (task : ℕ) (later earlier : List Record) → records ≡ later ++ earlier → (count : ℕ) → length earlier ≡ suc count → (f : Fallen)
+      → length f.later ≡ to_come (list.tasks task) (made_by task earlier)
+      → FallsSo (checks_of (task_setting run task)) (IsKnown (task_setting run task) (ending task)) (during task) [] (whole task) f.access f.later f.outcome
+      → IsNamed (outcome_at count (armed_by task earlier) f)
+  named task later earlier is count so_long f so_many h =
       let s : tasks.Setting = task_setting run task in
       let own : List Record = records_of task earlier in
       let front = front_of task later earlier is in
       let all : length (whole task) ≡ length own + length front.0 =
       ap (λ (r : List Record). length r) front.1 ∙ (length-append (reverse own) front.0 ∙ ap (λ (n : ℕ). n + length front.0) (length-reverse own)) in
-      let parts : length (whole task) ≡ length h.0 + length left = ap (λ (r : List Record). length r) h.1 ∙ length-append h.0 left in
-      let left_is : length left ≡ length (whole task) - length own = so_many in
-      let as_long : length h.0 ≡ length own = omega (arith, all, parts, left_is) in
-      let same : h.0 ≡ reverse own = same_front h.0 (reverse own) left front.0 (as_long ∙ sym (length-reverse own)) (sym h.1 ∙ front.1) in
-      let reached : back h.0 [] ≡ own = ap (λ (r : List Record). back r []) same ∙ back_own own in
-      names_two task later earlier is a pair (subst (λ (r : List Record). IsReported (checks_of s) (IsKnown s (ending task)) (during task) a pair r) reached h.2)
-  named task later earlier is a outcomes.Nothing left so_many h = tt
-  named task later earlier is a outcomes.Lost left so_many h = tt
-  named task later earlier is a (outcomes.Told pair) left so_many h = tt
-  named task later earlier is a outcomes.Capacity left so_many h = tt
-  named task later earlier is a outcomes.Unencodable left so_many h = tt
-  named task later earlier is a outcomes.Quiet left so_many h = tt
-  named task later earlier is a (outcomes.Unknown old new) left so_many h = tt
-  named task later earlier is a (outcomes.Dropped reason) left so_many h = tt
+      let left_is : length f.later ≡ length (whole task) - length own = so_many in
+      let answered : IsTrue (is_answer f.outcome) → IsAnswered (checks_of s) (IsKnown s (ending task)) (during task) f.access f.outcome own =
+      λ answers.
+      let it = h answers in
+      let parts : length (whole task) ≡ length it.0 + length f.later = ap (λ (r : List Record). length r) it.1 ∙ length-append it.0 f.later in
+      let as_long : length it.0 ≡ length own = omega (arith, all, parts, left_is) in
+      let same : it.0 ≡ reverse own = same_front it.0 (reverse own) f.later front.0 (as_long ∙ sym (length-reverse own)) (sym it.1 ∙ front.1) in
+      let reached : back it.0 [] ≡ own = ap (λ (r : List Record). back r []) same ∙ back_own own in
+      subst (λ (r : List Record). IsAnswered (checks_of s) (IsKnown s (ending task)) (during task) f.access f.outcome r) reached it.2 in
+      let came : OutcomeAt = outcome_at count (armed_by task earlier) f in (
+        λ answers. (names task later earlier is f.access f.outcome (answered answers) count so_long).answer,
+        reported came f.outcome refl (λ answers.
+            let it = names task later earlier is f.access f.outcome (answered answers) count so_long in (it.answer, it.race, it.unmarked)),
+      )
 
-  named_by : (later earlier : List Record) → records ≡ later ++ earlier → All (NamesBoth list) (outcomes_by list earlier)
-  named_by later [] is = All-nil (NamesBoth list)
+  named_by : (later earlier : List Record) → records ≡ later ++ earlier → All IsNamed (outcomes_by list earlier)
+  named_by later [] is = All-nil IsNamed
   named_by later (latest ∷ earlier) is =
       let task : ℕ = latest.task in
       let s : tasks.Setting = task_setting run task in
@@ -408,9 +500,13 @@ module _ (run : Run) (records : List Record) (list : RunList run records)
       let one_more : made_by task earlier + 1 ≡ made_by task (latest ∷ earlier) =
       let so_many : length (records_of task (latest ∷ earlier)) ≡ suc (length (records_of task earlier)) = ap (λ (r : List Record). length r) (own_latest task latest earlier refl) in
       omega (arith, so_many) in
-      let now = all_came s (ending task) (during task) (whole task) (to_come (list.tasks task) (made_by task earlier + 1)) (NamesBoth list) (ending task).outcomes facts
-      (λ f falls left. named task later (latest ∷ earlier) is f.access f.outcome f.later (left ∙ ap (λ (n : ℕ). to_come (list.tasks task) n) one_more) falls) in
-      All-append (NamesBoth list) (outcomes_by list earlier) (came_next list task (made_by task earlier)) before now
+      let now = all_came s (ending task) (during task) (whole task) (to_come (list.tasks task) (made_by task earlier + 1))
+      (length earlier) (armed_by task (latest ∷ earlier)) IsNamed (ending task).outcomes facts
+      (λ f falls left. named task later (latest ∷ earlier) is (length earlier) refl f (left ∙ ap (λ (n : ℕ). to_come (list.tasks task) n) one_more) falls) in
+      All-append IsNamed (outcomes_by list earlier) (came_next list latest earlier) before now
 
-  pub all_named : All (NamesBoth list) (outcomes_by list records)
-  all_named = named_by [] records refl
+  pub all_answers : All (IfAnswer list) (outcomes_of list)
+  all_answers = λ place other below. (named_by [] records refl place other below).0
+
+  pub all_named : All (NamesBoth list) (outcomes_of list)
+  all_named = λ place other below. (named_by [] records refl place other below).1

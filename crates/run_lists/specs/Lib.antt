@@ -2,4 +2,5 @@ pub mod Run
 pub mod RunList
 pub mod Told
 pub mod Reports
+pub mod Answers
 pub mod TwoSides

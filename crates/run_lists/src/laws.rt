@@ -4,6 +4,7 @@ ghost use Rattle.std.specs.Prelude.{◌≢◌, ℕ, List, All, AllPairs, IfSome,
 ghost use Rattle.std.specs.List.Sorted.{IsPermutation};
 ghost use Rattle.access_types.specs.History.{happenings_of};
 ghost use Rattle.litmus_meaning.specs.RunOfProgram.{IsBeginning};
+ghost use Rattle.run_lists.specs.Answers.{IfAnswer};
 ghost use Rattle.run_lists.specs.Run.{Run, first_cells, first_words, locks_of};
 ghost use Rattle.run_lists.specs.RunList.{AllHaveEnded, RunList};
 ghost use Rattle.run_lists.specs.Told.{history_of, outcomes_of};
@@ -61,10 +62,22 @@ pub fn each_task_does_what_its_text_means()
         (λ task. IsBeginning run.program run.places number task (happenings_of number (history_of list))) }
 {}
 
+/// Law: each report of two sides and each named discard that a run list tells answers a taking. The arming is in the
+/// hand of the task of the access that was checked, under the word of that access; another task took it for an
+/// access of its own, and told. The outcome is the verdict on the two, dropped for its encoding exactly where they
+/// share no byte.
+pub fn answers_are_to_takings()
+    ensures { (run : Run) (records : List Record) → (list : RunList run records)
+        → All (IfAnswer list) (outcomes_of list) }
+{
+    run_lists_keep_the_discipline();
+    words_read_back();
+}
+
 /// Law: each report of two sides that a run list tells names a true race in the history that the list tells, setter
-/// first: the access that was checked, as the setter, and one of another task, as the finder. Both are of the
-/// program, share a byte and conflict, neither is silenced, and they are in progress at one moment. The setter
-/// doesn't count as marked. The pair is the one that the finder told.
+/// first: the access that was checked, as the setter, and one of another task, as the finder, which are those of the
+/// arming and of its taking. Both are of the program, share a byte and conflict, neither is silenced, and they are
+/// in progress at one moment. The setter doesn't count as marked. The pair is the one that the finder told.
 pub fn reports_name_two_sides()
     ensures { (run : Run) (records : List Record) → (list : RunList run records)
         → All (NamesBoth list) (outcomes_of list) }
