@@ -1,0 +1,5 @@
+pub mod Opens
+pub mod Waits
+pub mod Memory
+pub mod Checks
+pub mod Ends
