@@ -1,2 +1,3 @@
 mod CountLemmas
+pub mod RoomLemmas
 mod TouchLemmas

@@ -24,18 +24,22 @@ pub record Fits (accesses watches : ℕ) (own : List Noted) : Type 0 where
   pub few_arms : length (arms_of own) ≤ watches
   pub few_takes : length (takes_of own) ≤ watches
 
--- there is room for the arming that is removed or the taking that is told, if one is
-abbrev pub HasRoom : Step → TaskLog → Type 0
-HasRoom (Remove index) log = vec_len log.arms < vec_capacity log.arms
-HasRoom (Tell index ticket) log = vec_len log.takes < vec_capacity log.takes
-HasRoom step log = Unit {0}
+-- there is room for the arming that is removed, if one is
+abbrev pub HasRoomToRemove : Step → TaskLog → Type 0
+HasRoomToRemove (Remove index) log = vec_len log.arms < vec_capacity log.arms
+HasRoomToRemove step log = Unit {0}
 
--- what is kept is what a task's steps say, the latest first, and there is room for so many
--- accesses, armings and takings
+-- there is room for the taking that is told, if one is
+abbrev pub HasRoomToTell : Step → TaskLog → Type 0
+HasRoomToTell (Tell index ticket) log = vec_len log.takes < vec_capacity log.takes
+HasRoomToTell step log = Unit {0}
+
+-- What is kept is what a task's steps say, the latest first; its accesses, armings and takings are
+-- all kept as long as they are at most so many. There is room for these.
 pub record Keeps (accesses watches : ℕ) (own : List Noted) (log : TaskLog) : Type 0 where
-  pub touches : log.touches.items ≡ touches_of own
-  pub arms : log.arms.items ≡ arms_of own
-  pub takes : log.takes.items ≡ takes_of own
+  pub touches : length (touches_of own) ≤ accesses → log.touches.items ≡ touches_of own
+  pub arms : length (arms_of own) ≤ watches → log.arms.items ≡ arms_of own
+  pub takes : length (takes_of own) ≤ watches → log.takes.items ≡ takes_of own
   pub latest : IsLatest own log.latest
   pub counts : Count own log.counters
   pub room_for_accesses : accesses ≤ vec_capacity log.touches

@@ -4,7 +4,7 @@ ghost use Rattle.std.specs.Prelude.{◌≡◌, ◌==◌, ◌<◌, ◌≤◌, ◌
 ghost use Rattle.slot_table.specs.declared.step.Step.TheVariants.{Tell};
 ghost use Rattle.task_log.specs.Arms.{arm_removed, arms_at, arms_of, became_of, takes_at, takes_of};
 ghost use Rattle.task_log.specs.Counters.{Count};
-ghost use Rattle.task_log.specs.Keeps.{Fits, HasRoom, IsLatest, Keeps};
+ghost use Rattle.task_log.specs.Keeps.{Fits, HasRoomToRemove, HasRoomToTell, IsLatest, Keeps};
 ghost use Rattle.task_log.specs.Reports.{reported};
 ghost use Rattle.task_log.specs.Touches.{accesses_of};
 ghost use Rattle.task_log.specs.declared.noted.Noted.{Noted};
@@ -66,10 +66,9 @@ impl TaskLog {
         })
     }
 
-    /// The next step is noted. What is reported at it is answered.
+    /// The next step is noted, an access, an arming or a taking only where there is room for it. What is reported at
+    /// the step is answered.
     pub fn note(&mut self, noted: &Noted) -> Option<Report>
-        requires room { (accesses : ℕ) × (watches : ℕ) × (own : List Noted)
-            × (Keeps accesses watches own self.old × Fits accesses watches (noted.now ∷ own)) }
         ensures keeps { (accesses watches : ℕ) (own : List Noted) → Keeps accesses watches own self.old
             → Keeps accesses watches (noted.now ∷ own) self.new }
         ensures reported { (accesses watches : ℕ) (own : List Noted) → Keeps accesses watches own self.old
@@ -85,9 +84,10 @@ impl TaskLog {
 
     /// An arming that is removed and a taking that is told are over.
     fn over(&mut self, noted: &Noted)
-        requires { HasRoom noted.now.step self.old }
-        ensures arms { (own : List Noted) → IsLatest own self.old.latest → self.new.arms.items ≡ arms_at noted.now.step own self.old.arms.items }
-        ensures takes { (own : List Noted) → IsLatest own self.old.latest → self.new.takes.items ≡ takes_at noted.now.step own self.old.takes.items }
+        ensures arms { (own : List Noted) → IsLatest own self.old.latest → HasRoomToRemove noted.now.step self.old
+            → self.new.arms.items ≡ arms_at noted.now.step own self.old.arms.items }
+        ensures takes { (own : List Noted) → IsLatest own self.old.latest → HasRoomToTell noted.now.step self.old
+            → self.new.takes.items ≡ takes_at noted.now.step own self.old.takes.items }
         ensures kept { self.new ≡ record self.old { arms = self.new.arms; takes = self.new.takes } }
         ensures room_for_arms { vec_capacity self.old.arms ≤ vec_capacity self.new.arms }
         ensures room_for_takes { vec_capacity self.old.takes ≤ vec_capacity self.new.takes }
@@ -101,31 +101,34 @@ impl TaskLog {
 
     /// The watchpoint that the task set up is removed.
     fn removes(&mut self, index: usize)
-        requires { vec_len self.old.arms < vec_capacity self.old.arms }
-        ensures arms { (own : List Noted) → IsLatest own self.old.latest
+        ensures arms { (own : List Noted) → IsLatest own self.old.latest → vec_len self.old.arms < vec_capacity self.old.arms
             → self.new.arms.items ≡ self.old.arms.items ++ arm_removed index own self.old.arms.items ∷ [] }
         ensures kept { self.new ≡ record self.old { arms = self.new.arms } }
         ensures room { vec_capacity self.old.arms ≤ vec_capacity self.new.arms }
     {
+        if self.arms.len() == self.arms.capacity() {
+            return;
+        }
         let setter = self.latest.named.unwrap_or(0);
         let number = armings_of(self.arms.as_slice(), setter);
         let word = self.latest.armed.unwrap_or(0);
         let outcome = became(self.latest.settled, self.latest.heard_finder.unwrap_or(0));
-        let _ = self
-            .arms
-            .push(Arm::new(setter, number, index, word, outcome));
+        self.arms
+            .push_reserved(Arm::new(setter, number, index, word, outcome));
     }
 
     /// The setter of the watchpoint that the task took is told the ticket.
     fn tells(&mut self, index: usize, ticket: u32)
-        requires { vec_len self.old.takes < vec_capacity self.old.takes }
-        ensures takes { (own : List Noted) → IsLatest own self.old.latest
+        ensures takes { (own : List Noted) → IsLatest own self.old.latest → vec_len self.old.takes < vec_capacity self.old.takes
             → self.new.takes.items ≡ takes_at (Tell index ticket) own self.old.takes.items }
         ensures kept { self.new ≡ record self.old { takes = self.new.takes } }
         ensures room { vec_capacity self.old.takes ≤ vec_capacity self.new.takes }
     {
+        if self.takes.len() == self.takes.capacity() {
+            return;
+        }
         let setter = self.latest.heard_setter.unwrap_or(0);
-        let _ = self.takes.push(Take::new(ticket, index, setter));
+        self.takes.push_reserved(Take::new(ticket, index, setter));
     }
 
     /// What is reported at a step.
@@ -153,7 +156,7 @@ impl TaskLog {
 
     /// The accesses that have ended, in the order of their begins.
     pub fn accesses(&self, alloc: Global) -> Result<Vec<Stamped>, AllocError>
-        ensures { (accesses watches : ℕ) (own : List Noted) → Keeps accesses watches own self.now
+        ensures { (accesses watches : ℕ) (own : List Noted) → Keeps accesses watches own self.now → Fits accesses watches own
             → IfOk result (λ all. all.items ≡ accesses_of own) }
     {
         touches::ended(alloc, self.touches.as_slice())
@@ -161,7 +164,7 @@ impl TaskLog {
 
     /// The armings that are over, in the order in which they were removed.
     pub fn arms(&self) -> &[Arm]
-        ensures { (accesses watches : ℕ) (own : List Noted) → Keeps accesses watches own self.now
+        ensures { (accesses watches : ℕ) (own : List Noted) → Keeps accesses watches own self.now → Fits accesses watches own
             → result.now ≡ arms_of own }
     {
         self.arms.as_slice()
@@ -169,7 +172,7 @@ impl TaskLog {
 
     /// The takings that are over, in the order in which they were told.
     pub fn takes(&self) -> &[Take]
-        ensures { (accesses watches : ℕ) (own : List Noted) → Keeps accesses watches own self.now
+        ensures { (accesses watches : ℕ) (own : List Noted) → Keeps accesses watches own self.now → Fits accesses watches own
             → result.now ≡ takes_of own }
     {
         self.takes.as_slice()

@@ -53,19 +53,21 @@ fn end_newest(touches: &mut [Touch], stamp: u64)
     }
 }
 
-/// A step is noted among the accesses, for which there is room.
+/// A step is noted among the accesses. One that begins where there is no room for it isn't kept.
 pub(crate) fn note(touches: &mut Vec<Touch>, noted: &Noted)
-    requires room { HasRoomToBegin noted.now.step noted.now.answer noted.now.begins (vec_len touches.old) (vec_capacity touches.old) }
-    ensures items { touches.new.items ≡ touches_at noted.now.step noted.now.answer noted.now.begins touches.old.items }
+    ensures items { HasRoomToBegin noted.now.step noted.now.answer noted.now.begins (vec_len touches.old) (vec_capacity touches.old)
+        → touches.new.items ≡ touches_at noted.now.step noted.now.answer noted.now.begins touches.old.items }
     ensures room { vec_capacity touches.old ≤ vec_capacity touches.new }
 {
     match (noted.step, noted.answer, noted.begins) {
         (Step::Clock, Answer::Word(begin), Some(begun)) => {
-            let _ = touches.push(Touch {
-                begun,
-                begin,
-                end: None,
-            });
+            if touches.len() < touches.capacity() {
+                touches.push_reserved(Touch {
+                    begun,
+                    begin,
+                    end: None,
+                });
+            }
         }
         (Step::Clock, Answer::Word(stamp), None) => end_newest(touches.as_mut_slice(), stamp),
         _ => {}
