@@ -52,7 +52,7 @@ after_access at a operation effect asked = record {
 }
 
 -- where the task stands then
-abbrev ends_at : Access → Option Operation → Standing → List Record → List Record → List Record → List Record → Effect → Passes → Standing
+abbrev pub ends_at : Access → Option Operation → Standing → List Record → List Record → List Record → List Record → Effect → Passes → Standing
 ends_at a operation before records checked done rest effect passes =
     let began : Standing = doing before (drop 1 records) (happenings.Begin a ∷ []) in
     let made : Standing = operated a operation began checked effect done in
@@ -93,7 +93,7 @@ both_other : (a : Access) (old new : Option ℕ) → AreOther (read_moments a ol
 both_other a None new = write_other a new
 both_other a (Some value) new = (tt, write_other a new)
 
-begun_in : (at : ℕ) (a : Access) (operation : Option Operation) (effect : Effect) (did : List Happening)
+pub begun_in : (at : ℕ) (a : Access) (operation : Option Operation) (effect : Effect) (did : List Happening)
     → count_by (begins_at at) (did_in a operation effect did) ≡ count_by (begins_at at) did + one_at a.site at
 begun_in at a None effect did =
     begun_still at (did ++ happenings.Begin a ∷ []) (happenings.End a ∷ []) (tt, tt) ∙ begun_more at did a

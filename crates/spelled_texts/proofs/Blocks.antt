@@ -32,19 +32,19 @@ use Rattle.task_plan.proofs.KeepsLemmas.{begun_still}
 use Rattle.written_order.specs.Standing.{BeginsNow, Setting, Standing, checks_of, doing}
 use Rattle.written_order.specs.WrittenOrder.{ClosesScope, OpensScope, Steps, StepsInBlock, StepsOf, StepsOfBlock, StepsOfExpression}
 
-own_more : (s : checks.Setting) (scopes : List Begun) (begun : Begun) → AreOwn s scopes → IsOwn s begun.access → AreOwn s (scopes ++ begun ∷ [])
+pub own_more : (s : checks.Setting) (scopes : List Begun) (begun : Begun) → AreOwn s scopes → IsOwn s begun.access → AreOwn s (scopes ++ begun ∷ [])
 own_more s [] begun are is = (is, tt)
 own_more s (scope ∷ scopes) begun are is = (are.0, own_more s scopes begun are.1 is)
 
 -- where a part of a text begins with a site of its own or not
-after_own : (has : Bool) (statement : Statement) (site : ℕ) (inside : List Statement)
+pub after_own : (has : Bool) (statement : Statement) (site : ℕ) (inside : List Statement)
     → site + length ((if has then statement ∷ [] else []) ++ inside) ≤ 256
     → ((if has then site + 1 else site) + length inside ≤ 256) × (has ≡ true → site < 256)
 after_own true statement site inside fits =
     let all : length ((statement ∷ []) ++ inside) ≡ 1 + length inside = length-append (statement ∷ []) inside in (omega (arith, all, fits), λ yes. omega (arith, all, fits))
 after_own false statement site inside fits = (fits, λ yes. absurd (cc))
 
-alone : (has : Bool) (statement : Statement) (site : ℕ) → site + length (if has then statement ∷ [] else []) ≤ 256 → has ≡ true → site < 256
+pub alone : (has : Bool) (statement : Statement) (site : ℕ) → site + length (if has then statement ∷ [] else []) ≤ 256 → has ≡ true → site < 256
 alone true statement site fits = λ yes. omega (arith, fits)
 alone false statement site fits = λ yes. absurd (cc)
 
@@ -147,11 +147,11 @@ module _ (s : Setting) (placed : ArePlaced s) where
       }
 
   -- what a scoped assertion asks of where it stands
-  abbrev ScopedFits : Option Scoped → ℕ → (ℕ → ℕ) → Type 0
+  abbrev pub ScopedFits : Option Scoped → ℕ → (ℕ → ℕ) → Type 0
   ScopedFits None site few = Unit {0}
   ScopedFits (Some scoped) site few = HasBytes s scoped.variable × (site < 256) × ((k : ℕ) → one_at site k ≤ few k)
 
-  scoped_fits : (registers : ℕ) (statement : Statement) (site : ℕ) → StatementTyped (IsVariable s.text.variables) registers statement
+  pub scoped_fits : (registers : ℕ) (statement : Statement) (site : ℕ) → StatementTyped (IsVariable s.text.variables) registers statement
       → site + length (accesses_of statement) ≤ 256 → ScopedFits (scoped_assertion statement) site (statement_begins site statement)
   scoped_fits registers (tree.load_only l) site typed fits = tt
   scoped_fits registers (tree.assign data_race a) site typed fits = tt

@@ -85,16 +85,16 @@ lock_is (Atomic n) is = absurd is
 lock_is Lock is = refl
 
 module _ (s : Setting) (placed : ArePlaced s) where
-  integer_bytes : (x : ℕ) → IsVariable s.text.variables integers x → HasBytes s x
+  pub integer_bytes : (x : ℕ) → IsVariable s.text.variables integers x → HasBytes s x
   integer_bytes x is = placed.bytes x is.variable is.stands (integer_no_lock is.variable.contents is.of_sort)
 
-  atomic_bytes : (x : ℕ) → IsVariable s.text.variables atomics x → HasBytes s x
+  pub atomic_bytes : (x : ℕ) → IsVariable s.text.variables atomics x → HasBytes s x
   atomic_bytes x is = placed.bytes x is.variable is.stands (atomic_no_lock is.variable.contents is.of_sort)
 
   pub memory_bytes : (x : ℕ) → IsVariable s.text.variables memory x → HasBytes s x
   memory_bytes x is = placed.bytes x is.variable is.stands is.of_sort
 
-  lock_at : (x : ℕ) → IsVariable s.text.variables locks x → IsLockAt s x
+  pub lock_at : (x : ℕ) → IsVariable s.text.variables locks x → IsLockAt s x
   lock_at x is = rw is.stands (lock_is is.variable.contents is.of_sort)
 
   pub fetch_bytes : (registers : ℕ) (fetch : Fetch) → FetchTyped (IsVariable s.text.variables) registers fetch → HasBytes s (variable_of fetch)
@@ -105,13 +105,13 @@ module _ (s : Setting) (placed : ArePlaced s) where
   fetch_bytes registers (tree.exchange x e) is = integer_bytes x is.0
   fetch_bytes registers (tree.compare_exchange x e f) is = integer_bytes x is.0
 
-  write_bytes : (form : WriteForm) (x : ℕ) → IsVariable s.text.variables (write_takes form) x → HasBytes s x
+  pub write_bytes : (form : WriteForm) (x : ℕ) → IsVariable s.text.variables (write_takes form) x → HasBytes s x
   write_bytes writes.Plain x is = integer_bytes x is
   write_bytes writes.Once x is = integer_bytes x is
   write_bytes writes.Release x is = integer_bytes x is
   write_bytes writes.Atomic x is = atomic_bytes x is
 
-  load_bytes : (registers : ℕ) (e : Loading) → LoadingTyped (IsVariable s.text.variables) registers e → HasBytes s (variable_of (load_in e).fetch)
+  pub load_bytes : (registers : ℕ) (e : Loading) → LoadingTyped (IsVariable s.text.variables) registers e → HasBytes s (variable_of (load_in e).fetch)
   load_bytes registers (tree.load l) is = fetch_bytes registers l.fetch is
   load_bytes registers (tree.unary_of op e) is = load_bytes registers e is
   load_bytes registers (tree.left op a b) is = load_bytes registers a is.0
@@ -384,14 +384,14 @@ module _ (s : Setting) (placed : ArePlaced s) where
       (λ way outcomes rest. ((coming (counting true (standing at way outcomes)) rest at.progress).way, outcomes, (refl, refl)))
       (λ k. omega arith) refl
 
-  proper : (mask : ℕ) → proper_mask (Some mask) ≢ Some 0
+  pub proper : (mask : ℕ) → proper_mask (Some mask) ≢ Some 0
   proper mask = by (cases_Bool (mask == 0))
     where
       by : ((mask == 0) ≡ true) ⊎ ((mask == 0) ≡ false) → proper_mask (Some mask) ≢ Some 0
       by (inl zero_mask) = rw zero_mask (λ is. cc)
       by (inr other) = rw other (λ is. absurd (let same : mask ≡ 0 = cc in let tells : (mask == 0) ≡ true = eq-eqb mask 0 same in cc))
 
-  above_zero : (size : ℕ) → (size == 0) ≡ false → 0 < size
+  pub above_zero : (size : ℕ) → (size == 0) ≡ false → 0 < size
   above_zero zero some = cc
   above_zero (suc size) some = omega arith
 

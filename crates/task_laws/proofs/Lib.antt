@@ -1,0 +1,9 @@
+pub mod Places
+pub mod Accesses
+pub mod Loads
+pub mod Assignments
+pub mod Calls
+pub mod Scopes
+pub mod Blocks
+pub mod Texts
+pub mod Next

@@ -1,0 +1,30 @@
+//! What is true of the answers of a task's steps.
+
+ghost use Rattle.std.specs.Prelude.{◌++◌, ◌∷◌, [], List, length};
+ghost use Rattle.litmus_syntax.specs.Limits.{TaskKeepsLimits};
+ghost use Rattle.litmus_syntax.specs.Tree.{Task};
+ghost use Rattle.memory_operation.specs.Leads.{GoesOn};
+ghost use Rattle.setup_access.specs.Parts.{made};
+ghost use Rattle.slot_table.specs.Answer.{Answers};
+ghost use Rattle.slot_table.specs.declared.records.Record.{Record};
+ghost use Rattle.slot_table.specs.declared.step.Answer.{Answer};
+ghost use Rattle.slot_table.specs.declared.step.Step.{Step};
+ghost use Rattle.spelled_texts.specs.Fits.{ArePlaced};
+ghost use Rattle.answered_parts.specs.Alike.{IsAlike};
+ghost use Rattle.written_order.specs.Standing.{Setting};
+ghost use Rattle.written_order.specs.WrittenOrder.{SpellsAll, WrittenOrder};
+
+/// Law: of a text within the limits, whose variables are placed: where a record of records in the written order
+/// had another answer, the records up to it are in the written order too. So is what a task made with one step
+/// more, by whatever answer, if all that completes it goes on with this step.
+pub fn an_answer_leads_on()
+    ensures another { (s : Setting) (task : Task) (records : List Record) (first other : Record) (later : List Record)
+        → ArePlaced s → TaskKeepsLimits s.text.variables task → IsAlike first other
+        → SpellsAll s (length task.registers) task.body (records ++ first ∷ later)
+        → WrittenOrder s (length task.registers) task.body (records ++ other ∷ []) }
+    ensures next { (s : Setting) (task : Task) (records : List Record) (step : Step) (answer : Answer)
+        → ArePlaced s → TaskKeepsLimits s.text.variables task → Answers step answer
+        → WrittenOrder s (length task.registers) task.body records
+        → ((later : List Record) → SpellsAll s (length task.registers) task.body (records ++ later) → GoesOn s.text.task step later)
+        → WrittenOrder s (length task.registers) task.body (records ++ made s.text.task step answer ∷ []) }
+{}
