@@ -279,7 +279,6 @@ module _ (s : Setting) (Known : Begun → Type 0) (In : Begun → ℕ → Type 0
     out outcome later = record { access = its; outcome = outcome; later = later } ∷ more
 
     no_answer : (own records later : List Record) (outcome none : Outcome) → outcome ≡ none → is_answer none ≡ false → FallsSo own records its later outcome
-    unfolding is_answer
     no_answer own records later outcome none is apart answers =
         absurd (let yes : is_answer outcome ≡ true = answers in let both : false ≡ true = sym apart ∙ (ap is_answer (sym is) ∙ yes) in cc)
 

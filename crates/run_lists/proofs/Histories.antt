@@ -4,7 +4,7 @@ use Rattle.std.proofs.Common.{None, Option, Some, ap, append_assoc, arith, drop,
 use Rattle.std.specs.List.{filter}
 use Rattle.std.proofs.lemmas.Bool.{eq-eqb, ne_eqb}
 use Rattle.std.proofs.lemmas.Bool.Decides.{eqb_tells}
-use Rattle.std.proofs.lemmas.List.{append-nil, map-append}
+use Rattle.std.proofs.lemmas.List.{append-nil, map-append, reverse-append}
 use Rattle.std.proofs.lemmas.List.Elements.{filter-append}
 use Rattle.access_types.specs.Access.{Access}
 use Rattle.access_types.specs.History.{History, InProgress, beginning, ending, happenings_of}
@@ -25,7 +25,7 @@ use Rattle.run_lists.specs.Run.{Run, idle, task_of, task_setting}
 use Rattle.run_lists.specs.RunList.{InWrittenOrder, RunList}
 use Rattle.run_lists.specs.Told.{first_moments, history_by, history_of, made_by, moments_of}
 use Rattle.run_lists.proofs.Intervals.{Has, IsOpen, contains_has, has_contains}
-use Rattle.run_lists.proofs.OwnLasts.{own_latest}
+use Rattle.run_lists.proofs.OwnLasts.{own_latest, own_split}
 use Rattle.run_lists.proofs.Ways.{Chain, by_fewer, by_last, last_of, whole_chain}
 
 -- what of a history is a task's
@@ -184,6 +184,18 @@ module _ (run : Run) (records : List Record) (list : RunList run records) where
             ∙ (of_task task below earlier
             ∙ ap (λ (r : List Record). did_by (list.tasks task) (length r)) (sym same)))
       ]
+
+  -- a task's records up to one of them are the front of all of them
+  pub front_of : (task : ℕ) (later earlier : List Record) → records ≡ later ++ earlier
+      → (rest : List Record) × (reverse (records_of task records) ++ (list.tasks task).more ≡ reverse (records_of task earlier) ++ rest)
+  front_of task later earlier is =
+      let own : records_of task records ≡ records_of task later ++ records_of task earlier = ap (λ (r : List Record). records_of task r) is ∙ own_split task later earlier in
+      let more : List Record = (list.tasks task).more in (
+        reverse (records_of task later) ++ more,
+        ap (λ (r : List Record). reverse r ++ more) own
+            ∙ (ap (λ (r : List Record). r ++ more) (reverse-append (records_of task later) (records_of task earlier))
+            ∙ append_assoc (reverse (records_of task earlier)) (reverse (records_of task later)) more),
+      )
 
   -- what is told by earlier records is the front of what is told by all
   told_more : (later earlier : List Record) → (more : History) × (history_by list (later ++ earlier) ≡ history_by list earlier ++ more)

@@ -70,7 +70,7 @@ use Rattle.run_lists.specs.Answers.{AnswersTaking, IfAnswer, IsOfPair, is_answer
 use Rattle.run_lists.specs.Told.{Armed, OutcomeAt, armed_by, armed_in, came_next, outcome_at, history_by, history_of, made_by, moments_of, outcomes_by, outcomes_of}
 use Rattle.run_lists.specs.TwoSides.{IfTwoSided, NamesBoth, NamesTwoSides}
 use Rattle.run_lists.proofs.CheckFacts.{AllFallSo, FallsSo, IsAnswered, IsTold, OnTell, TellsKnown, back}
-use Rattle.run_lists.proofs.Histories.{did_of_all, in_progress, of_both, of_task}
+use Rattle.run_lists.proofs.Histories.{did_of_all, front_of, in_progress, of_both, of_task}
 use Rattle.run_lists.proofs.Intervals.{IsOpen}
 use Rattle.run_lists.proofs.OwnMarks.{begins_once, counts_own, marks_same}
 use Rattle.run_lists.proofs.OwnLasts.{finder_told, hears_at, one_arming, own_latest, own_name, own_split, own_word, last_below, number_below, same_arming, stands_at, stands_later, still_told}
@@ -85,7 +85,7 @@ back_is (first ∷ later) own =
     ∙ ap (λ (r : List Record). r ++ own) (sym (reverse-append (first ∷ []) later)))
 
 -- own records are what is read of them
-back_own : (own : List Record) → back (reverse own) [] ≡ own
+pub back_own : (own : List Record) → back (reverse own) [] ≡ own
 back_own own = back_is (reverse own) [] ∙ (append-nil (reverse (reverse own)) ∙ reverse-reverse own)
 
 same_front : (p u q v : List Record) → length p ≡ length u → p ++ q ≡ u ++ v → p ≡ u
@@ -270,25 +270,13 @@ module _ (run : Run) (records : List Record) (list : RunList run records)
         let mine = subst (λ (t : ℕ). EndsRaised is_disable is_enable (marks_of t (moments_of t known.before))) known.own.task at in
         known.heard none mine
 
-  -- a task's records up to one of them are the front of all of them
-  front_of : (task : ℕ) (later earlier : List Record) → records ≡ later ++ earlier
-      → (rest : List Record) × (whole task ≡ reverse (records_of task earlier) ++ rest)
-  front_of task later earlier is =
-      let own : records_of task records ≡ records_of task later ++ records_of task earlier = ap (λ (r : List Record). records_of task r) is ∙ own_split task later earlier in
-      let more : List Record = (list.tasks task).more in (
-        reverse (records_of task later) ++ more,
-        ap (λ (r : List Record). reverse r ++ more) own
-            ∙ (ap (λ (r : List Record). r ++ more) (reverse-append (records_of task later) (records_of task earlier))
-            ∙ append_assoc (reverse (records_of task earlier)) (reverse (records_of task later)) more),
-      )
-
   -- what is so of a tell
   told_by : (task : ℕ) (later earlier : List Record) (latest : Record) (index ticket : ℕ) → records ≡ later ++ latest ∷ earlier → latest.task ≡ task → latest.step ≡ Tell index ticket
       → IsTold (checks_of (task_setting run task)) (IsKnown (task_setting run task) (ending task)) (during task) (records_of task earlier) index ticket
   told_by task later earlier latest index ticket is mine step =
       let s : tasks.Setting = task_setting run task in
       let own : List Record = records_of task earlier in
-      let front = front_of task later (latest ∷ earlier) is in
+      let front = front_of run records list task later (latest ∷ earlier) is in
       let split : whole task ≡ reverse own ++ latest ∷ front.0 =
       front.1 ∙ (ap (λ (r : List Record). reverse r ++ front.0) (own_latest task latest earlier mine)
       ∙ (ap (λ (r : List Record). r ++ front.0) (reverse-append (latest ∷ []) own) ∙ append_assoc (reverse own) (latest ∷ []) front.0)) in
@@ -472,7 +460,7 @@ module _ (run : Run) (records : List Record) (list : RunList run records)
   named task later earlier is count so_long f so_many h =
       let s : tasks.Setting = task_setting run task in
       let own : List Record = records_of task earlier in
-      let front = front_of task later earlier is in
+      let front = front_of run records list task later earlier is in
       let all : length (whole task) ≡ length own + length front.0 =
       ap (λ (r : List Record). length r) front.1 ∙ (length-append (reverse own) front.0 ∙ ap (λ (n : ℕ). n + length front.0) (length-reverse own)) in
       let left_is : length f.later ≡ length (whole task) - length own = so_many in
