@@ -1,5 +1,5 @@
 -- A variable that has bytes stands at a multiple of their number, and so lies in one cell.
-use Rattle.std.proofs.Common.{◌≡◌, ◌≢◌, ◌≤◌, ◌∙◌, ◌+◌, ◌*◌, ◌%◌, ◌++◌, ◌==◌, ◌||◌, ◌<◌, ◌⊎◌, inl, inr, get_or, ℕ, zero, suc, Bool, true, false, Contains, IsSomeAnd, List, [], ◌∷◌, Option, None, Some, ap, arith, bytes_eq, cond, find, fold, option_map, refl, slice_get, subst, sym, if◌then◌else◌}
+use Rattle.std.proofs.Common.{◌≡◌, ◌≢◌, ◌≤◌, ◌∙◌, ◌+◌, ◌*◌, ◌%◌, ◌++◌, ◌==◌, ◌||◌, ◌<◌, ◌⊎◌, inl, inr, get_or, ℕ, zero, suc, Bool, true, false, Contains, IsSomeAnd, List, [], ◌∷◌, Option, None, Some, ap, arith, bytes_eq, cond, find, fold, option_map, refl, slice_get, subst, sym, length, if◌then◌else◌}
 use Rattle.std.proofs.lemmas.Bool.{cases_order, eqb-true}
 use Rattle.std.proofs.lemmas.List.Elements.{Contains-append_left, Contains-push}
 use Rattle.std.proofs.lemmas.Option.{get_or_from_slice_get, same_Some, slice_get_within}
@@ -8,12 +8,13 @@ use Rattle.std.specs.List.{list_any}
 use Rattle.access_types.specs.declared.history.Bytes.{Bytes}
 use Rattle.litmus_meaning.specs.Layout.{address_of, block_of, bytes_at, cells_of, initial_values, with_cell}
 use Rattle.litmus_meaning.specs.Values.{size_of}
-use Rattle.litmus_syntax.specs.Limits.{HaveOwnNames}
+use Rattle.litmus_syntax.specs.Limits.{HaveOwnNames, IsLock}
 use Rattle.litmus_syntax.specs.declared.program.Contents.TheVariants.{Atomic, Char, Int, Lock, Long, Short}
 use Rattle.litmus_syntax.specs.declared.program.Contents.{Contents}
 use Rattle.litmus_syntax.specs.declared.program.Variable.{Variable}
 use Rattle.program_layout.proofs.LayLemmas.{got}
-use Rattle.program_layout.proofs.PlaceLemmas.{not_placed, placed}
+use Rattle.program_layout.proofs.PlaceLemmas.{low_address, not_placed, placed}
+use Rattle.program_layout.specs.Aligned.{AreAligned}
 use Rattle.program_layout.specs.Cells.{LieInOneCell}
 use Rattle.program_layout.specs.Places.{AreFit, IsFit, Suits, is_for, named, places_of}
 use Rattle.program_layout.specs.declared.place.Place.{Place}
@@ -54,8 +55,10 @@ same_name : (variables : List Variable) → HaveOwnNames variables → (i j : �
 same_name variables own i j v w v_there w_there named_so = cases (cases_order i j) where
   v_is : get_or variables i v ≡ v
   v_is = get_or_from_slice_get variables i v v v_there
+
   w_is : get_or variables j v ≡ w
   w_is = get_or_from_slice_get variables j w v w_there
+
   cases : (i ≡ j) ⊎ ((i < j) ⊎ (j < i)) → v ≡ w
   cases (inl same) = same_Some v w (sym v_there ∙ ap (slice_get variables) same ∙ w_there)
   cases (inr (inl below)) =
@@ -67,15 +70,15 @@ same_name variables own i j v w v_there w_there named_so = cases (cases_order i 
 
 -- a place for a variable is a multiple of its size
 suits : (variables : List Variable) → HaveOwnNames variables → (number : ℕ) (variable : Variable) → slice_get variables number ≡ Some variable
-    → (place : Place) → place.name ≡ variable.name → IsFit variables place → place.addr % size_of variable.contents ≡ 0
+    → (place : Place) → place.name ≡ variable.name → IsFit variables place → Suits variable place.addr
 suits variables own number variable stands place named_so fit = cases (named variables place.name) refl where
-  cases : (found : Option Variable) → named variables place.name ≡ found → place.addr % size_of variable.contents ≡ 0
+  cases : (found : Option Variable) → named variables place.name ≡ found → Suits variable place.addr
   cases None is = absurd (subst (λ (o : Option Variable). IsSomeAnd o (λ (v : Variable). Suits v place.addr)) is fit)
   cases (Some w) is =
       let w_suits : Suits w place.addr = subst (λ (o : Option Variable). IsSomeAnd o (λ (v : Variable). Suits v place.addr)) is fit in
       let there = named_stands variables place.name w is in
       let same : w ≡ variable = same_name variables own there.0 number w variable there.1 stands (there.2 ∙ named_so) in
-      subst (λ (v : Variable). place.addr % size_of v.contents ≡ 0) same w_suits.aligned
+      subst (λ (v : Variable). Suits v place.addr) same w_suits
 
 default_aligned : (contents : Contents) (number : ℕ) → size_of contents ≢ 0 → (0x10000 + 64 * number) % size_of contents ≡ 0
 default_aligned (Char n) number some = omega arith
@@ -93,7 +96,28 @@ aligned variables places fit own number variable stands some = cases (find (is_f
   cases (Some place) is =
       let fits = found_fits variables places fit variable.name place is in
       subst (λ (addr : ℕ). addr % size_of variable.contents ≡ 0) (sym (placed places number variable place is))
-      (suits variables own number variable stands place fits.0 fits.1)
+      (suits variables own number variable stands place fits.0 fits.1).aligned
+
+has_bytes : (contents : Contents) → ¬ IsLock contents → size_of contents ≢ 0
+has_bytes (Char n) not_lock = λ none. cc
+has_bytes (Short n) not_lock = λ none. cc
+has_bytes (Int n) not_lock = λ none. cc
+has_bytes (Long n) not_lock = λ none. cc
+has_bytes (Atomic n) not_lock = λ none. cc
+has_bytes Lock not_lock = absurd (not_lock tt)
+
+pub all_aligned : (variables : List Variable) (places : List Place) → AreFit variables places → HaveOwnNames variables → length variables ≤ 32
+    → AreAligned (places_of places) variables
+all_aligned variables places fit own few number variable stands not_lock = record {
+  multiple = aligned variables places fit own number variable stands (has_bytes variable.contents not_lock);
+  low = low_address variables places fit number variable below;
+}
+  where
+    within : number < length variables
+    within = slice_get_within variables number variable stands
+
+    below : number ≤ 32
+    below = omega (arith, within, few)
 
 -- bytes at a multiple of their number lie in one block
 in_block : (contents : Contents) (addr : ℕ) → size_of contents ≢ 0 → addr % size_of contents ≡ 0 → (block_of addr ≤ addr) × (addr + size_of contents ≤ block_of addr + 8)

@@ -1,3 +1,4 @@
 pub mod Places
 pub mod Lays
 pub mod Cells
+pub mod Aligned

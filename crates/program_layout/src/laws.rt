@@ -1,10 +1,11 @@
 //! What is true of the cells that variables lie in.
 
-ghost use Rattle.std.specs.Prelude.{◌≡◌, ◌≢◌, ℕ, List, Some, slice_get};
+ghost use Rattle.std.specs.Prelude.{◌≡◌, ◌≢◌, ◌≤◌, ℕ, List, Some, length, slice_get};
 ghost use Rattle.litmus_meaning.specs.Layout.{bytes_at, cells_of};
 ghost use Rattle.litmus_meaning.specs.Values.{size_of};
 ghost use Rattle.litmus_syntax.specs.Limits.{HaveOwnNames};
 ghost use Rattle.litmus_syntax.specs.declared.program.Variable.{Variable};
+ghost use Rattle.program_layout.specs.Aligned.{AreAligned};
 ghost use Rattle.program_layout.specs.Cells.{LieInOneCell};
 ghost use Rattle.program_layout.specs.Places.{AreFit, places_of};
 ghost use Rattle.program_layout.specs.declared.place.Place.{Place};
@@ -15,4 +16,11 @@ pub fn variables_lie_in_one_cell()
     ensures { (variables : List Variable) (places : List Place) → AreFit variables places → HaveOwnNames variables
         → (number : ℕ) (variable : Variable) → slice_get variables number ≡ Some variable → size_of variable.contents ≢ 0
         → LieInOneCell (cells_of (places_of places) variables) (bytes_at (places_of places) number variable) }
+{}
+
+/// Law: where the places fit, and no two of up to 32 variables have one name, each variable but the locks stands at a
+/// multiple of its size, at 2^62 at most.
+pub fn variables_are_aligned()
+    ensures { (variables : List Variable) (places : List Place) → AreFit variables places → HaveOwnNames variables
+        → length variables ≤ 32 → AreAligned (places_of places) variables }
 {}

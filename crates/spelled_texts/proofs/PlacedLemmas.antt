@@ -13,7 +13,7 @@ use Rattle.litmus_syntax.specs.declared.program.Contents.{Contents}
 use Rattle.litmus_syntax.specs.declared.program.Contents.TheVariants.{Atomic, Char, Int, Lock, Long, Short}
 use Rattle.litmus_syntax.specs.declared.program.Variable.{Variable}
 use Rattle.setup_access.specs.Values.{has_value, lies_in, source_in, source_of}
-use Rattle.spelled_texts.specs.Aligned.{AreAligned}
+use Rattle.program_layout.specs.Aligned.{AreAligned}
 use Rattle.spelled_texts.specs.Fits.{ArePlaced, HasBytes}
 use Rattle.written_order.specs.Standing.{Setting, checks_of}
 

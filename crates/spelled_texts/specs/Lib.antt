@@ -1,4 +1,3 @@
 pub mod Core
 pub mod Begins
 pub mod Fits
-pub mod Aligned

@@ -1,15 +1,20 @@
 //! What is true of texts that fit.
 
 ghost use Rattle.std.specs.Prelude.{◌≡◌, ◌<◌, ◌≤◌, ◌+◌, ◌++◌, [], ℕ, List, length};
-ghost use Rattle.litmus_syntax.specs.Limits.{TaskKeepsLimits};
-ghost use Rattle.litmus_syntax.specs.Tree.{Block, Task};
+ghost use Rattle.litmus_meaning.specs.RunOfProgram.{setting_of};
+ghost use Rattle.litmus_syntax.specs.Limits.{KeepsLimits, TaskKeepsLimits};
+ghost use Rattle.litmus_syntax.specs.Tree.{Block, Program, Task};
+ghost use Rattle.program_layout.specs.Aligned.{AreAligned};
+ghost use Rattle.program_layout.specs.Places.{AreFit, places_of};
+ghost use Rattle.program_layout.specs.declared.place.Place.{Place};
 ghost use Rattle.slot_table.specs.declared.records.Record.{Record};
-ghost use Rattle.spelled_texts.specs.Aligned.{AreAligned};
 ghost use Rattle.spelled_texts.specs.Begins.{block_begins};
 ghost use Rattle.spelled_texts.specs.Core.{begun_at, core_of};
 ghost use Rattle.spelled_texts.specs.Fits.{ArePlaced, Fits};
 ghost use Rattle.written_order.specs.Standing.{Setting, Standing};
 ghost use Rattle.written_order.specs.WrittenOrder.{SpellsAll, StepsOfBlock, WrittenOrder, at_first};
+
+use program_layout::variables_are_aligned;
 
 /// Law: a block that fits where a task stands is spelled by some records, whatever follows. The scoped assertions
 /// in force are the same afterwards, and at each site no more accesses began than the block has room for.
@@ -37,3 +42,12 @@ pub fn texts_within_limits_are_spelled()
 pub fn aligned_variables_are_placed()
     ensures { (s : Setting) → s.text.task < 16 → AreAligned s.text.places s.text.variables → ArePlaced s }
 {}
+
+/// Law: of a program within the limits, with places that fit its variables, these are placed for each task.
+pub fn variables_of_programs_are_placed()
+    ensures { (program : Program) (places : List Place) → KeepsLimits program → AreFit program.variables places
+        → (s : Setting) (number : ℕ) → number < length program.tasks → s.text ≡ setting_of program (places_of places) number
+        → ArePlaced s }
+{
+    variables_are_aligned();
+}
