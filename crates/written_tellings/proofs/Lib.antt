@@ -1,0 +1,14 @@
+pub mod Sure
+pub mod SureChecks
+pub mod SureOperations
+pub mod Cuts
+pub mod CheckGoes
+pub mod AccessGoes
+pub mod ScopeGoes
+pub mod LowLemmas
+pub mod TextGoes
+pub mod Falling
+pub mod Telling
+pub mod OneOutcome
+pub mod CheckNames
+pub mod StepNames
