@@ -2,3 +2,6 @@ pub mod Simple
 pub mod Statements
 pub mod CallReader
 pub mod StoreReader
+pub mod SimpleReader
+pub mod StatementReader
+pub mod Reads

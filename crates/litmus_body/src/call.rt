@@ -7,6 +7,7 @@ ghost use Rattle.litmus_cursor.specs.Front.{Answers};
 ghost use Rattle.litmus_expression.specs.Places.{place_of};
 ghost use Rattle.litmus_expression.specs.States.{state_of};
 ghost use Rattle.litmus_body.specs.CallReader as reader;
+ghost use Rattle.litmus_body.specs.StatementReader as statements;
 
 use litmus_cursor::{CallWord, Excess, Refusal};
 use litmus_expression::{Process, Surroundings, Takes};
@@ -22,7 +23,9 @@ pub fn largest_check()
 {}
 
 /// Whether the call begins a scope.
-pub fn is_scoped(call: &Call) -> bool {
+pub fn is_scoped(call: &Call) -> bool
+    ensures { result ≡ statements.is_scoped call.now }
+{
     match call {
         Call::AssertWriter { scoped, .. } | Call::AssertAccess { scoped, .. } => *scoped,
         _ => false,

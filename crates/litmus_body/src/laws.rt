@@ -1,16 +1,20 @@
 //! What is true of the readers of bodies and the grammar.
 
 ghost use Rattle.std.specs.Prelude.{◌≡◌, ◌≤◌, ◌+◌, ℕ, List, Some, length, map};
-ghost use Rattle.litmus_syntax.specs.Limits.{call_scopes, repeats_limit, scoped_limit};
+ghost use Rattle.litmus_syntax.specs.Limits.{call_scopes, nesting_limit, registers_limit, repeats_limit, scoped_limit};
 ghost use Rattle.litmus_syntax.specs.declared.statement.Call.{Call};
 ghost use Rattle.litmus_cursor.specs.declared.words.CallWord.{CallWord};
 ghost use Rattle.litmus_cursor.specs.declared.words.Word.TheVariants as words;
 ghost use Rattle.litmus_cursor.specs.Front.{first};
 ghost use Rattle.litmus_cursor.specs.Words.{Symbol, word};
+ghost use Rattle.litmus_expression.specs.Counters.{AreCounters};
 ghost use Rattle.litmus_expression.specs.Followed.{Differ, name_of};
+ghost use Rattle.litmus_expression.specs.Places.{Place};
 ghost use Rattle.litmus_expression.specs.States.{State};
 ghost use Rattle.litmus_body.specs.CallReader.{ReadsCall, call_accesses, call_at};
-ghost use Rattle.litmus_body.specs.Statements.{Calls};
+ghost use Rattle.litmus_body.specs.Reads.{ReadsSimple};
+ghost use Rattle.litmus_body.specs.SimpleReader.{simple_at};
+ghost use Rattle.litmus_body.specs.Statements.{Calls, Enclosable};
 
 /// Law: what is read as a call is spelled so, and its scope and its access are counted.
 pub fn what_is_read_as_a_call_is_spelled()
@@ -27,4 +31,11 @@ pub fn what_is_spelled_as_a_call_is_read()
         → scopes + call_scopes c ≤ scoped_limit → s.repeats + call_accesses turns c ≤ repeats_limit
         → (w : CallWord) × (first s.symbols ≡ word (words.Call w))
         × (call_at turns scopes w s ≡ Some (c, record s { symbols = rest; repeats = s.repeats + call_accesses turns c })) }
+{}
+
+/// Law: what is read as a simple statement is spelled so, and its access is counted.
+pub fn what_is_read_as_a_simple_statement_is_spelled()
+    ensures { (p : Place) (counters : List ℕ) (s : State) (x : Enclosable × State)
+        → AreCounters p.counters counters → p.depth ≤ nesting_limit → length s.names ≤ registers_limit → simple_at p s ≡ Some x
+        → ReadsSimple p counters s x }
 {}

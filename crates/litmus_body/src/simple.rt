@@ -3,11 +3,13 @@
 ghost use Rattle.std.specs.Prelude.{◌≡◌, ◌≤◌, ◌<◌, ◌+◌, ◌^◌, ◌-◌, IfOk, OnOk};
 ghost use Rattle.litmus_cursor.specs.Cursor.{count_left};
 ghost use Rattle.litmus_cursor.specs.Front.{Answers};
-ghost use Rattle.litmus_syntax.specs.Views.{assignment_of};
+ghost use Rattle.litmus_syntax.specs.Views.{assignment_of, statement_of};
 ghost use Rattle.litmus_expression.specs.Places.{place_of};
 ghost use Rattle.litmus_expression.specs.States.{state_of};
-ghost use Rattle.litmus_body.specs.Simple.{data_races_of};
-ghost use Rattle.litmus_body.specs.StoreReader as reader;
+ghost use Rattle.litmus_body.specs.Simple.{data_races_of, enclosable_of};
+ghost use Rattle.litmus_body.specs.SimpleReader as reader;
+ghost use Rattle.litmus_body.specs.Statements.{alone, raced};
+ghost use Rattle.litmus_body.specs.StoreReader as stores;
 
 use litmus_cursor::{Refusal, StoreWord, Word};
 use litmus_expression::{Process, Surroundings, Takes};
@@ -23,7 +25,9 @@ pub enum Simple {
 
 impl Simple {
     /// The statement that it is.
-    pub fn into_statement(self) -> Statement {
+    pub fn into_statement(self) -> Statement
+        ensures { statement_of result ≡ alone (enclosable_of self) }
+    {
         match self {
             Simple::Load(load) => Statement::Load(load),
             Simple::Assignment(assignment) => Statement::Assign {
@@ -36,6 +40,7 @@ impl Simple {
     /// The statement that it is inside `data_race( )`.
     pub fn into_data_race(self) -> Statement
         requires { data_races_of self < 2 ^ 64 - 1 }
+        ensures { statement_of result ≡ raced (enclosable_of self) }
     {
         match self {
             Simple::Load(load) => Statement::Load(Load {
@@ -51,9 +56,12 @@ impl Simple {
 }
 
 /// A simple statement, without what ends it.
+#[tactic(auto, unfolding(crate::specs::SimpleReader::simple_at))]
 pub fn read_simple(process: &mut Process<'_>, around: &Surroundings) -> Result<Simple, Refusal>
     ensures enclosed { IfOk result (λ simple. data_races_of simple < count_left process.old.cursor) }
     ensures moves { OnOk result (count_left process.new.cursor < count_left process.old.cursor) }
+    ensures reads { Answers result (λ found. (enclosable_of found, state_of process.new))
+        (reader.simple_at (place_of around.now) (state_of process.old)) }
 {
     match process.cursor.token() {
         Token::Sign(Sign::Star) => read_starred(process, around),
@@ -72,11 +80,14 @@ pub fn read_simple(process: &mut Process<'_>, around: &Surroundings) -> Result<S
 }
 
 /// `REG = expr`
+#[tactic(auto, unfolding(crate::specs::SimpleReader::register_assignment))]
 fn read_register_assignment(
     process: &mut Process<'_>,
     around: &Surroundings,
 ) -> Result<Assignment, Refusal>
-    ensures { OnOk result (count_left process.new.cursor < count_left process.old.cursor) }
+    ensures moves { OnOk result (count_left process.new.cursor < count_left process.old.cursor) }
+    ensures reads { Answers result (λ found. (assignment_of found, state_of process.new))
+        (reader.register_assignment (place_of around.now) (state_of process.old)) }
 {
     process.cursor.refuse_call()?;
     let register = process.take_changed_register(around)?;
@@ -86,12 +97,15 @@ fn read_register_assignment(
 }
 
 /// `* VAR = pure`, `* VAR += pure`, or the load `* VAR`.
+#[tactic(auto, unfolding(crate::specs::SimpleReader::starred))]
 fn read_starred(process: &mut Process<'_>, around: &Surroundings) -> Result<Simple, Refusal>
     ensures enclosed { IfOk result (λ simple. data_races_of simple ≡ 0) }
     ensures moves { OnOk result (count_left process.new.cursor < count_left process.old.cursor) }
+    ensures reads { Answers result (λ found. (enclosable_of found, state_of process.new))
+        (reader.starred (place_of around.now) (state_of process.old)) }
 {
     process.count_access(around)?;
-    process.cursor.take(Sign::Star)?;
+    process.take_star()?;
     let variable = process.take_variable(Takes::Integers)?;
     if process.cursor.accept(Sign::Assign) {
         let value = process.pure(around)?;
@@ -115,9 +129,12 @@ fn read_starred(process: &mut Process<'_>, around: &Surroundings) -> Result<Simp
 }
 
 /// `( * VAR ) ++`
+#[tactic(auto, unfolding(crate::specs::SimpleReader::increment))]
 fn read_increment(process: &mut Process<'_>, around: &Surroundings) -> Result<Simple, Refusal>
     ensures enclosed { IfOk result (λ simple. data_races_of simple ≡ 0) }
     ensures moves { OnOk result (count_left process.new.cursor < count_left process.old.cursor) }
+    ensures reads { Answers result (λ found. (enclosable_of found, state_of process.new))
+        (reader.increment (place_of around.now) (state_of process.old)) }
 {
     process.count_access(around)?;
     process.cursor.take(Sign::OpenParen)?;
@@ -137,7 +154,7 @@ fn read_store(
 ) -> Result<Assignment, Refusal>
     ensures moves { OnOk result (count_left process.new.cursor < count_left process.old.cursor) }
     ensures reads { Answers result (λ found. (assignment_of found, state_of process.new))
-        (reader.store_at (place_of around.now).turns (place_of around.now).depth word (state_of process.old)) }
+        (stores.store_at (place_of around.now).turns (place_of around.now).depth word (state_of process.old)) }
 {
     process.count_access(around)?;
     process.cursor.advance();
@@ -156,7 +173,7 @@ fn store_of_word(
 ) -> Result<Assignment, Refusal>
     ensures moves { OnOk result (count_left process.new.cursor < count_left process.old.cursor) }
     ensures reads { Answers result (λ found. (assignment_of found, state_of process.new))
-        (reader.stored (place_of around.now).turns (place_of around.now).depth word (state_of process.old)) }
+        (stores.stored (place_of around.now).turns (place_of around.now).depth word (state_of process.old)) }
 {
     match word {
         StoreWord::Write(form) => read_write(process, form, around),
@@ -186,7 +203,7 @@ fn read_write(
 ) -> Result<Assignment, Refusal>
     ensures moves { OnOk result (count_left process.new.cursor < count_left process.old.cursor) }
     ensures reads { Answers result (λ found. (assignment_of found, state_of process.new))
-        (reader.write (place_of around.now).turns (place_of around.now).depth form (state_of process.old)) }
+        (stores.write (place_of around.now).turns (place_of around.now).depth form (state_of process.old)) }
 {
     match form {
         WriteForm::Plain => Err(process.cursor.offence()),
@@ -209,7 +226,7 @@ fn read_written(
 ) -> Result<Assignment, Refusal>
     ensures moves { OnOk result (count_left process.new.cursor < count_left process.old.cursor) }
     ensures reads { Answers result (λ found. (assignment_of found, state_of process.new))
-        (reader.written (place_of around.now).turns (place_of around.now).depth takes form (state_of process.old)) }
+        (stores.written (place_of around.now).turns (place_of around.now).depth takes form (state_of process.old)) }
 {
     let variable = process.take_variable(takes)?;
     process.cursor.take(Sign::Comma)?;

@@ -1,12 +1,19 @@
 //! Statements and blocks of a process.
 
-ghost use Rattle.std.specs.Prelude.{◌≡◌, ◌≤◌, ◌<◌, ◌+◌, ◌^◌, IfOk, OnOk};
-ghost use Rattle.litmus_cursor.specs.Cursor.{count_left};
+ghost use Rattle.std.specs.Prelude.{◌≡◌, ◌≤◌, ◌<◌, ◌+◌, ◌^◌, IfOk, IsTrue, OnOk, option_map};
 ghost use Rattle.litmus_syntax.specs.Limits.{registers_limit, turns_limit};
+ghost use Rattle.litmus_syntax.specs.Views.{block_of, statement_of};
+ghost use Rattle.litmus_cursor.specs.Cursor.{count_left};
+ghost use Rattle.litmus_cursor.specs.Front.{Answers, first, symbols_left};
+ghost use Rattle.litmus_expression.specs.PlaceReader.{take_changed};
+ghost use Rattle.litmus_expression.specs.Places.{place_of};
+ghost use Rattle.litmus_expression.specs.States.{state_of};
+ghost use Rattle.litmus_body.specs.SimpleReader.{data_race_at};
+ghost use Rattle.litmus_body.specs.StatementReader as reader;
 
 use crate::call::{is_scoped, read_call};
 use crate::simple::read_simple;
-use litmus_cursor::{CallWord, Refusal, VariableType, Word};
+use litmus_cursor::{CallWord, Cursor, Refusal, VariableType, Word};
 use litmus_expression::{Process, Surroundings};
 use litmus_lex::{Sign, Token};
 use litmus_syntax::{Assignment, Call, Statement};
@@ -33,7 +40,9 @@ enum Counted {
 }
 
 /// How a statement that begins with a word begins. None: no statement does.
-fn opening_of_word(word: Word) -> Option<Opening> {
+fn opening_of_word(word: Word) -> Option<Opening>
+    ensures { result ≡ reader.opening_of_word word }
+{
     match word {
         Word::Type(VariableType::Atomic | VariableType::Lock) => None,
         Word::Type(_) => Some(Opening::Declaration),
@@ -47,20 +56,33 @@ fn opening_of_word(word: Word) -> Option<Opening> {
 }
 
 /// Whether the statement begins a scope.
-fn begins_scope(statement: &Statement) -> bool {
+fn begins_scope(statement: &Statement) -> bool
+    ensures { result ≡ reader.begins_scope (statement_of statement.now) }
+{
     match statement {
         Statement::Call(call) => is_scoped(call),
         _ => false,
     }
 }
 
+/// Whether `else` is next.
+fn is_at_else(cursor: &Cursor<'_>) -> bool
+    ensures exact { result ≡ reader.is_else (first (symbols_left cursor.now)) }
+    ensures some { IsTrue result → 0 < count_left cursor.now }
+{
+    matches!(cursor.word(), Some(Word::Else))
+}
+
 /// `{` statements `}`
 #[cycle(statement)]
+#[tactic(auto, using(crate::proofs::Unrolled::unrolls))]
 pub fn read_block(
     process: &mut Process<'_>,
     around: Surroundings,
 ) -> Result<Vec<Statement>, Refusal>
-    ensures { OnOk result (count_left process.new.cursor < count_left process.old.cursor) }
+    ensures moves { OnOk result (count_left process.new.cursor < count_left process.old.cursor) }
+    ensures reads { Answers result (λ block. (block_of block.items, state_of process.new))
+        (reader.block_at (place_of around) (state_of process.old)) }
 {
     if !process.cursor.is_at(Sign::OpenBrace) {
         return Err(process.cursor.offence());
@@ -81,8 +103,11 @@ pub fn read_block(
 
 /// A block, or one statement, which is a block of its own.
 #[cycle(statement)]
+#[tactic(auto, using(crate::proofs::Unrolled::unrolls))]
 fn read_body(process: &mut Process<'_>, around: Surroundings) -> Result<Vec<Statement>, Refusal>
-    ensures { OnOk result (count_left process.new.cursor < count_left process.old.cursor) }
+    ensures moves { OnOk result (count_left process.new.cursor < count_left process.old.cursor) }
+    ensures reads { Answers result (λ block. (block_of block.items, state_of process.new))
+        (reader.body_at (place_of around) (state_of process.old)) }
 {
     if process.cursor.is_at(Sign::OpenBrace) {
         return read_block(process, around);
@@ -99,11 +124,14 @@ fn read_body(process: &mut Process<'_>, around: Surroundings) -> Result<Vec<Stat
 
 /// One statement. `;` alone and a declaration without a value are none that is kept.
 #[cycle(statement)]
+#[tactic(auto, using(crate::proofs::Unrolled::unrolls))]
 fn read_statement(
     process: &mut Process<'_>,
     around: Surroundings,
 ) -> Result<Option<Statement>, Refusal>
-    ensures { OnOk result (count_left process.new.cursor < count_left process.old.cursor) }
+    ensures moves { OnOk result (count_left process.new.cursor < count_left process.old.cursor) }
+    ensures reads { Answers result (λ found. (option_map statement_of found, state_of process.new))
+        (reader.statement_at (place_of around) (state_of process.old)) }
 {
     match opening_of(process)? {
         Opening::Empty => {
@@ -119,8 +147,10 @@ fn read_statement(
 }
 
 /// How the statement that is next begins.
+#[tactic(auto, unfolding(crate::specs::StatementReader::opening_at))]
 fn opening_of(process: &Process<'_>) -> Result<Opening, Refusal>
-    ensures { OnOk result (0 < count_left process.now.cursor) }
+    ensures some { OnOk result (0 < count_left process.now.cursor) }
+    ensures reads { Answers result (λ opening. opening) (reader.opening_at (state_of process.now)) }
 {
     match process.cursor.token() {
         Token::Sign(Sign::Semicolon) => Ok(Opening::Empty),
@@ -144,12 +174,15 @@ fn opening_of(process: &Process<'_>) -> Result<Opening, Refusal>
 
 /// A statement that counts.
 #[cycle(statement)]
+#[tactic(auto, using(crate::proofs::Unrolled::unrolls))]
 fn read_counted(
     process: &mut Process<'_>,
     counted: Counted,
     around: Surroundings,
 ) -> Result<Statement, Refusal>
-    ensures { OnOk result (count_left process.new.cursor < count_left process.old.cursor) }
+    ensures moves { OnOk result (count_left process.new.cursor < count_left process.old.cursor) }
+    ensures reads { Answers result (λ found. (statement_of found, state_of process.new))
+        (reader.counted_at (place_of around) counted (state_of process.old)) }
 {
     match counted {
         Counted::If => read_branch(process, around),
@@ -169,11 +202,14 @@ fn read_counted(
 }
 
 /// `stype REG {, REG} ;` or `stype REG = expr ;`
+#[tactic(auto, unfolding(crate::specs::StatementReader::declaration_at))]
 fn read_declaration(
     process: &mut Process<'_>,
     around: &Surroundings,
 ) -> Result<Option<Statement>, Refusal>
-    ensures { OnOk result (count_left process.new.cursor < count_left process.old.cursor) }
+    ensures moves { OnOk result (count_left process.new.cursor < count_left process.old.cursor) }
+    ensures reads { Answers result (λ found. (option_map statement_of found, state_of process.new))
+        (reader.declaration_at (place_of around.now) (state_of process.old)) }
 {
     process.cursor.advance();
     let register = take_declared_register(process, around)?;
@@ -188,27 +224,44 @@ fn read_declaration(
             assignment,
         }));
     }
-    while process.cursor.accept(Sign::Comma) {
-        let _ = take_declared_register(process, around)?;
-    }
+    take_more_declared(process, around)?;
     process.cursor.take(Sign::Semicolon)?;
     Ok(None)
 }
 
+/// Takes each `, REG` that is next.
+#[tactic(auto, using(crate::proofs::Declared::more_unrolls))]
+fn take_more_declared(process: &mut Process<'_>, around: &Surroundings) -> Result<(), Refusal>
+    ensures moves { OnOk result (count_left process.new.cursor ≤ count_left process.old.cursor) }
+    ensures reads { Answers result (λ _. state_of process.new)
+        (reader.more_declared (place_of around.now).counters (state_of process.old) (symbols_left process.old.cursor)) }
+{
+    while process.cursor.accept(Sign::Comma) {
+        let _ = take_declared_register(process, around)?;
+    }
+    Ok(())
+}
+
 /// A register that is declared. A pointer is unsupported.
+#[tactic(auto, using(crate::proofs::Declared::starred))]
 fn take_declared_register(
     process: &mut Process<'_>,
     around: &Surroundings,
 ) -> Result<usize, Refusal>
-    ensures { OnOk result (count_left process.new.cursor < count_left process.old.cursor) }
+    ensures moves { OnOk result (count_left process.new.cursor < count_left process.old.cursor) }
+    ensures reads { Answers result (λ register. (register, state_of process.new))
+        (take_changed (place_of around.now).counters (state_of process.old)) }
 {
     process.cursor.refuse_pointer()?;
     process.take_changed_register(around)
 }
 
 /// `data_race ( simple ) ;`
+#[tactic(auto, unfolding(crate::specs::SimpleReader::data_race_at))]
 fn read_data_race(process: &mut Process<'_>, around: &Surroundings) -> Result<Statement, Refusal>
-    ensures { OnOk result (count_left process.new.cursor < count_left process.old.cursor) }
+    ensures moves { OnOk result (count_left process.new.cursor < count_left process.old.cursor) }
+    ensures reads { Answers result (λ found. (statement_of found, state_of process.new))
+        (data_race_at (place_of around.now) (state_of process.old)) }
 {
     process.cursor.advance();
     process.cursor.take(Sign::OpenParen)?;
@@ -220,17 +273,21 @@ fn read_data_race(process: &mut Process<'_>, around: &Surroundings) -> Result<St
 
 /// `if ( expr ) body`, and `else body` or not.
 #[cycle(statement)]
+#[tactic(auto, using(crate::proofs::Unrolled::unrolls))]
 fn read_branch(process: &mut Process<'_>, around: Surroundings) -> Result<Statement, Refusal>
-    ensures { OnOk result (count_left process.new.cursor < count_left process.old.cursor) }
+    ensures moves { OnOk result (count_left process.new.cursor < count_left process.old.cursor) }
+    ensures reads { Answers result (λ found. (statement_of found, state_of process.new))
+        (reader.branch_at (place_of around) (state_of process.old)) }
 {
     process.cursor.advance();
     process.cursor.take(Sign::OpenParen)?;
     let condition = process.expression(&around)?;
     process.cursor.take(Sign::CloseParen)?;
     let body = read_body(process, around)?;
-    if !process.cursor.accept_word(Word::Else) {
+    if !is_at_else(&process.cursor) {
         return Ok(Statement::If { condition, body });
     }
+    process.cursor.advance();
     let otherwise = read_body(process, around)?;
     Ok(Statement::IfElse {
         condition,
@@ -241,8 +298,11 @@ fn read_branch(process: &mut Process<'_>, around: Surroundings) -> Result<Statem
 
 /// `for ( REG = 0 ; REG < NUMBER ; REG ++ ) body`, over one register.
 #[cycle(statement)]
+#[tactic(auto, using(crate::proofs::Unrolled::unrolls))]
 fn read_repetition(process: &mut Process<'_>, around: Surroundings) -> Result<Statement, Refusal>
-    ensures { OnOk result (count_left process.new.cursor < count_left process.old.cursor) }
+    ensures moves { OnOk result (count_left process.new.cursor < count_left process.old.cursor) }
+    ensures reads { Answers result (λ found. (statement_of found, state_of process.new))
+        (reader.repetition_at (place_of around) (state_of process.old)) }
 {
     process.cursor.advance();
     let header = read_loop_header(process, &around)?;
@@ -255,16 +315,49 @@ fn read_repetition(process: &mut Process<'_>, around: Surroundings) -> Result<St
 }
 
 /// `( REG = 0 ; REG < NUMBER ; REG ++ )`
+#[tactic(auto, unfolding(crate::specs::StatementReader::header_at))]
 fn read_loop_header(process: &mut Process<'_>, around: &Surroundings) -> Result<LoopHeader, Refusal>
     ensures moves { OnOk result (count_left process.new.cursor < count_left process.old.cursor) }
     ensures register { IfOk result (λ header. header.register < registers_limit) }
     ensures repeats { IfOk result (λ header. header.repeats ≤ turns_limit) }
+    ensures reads { Answers result (λ header. (header, state_of process.new))
+        (reader.header_at (place_of around.now) (state_of process.old)) }
+{
+    let register = read_counter(process, around)?;
+    let header = read_bound(process, register, around)?;
+    read_step(process, register)?;
+    Ok(header)
+}
+
+/// `( REG = 0 ;`
+#[tactic(auto, unfolding(crate::specs::StatementReader::counter_at))]
+fn read_counter(process: &mut Process<'_>, around: &Surroundings) -> Result<usize, Refusal>
+    ensures moves { OnOk result (count_left process.new.cursor < count_left process.old.cursor) }
+    ensures within { IfOk result (λ register. register < registers_limit) }
+    ensures reads { Answers result (λ register. (register, state_of process.new))
+        (reader.counter_at (place_of around.now).counters (state_of process.old)) }
 {
     process.cursor.take_of_form(Sign::OpenParen)?;
     let register = take_counter(process, around)?;
     process.cursor.take_of_form(Sign::Assign)?;
-    take_zero(process)?;
+    take_zero(&mut process.cursor)?;
     process.cursor.take_of_form(Sign::Semicolon)?;
+    Ok(register)
+}
+
+/// `REG < NUMBER ;`
+#[tactic(auto, unfolding(crate::specs::StatementReader::bound_at, litmus_cursor::specs::Front::take_number))]
+fn read_bound(
+    process: &mut Process<'_>,
+    register: usize,
+    around: &Surroundings,
+) -> Result<LoopHeader, Refusal>
+    ensures moves { OnOk result (count_left process.new.cursor < count_left process.old.cursor) }
+    ensures register { IfOk result (λ header. header.register ≡ register) }
+    ensures repeats { IfOk result (λ header. header.repeats ≤ turns_limit) }
+    ensures reads { Answers result (λ header. (header, state_of process.new))
+        (reader.bound_at (place_of around.now) register (state_of process.old)) }
+{
     take_counter_again(process, register)?;
     process.cursor.take_of_form(Sign::Less)?;
     let Token::Number(turns) = process.cursor.token() else {
@@ -273,9 +366,6 @@ fn read_loop_header(process: &mut Process<'_>, around: &Surroundings) -> Result<
     let repeats = around.turns_of(turns)?;
     process.cursor.advance();
     process.cursor.take_of_form(Sign::Semicolon)?;
-    take_counter_again(process, register)?;
-    process.cursor.take_of_form(Sign::Increment)?;
-    process.cursor.take_of_form(Sign::CloseParen)?;
     Ok(LoopHeader {
         register,
         turns,
@@ -283,20 +373,37 @@ fn read_loop_header(process: &mut Process<'_>, around: &Surroundings) -> Result<
     })
 }
 
+/// `REG ++ )`
+#[tactic(auto, unfolding(crate::specs::StatementReader::step_at))]
+fn read_step(process: &mut Process<'_>, register: usize) -> Result<(), Refusal>
+    ensures moves { OnOk result (count_left process.new.cursor < count_left process.old.cursor) }
+    ensures reads { Answers result (λ _. state_of process.new) (reader.step_at register (state_of process.old)) }
+{
+    take_counter_again(process, register)?;
+    process.cursor.take_of_form(Sign::Increment)?;
+    process.cursor.take_of_form(Sign::CloseParen)
+}
+
 /// The register of a loop, which counts no loop round it.
+#[tactic(auto, using(crate::proofs::Declared::nameless))]
 fn take_counter(process: &mut Process<'_>, around: &Surroundings) -> Result<usize, Refusal>
     ensures moves { OnOk result (count_left process.new.cursor < count_left process.old.cursor) }
     ensures within { IfOk result (λ register. register < registers_limit) }
+    ensures reads { Answers result (λ register. (register, state_of process.new))
+        (take_changed (place_of around.now).counters (state_of process.old)) }
 {
-    if process.register_name().is_none() {
+    let Some(_name) = process.register_name() else {
         return Err(process.cursor.form_offence());
-    }
+    };
     process.take_changed_register(around)
 }
 
 /// The register of the loop once more.
+#[tactic(auto, unfolding(crate::specs::StatementReader::take_again))]
 fn take_counter_again(process: &mut Process<'_>, register: usize) -> Result<(), Refusal>
-    ensures { OnOk result (count_left process.new.cursor < count_left process.old.cursor) }
+    ensures moves { OnOk result (count_left process.new.cursor < count_left process.old.cursor) }
+    ensures reads { Answers result (λ _. state_of process.new)
+        (reader.take_again register (state_of process.old)) }
 {
     match process.register_name() {
         Some(name) if process.register_of(name) == Some(register) => {
@@ -308,14 +415,17 @@ fn take_counter_again(process: &mut Process<'_>, register: usize) -> Result<(), 
 }
 
 /// A zero, however it is spelled.
-fn take_zero(process: &mut Process<'_>) -> Result<(), Refusal>
-    ensures { OnOk result (count_left process.new.cursor < count_left process.old.cursor) }
+fn take_zero(cursor: &mut Cursor<'_>) -> Result<(), Refusal>
+    ensures moves { OnOk result (count_left cursor.new < count_left cursor.old) }
+    ensures reads { Answers result (λ _. symbols_left cursor.new) (reader.take_zero (symbols_left cursor.old)) }
 {
-    if process.cursor.token() != Token::Number(0) {
-        return Err(process.cursor.form_offence());
+    match cursor.token() {
+        Token::Number(0) => {
+            cursor.advance();
+            Ok(())
+        }
+        _ => Err(cursor.form_offence()),
     }
-    process.cursor.advance();
-    Ok(())
 }
 
 /// What the parentheses of a loop say.

@@ -1,8 +1,10 @@
 pub mod Found
 pub mod Taken
 pub mod Shorter
+pub mod Fewer
 pub mod Named
 pub mod Races
 pub mod Unrolled
 pub mod Sound
 pub mod Complete
+pub mod Whole

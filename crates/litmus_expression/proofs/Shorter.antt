@@ -66,7 +66,7 @@ name_among_fewer : (parameters : List Parameter) (symbols : List Symbol) (o : Op
 name_among_fewer parameters symbols None name is e = absurd cc
 name_among_fewer parameters symbols (Some other) name is e = identifier_fewer symbols (first symbols) other refl is
 
-register_fewer_named : (s : State) (o : Option (List ℕ)) (x : ℕ × State) → register_name s ≡ o → register_named s o ≡ Some x → (x.1.symbols ≡ s.symbols) × (length (others s.symbols) < length s.symbols)
+pub register_fewer_named : (s : State) (o : Option (List ℕ)) (x : ℕ × State) → register_name s ≡ o → register_named s o ≡ Some x → (x.1.symbols ≡ s.symbols) × (length (others s.symbols) < length s.symbols)
 register_fewer_named s None x is e = absurd cc
 register_fewer_named s (Some name) x is e =
     (numbered_same s name (index_of s.names name) x e, name_among_fewer s.parameters s.symbols (identifier_at (first s.symbols)) name refl is)

@@ -21,14 +21,14 @@ use Rattle.litmus_expression.proofs.Shorter.{Shorter, Less, AtMost, Found, deep_
 
 -- ---- two readings that agree go on alike
 
-bind_same : {A B : Type 0} (o p : Option A) (f g : A → Option B) → o ≡ p → ((x : A) → o ≡ Some x → f x ≡ g x) → (o >>= f) ≡ (p >>= g)
+pub bind_same : {A B : Type 0} (o p : Option A) (f g : A → Option B) → o ≡ p → ((x : A) → o ≡ Some x → f x ≡ g x) → (o >>= f) ≡ (p >>= g)
 bind_same None p f g e h = ap (λ (q : Option _). q >>= g) e
 bind_same (Some x) p f g e h = h x refl ∙ ap (λ (q : Option _). q >>= g) e
 
-then_same : {A B : Type 0} (o : Option A) (f g : A → Option B) → ((x : A) → o ≡ Some x → f x ≡ g x) → (o >>= f) ≡ (o >>= g)
+pub then_same : {A B : Type 0} (o : Option A) (f g : A → Option B) → ((x : A) → o ≡ Some x → f x ≡ g x) → (o >>= f) ≡ (o >>= g)
 then_same o f g h = bind_same o o f g refl h
 
-choice_same : {A : Type 0} (b : Bool) (o p q r : Option A) → o ≡ q → (b ≡ false → p ≡ r) → cond b o p ≡ cond b q r
+pub choice_same : {A : Type 0} (b : Bool) (o p q r : Option A) → o ≡ q → (b ≡ false → p ≡ r) → cond b o p ≡ cond b q r
 choice_same true o p q r e f = e
 choice_same false o p q r e f = f refl
 

@@ -1,5 +1,6 @@
 pub mod Names
 pub mod Places
+pub mod Counters
 pub mod States
 pub mod NameReader
 pub mod PlaceReader
