@@ -1,0 +1,7 @@
+pub mod Falls
+pub mod Texts
+pub mod Lists
+pub mod Waiting
+pub mod Counts
+pub mod Takings
+pub mod Endings

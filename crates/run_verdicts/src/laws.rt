@@ -1,0 +1,34 @@
+//! What is true of the outcomes that each run list tells.
+
+ghost use Rattle.std.specs.Prelude.{◌≡◌, ◌∷◌, ℕ, Contains, List, None};
+ghost use Rattle.run_lists.specs.Run.{Run};
+ghost use Rattle.run_lists.specs.RunList.{RunList};
+ghost use Rattle.run_lists.specs.Told.{armed_by};
+ghost use Rattle.slot_table.specs.Meetings.{Meeting, setters_heard};
+ghost use Rattle.slot_table.specs.declared.records.Record.{Record};
+ghost use Rattle.run_verdicts.specs.Takings.{EachSettles, HasOneAnswer, IsOver, WasTaken};
+
+use run_lists::laws::run_lists_keep_the_discipline;
+use slot_table::step::Step;
+
+/// Law: the outcomes that a run list tells fall at the records that settle them, and at no others. Each refused
+/// try-consume is one lost try, each tell one telling, each untouched consume one verdict on nobody's hit, and each
+/// load by which a setter whose word was hit hears its finder one report of that pair or one named discard.
+pub fn outcomes_fall_where_they_are_settled()
+    ensures { (run : Run) (records : List Record) → (list : RunList run records) → EachSettles list records }
+{}
+
+/// Law: each taking has one answer in the list once its setter has heard of it: one report of two sides or one named
+/// discard, and no other. So has each taking that no task has in hand any more, and after a step of the clock, as an
+/// access ends by one, its task has none in hand. What answers say is the law of answers to takings in `run_lists`.
+pub fn each_taking_has_one_answer()
+    ensures heard { (run : Run) (records : List Record) → (list : RunList run records)
+        → (met : Meeting) → Contains (setters_heard records) met → HasOneAnswer list met.index met.number }
+    ensures over { (run : Run) (records : List Record) → (list : RunList run records)
+        → (index number : ℕ) → WasTaken index number records → IsOver index number records
+        → HasOneAnswer list index number }
+    ensures timed { (run : Run) (latest : Record) (earlier : List Record) → RunList run (latest ∷ earlier)
+        → latest.step ≡ Step.Clock → armed_by latest.task (latest ∷ earlier) ≡ None }
+{
+    run_lists_keep_the_discipline();
+}
