@@ -1,11 +1,11 @@
 -- Checks of accesses are open.
-use Rattle.std.proofs.Common.{◌≡◌, ◌↔◌, ◌⊎◌, ◌∙◌, ◌+◌, ◌++◌, ◌<◌, ◌||◌, ℕ, Bool, true, false, List, [], ◌∷◌, MatchBool, MatchOption, Option, None, Some, ap, arith, inl, inr, lit<, refl, subst, sym}
+use Rattle.std.proofs.Common.{◌≡◌, ◌↔◌, ◌⊎◌, ◌+◌, ◌<◌, ◌||◌, ℕ, Bool, true, false, List, [], ◌∷◌, MatchBool, MatchOption, Option, None, Some, arith, inl, inr, lit<, refl, subst, sym}
 use Rattle.std.proofs.lemmas.Bool.{cases_Bool, cases_lt}
 use Rattle.access_run.proofs.Decisions.{encodable_or_not, some_hit, some_untouched, watched_or_not}
 use Rattle.access_types.specs.Access.{Access}
 use Rattle.access_types.specs.Kind.{write_flag}
 use Rattle.access_types.specs.Ticket.{ticket_number}
-use Rattle.setup_access.specs.Check.{Check, ChecksAll, ChecksBegun, ChecksOnce, ChecksStamped, Close, Ends, Fallen, GoesOn, NoneFound, Pass, Passes, Rechecks, asked_silenced, counts_as_marked, fallen_of, left_to_check, skipped, unencodable, watched}
+use Rattle.setup_access.specs.Check.{Check, ChecksBegun, ChecksOnce, Close, Ends, Fallen, GoesOn, NoneFound, Pass, Passes, Rechecks, asked_silenced, counts_as_marked, fallen_of, left_to_check, skipped, unencodable, watched}
 use Rattle.setup_access.specs.Find.{LooksUp}
 use Rattle.setup_access.specs.Found.{FoundWatchpoint, Hears, Takes, Tells, TellsTo, finder_half, setter_half}
 use Rattle.setup_access.specs.Hits.{Hits}
@@ -22,15 +22,11 @@ use Rattle.setup_access.specs.declared.outcome.Watchpoint.{Watchpoint}
 use Rattle.setup_access.specs.declared.source.Source.{Source}
 use Rattle.slot.specs.Pair.{Halves}
 use Rattle.slot_table.specs.declared.records.Record.{Record}
-use Rattle.slot_table.specs.declared.step.Answer.{Answer}
-use Rattle.slot_table.specs.declared.step.Answer.TheVariants as answers
 use Rattle.slot_table.specs.declared.step.Step.TheVariants as steps
-use Rattle.answered_parts.specs.Alike.{IsAlike}
 use Rattle.answered_parts.proofs.Opens.{After, Begins, IsOpen, Lists, Open, bool_open, chosen_open, decided_open, done_then, flag_then, is_open_as, mapped_open, none_open, open_map, open_word, still_open, then_open, word_in, word_out, word_then}
 use Rattle.answered_parts.proofs.Waits.{hears_open}
 use Rattle.watch_word.specs.Layout.{masked, word_span}
-use Rattle.watch_word.specs.Match.{Matches}
-use Rattle.watch_word.specs.Word.{Encodable, IsWatchWord, watch_in, word_of}
+use Rattle.watch_word.specs.Word.{Encodable, watch_in, word_of}
 use Rattle.watch_word.specs.declared.layout.Layout.{Layout}
 use Rattle.watch_word.specs.declared.watch.Watch.{Watch}
 
@@ -77,7 +73,8 @@ module _ (s : Setting) (a : Access) where
       (λ word later found rest. (Hits s.rules.layout a word × (found ≡ Some (record { index = index; word = word })) × (rest ≡ later))
       ⊎ (¬ Hits s.rules.layout a word × LooksUp s a indices later found rest)) (λ answer fits. fits) tt
       (λ word. is_open_as (Option Watchpoint)
-      (λ later found rest. (Hits s.rules.layout a word × Here index word later found rest) ⊎ (¬ Hits s.rules.layout a word × LooksUp s a indices later found rest))
+      (λ later found rest. (Hits s.rules.layout a word × Here index word later found rest)
+      ⊎ (¬ Hits s.rules.layout a word × LooksUp s a indices later found rest))
       (λ later found rest. (Hits s.rules.layout a word × (found ≡ Some (record { index = index; word = word })) × (rest ≡ later))
       ⊎ (¬ Hits s.rules.layout a word × LooksUp s a indices later found rest))
       (λ later found rest. (
@@ -97,7 +94,8 @@ module _ (s : Setting) (a : Access) where
   takes_open found =
       flag_then s.task (steps.TryConsume found.index found.word) Outcome
       (λ taken later outcome rest. MatchBool taken (Tells s a found.index later outcome rest) ((outcome ≡ Lost) × (rest ≡ later))) (λ answer fits. fits) tt
-      (λ taken. bool_open Outcome (λ later outcome rest. Tells s a found.index later outcome rest) (λ later outcome rest. (outcome ≡ Lost) × (rest ≡ later)) taken
+      (λ taken. bool_open Outcome (λ later outcome rest. Tells s a found.index later outcome rest)
+      (λ later outcome rest. (outcome ≡ Lost) × (rest ≡ later)) taken
       (then_open Halves Outcome (λ records both later. Hears setter_half s.task found.index records both later)
       (λ both later outcome rest. TellsTo s a found.index both.setter later outcome rest)
       (hears_open setter_half (lit< tt) s.task found.index) (λ both. tells_to_open found.index both.setter))
@@ -111,7 +109,8 @@ module _ (s : Setting) (a : Access) where
   loads_open : (source : Option Source) → IsOpen (Option ℕ) (λ records value rest. LoadsFrom s a source records value rest)
   loads_open None = none_open (Option ℕ) None
   loads_open (Some source) =
-      word_then s.task (steps.CellLoad source.cell) (Option ℕ) (λ word later value rest. (value ≡ Some (value_in a source word)) × (rest ≡ later)) (λ answer fits. fits) tt
+      word_then s.task (steps.CellLoad source.cell) (Option ℕ) (λ word later value rest. (value ≡ Some (value_in a source word)) × (rest ≡ later))
+      (λ answer fits. fits) tt
       (λ word. none_open (Option ℕ) (Some (value_in a source word)))
 
   judges_hit_open : (index : ℕ) (values : Option (ℕ × ℕ)) → IsOpen Outcome (λ records outcome rest. JudgesHit s a index values records outcome rest)
@@ -130,7 +129,8 @@ module _ (s : Setting) (a : Access) where
   judges_open : (index : ℕ) (values : Option (ℕ × ℕ)) → IsOpen Outcome (λ records outcome rest. Judges s a index values records outcome rest)
   judges_open index values =
       flag_then s.task (steps.Consume index) Outcome
-      (λ untouched later outcome rest. MatchBool untouched (UntouchedOutcome s a values outcome × (rest ≡ later)) (JudgesHit s a index values later outcome rest))
+      (λ untouched later outcome rest. MatchBool untouched (UntouchedOutcome s a values outcome × (rest ≡ later))
+      (JudgesHit s a index values later outcome rest))
       (λ answer fits. fits) tt
       (λ untouched. bool_open Outcome (λ later outcome rest. UntouchedOutcome s a values outcome × (rest ≡ later))
       (λ later outcome rest. JudgesHit s a index values later outcome rest) untouched
@@ -141,7 +141,8 @@ module _ (s : Setting) (a : Access) where
   watches_open index =
       let Value : Begins (Option ℕ) = λ records value rest. LoadsValue s a records value rest in
       let Last : Option ℕ → Option ℕ → Begins Outcome = λ old new records outcome rest. Judges s a index (both_values old new) records outcome rest in
-      let Second : Option ℕ → Begins Outcome = λ old records outcome rest. (new : Option ℕ) × (consumed : List Record) × Value records new consumed × Last old new consumed outcome rest in
+      let Second : Option ℕ → Begins Outcome =
+      λ old records outcome rest. (new : Option ℕ) × (consumed : List Record) × Value records new consumed × Last old new consumed outcome rest in
       is_open_as Outcome (λ records outcome rest. (old : Option ℕ) × (stalled : List Record) × Value records old stalled × Second old stalled outcome rest)
       (λ records outcome rest. Watches s a index records outcome rest)
       (λ records outcome rest. (
@@ -154,7 +155,8 @@ module _ (s : Setting) (a : Access) where
   watches_at_open : (place : Option ℕ) → IsOpen (Option Judged) (λ records judged rest. WatchesAt s a place records judged rest)
   watches_at_open None = none_open (Option Judged) None
   watches_at_open (Some index) =
-      mapped_open Outcome (Option Judged) (λ records outcome rest. Arms s a index records outcome rest) (λ outcome. Some (record { index = index; outcome = outcome }))
+      mapped_open Outcome (Option Judged) (λ records outcome rest. Arms s a index records outcome rest)
+      (λ outcome. Some (record { index = index; outcome = outcome }))
       (done_then s.task (steps.Name index (ticket_number a)) Outcome (λ later outcome rest. Watches s a index later outcome rest) (λ answer fits. fits) refl
       (watches_open index))
 
@@ -162,8 +164,10 @@ module _ (s : Setting) (a : Access) where
   tries_open word [] = none_open (Option ℕ) None
   tries_open word (index ∷ indices) =
       flag_then s.task (steps.Insert index word) (Option ℕ)
-      (λ accepted later place rest. MatchBool accepted ((place ≡ Some index) × (rest ≡ later)) (TriesInsert s.task word indices later place rest)) (λ answer fits. fits) tt
-      (λ accepted. bool_open (Option ℕ) (λ later place rest. (place ≡ Some index) × (rest ≡ later)) (λ later place rest. TriesInsert s.task word indices later place rest)
+      (λ accepted later place rest. MatchBool accepted ((place ≡ Some index) × (rest ≡ later)) (TriesInsert s.task word indices later place rest))
+      (λ answer fits. fits) tt
+      (λ accepted. bool_open (Option ℕ) (λ later place rest. (place ≡ Some index) × (rest ≡ later))
+      (λ later place rest. TriesInsert s.task word indices later place rest)
       accepted (none_open (Option ℕ) (Some index)) (tries_open word indices))
 
   sets_up_open : (word : ℕ) → IsOpen (Option Judged) (λ records judged rest. SetsUp s a word records judged rest)
@@ -173,7 +177,8 @@ module _ (s : Setting) (a : Access) where
 
 frees_open : (s : Setting) (index : ℕ) → IsOpen (Unit {0}) (λ records value rest. Frees s index records rest)
 frees_open s index =
-    done_then s.task (steps.Clear index) (Unit {0}) (λ later value rest. MakesDone s.task (steps.Remove index) (λ after. rest ≡ after) later) (λ answer fits. fits) refl
+    done_then s.task (steps.Clear index) (Unit {0}) (λ later value rest. MakesDone s.task (steps.Remove index) (λ after. rest ≡ after) later)
+    (λ answer fits. fits) refl
     (done_then s.task (steps.Remove index) (Unit {0}) (λ later value rest. rest ≡ later) (λ answer fits. fits) refl still_open)
 
 -- one check of an access: what follows hangs on whether it settled, and on how often the sampler was asked
@@ -181,7 +186,9 @@ abbrev OfPass : (Bool → ℕ → Lists) → Pass → Lists
 OfPass K pass = K pass.settled pass.asked
 
 abbrev PassIsOpen : Begins Pass → Type 1
-PassIsOpen R = (E A : Bool → ℕ → Lists) → ((settled : Bool) (asked : ℕ) → Open (E settled asked) (A settled asked)) → Open (After Pass R (OfPass E)) (After Pass R (OfPass A))
+PassIsOpen R =
+    (E A : Bool → ℕ → Lists) → ((settled : Bool) (asked : ℕ) → Open (E settled asked) (A settled asked))
+    → Open (After Pass R (OfPass E)) (After Pass R (OfPass A))
 
 -- where a pass is over at once
 over_at_once : (R : Begins Pass) (outcome : Outcome) (asked : ℕ)
@@ -209,7 +216,8 @@ module _ (s : Setting) (asked : ℕ) where
       (λ records h. (record { outcome = judged.outcome; later = records; settled = true; asked = asked }, h.1, (refl, h.2), h.3))
       (frees_open s judged.index (λ v. E true asked) (λ v. A true asked) (λ v. follows true asked))
 
-pass_as : (R Q : Begins Pass) → ((records : List Record) (pass : Pass) (rest : List Record) → R records pass rest ↔ Q records pass rest) → PassIsOpen R → PassIsOpen Q
+pass_as : (R Q : Begins Pass) → ((records : List Record) (pass : Pass) (rest : List Record) → R records pass rest ↔ Q records pass rest) → PassIsOpen R
+    → PassIsOpen Q
 pass_as R Q same opens E A follows =
     open_map (After Pass R (OfPass E)) (After Pass Q (OfPass E)) (After Pass R (OfPass A)) (After Pass Q (OfPass A))
     (λ records h. (h.0, h.1, (same records h.0 h.1).1 h.2, h.3)) (λ records h. (h.0, h.1, (same records h.0 h.1).0 h.2, h.3)) (opens E A follows)
@@ -284,7 +292,8 @@ module _ (s : Setting) (a : Access) (asked : ℕ) where
   goes_on_open marked (Some found) E A follows =
       let Found : Begins Outcome = λ records outcome rest. FoundWatchpoint s a found records outcome rest in
       let All : Begins Pass = λ records pass rest. GoesOn s a marked asked (Some found) records pass rest in
-      open_map (After Outcome Found (λ outcome. E true asked)) (After Pass All (OfPass E)) (After Outcome Found (λ outcome. A true asked)) (After Pass All (OfPass A))
+      open_map (After Outcome Found (λ outcome. E true asked)) (After Pass All (OfPass E)) (After Outcome Found (λ outcome. A true asked))
+      (After Pass All (OfPass A))
       (λ records h. (
         h.0.outcome,
         h.1,
@@ -331,7 +340,8 @@ module _ (s : Setting) where
   one_and_more a marked asked chosen others E A follows =
       let Once : Begins Pass = λ records pass rest. ChecksOnce s a marked asked records pass rest in
       let Others : Bool → ℕ → Begins Passes = λ settled now records passes rest. Rechecks s (chosen settled) now records passes rest in
-      open_map (After Pass Once (OfPass (λ settled now. After Passes (Others settled now) (OfPasses E)))) (After Passes (OneAndMore a marked asked chosen) (OfPasses E))
+      open_map (After Pass Once (OfPass (λ settled now. After Passes (Others settled now) (OfPasses E))))
+      (After Passes (OneAndMore a marked asked chosen) (OfPasses E))
       (After Pass Once (OfPass (λ settled now. After Passes (Others settled now) (OfPasses A)))) (After Passes (OneAndMore a marked asked chosen) (OfPasses A))
       (λ records h. (h.2.0, h.2.1, h.2.3, (record { outcomes = h.2.2; asked = h.0.asked }, h.1, h.2.4, h.3)))
       (λ records h. (
@@ -340,13 +350,15 @@ module _ (s : Setting) where
         (h.0, h.1, h.3.0.outcomes, h.2, h.3.2, refl),
         h.3.3,
       ))
-      (once_open s a asked marked (λ settled now. After Passes (Others settled now) (OfPasses E)) (λ settled now. After Passes (Others settled now) (OfPasses A))
+      (once_open s a asked marked (λ settled now. After Passes (Others settled now) (OfPasses E))
+      (λ settled now. After Passes (Others settled now) (OfPasses A))
       (λ settled now. others settled now E A follows))
 
   rechecks_open : (scopes : List Begun) (asked : ℕ) → PassesAreOpen (λ records passes rest. Rechecks s scopes asked records passes rest)
   rechecks_open [] asked = no_checks asked
   rechecks_open (scope ∷ scopes) asked =
-      either_open scope.silenced (λ records passes rest. Rechecks s scopes asked records passes rest) (OneAndMore scope.access scope.marked asked (λ settled. scopes))
+      either_open scope.silenced (λ records passes rest. Rechecks s scopes asked records passes rest)
+      (OneAndMore scope.access scope.marked asked (λ settled. scopes))
       (rechecks_open scopes asked) (one_and_more scope.access scope.marked asked (λ settled. scopes) (λ settled now. rechecks_open scopes now))
 
   begun_open : (scopes : List Begun) (begun : Begun) (asked : ℕ) → PassesAreOpen (λ records passes rest. ChecksBegun s scopes begun asked records passes rest)

@@ -1,10 +1,8 @@
 -- What is open is open to its end: another answer of a step goes on to an end of its own.
-use Rattle.std.proofs.Common.{◌≡◌, ◌++◌, ℕ, Bool, List, [], ◌∷◌, None, Option, Some, refl, subst, sym}
-use Rattle.access_run.specs.Leads.{HasCell}
+use Rattle.std.proofs.Common.{◌≡◌, ◌++◌, ℕ, Bool, List, [], ◌∷◌, None, Option, Some, refl, subst}
 use Rattle.access_types.specs.Access.{Access}
-use Rattle.answered_parts.specs.Alike.{IsAlike}
 use Rattle.answered_parts.specs.LeadsOn.{AnswersLeadOn}
-use Rattle.answered_parts.proofs.Checks.{OfPasses, PassesAreOpen, check_open, close_open}
+use Rattle.answered_parts.proofs.Checks.{PassesAreOpen, check_open, close_open}
 use Rattle.answered_parts.proofs.Memory.{operates_open}
 use Rattle.answered_parts.proofs.Opens.{Begins, IsOpen, Lists, Open}
 use Rattle.answered_parts.proofs.Waits.{lock_open}
@@ -14,7 +12,6 @@ use Rattle.memory_operation.specs.declared.effect.Effect.{Effect}
 use Rattle.memory_operation.specs.declared.operation.Operation.{Operation}
 use Rattle.setup_access.specs.Check.{Check, Close, Passes}
 use Rattle.setup_access.specs.Setting.{Setting}
-use Rattle.setup_access.specs.Values.{source_of}
 use Rattle.setup_access.specs.declared.begun.Begun.{Begun}
 use Rattle.slot_table.specs.declared.records.Record.{Record}
 

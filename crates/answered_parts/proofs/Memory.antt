@@ -53,8 +53,11 @@ module _ (task : ℕ) (a : Access) (source : Source) where
 
       some_from : (seen : ℕ) (wanted : Bool) → wanted_in seen ≡ wanted → SomeIs (After Effect (From seen) A)
       some_from seen true is =
-          let own = (follows (made_from seen)).some in
-          (made task (step_from seen) (answers.Flag true) ∷ own.0, accepted seen (made task (step_from seen) (answers.Flag true)) own.0 is (refl, refl) refl own.1)
+          let own = (follows (made_from seen)).some in (
+            made task (step_from seen) (answers.Flag true) ∷ own.0,
+            accepted seen (made task (step_from seen) (answers.Flag true)) own.0 is
+                (refl, refl) refl own.1,
+          )
       some_from seen false is =
           let own = (follows (ended seen)).some in
           (own.0, (ended seen, own.0, (ends_now task a source change seen own.0 (ended seen) own.0 is).1 (refl, refl), own.1))
@@ -72,7 +75,8 @@ module _ (task : ℕ) (a : Access) (source : Source) where
       -- what an exchange was answered, and what follows on it
       answered : (before : Record) (later : List Record) (effect : Effect) (rest : List Record) (seen : ℕ) (answer : Answer) → before.answer ≡ answer
           → OnExchange answer ((effect ≡ made_from seen) × (rest ≡ later)) (λ word. Exchanges task a source change word later effect rest) → E effect rest
-          → (((before.answer ≡ answers.Flag true) × E (made_from seen) later) ⊎ ((word : ℕ) × (before.answer ≡ answers.Word word) × After Effect (From word) E later))
+          → (((before.answer ≡ answers.Flag true) × E (made_from seen) later)
+          ⊎ ((word : ℕ) × (before.answer ≡ answers.Word word) × After Effect (From word) E later))
       answered before later effect rest seen (answers.Flag true) is h k =
           inl (is, subst (λ (r : List Record). E (made_from seen) r) h.1 (subst (λ (e : Effect). E e rest) h.0 k))
       answered before later effect rest seen (answers.Flag false) is h k = absurd h
@@ -120,17 +124,21 @@ module _ (task : ℕ) (a : Access) (source : Source) where
   changes_open change = loaded_open (λ seen. From change seen) (λ seen. exchanges_open change seen)
 
   added : (amount word : ℕ) → IsOpen Effect (λ records effect rest. (more : Effect)
-      × Changes task a source (changes.Write (sum_of a.size (value_in a source word) amount)) records more rest × (effect ≡ and_then (only_read (value_in a source word)) more))
+      × Changes task a source (changes.Write (sum_of a.size (value_in a source word) amount)) records more rest
+      × (effect ≡ and_then (only_read (value_in a source word)) more))
   added amount word =
       let change : Change = changes.Write (sum_of a.size (value_in a source word) amount) in
-      mapped_open Effect Effect (λ records effect rest. Changes task a source change records effect rest) (λ more. and_then (only_read (value_in a source word)) more)
+      mapped_open Effect Effect (λ records effect rest. Changes task a source change records effect rest)
+      (λ more. and_then (only_read (value_in a source word)) more)
       (changes_open change)
 
   pub operation_open : (operation : Operation) → IsOpen Effect (λ records effect rest. OperatesIn task a source operation records effect rest)
   operation_open operations.Load =
-      loaded_open (λ word records effect rest. (effect ≡ only_read (value_in a source word)) × (rest ≡ records)) (λ word. none_open Effect (only_read (value_in a source word)))
+      loaded_open (λ word records effect rest. (effect ≡ only_read (value_in a source word)) × (rest ≡ records))
+      (λ word. none_open Effect (only_read (value_in a source word)))
   operation_open (operations.Add amount) =
-      loaded_open (λ word records effect rest. (more : Effect) × Changes task a source (changes.Write (sum_of a.size (value_in a source word) amount)) records more rest
+      loaded_open (λ word records effect rest. (more : Effect)
+      × Changes task a source (changes.Write (sum_of a.size (value_in a source word) amount)) records more rest
       × (effect ≡ and_then (only_read (value_in a source word)) more)) (λ word. added amount word)
   operation_open (operations.Change change) = changes_open change
 

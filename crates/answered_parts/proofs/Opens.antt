@@ -1,9 +1,8 @@
 -- What is made of whatever answers come.
-use Rattle.std.proofs.Common.{◌≡◌, ◌↔◌, ◌⊎◌, ◌∙◌, ◌++◌, ℕ, Bool, true, false, List, [], ◌∷◌, MatchBool, inl, inr, refl, subst, sym}
+use Rattle.std.proofs.Common.{◌≡◌, ◌↔◌, ◌⊎◌, ◌∙◌, ◌++◌, ℕ, Bool, true, false, List, [], ◌∷◌, MatchBool, inl, inr, refl, subst}
 use Rattle.setup_access.specs.Parts.{made}
-use Rattle.setup_access.specs.Records.{Makes, MakesDone, MakesFlag, MakesWord, OnFlag, OnHalves, OnWord}
-use Rattle.slot.specs.Pair.{Halves}
-use Rattle.slot_table.specs.Answer.{Answers, IsFlag, IsHalves, IsWord}
+use Rattle.setup_access.specs.Records.{Makes, MakesDone, MakesFlag, MakesWord, OnFlag, OnWord}
+use Rattle.slot_table.specs.Answer.{Answers, IsFlag, IsWord}
 use Rattle.slot_table.specs.declared.records.Record.{Record}
 use Rattle.slot_table.specs.declared.step.Answer.{Answer}
 use Rattle.slot_table.specs.declared.step.Answer.TheVariants as answers

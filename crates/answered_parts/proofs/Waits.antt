@@ -1,5 +1,5 @@
 -- Waits are open: each answer ends them, or they go on.
-use Rattle.std.proofs.Common.{◌≡◌, ◌⊎◌, ◌∙◌, ◌++◌, ◌<◌, ℕ, zero, suc, Bool, true, false, List, [], ◌∷◌, MatchBool, arith, inl, inr, lit<, refl, subst, sym}
+use Rattle.std.proofs.Common.{◌≡◌, ◌⊎◌, ◌∙◌, ◌++◌, ◌<◌, ℕ, zero, suc, true, false, List, [], ◌∷◌, MatchBool, arith, inl, inr, refl, subst}
 use Rattle.memory_operation.specs.Locks.{TakesLock}
 use Rattle.setup_access.specs.Found.{Hears}
 use Rattle.setup_access.specs.Parts.{made}
@@ -11,7 +11,6 @@ use Rattle.slot_table.specs.declared.step.Answer.{Answer}
 use Rattle.slot_table.specs.declared.step.Answer.TheVariants as answers
 use Rattle.slot_table.specs.declared.step.Step.{Step}
 use Rattle.slot_table.specs.declared.step.Step.TheVariants.{LockTry, PairLoad}
-use Rattle.answered_parts.specs.Alike.{IsAlike}
 use Rattle.answered_parts.proofs.Opens.{After, Begins, IsOpen, Lists, Open, SomeIs, Turns}
 
 -- a wait made of one step again and again, which some answers end
@@ -120,7 +119,11 @@ module _ (half : Halves → ℕ) (both_stand : 0 < half (record { setter = 1; fi
     heard (answers.Flag flag) later both rest h follows = absurd h
     heard answers.Done later both rest h follows = absurd h
     heard (answers.Halves setter finder) later both rest h follows = elim h [
-      | inl ends ↦ inl (ends.0, subst (λ (r : List Record). E (record { setter = setter; finder = finder }) r) ends.2 (subst (λ (b : Halves). E b rest) ends.1 follows))
+      | inl ends ↦ inl (
+        ends.0,
+        subst (λ (r : List Record). E (record { setter = setter; finder = finder }) r) ends.2
+            (subst (λ (b : Halves). E b rest) ends.1 follows),
+      )
       | inr waits ↦ inr (waits.0, (both, rest, waits.1, follows))
     ]
 

@@ -1,0 +1,5 @@
+pub mod Weights
+pub mod Statements
+pub mod Counts
+pub mod Rises
+pub mod Scopes
