@@ -1,8 +1,7 @@
 -- An access is open, from wherever its task stands.
-use Rattle.std.proofs.Common.{◌≡◌, ◌<◌, ◌+◌, ◌++◌, ℕ, List, [], ◌∷◌, Option, None, Some, arith, drop, refl, subst, sym}
+use Rattle.std.proofs.Common.{◌≡◌, ◌<◌, ℕ, List, [], Option, None, Some, arith, refl, subst, sym}
 use Rattle.access_run.specs.Leads.{HasCell}
 use Rattle.access_types.specs.Access.{Access}
-use Rattle.access_types.specs.declared.history.Happening.TheVariants as happenings
 use Rattle.answered_parts.proofs.Checks.{OfPasses, check_open, clock_open}
 use Rattle.answered_parts.proofs.Memory.{operates_open}
 use Rattle.answered_parts.proofs.Opens.{After, Begins, Lists, open_map}
@@ -19,7 +18,7 @@ use Rattle.slot_table.specs.declared.step.Step.TheVariants.{Clock}
 use Rattle.spelled_texts.proofs.Accesses.{after_access, begun_in, ends_at}
 use Rattle.spelled_texts.proofs.Decided.{begins_now}
 use Rattle.spelled_texts.specs.Begins.{one_at}
-use Rattle.spelled_texts.specs.Core.{Core, begun_at, core_of, standing}
+use Rattle.spelled_texts.specs.Core.{Core, core_of, standing}
 use Rattle.task_laws.proofs.Places.{ByEach, BySome, PartIsOpen, Valued, WithinFrom, sum_open}
 use Rattle.written_order.specs.Access.{Makes}
 use Rattle.written_order.specs.Standing.{BeginsNow, Point, Setting, Standing, checks_of}
@@ -78,7 +77,8 @@ module _ (s : Setting) (at : Core) (a : Access) (operation : Option Operation) w
       let effect : Effect = h.2.3.0 in
       let done : List Record = h.2.3.1 in
       let rest : List Record = h.2.3.3.1 in
-      let makes : Makes s (standing at way outcomes) a operation records effect (ends_at a operation (standing at way outcomes) records checked done rest effect passes) rest =
+      let makes : Makes s (standing at way outcomes) a operation records effect
+      (ends_at a operation (standing at way outcomes) records checked done rest effect passes) rest =
       record {
         begun = h.0;
         passes = passes;
@@ -112,7 +112,9 @@ module _ (s : Setting) (at : Core) (a : Access) (operation : Option Operation) w
       (λ records. (each : Begun) × Decided each × FromBegin A each records) (ByEach Effect AccessSteps at A)
       (taken_apart E) (put_together A)
       (sum_open Begun Decided (FromBegin E) (FromBegin A) begun.0 begun.1
-      (λ each is. check_open (checks_of s) at.scopes each at.asked (subst (λ (b : Access). IsOwn (checks_of s) b) (sym is.access) own) others (Checked E) (Checked A)
+      (λ each is. check_open (checks_of s) at.scopes each at.asked (subst (λ (b : Access). IsOwn (checks_of s) b) (sym is.access) own) others (Checked E)
+      (Checked A)
       (λ asked. operates_open (checks_of s) a operation has (λ effect. Ended E effect asked) (λ effect. Ended A effect asked)
-      (λ effect. clock_open (checks_of s) (λ value. E effect (after_access at a operation effect asked)) (λ value. A effect (after_access at a operation effect asked))
+      (λ effect. clock_open (checks_of s) (λ value. E effect (after_access at a operation effect asked))
+      (λ value. A effect (after_access at a operation effect asked))
       (λ value. follows effect (after_access at a operation effect asked) (within effect asked))))))

@@ -1,5 +1,5 @@
 -- Assignments are open.
-use Rattle.std.proofs.Common.{◌≡◌, ◌<◌, ◌≤◌, ◌+◌, ◌-◌, ◌^◌, ◌++◌, ℕ, Bool, true, List, [], ◌∷◌, None, Some, ap, arith, refl, replicate, if◌then◌else◌}
+use Rattle.std.proofs.Common.{◌≡◌, ◌<◌, ◌≤◌, ◌+◌, ◌-◌, ◌^◌, ℕ, Bool, true, List, None, Some, ap, arith, refl, replicate, if◌then◌else◌}
 use Rattle.access_types.specs.declared.history.Happening.{Happening}
 use Rattle.access_types.specs.declared.history.Happening.TheVariants as happenings
 use Rattle.access_types.specs.declared.history.Mark.TheVariants as marks
@@ -26,7 +26,7 @@ use Rattle.task_laws.proofs.Loads.{expression_open, made_to_open}
 use Rattle.task_laws.proofs.Places.{Plain, StepsAreOpen, WithinFrom, part_via}
 use Rattle.task_plan.proofs.KeepsLemmas.{begun_still, marks_other}
 use Rattle.written_order.specs.Access.{Makes}
-use Rattle.written_order.specs.Standing.{Setting, Standing, checks_of, doing, registered}
+use Rattle.written_order.specs.Standing.{Setting, checks_of, doing, registered}
 use Rattle.written_order.specs.WrittenOrder.{MakesTo, Steps, StepsInDataRace, StepsOfAssignment, StepsOfExpression}
 
 module _ (s : Setting) (placed : ArePlaced s) where
@@ -34,12 +34,14 @@ module _ (s : Setting) (placed : ArePlaced s) where
   to_register_open : (registers : ℕ) (at : Core) (site r : ℕ) (e : Expression) → AssignmentTyped (IsVariable s.text.variables) registers (tree.to_register r e)
       → (expression_has_access e ≡ true → site < 256) → ((k : ℕ) → begun_at k at + own_begins (expression_has_access e) site k ≤ 256)
       → AreOwn (checks_of s) at.scopes
-      → StepsAreOpen (λ before records after rest. StepsOfAssignment s site (tree.to_register r e) before records after rest) at (own_begins (expression_has_access e) site)
+      → StepsAreOpen (λ before records after rest. StepsOfAssignment s site (tree.to_register r e) before records after rest) at
+      (own_begins (expression_has_access e) site)
   to_register_open registers at site r e typed below room own =
       part_via ℕ (Unit {0}) (λ before records value after rest. StepsOfExpression s site e before records value after rest)
       (Plain (λ before records after rest. StepsOfAssignment s site (tree.to_register r e) before records after rest)) at at
       (λ value. tt) (λ value between. set_at between r value)
-      (λ value after. WithinFrom at (own_begins (expression_has_access e) site) after) (λ value after. WithinFrom at (own_begins (expression_has_access e) site) after)
+      (λ value after. WithinFrom at (own_begins (expression_has_access e) site) after)
+      (λ value after. WithinFrom at (own_begins (expression_has_access e) site) after)
       (λ way outcomes records value after rest h. (way, outcomes, h.0, h.1, h.2, refl, ap core_of h.3))
       (λ way outcomes records. (way, outcomes, λ value between rest steps. (registered between rest r value, (value, between, steps, refl), refl)))
       (expression_open s placed registers at site e typed.1 below room own)
@@ -112,7 +114,8 @@ module _ (s : Setting) (placed : ArePlaced s) where
       let most : ℕ → ℕ = own_begins (assignment_has_access a) site in
       let from : Core = doing_at at (off count) in
       part_via (Unit {0}) (Unit {0}) (Plain (λ before records after rest. StepsOfAssignment s site a before records after rest))
-      (Plain (λ before records after rest. StepsInDataRace s site data_race a before records after rest)) at from (λ value. tt) (λ value between. doing_at between (on count))
+      (Plain (λ before records after rest. StepsInDataRace s site data_race a before records after rest)) at from (λ value. tt)
+      (λ value between. doing_at between (on count))
       (λ value after. WithinFrom from most after) (λ value after. WithinFrom at most after)
       (λ way outcomes records value after rest h. ((doing (standing at way outcomes) records (off count)).way, outcomes, tt, h.0, h.1, refl, ap core_of h.2))
       (λ way outcomes records. (

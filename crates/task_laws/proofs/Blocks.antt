@@ -1,5 +1,5 @@
 -- Statements and blocks are open.
-use Rattle.std.proofs.Common.{◌≡◌, ◌<◌, ◌≤◌, ◌∙◌, ◌+◌, ◌*◌, ◌++◌, ℕ, zero, suc, true, List, [], ap, arith, inl, inr, length, length-append, refl, subst, sym}
+use Rattle.std.proofs.Common.{◌≡◌, ◌<◌, ◌≤◌, ◌∙◌, ◌+◌, ◌*◌, ◌++◌, ℕ, zero, suc, true, List, ap, arith, inl, inr, length, length-append, refl, subst, sym}
 use Rattle.std.proofs.Math.Nat.{suc-mul}
 use Rattle.std.proofs.lemmas.Bool.{cases_eq}
 use Rattle.litmus_meaning.specs.Calls.{scoped_assertion}
@@ -63,12 +63,14 @@ chosen_open : (value : ℕ) (Holds Fails : Steps) (at : Core) (holds fails : ℕ
     → StepsAreOpen (λ before records after rest. Chooses value (Holds before records after rest) (Fails before records after rest)) at (λ k. holds k + fails k)
 chosen_open value Holds Fails at holds fails first second = elim (cases_eq value 0) [
   | inl none ↦
-      part_as (Unit {0}) (Plain Fails) (Plain (λ before records after rest. Chooses value (Holds before records after rest) (Fails before records after rest))) at
+      part_as (Unit {0}) (Plain Fails) (Plain (λ before records after rest. Chooses value (Holds before records after rest)
+      (Fails before records after rest))) at
       (λ v after. WithinFrom at (λ k. holds k + fails k) after)
       (λ way outcomes records v after rest. (λ h. inr (none, h), λ h. elim h [ inl is ↦ absurd (is.0 none) | inr is ↦ is.1 ]))
       (fewer Fails at fails (λ k. holds k + fails k) (λ k. omega arith) second)
   | inr some ↦
-      part_as (Unit {0}) (Plain Holds) (Plain (λ before records after rest. Chooses value (Holds before records after rest) (Fails before records after rest))) at
+      part_as (Unit {0}) (Plain Holds) (Plain (λ before records after rest. Chooses value (Holds before records after rest)
+      (Fails before records after rest))) at
       (λ v after. WithinFrom at (λ k. holds k + fails k) after)
       (λ way outcomes records v after rest. (λ h. inl (some, h), λ h. elim h [ inl is ↦ is.1 | inr is ↦ absurd (some is.0) ]))
       (fewer Holds at holds (λ k. holds k + fails k) (λ k. omega arith) first)
@@ -85,7 +87,8 @@ module _ (s : checks.Setting) (Body : Steps) (register : ℕ) (most : ℕ → �
       → StepsAreOpen (λ before records after rest. Turn turn before records after rest) at most
   turn_open turn at room own =
       let start : Core = set_at at register turn in
-      part_via (Unit {0}) (Unit {0}) (Plain Body) (Plain (λ before records after rest. Turn turn before records after rest)) at start (λ value. tt) (λ value between. between)
+      part_via (Unit {0}) (Unit {0}) (Plain Body) (Plain (λ before records after rest. Turn turn before records after rest)) at start (λ value. tt)
+      (λ value between. between)
       (λ value after. WithinFrom start most after) (λ value after. WithinFrom at most after)
       (λ way outcomes records value after rest h. ((registered (standing at way outcomes) records register turn).way, outcomes, tt, after, h, refl, refl))
       (λ way outcomes records. (
@@ -167,7 +170,8 @@ module _ (s : Setting) (placed : ArePlaced s) where
         → site + length (accesses_of statement) ≤ 256 → ((k : ℕ) → begun_at k at + statement_begins site statement k ≤ 256) → AreOwn (checks_of s) at.scopes
         → StepsAreOpen (λ before records after rest. StepsOf s site statement before records after rest) at (statement_begins site statement)
     statement_open registers (tree.load_only l) at site typed fits room own =
-        load_only_open at site l (alone true (tree.load_only l) site fits refl) (few_at s placed site at room) own (fetch_bytes s placed registers l.fetch typed)
+        load_only_open at site l (alone true (tree.load_only l) site fits refl) (few_at s placed site at room) own
+        (fetch_bytes s placed registers l.fetch typed)
     statement_open registers (tree.assign data_race a) at site typed fits room own =
         assign_open s placed registers at site data_race a typed (alone (assignment_has_access a) (tree.assign data_race a) site fits) room own
     statement_open registers (tree.call c) at site typed fits room own =
@@ -191,7 +195,8 @@ module _ (s : Setting) (placed : ArePlaced s) where
         let Fails : Steps = λ before records after rest. StepsOfBlock s second otherwise before records after rest in
         if_open registers at site e Holds Fails (block_begins first body) (block_begins second otherwise) typed.0 inside.1 room own
         (λ next all are. block_open registers body next first typed.1.0 (omega (arith, within, lengths)) (λ k. let most = all k in omega (arith, most)) are)
-        (λ next all are. block_open registers otherwise next second typed.1.1 (omega (arith, within, lengths)) (λ k. let most = all k in omega (arith, most)) are)
+        (λ next all are. block_open registers otherwise next second typed.1.1 (omega (arith, within, lengths))
+        (λ k. let most = all k in omega (arith, most)) are)
     statement_open registers (tree.for_turns r turns body) at site typed fits room own =
         turns_open (checks_of s) (λ before records after rest. StepsOfBlock s site body before records after rest) r (block_begins site body)
         (λ start within are. block_open registers body start site typed.1 fits within are) turns 0 at room own

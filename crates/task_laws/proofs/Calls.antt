@@ -1,5 +1,5 @@
 -- Calls are open, but for scoped assertions.
-use Rattle.std.proofs.Common.{◌≡◌, ◌≢◌, ◌<◌, ◌≤◌, ◌↔◌, ◌+◌, ◌^◌, ◌==◌, ◌++◌, ℕ, Bool, true, false, IsTrue, List, [], ◌∷◌, MatchBool, None, Option, Some, ap, arith, count_by, not, refl, if◌then◌else◌}
+use Rattle.std.proofs.Common.{◌≡◌, ◌≢◌, ◌<◌, ◌≤◌, ◌↔◌, ◌+◌, ◌^◌, ◌==◌, ℕ, Bool, true, false, IsTrue, List, [], ◌∷◌, MatchBool, None, Option, Some, ap, arith, count_by, not, refl, if◌then◌else◌}
 use Rattle.std.proofs.lemmas.List.Sums.{sum_by-append}
 use Rattle.access_types.specs.Access.{proper_mask}
 use Rattle.access_types.specs.declared.history.Bytes.{Bytes}
@@ -10,7 +10,7 @@ use Rattle.access_types.specs.declared.history.Mark.TheVariants as marks
 use Rattle.access_types.specs.declared.kind.Claim.TheVariants.{NoAccesses, NoWrites}
 use Rattle.access_types.specs.declared.kind.Kind.{Kind}
 use Rattle.access_types.specs.declared.kind.Kind.TheVariants as kinds
-use Rattle.answered_parts.proofs.Opens.{Begins, IsOpen, done_then, still_open}
+use Rattle.answered_parts.proofs.Opens.{Begins, done_then, still_open}
 use Rattle.answered_parts.proofs.Waits.{lock_open}
 use Rattle.litmus_meaning.specs.Calls.{check_kind, checked_bytes}
 use Rattle.litmus_meaning.specs.Task.{access_now, begins_at, bytes_in, has_lock}
@@ -52,11 +52,13 @@ only_open : (at end : Core) (comes_to : Standing → List Record → Standing) �
     → ((way : List Point) (outcomes : List Fallen) (records : List Record) → core_of (comes_to (standing at way outcomes) records) ≡ end)
     → StepsAreOpen (λ before records after rest. Only (comes_to before records) records after rest) at (λ k. 0)
 only_open at end comes_to is ends =
-    part_still (Unit {0}) (Plain (λ before records after rest. Only (comes_to before records) records after rest)) at tt end (λ value after. WithinFrom at (λ k. 0) after) is
+    part_still (Unit {0}) (Plain (λ before records after rest. Only (comes_to before records) records after rest)) at tt end
+    (λ value after. WithinFrom at (λ k. 0) after) is
     (λ way outcomes records value after rest h. (refl, core_is way outcomes records after h.0, h.1))
     (λ way outcomes records. (comes_to (standing at way outcomes) records, (refl, refl), ends way outcomes records))
   where
-    core_is : (way : List Point) (outcomes : List Fallen) (records : List Record) (after : Standing) → after ≡ comes_to (standing at way outcomes) records → core_of after ≡ end
+    core_is : (way : List Point) (outcomes : List Fallen) (records : List Record) (after : Standing) → after ≡ comes_to (standing at way outcomes) records
+        → core_of after ≡ end
     core_is way outcomes records after is = rw is (ends way outcomes records)
 
 module _ (s : Setting) where
@@ -74,7 +76,8 @@ module _ (s : Setting) where
       (nothing_begins at end (λ k. begun_with at (happenings.Mark m ∷ []) k refl) refl) (λ way outcomes records. refl)
 
   -- that a mark ends nothing hangs on what the task did alone
-  ends_same : (at : Core) (way : List Point) (outcomes : List Fallen) (m : Mark) → EndsNothing s (standing at [] []) m ↔ EndsNothing s (standing at way outcomes) m
+  ends_same : (at : Core) (way : List Point) (outcomes : List Fallen) (m : Mark)
+      → EndsNothing s (standing at [] []) m ↔ EndsNothing s (standing at way outcomes) m
   ends_same at way outcomes marks.Disable = (λ h. h, λ h. h)
   ends_same at way outcomes marks.Enable = (λ h. h, λ h. h)
   ends_same at way outcomes marks.NestOpen = (λ h. h, λ h. h)
@@ -90,7 +93,8 @@ module _ (s : Setting) where
   mark_open : (at : Core) (m : Mark) → StepsAreOpen (λ before records after rest. MakesMark s m before records after rest) at (λ k. 0)
   mark_open at m =
       let told = nothing_told s (standing at [] []) m in
-      part_as (Unit {0}) (MarksSo at m) (Plain (λ before records after rest. MakesMark s m before records after rest)) at (λ value after. WithinFrom at (λ k. 0) after)
+      part_as (Unit {0}) (MarksSo at m) (Plain (λ before records after rest. MakesMark s m before records after rest)) at
+      (λ value after. WithinFrom at (λ k. 0) after)
       (λ way outcomes records value after rest.
       let same = ends_same at way outcomes m in (
         λ h. (h.0, (λ yes. same.0 (h.1.0 yes), λ none. h.1.1 (same.1 none)), h.2),
@@ -111,7 +115,8 @@ module _ (s : Setting) where
   unlock_open true at l =
       let end : Core = doing_at at (happenings.Unlock l ∷ []) in
       let Store : Begins (Unit {0}) = λ records value rest. MakesDone s.text.task (LockStore (lock_number s l)) (λ later. rest ≡ later) records in
-      part_of (Unit {0}) Store (Plain (λ before records after rest. Unlocks true l before records after rest)) at (λ value. end) (λ value after. WithinFrom at (λ k. 0) after)
+      part_of (Unit {0}) Store (Plain (λ before records after rest. Unlocks true l before records after rest)) at (λ value. end)
+      (λ value after. WithinFrom at (λ k. 0) after)
       (λ value. nothing_begins at end (λ k. begun_with at (happenings.Unlock l ∷ []) k refl) refl)
       (λ way outcomes records value after rest h. (h.0, ap core_of h.1))
       (λ way outcomes records value rest stores. (doing (standing at way outcomes) rest (happenings.Unlock l ∷ []), (stores, refl), refl))
@@ -154,7 +159,8 @@ module _ (s : Setting) (placed : ArePlaced s) where
   lock_call_open at l typed =
       let end : Core = doing_at at (happenings.Lock l ∷ []) in
       part_of (Unit {0}) (λ records value rest. TakesLock s.text.task (lock_number s l) records rest)
-      (Plain (λ before records after rest. StepsOfCall s 0 (calls.Lock l) before records after rest)) at (λ value. end) (λ value after. WithinFrom at (λ k. 0) after)
+      (Plain (λ before records after rest. StepsOfCall s 0 (calls.Lock l) before records after rest)) at (λ value. end)
+      (λ value after. WithinFrom at (λ k. 0) after)
       (λ value. nothing_begins at end (λ k. begun_with at (happenings.Lock l ∷ []) k refl) refl)
       (λ way outcomes records value after rest h. (h.1, ap core_of h.2))
       (λ way outcomes records value rest takes. (doing (standing at way outcomes) rest (happenings.Lock l ∷ []), (lock_at s placed l typed, takes, refl), refl))
@@ -169,11 +175,13 @@ module _ (s : Setting) (placed : ArePlaced s) where
       let next : List Happening = happenings.Mark (marks.Next 1) ∷ [] in
       part_via (Unit {0}) (Unit {0})
       (Plain (λ before records after rest. ChecksAt s site (bytes_in s.text x) (kinds.Assert NoWrites) (proper_mask (Some mask)) before records after rest))
-      (Plain (λ before records after rest. StepsOfCall s site (calls.AssertBits x mask) before records after rest)) at at (λ value. tt) (λ value between. doing_at between next)
+      (Plain (λ before records after rest. StepsOfCall s site (calls.AssertBits x mask) before records after rest)) at at (λ value. tt)
+      (λ value between. doing_at between next)
       (λ value after. WithinFrom at (one_at site) after) (λ value after. WithinFrom at (one_at site) after)
       (λ way outcomes records value after rest h. (way, outcomes, tt, h.0, h.1, refl, ap core_of h.2))
       (λ way outcomes records. (way, outcomes, λ value between rest checks. (doing between rest next, (between, checks, refl), refl)))
-      (checks_open at site (bytes_in s.text x) (kinds.Assert NoWrites) (proper_mask (Some mask)) below room own has.some (in_range s placed x has) (proper s placed mask))
+      (checks_open at site (bytes_in s.text x) (kinds.Assert NoWrites) (proper_mask (Some mask)) below room own has.some (in_range s placed x has)
+      (proper s placed mask))
       (λ value between is. record {
         counts = λ k. let more = is.counts k in let same = begun_with between next k refl in omega (arith, more, same);
         scopes = is.scopes;

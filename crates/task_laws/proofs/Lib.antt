@@ -7,3 +7,4 @@ pub mod Scopes
 pub mod Blocks
 pub mod Texts
 pub mod Next
+pub mod Begins

@@ -1,5 +1,5 @@
 -- Loads and expressions are open.
-use Rattle.std.proofs.Common.{◌≡◌, ◌<◌, ◌≤◌, ◌∙◌, ◌+◌, ◌++◌, ℕ, true, List, [], ◌∷◌, None, Option, Some, ap, arith, refl, replicate, sym}
+use Rattle.std.proofs.Common.{◌≡◌, ◌<◌, ◌≤◌, ◌∙◌, ◌+◌, ℕ, true, List, None, Option, Some, ap, arith, refl, replicate, sym}
 use Rattle.access_types.specs.Access.{Access}
 use Rattle.access_types.specs.declared.history.Happening.{Happening}
 use Rattle.access_types.specs.declared.history.Happening.TheVariants as happenings
@@ -44,7 +44,8 @@ module _ (s : Setting) (placed : ArePlaced s) where
       (λ effect after. WithinFrom at (one_at site) after)
   made_to_open at site x kind operation below few own has =
       let a : Access = access_now s.text site at.progress (bytes_in s.text x) kind None in
-      makes_open s at a (Some operation) (own_access s placed site at.progress (bytes_in s.text x) kind None below few (in_range s placed x has) (no_mask s placed))
+      makes_open s at a (Some operation) (own_access s placed site at.progress (bytes_in s.text x) kind None below few (in_range s placed x has)
+      (no_mask s placed))
       has.some own (has.in_cell a refl refl)
 
   -- a load: its data_race( ) mark it before and after

@@ -1,5 +1,5 @@
 -- What a task made goes on with any answer of its next step.
-use Rattle.std.proofs.Common.{◌≡◌, ◌++◌, ℕ, List, [], ◌∷◌, length, refl, subst, sym}
+use Rattle.std.proofs.Common.{◌++◌, ℕ, List, [], ◌∷◌, subst, sym}
 use Rattle.litmus_syntax.specs.Tree.{Block}
 use Rattle.memory_operation.specs.Leads.{GoesOn}
 use Rattle.setup_access.specs.Parts.{made}

@@ -1,5 +1,5 @@
 -- Parts of a text are open, from a place on: whatever the way there and what came of checks.
-use Rattle.std.proofs.Common.{◌≡◌, ◌↔◌, ◌++◌, ◌+◌, ◌≤◌, ℕ, List, [], ◌∷◌, refl, subst, sym}
+use Rattle.std.proofs.Common.{◌≡◌, ◌↔◌, ◌+◌, ◌≤◌, ℕ, List, subst, sym}
 use Rattle.answered_parts.proofs.Opens.{After, Begins, IsOpen, Lists, Open, open_map}
 use Rattle.setup_access.specs.Check.{Fallen}
 use Rattle.slot_table.specs.declared.records.Record.{Record}

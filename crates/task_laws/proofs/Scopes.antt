@@ -1,5 +1,5 @@
 -- Scoped assertions are open: where they open, where they close, and what follows in their block.
-use Rattle.std.proofs.Common.{◌≡◌, ◌<◌, ◌≤◌, ◌↔◌, ◌∙◌, ◌+◌, ◌++◌, ℕ, Bool, IsTrue, List, [], ◌∷◌, None, Option, Some, arith, drop, le_refl, refl, subst, sym}
+use Rattle.std.proofs.Common.{◌≡◌, ◌<◌, ◌≤◌, ◌↔◌, ◌∙◌, ◌+◌, ◌++◌, ℕ, Bool, IsTrue, List, [], ◌∷◌, None, Option, Some, arith, drop, refl, subst, sym}
 use Rattle.access_types.specs.Access.{Access}
 use Rattle.access_types.specs.declared.history.Happening.TheVariants as happenings
 use Rattle.answered_parts.proofs.Checks.{OfPasses, check_open, close_open}
@@ -60,9 +60,11 @@ module _ (s : Setting) (at : Core) (a : Access) where
 
   abbrev Checked : (Begun → Core → Lists) → Begun → Lists
   Checked K begun =
-      After Passes (λ records passes rest. Check (checks_of s) at.scopes begun at.asked records passes rest) (OfPasses (λ asked. K begun (opened_at at a begun asked)))
+      After Passes (λ records passes rest. Check (checks_of s) at.scopes begun at.asked records passes rest)
+      (OfPasses (λ asked. K begun (opened_at at a begun asked)))
 
-  opening_apart : (K : Begun → Core → Lists) (records : List Record) → BySome Begun Opens at K records → (begun : Begun) × Decided begun × Checked K begun records
+  opening_apart : (K : Begun → Core → Lists) (records : List Record) → BySome Begun Opens at K records
+      → (begun : Begun) × Decided begun × Checked K begun records
   opening_apart K records h =
       let opens = h.5 in
       let now : BeginsNow s (standing at [] []) a h.2 =
@@ -87,10 +89,12 @@ module _ (s : Setting) (at : Core) (a : Access) where
       } in
       (h.0, end, rest, opens, h.2.3)
 
-  pub opens_open : IsOwn (checks_of s) a → 0 < a.size → AreOwn (checks_of s) at.scopes → PartIsOpen Begun Opens at (λ begun opened. OpenedFrom s at a.site begun opened)
+  pub opens_open : IsOwn (checks_of s) a → 0 < a.size → AreOwn (checks_of s) at.scopes
+      → PartIsOpen Begun Opens at (λ begun opened. OpenedFrom s at a.site begun opened)
   opens_open own some others E A follows =
       let begun = begins_now s (standing at [] []) a own some in
-      let begun_own : (each : Begun) → Decided each → IsOwn (checks_of s) each.access = λ each is. subst (λ (b : Access). IsOwn (checks_of s) b) (sym is.access) own in
+      let begun_own : (each : Begun) → Decided each → IsOwn (checks_of s) each.access =
+      λ each is. subst (λ (b : Access). IsOwn (checks_of s) b) (sym is.access) own in
       open_map (λ records. (each : Begun) × Decided each × Checked E each records) (BySome Begun Opens at E)
       (λ records. (each : Begun) × Decided each × Checked A each records) (ByEach Begun Opens at A)
       (opening_apart E) (opening_together A)
@@ -109,7 +113,8 @@ module _ (s : Setting) (at : Core) (begun : Begun) (scopes : List Begun) where
 
   abbrev CheckedLast : (Unit {0} → Core → Lists) → Bool → Lists
   CheckedLast K silenced =
-      After Passes (λ records passes rest. Close (checks_of s) begun silenced at.asked records passes rest) (OfPasses (λ asked. K tt (closed_at at scopes begun asked)))
+      After Passes (λ records passes rest. Close (checks_of s) begun silenced at.asked records passes rest)
+      (OfPasses (λ asked. K tt (closed_at at scopes begun asked)))
 
   closing_apart : (K : Unit {0} → Core → Lists) (records : List Record) → BySome (Unit {0}) Closes at K records
       → (silenced : Bool) × Tells silenced × CheckedLast K silenced records
@@ -138,7 +143,8 @@ module _ (s : Setting) (at : Core) (begun : Begun) (scopes : List Begun) where
       (λ records. (each : Bool) × Tells each × CheckedLast A each records) (ByEach (Unit {0}) Closes at A)
       (closing_apart E) (closing_together A)
       (sum_open Bool Tells (CheckedLast E) (CheckedLast A) silenced.0 silenced.1
-      (λ each is. close_open (checks_of s) begun each at.asked own (λ asked. E tt (closed_at at scopes begun asked)) (λ asked. A tt (closed_at at scopes begun asked))
+      (λ each is. close_open (checks_of s) begun each at.asked own (λ asked. E tt (closed_at at scopes begun asked))
+      (λ asked. A tt (closed_at at scopes begun asked))
       (λ asked. follows tt (closed_at at scopes begun asked)
       (record { counts = λ k. begun_still k at.progress.did (happenings.End begun.access ∷ []) (tt, tt); scopes = refl }))))
 
@@ -151,7 +157,8 @@ module _ (s : Setting) (placed : ArePlaced s) where
   scoped_open Own Later at site scoped more below few own has later =
       let a : Access = scoped_access s.text site at.progress scoped in
       let a_own : IsOwn (checks_of s) a =
-      own_access s placed site at.progress (bytes_in s.text scoped.variable) scoped.kind None below few (in_range s placed scoped.variable has) (no_mask s placed) in
+      own_access s placed site at.progress (bytes_in s.text scoped.variable) scoped.kind None below few (in_range s placed scoped.variable has)
+      (no_mask s placed) in
       let CloseIt : Begun → Valued (Unit {0}) = λ begun before records value after rest. ClosesScope s before begun at.scopes records after rest in
       let Rest : Begun → Valued (Unit {0}) = λ begun. Both (Unit {0}) (Unit {0}) (Plain Later) (λ value. CloseIt begun) in
       let All : Valued (Unit {0}) = Both Begun (Unit {0}) (Opens s at a) Rest in
@@ -163,7 +170,8 @@ module _ (s : Setting) (placed : ArePlaced s) where
       ))
       (part_both Begun (Unit {0}) (Opens s at a) Rest at (λ begun opened. OpenedFrom s at site begun opened) Ends (opens_open s at a a_own has.some own)
       (λ begun opened is. part_both (Unit {0}) (Unit {0}) (Plain Later) (λ value. CloseIt begun) opened (λ value closing. WithinFrom opened more closing) Ends
-      (later opened is.counts (subst (λ (scopes : List Begun). AreOwn (checks_of s) scopes) (sym is.scopes) (own_more (checks_of s) at.scopes begun own is.own)))
+      (later opened is.counts (subst (λ (scopes : List Begun). AreOwn (checks_of s) scopes) (sym is.scopes)
+      (own_more (checks_of s) at.scopes begun own is.own)))
       (λ value closing inside. part_wider (Unit {0}) (CloseIt begun) closing (λ v closed. ClosedFrom closing at.scopes closed) Ends
       (λ v closed ends. record {
         counts = λ k. let first = is.counts k in let rise = inside.counts k in let last = ends.counts k in omega (arith, first, rise, last);

@@ -1,5 +1,5 @@
 -- What is open as a block is open as a whole text.
-use Rattle.std.proofs.Common.{◌≡◌, ◌++◌, ℕ, List, [], ◌∷◌, append_assoc, length, refl, subst, sym}
+use Rattle.std.proofs.Common.{◌++◌, ℕ, List, [], ◌∷◌, append_assoc, length, refl, subst, sym}
 use Rattle.answered_parts.proofs.Ends.{AtEnd, end_open}
 use Rattle.answered_parts.specs.Alike.{IsAlike}
 use Rattle.litmus_syntax.specs.Limits.{TaskKeepsLimits}

@@ -1,18 +1,20 @@
-//! What is true of the answers of a task's steps.
+//! What is true of the steps of a task, whatever they are answered.
 
-ghost use Rattle.std.specs.Prelude.{◌++◌, ◌∷◌, [], List, length};
+ghost use Rattle.std.specs.Prelude.{◌+◌, ◌++◌, ◌≤◌, ◌∷◌, [], ℕ, List, length};
 ghost use Rattle.litmus_syntax.specs.Limits.{TaskKeepsLimits};
-ghost use Rattle.litmus_syntax.specs.Tree.{Task};
+ghost use Rattle.litmus_syntax.specs.Tree.{Block, Task};
 ghost use Rattle.memory_operation.specs.Leads.{GoesOn};
 ghost use Rattle.setup_access.specs.Parts.{made};
 ghost use Rattle.slot_table.specs.Answer.{Answers};
 ghost use Rattle.slot_table.specs.declared.records.Record.{Record};
 ghost use Rattle.slot_table.specs.declared.step.Answer.{Answer};
 ghost use Rattle.slot_table.specs.declared.step.Step.{Step};
+ghost use Rattle.spelled_texts.specs.Begins.{block_begins};
+ghost use Rattle.spelled_texts.specs.Core.{begun_at, core_of};
 ghost use Rattle.spelled_texts.specs.Fits.{ArePlaced};
 ghost use Rattle.answered_parts.specs.Alike.{IsAlike};
-ghost use Rattle.written_order.specs.Standing.{Setting};
-ghost use Rattle.written_order.specs.WrittenOrder.{SpellsAll, WrittenOrder};
+ghost use Rattle.written_order.specs.Standing.{Setting, Standing};
+ghost use Rattle.written_order.specs.WrittenOrder.{SpellsAll, StepsOfBlock, WrittenOrder};
 
 /// Law: of a text within the limits, whose variables are placed: where a record of records in the written order
 /// had another answer, the records up to it are in the written order too. So is what a task made with one step
@@ -27,4 +29,11 @@ pub fn an_answer_leads_on()
         → WrittenOrder s (length task.registers) task.body records
         → ((later : List Record) → SpellsAll s (length task.registers) task.body (records ++ later) → GoesOn s.text.task step later)
         → WrittenOrder s (length task.registers) task.body (records ++ made s.text.task step answer ∷ []) }
+{}
+
+/// Law: by whatever records a block is spelled, at each site no more accesses begin in it than it has room for.
+pub fn accesses_begin_within_the_text()
+    ensures { (s : Setting) (site : ℕ) (body : Block) (before : Standing) (records : List Record) (end : Standing) (rest : List Record)
+        → StepsOfBlock s site body before records end rest → (at : ℕ)
+        → begun_at at (core_of end) ≤ begun_at at (core_of before) + block_begins site body at }
 {}
