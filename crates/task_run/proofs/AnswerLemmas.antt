@@ -30,6 +30,7 @@ use Rattle.task_plan.specs.Keeps.{Keeps}
 use Rattle.task_plan.specs.declared.progress.Progress.{Progress}
 use Rattle.task_run.proofs.CountsLemmas.{counts_as, counts_operated, counts_silent, history_of, unconcerned}
 use Rattle.task_run.proofs.EndLemmas.{access_made, access_only, after_access, after_closing, after_opening, closing_only, lock_only, lock_taken, opening_only, passes_of, scope_closed, scope_opened}
+use Rattle.task_run.specs.Agrees.{begins_now}
 use Rattle.task_run.specs.Part.{FollowLeft, PartLeft, closes, locks, makes, opens}
 use Rattle.task_run.specs.Stands.{Counts, IsOf, Stands}
 use Rattle.task_run.specs.declared.machine.Machine.{Machine}
@@ -38,15 +39,15 @@ use Rattle.text_walk.specs.declared.walk.Walk.{Walk}
 use Rattle.written_order.specs.Access.{operated}
 use Rattle.written_order.specs.Standing.{BeginsNow, IsDisabled, IsLockAt, Setting, Standing, checks_of, doing, lock_number}
 
--- only the checker is another
+-- only the checker is another, and the access whose begin is the next step
 abbrev pub OtherChecker : Machine → Machine → Type 0
-OtherChecker old new = new ≡ record old { checker = new.checker }
+OtherChecker old new = new ≡ record old { checker = new.checker; begins = new.begins }
 
 module _ (s : Setting) (old new : Machine) (kept : OtherChecker old new) where
   pub of_kept : IsOf s old → IsOf s new
   of_kept of = subst (λ (m : Machine). IsOf s m) (sym kept) (record {
     task = of.task;
-    turns = of.turns;
+    rules = of.rules;
     variables = of.variables;
     layout = of.layout;
     sites = of.sites;
@@ -61,6 +62,12 @@ module _ (s : Setting) (old new : Machine) (kept : OtherChecker old new) where
 
   pub walk_kept : new.walk ≡ old.walk
   walk_kept = ap (λ (m : Machine). m.walk) kept
+
+
+-- after a record no begin is the next step
+pub begun_before : (begun : Begun) (records : List Record) (last : Record) (next : Option Begun) → next ≡ None → next ≡ begins_now begun (records ++ last ∷ [])
+begun_before begun [] last next none = none
+begun_before begun (first ∷ later) last next none = none
 
 -- the operation of an access leaves all but what the task did
 operated_scopes : (a : access.Access) (operation : Option Operation) (before : Standing) (records : List Record) (effect : Effect) (rest : List Record)
@@ -210,7 +217,7 @@ pub stands_locked : (s : Setting) (before : Standing) (machine : Machine) (progr
 stands_locked s before machine progress later happening other keeps stands = record {
   of = record {
     task = stands.of.task;
-    turns = stands.of.turns;
+    rules = stands.of.rules;
     variables = stands.of.variables;
     layout = stands.of.layout;
     sites = stands.of.sites;

@@ -41,6 +41,7 @@ use Rattle.task_plan.specs.declared.follow.Then.{Then}
 use Rattle.task_plan.specs.declared.progress.Progress.{Progress}
 use Rattle.task_run.proofs.AnswerLemmas.{counts_kept, of_kept}
 use Rattle.task_run.proofs.CountsLemmas.{history_on}
+use Rattle.task_run.proofs.EndLemmas.{begins_one}
 use Rattle.task_run.proofs.FollowLemmas.{ends_standing}
 use Rattle.task_run.proofs.PartLemmas.{lock_left, no_unlock_left, unlock_left}
 use Rattle.task_run.proofs.StandsLemmas.{stands_as, stands_keeping}
@@ -55,7 +56,7 @@ use Rattle.text_walk.specs.Left.{DueLeft}
 use Rattle.text_walk.specs.declared.due.Due.{Due}
 use Rattle.text_walk.specs.declared.due.Due.TheVariants as dues
 use Rattle.text_walk.specs.declared.walk.Walk.{Walk}
-use Rattle.written_order.specs.Standing.{Setting, Standing, checks_of, coming, counting, doing, is_lock, lock_number, moments, registered}
+use Rattle.written_order.specs.Standing.{BeginsNow, Setting, Standing, checks_of, coming, counting, doing, is_lock, lock_number, moments, registered}
 
 -- what is due is the part itself, or the text is over
 pub begins_stopped : (s : Setting) (due : Due) (machine : Machine) → PartBegins s (DueLeft s due machine.walk) machine machine (Some stages.Stopped)
@@ -194,9 +195,10 @@ module _ (s : Setting) (site : ℕ) (plan : Plan) (a : access.Access) (old off :
     → HasCell (checks_of s) a plan.operation
     → IsDecided (checks_of s) (context_of off.checker) begun × AccessLeads (checks_of s) scopes begun asked plan.operation [] run checker)
     (follows : (scopes : List Begun) (asked : ℕ) (last : Option Begun) → checks.Rests (checks_of s) scopes asked last off.checker → IsOwn (checks_of s) a
-    → Follows s.rules.plain_writes_atomic s.text.task (context_of off.checker) (happenings.Begin a) (context_of checker)) where
+    → Follows s.rules.plain_writes_atomic s.text.task (context_of off.checker) (happenings.Begin a) (context_of checker))
+    (decided : Begun) (decides_it : (before : Standing) → Stands s before off → IsOwn (checks_of s) a → BeginsNow s before a decided) where
   abbrev final : Machine
-  final = record off { progress = progress; checker = checker }
+  final = record off { progress = progress; checker = checker; begins = Some decided }
 
   pub begins_making : PartBegins s (PlanLeft s old.walk site plan) old final (Some (stages.Making run kept))
   begins_making = λ before stands. (
@@ -233,11 +235,18 @@ module _ (s : Setting) (site : ℕ) (plan : Plan) (a : access.Access) (old off :
           let now = before_access plan.follow before later in
           let there = now_stands before later stands in
           let mine = own before later stands in
-          let decided = decides now.scopes now.asked there.rests.0 there.rests.1 mine cell in
+          let begins = decides now.scopes now.asked there.rests.0 there.rests.1 mine cell in
+          let now_begins : BeginsNow s now a begun = record {
+            own = mine;
+            access = of_access;
+            marked = subst (λ (x : access.Access). IsTrue begun.marked ↔ CountsAfter s.rules.plain_writes_atomic x (moments s now)) of_access
+                (begins.0.marked (moments s now) there.counts.context);
+            silenced = begins.0.silenced (moments s now) there.counts.context;
+          } in
           record {
             of = record {
               task = there.of.task;
-              turns = there.of.turns;
+              rules = there.of.rules;
               variables = there.of.variables;
               layout = there.of.layout;
               sites = there.of.sites;
@@ -255,15 +264,10 @@ module _ (s : Setting) (site : ℕ) (plan : Plan) (a : access.Access) (old off :
               refl,
               is_kept,
               fit,
-              record {
-                own = mine;
-                access = of_access;
-                marked = subst (λ (x : access.Access). IsTrue begun.marked ↔ CountsAfter s.rules.plain_writes_atomic x (moments s now)) of_access
-                    (decided.0.marked (moments s now) there.counts.context);
-                silenced = decided.0.silenced (moments s now) there.counts.context;
-              },
-              decided.1,
+              now_begins,
+              begins.1,
               λ done. done.2.check.2,
+              ap (λ (b : Begun). Some b) (begins_one s now a decided begun (decides_it now there mine) now_begins),
             );
           }
 
@@ -330,8 +334,10 @@ pub begins_opening : (s : Setting) (kind : Kind) (variable site : ℕ) (a : acce
     → IsDecided (checks_of s) (context_of machine.checker) begun × checks.Leads (checks_of s) scopes (Checks begun) asked [] checker)
     → ((scopes : List Begun) (asked : ℕ) (last : Option Begun) → checks.Rests (checks_of s) scopes asked last machine.checker → IsOwn (checks_of s) a
     → Follows s.rules.plain_writes_atomic s.text.task (context_of machine.checker) (happenings.Begin a) (context_of checker))
-    → PartBegins s (DueLeft s (dues.Opens kind variable site) machine.walk) machine (record machine { progress = progress; checker = checker }) (Some stages.Opening)
-begins_opening s kind variable site a machine progress checker begun in_limits mask of_access room is_scoped counts_it decides follows = λ before stands. (
+    → (decided : Begun) → ((before : Standing) → Stands s before machine → IsOwn (checks_of s) a → BeginsNow s before a decided)
+    → PartBegins s (DueLeft s (dues.Opens kind variable site) machine.walk) machine
+    (record machine { progress = progress; checker = checker; begins = Some decided }) (Some stages.Opening)
+begins_opening s kind variable site a machine progress checker begun in_limits mask of_access room is_scoped counts_it decides follows decided decides_it = λ before stands. (
   opens a,
   before,
   λ later. agrees (before later) (stands later),
@@ -339,17 +345,25 @@ begins_opening s kind variable site a machine progress checker begun in_limits m
       ↔ PartLeft s (opens x) machine.walk (before later) later end []) (sym (is_scoped (before later) (stands later))) (λ h. h, λ h. h),
 )
   where
-    agrees : (before : Standing) → Stands s before machine → Agrees s (opens a) before [] (record machine { progress = progress; checker = checker }) stages.Opening
+    agrees : (before : Standing) → Stands s before machine
+        → Agrees s (opens a) before [] (record machine { progress = progress; checker = checker; begins = Some decided }) stages.Opening
     agrees before stands =
         let own : IsOwn (checks_of s) a = record {
           task = ap (λ (x : access.Access). x.task) (is_scoped before stands);
           in_limits = in_limits;
           mask = mask;
         } in
-        let decided = decides before.scopes before.asked stands.rests.0 stands.rests.1 own in record {
+        let begins = decides before.scopes before.asked stands.rests.0 stands.rests.1 own in
+        let now_begins : BeginsNow s before a begun = record {
+          own = own;
+          access = of_access;
+          marked = subst (λ (x : access.Access). IsTrue begun.marked ↔ CountsAfter s.rules.plain_writes_atomic x (moments s before)) of_access
+              (begins.0.marked (moments s before) stands.counts.context);
+          silenced = begins.0.silenced (moments s before) stands.counts.context;
+        } in record {
           of = record {
             task = stands.of.task;
-            turns = stands.of.turns;
+            rules = stands.of.rules;
             variables = stands.of.variables;
             layout = stands.of.layout;
             sites = stands.of.sites;
@@ -363,16 +377,11 @@ begins_opening s kind variable site a machine progress checker begun in_limits m
           is_in = (
             begun,
             refl,
-            record {
-              own = own;
-              access = of_access;
-              marked = subst (λ (x : access.Access). IsTrue begun.marked ↔ CountsAfter s.rules.plain_writes_atomic x (moments s before)) of_access
-                  (decided.0.marked (moments s before) stands.counts.context);
-              silenced = decided.0.silenced (moments s before) stands.counts.context;
-            },
+            now_begins,
             subst (λ (n : ℕ). n < 8) stands.counts.in_force room,
-            decided.1,
+            begins.1,
             nothing_checked (checks_of s) before.scopes begun before.asked,
+            ap (λ (b : Begun). Some b) (begins_one s before a decided begun (decides_it before stands own) now_begins),
           );
         }
 

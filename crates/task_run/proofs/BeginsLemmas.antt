@@ -17,7 +17,7 @@ pub walked : (s : Setting) (before : Standing) (old new : Machine) → new ≡ r
 walked s before old new is stands = rw is (record {
   of = record {
     task = stands.of.task;
-    turns = stands.of.turns;
+    rules = stands.of.rules;
     variables = stands.of.variables;
     layout = stands.of.layout;
     sites = stands.of.sites;

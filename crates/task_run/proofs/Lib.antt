@@ -13,3 +13,7 @@ pub mod LimitLemmas
 pub mod RunLemmas
 pub mod NextLemmas
 pub mod ReadLemmas
+pub mod TellLemmas
+pub mod FellLemmas
+pub mod ComeLemmas
+pub mod NewsLemmas

@@ -23,6 +23,7 @@ use Rattle.setup_access.specs.Leads as checks
 use Rattle.setup_access.specs.Records.{MakesDone}
 use Rattle.setup_access.proofs.LeadsLemmas.{same_ends}
 use Rattle.setup_access.specs.declared.begun.Begun.{Begun}
+use Rattle.setup_access.specs.declared.rules.Rules.{Rules}
 use Rattle.slot_table.specs.declared.records.Record.{Record}
 use Rattle.slot_table.specs.declared.step.Step.{Step}
 use Rattle.slot_table.specs.declared.step.Answer.TheVariants as answers
@@ -46,7 +47,8 @@ use Rattle.text_walk.proofs.StepsLemmas.{through}
 use Rattle.text_walk.specs.Left.{Same, WalkLeft}
 use Rattle.written_order.specs.WrittenOrder.{SpellsAll, StepsOfBlock, at_first}
 use Rattle.task_run.specs.Agrees.{Agrees, Begins, IsIn, in_part}
-use Rattle.task_run.specs.Leads.{IsStuck, Leads, OnlyStep, WaitsTooLong}
+use Rattle.task_run.specs.Leads.{IsStuck, Leads, WaitsTooLong}
+use Rattle.written_order.specs.Waits.{OnlyStep}
 use Rattle.task_run.specs.Says.{IsStopped}
 use Rattle.setup_access.specs.Waits.{IsStuckBy}
 use Rattle.task_run.specs.Part.{Part, PartLeft, closes, locks, makes, opens, over, stops, unlocks}
@@ -462,22 +464,22 @@ module _ (s : Setting) (registers : ℕ) (body : Block) (records : List Record) 
         let same : locking_agrees.is_in.0 ≡ wait = cc in
         subst (λ (w : LockWait). LockLeads s.text.task (lock_number s variable) leads.mine w) same locking_agrees.is_in.3
 
-    locking_is : IsStuckAtLock run.machine.turns s.text.task (lock_number s variable) leads.mine ↔ IsStuck leads
+    locking_is : IsStuckAtLock run.machine.rules.turns s.text.task (lock_number s variable) leads.mine ↔ IsStuck leads
     locking_is = (
       λ stuck. subst (λ (p : Part). WaitsTooLong s p here leads.mine) (sym locking_part)
-          (subst (λ (n : ℕ). IsStuckAtLock n s.text.task (lock_number s variable) leads.mine) locking_agrees.of.turns stuck),
-      λ stuck. subst (λ (n : ℕ). IsStuckAtLock n s.text.task (lock_number s variable) leads.mine) (sym locking_agrees.of.turns)
+          (subst (λ (n : ℕ). IsStuckAtLock n s.text.task (lock_number s variable) leads.mine) (ap (λ (r : Rules). r.turns) locking_agrees.of.rules) stuck),
+      λ stuck. subst (λ (n : ℕ). IsStuckAtLock n s.text.task (lock_number s variable) leads.mine) (sym (ap (λ (r : Rules). r.turns) locking_agrees.of.rules))
           (subst (λ (p : Part). WaitsTooLong s p here leads.mine) locking_part stuck),
     )
 
     pub locking_stuck : (Says : Type 0)
-        → ((lock : ℕ) (so_far : List Record) → LockLeads s.text.task lock so_far wait → Says ↔ IsStuckAtLock run.machine.turns s.text.task lock so_far) → Says ↔ IsStuck leads
+        → ((lock : ℕ) (so_far : List Record) → LockLeads s.text.task lock so_far wait → Says ↔ IsStuckAtLock run.machine.rules.turns s.text.task lock so_far) → Says ↔ IsStuck leads
     locking_stuck Says says =
         let all = says (lock_number s variable) leads.mine locking_leads in
         (λ h. locking_is.0 (all.0 h), λ stuck. all.1 (locking_is.1 stuck))
 
     pub locking_none : (Says : Type 0)
-        → ((lock : ℕ) (so_far : List Record) → LockLeads s.text.task lock so_far wait → Says ↔ LockIsOver run.machine.turns s.text.task lock so_far) → Says ↔ IsStuck leads
+        → ((lock : ℕ) (so_far : List Record) → LockLeads s.text.task lock so_far wait → Says ↔ LockIsOver run.machine.rules.turns s.text.task lock so_far) → Says ↔ IsStuck leads
     locking_none Says says =
         let all = says (lock_number s variable) leads.mine locking_leads in (
           λ h. elim (all.0 h) [

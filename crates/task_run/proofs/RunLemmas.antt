@@ -34,7 +34,7 @@ use Rattle.task_plan.specs.Keeps.{Keeps}
 use Rattle.task_plan.specs.Views.{follow_of}
 use Rattle.task_plan.specs.declared.follow.Then.{Then}
 use Rattle.task_plan.specs.declared.progress.Progress.{Progress}
-use Rattle.task_run.proofs.AnswerLemmas.{OtherChecker, access_over, access_stands, check_goes, check_whole, close_goes, close_whole, closing_over, counts_kept, lock_over, of_kept, opening_over, stands_locked, walk_kept}
+use Rattle.task_run.proofs.AnswerLemmas.{OtherChecker, access_over, access_stands, begun_before, check_goes, check_whole, close_goes, close_whole, closing_over, counts_kept, lock_over, of_kept, opening_over, stands_locked, walk_kept}
 use Rattle.task_run.proofs.CountsLemmas.{counts_silent, history_of}
 use Rattle.task_run.proofs.EndLemmas.{after_access, after_closing, after_opening, passes_of}
 use Rattle.task_run.proofs.LeadsLemmas.{agrees_in, inside, next_part}
@@ -153,9 +153,10 @@ module _ (s : Setting) (registers : ℕ) (body : Block) (records : List Record) 
 
     pub access_inside : ((scopes : List Begun) (begun : Begun) (asked : ℕ) (operation : Option Operation) (so_far : List Record)
         → AccessLeads (checks_of s) scopes begun asked operation so_far next_run machine.checker → ¬ AccessIsDone (checks_of s) scopes begun asked operation so_far)
-        → Leads s registers body (records ++ made ∷ []) (record { machine = machine; stage = stages.Making next_run kept })
-    access_inside going = inside s registers body records old leads (makes making.0 making.1 (follow_of kept)) making.2 made
-        (record { machine = machine; stage = stages.Making next_run kept }) (walk_kept s old.machine machine other)
+        → machine.begins ≡ None
+        → Leads s registers body (records ++ made ∷ []) (record old { machine = machine; stage = stages.Making next_run kept })
+    access_inside going none_begins = inside s registers body records old leads (makes making.0 making.1 (follow_of kept)) making.2 made
+        (record old { machine = machine; stage = stages.Making next_run kept }) (walk_kept s old.machine machine other)
         (λ later. let a = access_agrees later in record {
           of = of_kept s old.machine machine other a.of;
           counts = counts_kept s old.machine machine other (doing (leads.now later) [] (happenings.Begin making.0 ∷ [])) context a.counts;
@@ -169,6 +170,7 @@ module _ (s : Setting) (registers : ℕ) (body : Block) (records : List Record) 
             a.is_in.6,
             access_leads later,
             going (leads.now later).scopes a.is_in.2 (leads.now later).asked making.1 mine (access_leads later),
+            begun_before a.is_in.2 leads.mine made machine.begins none_begins,
           );
         })
 
@@ -252,8 +254,10 @@ module _ (s : Setting) (registers : ℕ) (body : Block) (records : List Record) 
 
     pub opening_inside : ((scopes : List Begun) (what : Doing) (asked : ℕ) (so_far : List Record) → checks.Leads (checks_of s) scopes what asked so_far machine.checker
         → ¬ checks.IsDone (checks_of s) scopes what asked so_far)
-        → Leads s registers body (records ++ made ∷ []) (record { machine = machine; stage = stages.Opening })
-    opening_inside going = inside s registers body records old leads (opens opening.0) opening.1 made (record { machine = machine; stage = stages.Opening })
+        → machine.begins ≡ None
+        → Leads s registers body (records ++ made ∷ []) (record old { machine = machine; stage = stages.Opening })
+    opening_inside going none_begins = inside s registers body records old leads (opens opening.0) opening.1 made
+        (record old { machine = machine; stage = stages.Opening })
         (walk_kept s old.machine machine other)
         (λ later. let a = opening_agrees later in record {
           of = of_kept s old.machine machine other a.of;
@@ -266,6 +270,7 @@ module _ (s : Setting) (registers : ℕ) (body : Block) (records : List Record) 
             opening_leads later,
             check_goes (checks_of s) (leads.now later).scopes a.is_in.0 (leads.now later).asked leads.mine made a.is_in.5
                 (going (leads.now later).scopes (Checks a.is_in.0) (leads.now later).asked mine (opening_leads later)),
+            begun_before a.is_in.0 leads.mine made machine.begins none_begins,
           );
         })
 
@@ -298,7 +303,7 @@ module _ (s : Setting) (registers : ℕ) (body : Block) (records : List Record) 
         let room : machine.in_force < 8 = subst (λ (n : ℕ). n < 8) (sym counts.in_force) a.is_in.3 in record {
           of = record {
             task = of.task;
-            turns = of.turns;
+            rules = of.rules;
             variables = of.variables;
             layout = of.layout;
             sites = of.sites;
@@ -335,8 +340,9 @@ module _ (s : Setting) (registers : ℕ) (body : Block) (records : List Record) 
 
     pub closing_inside : ((scopes : List Begun) (what : Doing) (asked : ℕ) (so_far : List Record) → checks.Leads (checks_of s) scopes what asked so_far machine.checker
         → ¬ checks.IsDone (checks_of s) scopes what asked so_far)
-        → Leads s registers body (records ++ made ∷ []) (record { machine = machine; stage = stages.Closing })
-    closing_inside going = inside s registers body records old leads closes closing made (record { machine = machine; stage = stages.Closing })
+        → Leads s registers body (records ++ made ∷ []) (record old { machine = machine; stage = stages.Closing })
+    closing_inside going = inside s registers body records old leads closes closing made
+        (record old { machine = machine; stage = stages.Closing })
         (walk_kept s old.machine machine other)
         (λ later. let a = closing_agrees later in record {
           of = of_kept s old.machine machine other a.of;
@@ -380,7 +386,7 @@ module _ (s : Setting) (registers : ℕ) (body : Block) (records : List Record) 
         let length_is : length (at_begin later).scopes ≡ length a.is_in.0 + 1 = ap (λ (l : List Begun). length l) a.is_in.4 ∙ length-append a.is_in.0 (a.is_in.1 ∷ []) in record {
           of = record {
             task = of.task;
-            turns = of.turns;
+            rules = of.rules;
             variables = of.variables;
             layout = of.layout;
             sites = of.sites;

@@ -57,7 +57,7 @@ pub stands_marked : (s : Setting) (before : Standing) (later : List Record) (m :
 stands_marked s before later m machine context follows stands = record {
   of = record {
     task = stands.of.task;
-    turns = stands.of.turns;
+    rules = stands.of.rules;
     variables = stands.of.variables;
     layout = stands.of.layout;
     sites = stands.of.sites;
@@ -78,7 +78,7 @@ pub stands_keeping : (s : Setting) (before after : Standing) (machine : Machine)
 stands_keeping s before after machine progress did scopes asked keeps stands = record {
   of = record {
     task = stands.of.task;
-    turns = stands.of.turns;
+    rules = stands.of.rules;
     variables = stands.of.variables;
     layout = stands.of.layout;
     sites = stands.of.sites;

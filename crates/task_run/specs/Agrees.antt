@@ -1,5 +1,5 @@
 -- A task that is in a part of its text, by the records of the part so far.
-use Rattle.std.specs.Prelude.{◌≡◌, ◌↔◌, ◌++◌, ◌<◌, Bool, IsTrue, List, [], ◌∷◌, Option, Some, length, true}
+use Rattle.std.specs.Prelude.{◌≡◌, ◌↔◌, ◌++◌, ◌<◌, Bool, IsTrue, List, [], ◌∷◌, Option, None, Some, length, true}
 use Rattle.access_run.specs.Leads.{AccessIsDone, AccessLeads}
 use Rattle.access_run.specs.Whole.{NoneWhole}
 use Rattle.access_run.specs.declared.access.AccessRun.{AccessRun}
@@ -49,6 +49,11 @@ abbrev pub IsFit : Follow → Option Operation → Type 0
 IsFit (loaded_by size data_races taker) operation = Reads operation
 IsFit follow operation = Unit {0}
 
+-- the begin of an access is the next step as long as it has no record
+abbrev pub begins_now : Begun → List Record → Option Begun
+begins_now begun [] = Some begun
+begins_now begun (first ∷ later) = None
+
 -- these records are of the part, which began where the task stood so, and lead to where the machine is
 abbrev pub IsIn : Setting → Part → Standing → List Record → Machine → Stage → Type 0
 IsIn s over before mine machine stage = (stage ≡ stages.Over) × (mine ≡ []) × RestsAt s before machine
@@ -59,10 +64,12 @@ IsIn s (makes a operation follow) before mine machine stage =
     × (follow_of kept ≡ follow) × IsFit follow operation × BeginsNow s before a begun
     × AccessLeads (checks_of s) before.scopes begun before.asked operation mine access machine.checker
     × (¬ AccessIsDone (checks_of s) before.scopes begun before.asked operation mine)
+    × (machine.begins ≡ begins_now begun mine)
 IsIn s (opens a) before mine machine stage =
     (begun : Begun) × (stage ≡ stages.Opening) × BeginsNow s before a begun × (length before.scopes < 8)
     × checks.Leads (checks_of s) before.scopes (Checks begun) before.asked mine machine.checker
     × NoneWhole (Check (checks_of s) before.scopes begun before.asked) mine
+    × (machine.begins ≡ begins_now begun mine)
 IsIn s closes before mine machine stage =
     (scopes : List Begun) × (newest : Begun) × (silenced : Bool) × (stage ≡ stages.Closing)
     × (before.scopes ≡ scopes ++ newest ∷ []) × (IsTrue silenced ↔ IsDisabled s before)

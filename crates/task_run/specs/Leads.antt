@@ -1,8 +1,7 @@
 -- Records of a task that lead to its machine.
-use Rattle.std.specs.Prelude.{◌≡◌, ◌↔◌, ◌++◌, ℕ, List, [], ◌∷◌}
+use Rattle.std.specs.Prelude.{◌≡◌, ◌↔◌, ◌++◌, ℕ, List, [], ◌∷◌, Option, None, Some}
 use Rattle.litmus_syntax.specs.Tree.{Block}
 use Rattle.access_run.specs.Leads.{AccessIsStuck}
-use Rattle.memory_operation.specs.Leads.{GoesOn}
 use Rattle.memory_operation.specs.LockLeads.{IsStuckAtLock}
 use Rattle.setup_access.specs.Parts.{made}
 use Rattle.setup_access.specs.Waits.{IsStuckBy}
@@ -15,7 +14,7 @@ use Rattle.task_run.specs.Part.{Part, PartLeft, closes, locks, makes, opens, ove
 use Rattle.task_run.specs.Says.{Says}
 use Rattle.task_run.specs.declared.run.TaskRun.{TaskRun}
 use Rattle.written_order.specs.Standing.{BeginsNow, Setting, Standing, checks_of, lock_number}
-use Rattle.written_order.specs.WrittenOrder.{SpellsAll, StepsOfBlock, at_first}
+use Rattle.written_order.specs.WrittenOrder.{StepsOfBlock, at_first}
 
 -- The records so far, of a task with so many registers, lead to the machine: it is in a part of the
 -- text, by the last of the records, and whatever completes the records completes the part and what is
@@ -38,17 +37,19 @@ abbrev pub stands_at : {s : Setting} {registers : ℕ} {body : Block} {records :
     → Leads s registers body records run → List Record → Standing
 stands_at leads later = leads.now (leads.mine ++ later)
 
--- whatever completes the records so far goes on with this step
-abbrev pub OnlyStep : Setting → ℕ → Block → List Record → Step → Type 0
-OnlyStep s registers body records step =
-    (later : List Record) → SpellsAll s registers body (records ++ later) → GoesOn s.text.task step later
-
 -- one record more, of the step that the machine is before, leads on
 abbrev pub LeadsOn : TaskRun → TaskRun → Answer → Type 0
 LeadsOn old new answer =
     (s : Setting) (registers : ℕ) (body : Block) (records : List Record) (step : Step)
     → Leads s registers body records old → Says old step
     → Leads s registers body (records ++ made s.text.task step answer ∷ []) new
+
+-- the access of the part, if it has one, begins with the next record as long as none is the part's
+abbrev pub BeginsNext : Setting → Part → Standing → List Record → Option Begun → Type 0
+BeginsNext s (makes a operation follow) before [] next =
+    (begun : Begun) × (next ≡ Some begun) × BeginsNow s before a begun
+BeginsNext s (opens a) before [] next = (begun : Begun) × (next ≡ Some begun) × BeginsNow s before a begun
+BeginsNext s part before mine next = next ≡ None
 
 -- a wait of the part had as many vain tries as the rules allow, by the records of the part so far
 abbrev pub WaitsTooLong : Setting → Part → Standing → List Record → Type 0

@@ -7,3 +7,4 @@ pub mod Follows
 pub mod Due
 pub mod Says
 pub mod Leads
+pub mod Fell

@@ -16,7 +16,7 @@ use Rattle.written_order.specs.WrittenOrder.{Steps}
 -- the machine is of this task, and goes by the same
 pub record IsOf (s : Setting) (machine : Machine) : Type 0 where
   pub task : machine.task ≡ s.text.task
-  pub turns : machine.turns ≡ s.rules.turns
+  pub rules : machine.rules ≡ s.rules
   pub variables : machine.variables.now ≡ s.text.variables
   pub layout : Lays s.text.places s.text.variables machine.layout
   pub sites : machine.sites ≡ s.sites

@@ -5,6 +5,7 @@ ghost use Rattle.access_types.specs.Access.{IsInLimits};
 ghost use Rattle.litmus_syntax.specs.Tree as tree;
 ghost use Rattle.litmus_syntax.specs.Views.{assignment_of, expression_of, load_of, pure_of, statement_of};
 ghost use Rattle.litmus_syntax.specs.declared.statement.Call.TheVariants.{Lock, Unlock};
+ghost use Rattle.setup_access.specs.Own.{IsOwn};
 ghost use Rattle.slot_table.specs.declared.records.Record.{Record};
 ghost use Rattle.access_run.specs.Leads.{HasCell};
 ghost use Rattle.task_run.specs.Agrees.{Begins, IsFit};
@@ -17,7 +18,7 @@ ghost use Rattle.task_plan.specs.Views.{plan_of, taker_of};
 ghost use Rattle.text_walk.specs.Cost.{walk_cost};
 ghost use Rattle.text_walk.specs.Left.{DueLeft, WalkLeft};
 ghost use Rattle.text_walk.specs.declared.due.Due.TheVariants as dues;
-ghost use Rattle.written_order.specs.Standing.{Setting, Standing, checks_of};
+ghost use Rattle.written_order.specs.Standing.{BeginsNow, Setting, Standing, checks_of};
 
 use crate::machine::{Beyond, Machine};
 use crate::stage::Stage;
@@ -26,6 +27,7 @@ use access_types::{Access, Kind, TASKS};
 use litmus_meaning::pure_value;
 use litmus_syntax::{Assignment, Call, Expression, Load, Pure, Statement};
 use memory_operation::{LockWait, Operation};
+use setup_access::Begun;
 use setup_access::checker::SCOPES;
 use task_plan::follow::so_often;
 use task_plan::progress::SITES;
@@ -331,6 +333,23 @@ impl<'a> Machine<'a> {
         }
     }
 
+    /// An access that begins now, with what is decided of it then.
+    fn begun(&mut self, access: &Access) -> Begun
+        requires has_bytes { 0 < access.now.size }
+        ensures begins { (s : Setting) (before : Standing) → Stands s before self.old → IsOwn (checks_of s) access.now
+            → BeginsNow s before access.now result }
+        ensures unchanged { self.new ≡ self.old }
+    {
+        let mut context = *self.checker.context();
+        let silenced = !context.enabled();
+        let marked = context.counts_as_marked(access, self.rules.plain_writes_atomic);
+        Begun {
+            access: *access,
+            marked,
+            silenced,
+        }
+    }
+
     /// The access that is planned begins.
     fn makes(&mut self, plan: Plan<'a>, site: usize) -> Result<Option<Stage<'a>>, Beyond>
         ensures begins { IfOk result (λ stage. (s : Setting) → IsFit (plan_of plan.entry).follow (plan_of plan.entry).operation
@@ -343,8 +362,10 @@ impl<'a> Machine<'a> {
             return Err(Beyond);
         }
         self.disable(plan.after.data_races())?;
+        let begun = self.begun(&access);
         self.progress.begins_at(site);
         let run = AccessRun::begin(&mut self.checker, &access, plan.operation);
+        self.begins = Some(begun);
         Ok(Some(Stage::Making(run, plan.after)))
     }
 
@@ -371,8 +392,10 @@ impl<'a> Machine<'a> {
         if self.in_force >= SCOPES {
             return Err(Beyond);
         }
+        let begun = self.begun(&access);
         self.progress.begins_at(site);
         self.checker.begin(&access);
+        self.begins = Some(begun);
         Ok(Some(Stage::Opening))
     }
 

@@ -1,6 +1,6 @@
 //! What a task's accesses and its checks of scoped assertions do with an answer.
 
-ghost use Rattle.std.specs.Prelude.{◌≡◌, ◌+◌, ◌-◌, ◌<◌, ◌↔◌, ◌++◌, ◌∷◌, [], ℕ, List, IsTrue, None, Option, Some, length};
+ghost use Rattle.std.specs.Prelude.{◌≡◌, ◌+◌, ◌-◌, ◌<◌, ◌↔◌, ◌++◌, ◌∷◌, [], ℕ, List, IsTrue, None, Option, Some, length, slice_get};
 ghost use Rattle.access_run.specs.Leads.{AccessLeads, AccessSays};
 ghost use Rattle.memory_operation.specs.declared.operation.Operation.{Operation};
 ghost use Rattle.setup_access.specs.Checker.{Doing};
@@ -8,7 +8,7 @@ ghost use Rattle.setup_access.specs.Leads as checks;
 ghost use Rattle.setup_access.specs.Own.{IsOwn};
 ghost use Rattle.setup_access.specs.Parts.{made};
 ghost use Rattle.setup_access.specs.Setting as settings;
-ghost use Rattle.setup_access.specs.Shown.{context_of};
+ghost use Rattle.setup_access.specs.Shown.{context_of, outcomes_of};
 ghost use Rattle.setup_access.specs.declared.begun.Begun.{Begun};
 ghost use Rattle.slot_table.specs.Answer.{Answers};
 ghost use Rattle.slot_table.specs.declared.records.Record.{Record};
@@ -16,7 +16,7 @@ ghost use Rattle.slot_table.specs.declared.step.Step.{Step};
 
 use crate::machine::Machine;
 use access_run::AccessRun;
-use setup_access::Checker;
+use setup_access::{Checker, Outcome};
 use slot_table::Answer;
 
 /// The check that is under way is over: no step follows, and it isn't stuck.
@@ -33,7 +33,28 @@ fn is_over(checker: &Checker) -> bool
     }
 }
 
+/// What came of the answer of a check.
+#[derive(Clone, Copy)]
+pub(crate) struct Came {
+    pub(crate) over: bool,
+    pub(crate) fell: Option<Outcome>,
+}
+
 impl<'a> Machine<'a> {
+    /// So many outcomes came of the checks of the part so far.
+    pub(crate) fn came(&self) -> usize
+        ensures { result ≡ length (outcomes_of self.now.checker) }
+    {
+        self.checker.outcomes().len()
+    }
+
+    /// The outcome that came next after so many.
+    pub(crate) fn came_after(&self, count: usize) -> Option<Outcome>
+        ensures { result ≡ slice_get (outcomes_of self.now.checker) count }
+    {
+        self.checker.outcomes().get(count).copied()
+    }
+
     /// An access that is under way takes the answer.
     pub(crate) fn answers_access(&mut self, run: AccessRun, answer: Answer) -> AccessRun
         requires { (step : Step) × AccessSays run self.old.checker step × Answers step answer }
@@ -41,29 +62,38 @@ impl<'a> Machine<'a> {
             → s.sites ≡ self.old.sites → AccessLeads s scopes begun asked operation records run self.old.checker → AccessSays run self.old.checker step
             → AccessLeads s scopes begun asked operation (records ++ made s.task step answer ∷ []) result self.new.checker }
         ensures context { context_of self.new.checker ≡ context_of self.old.checker }
-        ensures kept { self.new ≡ record self.old { checker = self.new.checker } }
+        ensures kept { self.new ≡ record self.old { checker = self.new.checker; begins = self.new.begins } }
+        ensures begun { self.new.begins ≡ None }
     {
         let mut run = run;
         run.answer(&mut self.checker, answer, &self.sites);
+        self.begins = None;
         run
     }
 
-    /// The check that is under way takes the answer, and is over or not.
-    pub(crate) fn answers_check(&mut self, answer: Answer) -> bool
+    /// The check that is under way takes the answer.
+    pub(crate) fn answers_check(&mut self, answer: Answer) -> Came
         requires { (step : Step) × checks.Says self.old.checker step × Answers step answer }
         ensures leads { (s : settings.Setting) (scopes : List Begun) (doing : Doing) (asked : ℕ) (records : List Record) (step : Step)
             → s.sites ≡ self.old.sites → checks.Leads s scopes doing asked records self.old.checker → checks.Says self.old.checker step
             → checks.Leads s scopes doing asked (records ++ made s.task step answer ∷ []) self.new.checker }
         ensures over { (s : settings.Setting) (scopes : List Begun) (doing : Doing) (asked : ℕ) (records : List Record)
-            → checks.Leads s scopes doing asked records self.new.checker → (IsTrue result ↔ checks.IsDone s scopes doing asked records) }
+            → checks.Leads s scopes doing asked records self.new.checker → (IsTrue result.over ↔ checks.IsDone s scopes doing asked records) }
         ensures complete { (s : settings.Setting) (scopes : List Begun) (doing : Doing) (asked : ℕ) (records : List Record)
             → checks.Leads s scopes doing asked records self.new.checker → checks.IsDone s scopes doing asked records
             → checks.IsComplete s scopes doing asked records self.new.checker }
         ensures context { context_of self.new.checker ≡ context_of self.old.checker }
-        ensures kept { self.new ≡ record self.old { checker = self.new.checker } }
+        ensures fell { result.fell ≡ slice_get (outcomes_of self.new.checker) (length (outcomes_of self.old.checker)) }
+        ensures kept { self.new ≡ record self.old { checker = self.new.checker; begins = self.new.begins } }
+        ensures begun { self.new.begins ≡ None }
     {
+        let came = self.came();
         self.checker.answer(answer, &self.sites);
-        is_over(&self.checker)
+        self.begins = None;
+        Came {
+            over: is_over(&self.checker),
+            fell: self.came_after(came),
+        }
     }
 
     /// The scoped assertion whose check is over is in force from now on.

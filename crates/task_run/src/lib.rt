@@ -7,7 +7,9 @@ mod checks;
 mod follows;
 mod machine;
 mod marks;
+pub mod points;
 pub mod run;
 mod stage;
 
+pub use points::{After, Before};
 pub use run::{TaskRun, TaskRunError};

@@ -3,7 +3,7 @@
 use access_types::Sites;
 use litmus_syntax::Variable;
 use program_layout::Layout;
-use setup_access::Checker;
+use setup_access::{Begun, Checker, Rules};
 use task_plan::Progress;
 use text_walk::Walk;
 
@@ -11,8 +11,7 @@ use text_walk::Walk;
 #[derive(Drop)]
 pub(crate) struct Machine<'a> {
     pub(crate) task: u32,
-    /// At so many vain tries of one wait the task is stuck.
-    pub(crate) turns: u64,
+    pub(crate) rules: Rules,
     pub(crate) variables: &'a [Variable],
     pub(crate) layout: Layout,
     /// The accesses of the whole program, by ticket.
@@ -22,6 +21,8 @@ pub(crate) struct Machine<'a> {
     /// So many scoped assertions are in force.
     pub(crate) in_force: usize,
     pub(crate) checker: Checker,
+    /// The newest access, as long as its begin is the next step.
+    pub(crate) begins: Option<Begun>,
 }
 
 /// What is due needs more than the machine has room for.

@@ -1,15 +1,16 @@
 //! A task of a program, under way.
 
-ghost use Rattle.std.specs.Prelude.{◌≡◌, ◌↔◌, ◌<◌, ◌≤◌, ◌⊎◌, [], ℕ, List, IfOk, IfSome, IsErrOf, IsNone, IsTrue, Some, length, slice_get};
+ghost use Rattle.std.specs.Prelude.{◌≡◌, ◌↔◌, ◌<◌, ◌≤◌, ◌⊎◌, [], ℕ, List, IfOk, IfSome, IsErrOf, IsNone, IsTrue, None, Some, length, slice_get};
 
 use crate::machine::Machine;
+use crate::points::{After, Before, Latest, News};
 use crate::stage::Stage;
 use access_run::AccessRun;
 use access_types::Sites;
 use litmus_syntax::{Program, Task};
 use memory_operation::LockWait;
 use program_layout::{Layout, LayoutError, Place};
-use setup_access::{Checker, CheckerError, Rules};
+use setup_access::{Begun, Checker, CheckerError, Outcome, Rules};
 use slot_table::{Answer, Step};
 use std::alloc::{AllocError, Global};
 use task_plan::{Progress, Then};
@@ -23,6 +24,7 @@ pub struct TaskRun<'a> {
     pub(crate) machine: Machine<'a>,
     /// What it is doing.
     pub(crate) stage: Stage<'a>,
+    pub(crate) news: News,
 }
 
 /// Why there is no task.
@@ -87,10 +89,12 @@ impl<'a> TaskRun<'a> {
     ghost use Rattle.slot_table.specs.declared.records.Record.{Record};
     ghost use Rattle.slot_table.specs.declared.step.Answer.TheVariants.{Done};
     ghost use Rattle.slot_table.specs.declared.step.Step.{Step};
-    ghost use Rattle.task_run.specs.Leads.{IsStuck, Leads, LeadsOn, OnlyStep, stands_at};
+    ghost use Rattle.task_run.specs.Leads.{BeginsNext, IsStuck, Leads, LeadsOn, stands_at};
     ghost use Rattle.task_plan.specs.Counts.{up_to_last};
     ghost use Rattle.access_run.specs.Leads.{AccessSays};
     ghost use Rattle.task_run.specs.Says.{IsStopped, Says};
+    ghost use Rattle.task_run.specs.Fell.{FellAt, fell_of};
+    ghost use Rattle.written_order.specs.Waits.{OnlyStep};
     ghost use Rattle.task_run.specs.declared.run.TaskRunError.TheVariants.{BadPlace, BadSlots};
     ghost use Rattle.task_run.specs.declared.stage.Stage.TheVariants.{Closing, Locking, Making, Opening, Unlocking};
     ghost use Rattle.written_order.specs.Standing.{Setting};
@@ -119,6 +123,7 @@ impl<'a> TaskRun<'a> {
           rules = rules.now;
           sites = sites;
         }) (length task.now.registers) (block_of task.now.body.items) [] run) }
+        ensures fell { IfOk result (λ run. fell_of run ≡ None) }
         ensures bad_slots { IsErrOf result BadSlots → (rules.now.slots < 3 ⊎ 1024 < rules.now.slots) }
         ensures slots { IfOk result (λ run. (3 ≤ rules.now.slots) × (rules.now.slots ≤ 1024)) }
         ensures bad_place { IsErrOf result BadPlace ↔ (AreFit program.now.variables places.now → ⊥) }
@@ -127,7 +132,7 @@ impl<'a> TaskRun<'a> {
         let registers = task.registers.as_slice().len();
         let mut machine = Machine {
             task: number,
-            turns: rules.turns,
+            rules: *rules,
             variables,
             layout: Layout::new(alloc, variables, places)?,
             sites,
@@ -135,9 +140,17 @@ impl<'a> TaskRun<'a> {
             progress: Progress::new(alloc, registers, variables.len())?,
             in_force: 0,
             checker: Checker::new(alloc, number, rules, cells)?,
+            begins: None,
         };
         let stage = machine.advance();
-        Ok(TaskRun { machine, stage })
+        Ok(TaskRun {
+            machine,
+            stage,
+            news: News {
+                fell: None,
+                latest: Latest::Other,
+            },
+        })
     }
 
     /// The step that the task makes next; none where its text is over, or a wait of it is stuck.
@@ -154,7 +167,7 @@ impl<'a> TaskRun<'a> {
             Stage::Making(run, _) => run.next(&self.machine.checker),
             Stage::Opening => self.machine.checker.next(),
             Stage::Closing => self.machine.checker.next(),
-            Stage::Locking(wait, _) => wait.next(self.machine.turns),
+            Stage::Locking(wait, _) => wait.next(self.machine.rules.turns),
             Stage::Unlocking(variable) => {
                 Some(Step::LockStore(self.machine.lock_number(variable)))
             }
@@ -173,59 +186,125 @@ impl<'a> TaskRun<'a> {
             Stage::Making(run, _) => run.stuck(&self.machine.checker),
             Stage::Opening => self.machine.checker.stuck(),
             Stage::Closing => self.machine.checker.stuck(),
-            Stage::Locking(wait, _) => wait.stuck(self.machine.turns),
+            Stage::Locking(wait, _) => wait.stuck(self.machine.rules.turns),
+        }
+    }
+
+    /// The access that begins with the next step, if one does, with what is decided of it.
+    pub fn begins(&self) -> Option<Begun>
+        ensures { (s : Setting) (registers : ℕ) (body : Block) (records : List Record) → (leads : Leads s registers body records self.now)
+            → (later : List Record) → BeginsNext s leads.part (stands_at leads later) leads.mine result }
+    {
+        match self.stage {
+            Stage::Making(_, _) => self.machine.begins,
+            Stage::Opening => self.machine.begins,
+            Stage::Closing => None,
+            Stage::Locking(_, _) => None,
+            Stage::Unlocking(_) => None,
+            Stage::Over => None,
+            Stage::Stopped => None,
         }
     }
 
     /// Takes the answer of the step.
     pub fn answer(&mut self, answer: Answer)
         requires { (step : Step) × Says self.old step × Answers step answer }
-        ensures { LeadsOn self.old self.new answer }
+        ensures leads { LeadsOn self.old self.new answer }
+        ensures fell { FellAt self.old (fell_of self.new) answer }
     {
+        let latest = self.news.latest.and(self.next(), self.begins().is_some());
         match self.stage {
             Stage::Over | Stage::Stopped => unreachable!(),
-            Stage::Making(run, after) => self.answers_access(run, after, answer),
-            Stage::Opening => self.answers_open(answer),
-            Stage::Closing => self.answers_close(answer),
-            Stage::Locking(wait, variable) => self.answers_lock(wait, variable, answer),
-            Stage::Unlocking(variable) => self.answers_unlock(variable),
+            Stage::Making(run, after) => {
+                let fell = self.answers_access(run, after, answer);
+                self.news = News { fell, latest };
+            }
+            Stage::Opening => {
+                let fell = self.answers_open(answer);
+                self.news = News { fell, latest };
+            }
+            Stage::Closing => {
+                let fell = self.answers_close(answer);
+                self.news = News { fell, latest };
+            }
+            Stage::Locking(wait, variable) => {
+                self.answers_lock(wait, variable, answer);
+                self.news = News { fell: None, latest };
+            }
+            Stage::Unlocking(variable) => {
+                self.answers_unlock(variable);
+                self.news = News { fell: None, latest };
+            }
         }
     }
 
-    /// An access takes the answer. Once it is over, what follows on it is done.
-    fn answers_access(&mut self, run: AccessRun, after: Then<'a>, answer: Answer)
-        requires { (step : Step) × AccessSays run self.old.machine.checker step × Answers step answer }
-        ensures { self.old.stage ≡ Making run after.entry → LeadsOn self.old self.new answer }
+    /// The outcome that fell at the last answer, if one did.
+    pub fn fell(&self) -> Option<Outcome>
+        ensures { result ≡ fell_of self.now }
     {
+        self.news.fell
+    }
+
+    /// What the next step is.
+    pub fn before(&self) -> Before {
+        self.news.latest.before(self.next(), self.begins().is_some())
+    }
+
+    /// What the last step was.
+    pub fn after(&self) -> After {
+        self.news.latest.after()
+    }
+
+    /// An access takes the answer, and what fell is told. Once it is over, what follows on it is done.
+    fn answers_access(
+        &mut self,
+        run: AccessRun,
+        after: Then<'a>,
+        answer: Answer,
+    ) -> Option<Outcome>
+        requires { (step : Step) × AccessSays run self.old.machine.checker step × Answers step answer }
+        ensures leads { self.old.stage ≡ Making run after.entry → LeadsOn self.old self.new answer }
+        ensures fell { self.old.stage ≡ Making run after.entry → FellAt self.old result answer }
+    {
+        let came = self.machine.came();
         let run = self.machine.answers_access(run, answer);
+        let fell = self.machine.came_after(came);
         if run.is_over() {
             self.machine.follows(after, run.effect());
             self.stage = self.machine.advance();
         } else {
             self.stage = Stage::Making(run, after);
         }
+        fell
     }
 
-    /// The check of a scoped assertion takes the answer. Once it is over, the assertion is in force.
-    fn answers_open(&mut self, answer: Answer)
+    /// The check of a scoped assertion takes the answer, and what fell is told. Once it is over, the
+    /// assertion is in force.
+    fn answers_open(&mut self, answer: Answer) -> Option<Outcome>
         requires { (step : Step) × checks.Says self.old.machine.checker step × Answers step answer }
-        ensures { self.old.stage ≡ Opening → LeadsOn self.old self.new answer }
+        ensures leads { self.old.stage ≡ Opening → LeadsOn self.old self.new answer }
+        ensures fell { self.old.stage ≡ Opening → FellAt self.old result answer }
     {
-        if self.machine.answers_check(answer) {
+        let came = self.machine.answers_check(answer);
+        if came.over {
             self.machine.opened();
             self.stage = self.machine.advance();
         }
+        came.fell
     }
 
-    /// The last check of a scoped assertion takes the answer.
-    fn answers_close(&mut self, answer: Answer)
+    /// The last check of a scoped assertion takes the answer, and what fell is told.
+    fn answers_close(&mut self, answer: Answer) -> Option<Outcome>
         requires { (step : Step) × checks.Says self.old.machine.checker step × Answers step answer }
-        ensures { self.old.stage ≡ Closing → LeadsOn self.old self.new answer }
+        ensures leads { self.old.stage ≡ Closing → LeadsOn self.old self.new answer }
+        ensures fell { self.old.stage ≡ Closing → FellAt self.old result answer }
     {
-        if self.machine.answers_check(answer) {
+        let came = self.machine.answers_check(answer);
+        if came.over {
             self.machine.closed();
             self.stage = self.machine.advance();
         }
+        came.fell
     }
 
     /// The wait for a lock takes the answer. Once it is over, the task has the lock.

@@ -1,6 +1,7 @@
 -- The check goes on, or is over, and what is left of the text follows.
 use Rattle.std.proofs.Common.{◌≡◌, ◌∙◌, ◌++◌, ◌∷◌, [], ap, false, subst, sym, true}
 use Rattle.setup_access.specs.Parts.{made}
+use Rattle.task_run.proofs.NewsLemmas.{closing_fell}
 use Rattle.task_run.proofs.RunLemmas.{closing_ended, closing_inside}
 use Rattle.task_run.specs.Agrees.{Begins}
 use Rattle.task_run.specs.Leads.{Leads}
@@ -10,24 +11,38 @@ use Rattle.task_run.proofs.run.TaskRun.answers_close.Goals as goal
 use Rattle.text_walk.specs.Left.{WalkLeft}
 use Rattle.written_order.specs.Standing.{checks_of}
 
-pub returns-then-answers_check : goal.returns-then-answers_check
-returns-then-answers_check c = λ is s registers body records step leads says.
-    closing_ended s registers body records c.args.self.now leads (made s.text.task step c.args.answer) c.answers_check.new.self is
-    c.answers_check.ensures.kept c.answers_check.ensures.context
-    (λ scopes what asked so_far sites l. c.answers_check.ensures.leads (checks_of s) scopes what asked so_far step sites l
+pub returns-then-came-clause-leads : goal.returns-then-came-clause-leads
+returns-then-came-clause-leads c = λ is s registers body records step leads says.
+    closing_ended s registers body records c.args.self.now leads (made s.text.task step c.args.answer) c.answers_check-came.new.self is
+    c.answers_check-came.ensures.kept c.answers_check-came.ensures.context
+    (λ scopes what asked so_far sites l. c.answers_check-came.ensures.leads (checks_of s) scopes what asked so_far step sites l
     (subst (λ stage. StageSays stage c.args.self.now step) is says))
-    (λ scopes what asked so_far l. c.answers_check.ensures.complete (checks_of s) scopes what asked so_far l
-    ((c.answers_check.ensures.over (checks_of s) scopes what asked so_far l).0 c.if-answers_check.true))
+    (λ scopes what asked so_far l. c.answers_check-came.ensures.complete (checks_of s) scopes what asked so_far l
+    ((c.answers_check-came.ensures.over (checks_of s) scopes what asked so_far l).0 c.if-came.true))
     _
     (λ before stands. subst (λ w. Begins s (WalkLeft s w) before c.advance-self.new.self c.advance-self.result) (ap (λ m. m.walk) c.closed.ensures)
     (c.advance-self.ensures s before (λ later. subst (λ m. Stands s (before later) m) (sym c.closed.ensures) (stands later))))
 
-pub returns-else-answers_check : goal.returns-else-answers_check
-returns-else-answers_check c = λ is s registers body records step leads says.
-    subst (λ stage. Leads s registers body (records ++ made s.text.task step c.args.answer ∷ []) (record { machine = c.answers_check.new.self; stage = stage })) (sym is)
-    (closing_inside s registers body records c.args.self.now leads (made s.text.task step c.args.answer) c.answers_check.new.self is
-    c.answers_check.ensures.kept c.answers_check.ensures.context
-    (λ scopes what asked so_far sites l. c.answers_check.ensures.leads (checks_of s) scopes what asked so_far step sites l
+pub returns-else-came-clause-leads : goal.returns-else-came-clause-leads
+returns-else-came-clause-leads c = λ is s registers body records step leads says.
+    subst (λ stage. Leads s registers body (records ++ made s.text.task step c.args.answer ∷ []) (record c.args.self.now { machine = c.answers_check-came.new.self; stage = stage })) (sym is)
+    (closing_inside s registers body records c.args.self.now leads (made s.text.task step c.args.answer) c.answers_check-came.new.self is
+    c.answers_check-came.ensures.kept c.answers_check-came.ensures.context
+    (λ scopes what asked so_far sites l. c.answers_check-came.ensures.leads (checks_of s) scopes what asked so_far step sites l
     (subst (λ stage. StageSays stage c.args.self.now step) is says))
     (λ scopes what asked so_far l done.
-    absurd (let no : false ≡ true = sym c.if-answers_check.false ∙ (c.answers_check.ensures.over (checks_of s) scopes what asked so_far l).1 done in cc)))
+    absurd (let no : false ≡ true = sym c.if-came.false ∙ (c.answers_check-came.ensures.over (checks_of s) scopes what asked so_far l).1 done in cc)))
+
+pub returns-then-came-clause-fell : goal.returns-then-came-clause-fell
+returns-then-came-clause-fell c = λ is s registers body records step leads says later.
+    closing_fell s registers body records c.args.self.now leads (made s.text.task step c.args.answer) c.answers_check-came.new.self c.answers_check-came.result.fell
+    c.answers_check-came.ensures.fell later is
+    (λ scopes what asked so_far sites l. c.answers_check-came.ensures.leads (checks_of s) scopes what asked so_far step sites l
+    (subst (λ stage. StageSays stage c.args.self.now step) is says))
+
+pub returns-else-came-clause-fell : goal.returns-else-came-clause-fell
+returns-else-came-clause-fell c = λ is s registers body records step leads says later.
+    closing_fell s registers body records c.args.self.now leads (made s.text.task step c.args.answer) c.answers_check-came.new.self c.answers_check-came.result.fell
+    c.answers_check-came.ensures.fell later is
+    (λ scopes what asked so_far sites l. c.answers_check-came.ensures.leads (checks_of s) scopes what asked so_far step sites l
+    (subst (λ stage. StageSays stage c.args.self.now step) is says))

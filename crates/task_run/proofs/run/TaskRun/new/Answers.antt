@@ -1,5 +1,5 @@
 -- A task that has made no step stands at the beginning of its text.
-use Rattle.std.proofs.Common.{◌≡◌, ℕ, List, arith, length, refl, subst}
+use Rattle.std.proofs.Common.{List, None, arith, length, refl, subst}
 use Rattle.access_types.specs.Sites.{AccessMap}
 use Rattle.litmus_syntax.specs.Views.{block_of}
 use Rattle.program_layout.specs.Places.{places_of}
@@ -10,6 +10,7 @@ use Rattle.task_run.proofs.run.TaskRun.new.Goals as goal
 use Rattle.task_run.specs.Agrees.{Begins}
 use Rattle.task_run.specs.Stands.{StandsBy}
 use Rattle.task_run.specs.declared.machine.Machine.{Machine}
+use Rattle.task_run.specs.declared.points.Latest.TheVariants.{Other}
 use Rattle.task_run.specs.declared.run.TaskRun.{TaskRun}
 use Rattle.text_walk.specs.Left.{WalkLeft}
 use Rattle.written_order.specs.Standing.{Setting, Standing}
@@ -30,7 +31,7 @@ returns-clause-leads c =
     } in
     let machine : Machine = record {
       task = c.args.number;
-      turns = c.args.rules.now.turns;
+      rules = c.args.rules.now;
       variables = c.as_slice-variables.result;
       layout = c.in_ok-new.field-0;
       sites = c.args.sites;
@@ -38,11 +39,12 @@ returns-clause-leads c =
       progress = c.in_ok-new-3.field-0;
       in_force = 0;
       checker = c.in_ok-new-4.field-0;
+      begins = None;
     } in
-    let new : TaskRun = record { machine = c.advance-stage.new.self; stage = c.advance-stage.result } in
+    let new : TaskRun = record { machine = c.advance-stage.new.self; stage = c.advance-stage.result; news = record { fell = None; latest = Other } } in
     starts s registers (block_of c.args.task.now.body.items) machine new
     (first_stands s registers machine
-    (record { task = refl; turns = refl; variables = c.as_slice-variables.ensures; layout = rw (← c.as_slice-variables.ensures) c.in_ok-new.ensures.lays; sites = refl })
+    (record { task = refl; rules = refl; variables = c.as_slice-variables.ensures; layout = rw (← c.as_slice-variables.ensures) c.in_ok-new.ensures.lays; sites = refl })
     (rw (← c.as_slice-variables.ensures, ← c.as_slice-registers.ensures) c.in_ok-new-3.ensures) c.in_ok-new-4.ensures.context refl
     (rw (← c.requires.cells) (c.in_ok-new-4.ensures.rests c.args.sites)))
     (λ before records after rest. rw (← c.as_slice.ensures.value) (c.in_ok-new-2.ensures.left s before records after rest))

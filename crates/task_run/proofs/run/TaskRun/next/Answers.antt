@@ -4,7 +4,7 @@ use Rattle.access_run.specs.Leads.{AccessOnlyStep}
 use Rattle.memory_operation.specs.LockLeads.{LockSays, OnlyLockStep}
 use Rattle.setup_access.specs.Leads as checks
 use Rattle.slot_table.specs.declared.step.Step.TheVariants.{LockStore}
-use Rattle.task_run.specs.Leads.{OnlyStep}
+use Rattle.written_order.specs.Waits.{OnlyStep}
 use Rattle.task_run.specs.Says.{StageSays}
 use Rattle.task_run.specs.declared.stage.Stage.TheVariants as stages
 use Rattle.written_order.specs.Standing.{checks_of}

@@ -1,0 +1,61 @@
+-- One record more leads on, whatever is kept of the last steps.
+use Rattle.std.proofs.Common.{◌≡◌, ◌++◌, ◌∷◌, [], None, refl, subst, sym}
+use Rattle.setup_access.specs.Parts.{made}
+use Rattle.slot_table.specs.Answer.{Answers}
+use Rattle.slot_table.specs.declared.step.Answer.TheVariants.{Done}
+use Rattle.task_run.proofs.StageLemmas.{in_locking, in_unlocking}
+use Rattle.task_run.proofs.TellLemmas.{keeping}
+use Rattle.task_run.proofs.run.TaskRun.answer.Goals as goal
+use Rattle.task_run.specs.Fell.{FallsInPart}
+use Rattle.task_run.specs.Leads.{Leads}
+use Rattle.task_run.specs.Part.{Part}
+use Rattle.task_run.specs.Says.{StageSays}
+
+pub returns-in-Making-clause-leads : goal.returns-in-Making-clause-leads
+returns-in-Making-clause-leads c = λ s registers body records step leads says.
+    keeping s registers body (records ++ made s.text.task step c.args.answer ∷ []) c.answers_access-fell.new.self _
+    (c.answers_access-fell.ensures.leads c.in-Making.is s registers body records step leads says)
+
+pub returns-in-Making-clause-fell : goal.returns-in-Making-clause-fell
+returns-in-Making-clause-fell c = λ s registers body records step leads says later. c.answers_access-fell.ensures.fell c.in-Making.is s registers body records step leads says later
+
+pub returns-in-Opening-clause-leads : goal.returns-in-Opening-clause-leads
+returns-in-Opening-clause-leads c = λ s registers body records step leads says.
+    keeping s registers body (records ++ made s.text.task step c.args.answer ∷ []) c.answers_open-fell.new.self _
+    (c.answers_open-fell.ensures.leads c.in-Opening.is s registers body records step leads says)
+
+pub returns-in-Opening-clause-fell : goal.returns-in-Opening-clause-fell
+returns-in-Opening-clause-fell c = λ s registers body records step leads says later. c.answers_open-fell.ensures.fell c.in-Opening.is s registers body records step leads says later
+
+pub returns-in-Closing-clause-leads : goal.returns-in-Closing-clause-leads
+returns-in-Closing-clause-leads c = λ s registers body records step leads says.
+    keeping s registers body (records ++ made s.text.task step c.args.answer ∷ []) c.answers_close-fell.new.self _
+    (c.answers_close-fell.ensures.leads c.in-Closing.is s registers body records step leads says)
+
+pub returns-in-Closing-clause-fell : goal.returns-in-Closing-clause-fell
+returns-in-Closing-clause-fell c = λ s registers body records step leads says later. c.answers_close-fell.ensures.fell c.in-Closing.is s registers body records step leads says later
+
+pub returns-in-Locking-clause-leads : goal.returns-in-Locking-clause-leads
+returns-in-Locking-clause-leads c = λ s registers body records step leads says.
+    keeping s registers body (records ++ made s.text.task step c.args.answer ∷ []) c.answers_lock.new.self _
+    (c.answers_lock.ensures c.in-Locking.is s registers body records step leads says)
+
+pub returns-in-Locking-clause-fell : goal.returns-in-Locking-clause-fell
+returns-in-Locking-clause-fell c = λ s registers body records step leads says later.
+    let all = leads.mine ++ made s.text.task step c.args.answer ∷ later in
+    subst (λ (p : Part). FallsInPart s p (leads.now all) all later None)
+    (sym (in_locking s (leads.now all) leads.mine c.args.self.now.machine c.args.self.now.stage leads.part (leads.agrees all).is_in _ _ c.in-Locking.is)) refl
+
+pub returns-in-Unlocking-clause-leads : goal.returns-in-Unlocking-clause-leads
+returns-in-Unlocking-clause-leads c = λ s registers body records step leads says.
+    let stores = subst (λ stage. StageSays stage c.args.self.now c.requires.0) c.in-Unlocking.is c.requires.1 in
+    let done : c.args.answer ≡ Done = subst (λ x. Answers x c.args.answer) stores c.requires.2 in
+    keeping s registers body (records ++ made s.text.task step c.args.answer ∷ []) c.answers_unlock.new.self _
+    (subst (λ answer. Leads s registers body (records ++ made s.text.task step answer ∷ []) c.answers_unlock.new.self) (sym done)
+    (c.answers_unlock.ensures c.in-Unlocking.is s registers body records step leads says))
+
+pub returns-in-Unlocking-clause-fell : goal.returns-in-Unlocking-clause-fell
+returns-in-Unlocking-clause-fell c = λ s registers body records step leads says later.
+    let all = leads.mine ++ made s.text.task step c.args.answer ∷ later in
+    subst (λ (p : Part). FallsInPart s p (leads.now all) all later None)
+    (sym (in_unlocking s (leads.now all) leads.mine c.args.self.now.machine c.args.self.now.stage leads.part (leads.agrees all).is_in _ c.in-Unlocking.is)) refl
