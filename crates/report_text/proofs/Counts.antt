@@ -1,10 +1,10 @@
 -- the groups of texts are each text once, in the order in which they were first seen, with its count
-use Rattle.std.proofs.Common.{◌≡◌, ◌≢◌, ◌+◌, ◌-◌, ◌^◌, ◌++◌, ◌∷◌, ◌∙◌, ℕ, List, [], Bool, true, false, ap, append_assoc, append-nil, arith, cond, map, min, refl, subst, sym, if◌then◌else◌}
+use Rattle.std.proofs.Common.{◌≡◌, ◌+◌, ◌-◌, ◌^◌, ◌++◌, ◌∷◌, ◌∙◌, ℕ, List, [], Bool, true, false, ap, append_assoc, append-nil, arith, cond, map, min, refl, subst, sym, if◌then◌else◌}
 use Rattle.std.specs.Prelude.{count_by, fold}
 use Rattle.std.specs.List.{list_any}
 use Rattle.std.proofs.lemmas.Cmp.{nat_list_eq_equiv}
 use Rattle.std.proofs.lemmas.List.Sums.{fold-append}
-use Rattle.report_text.specs.Groups.{AreGroupsOf, Group, count_in, counted, first_seen, is_text, one_more, seen_too}
+use Rattle.report_text.specs.Groups.{AreGroupsOf, Group, count_in, counted, is_text, one_more, seen_too}
 
 -- once more, or not
 abbrev more_if : Bool → ℕ → ℕ

@@ -7,7 +7,7 @@ mod hex;
 pub mod laws;
 pub mod line;
 pub mod memory;
-mod pieces;
+pub mod pieces;
 pub mod report;
 pub mod sink;
 pub mod trace;

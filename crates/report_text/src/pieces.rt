@@ -11,7 +11,8 @@ use itoa::Buffer;
 
 /// A piece of a line.
 #[derive(Clone, Copy, Debug)]
-pub(crate) enum Piece {
+pub enum Piece {
+    /// A text as it stands.
     Text(&'static str),
     /// A number in decimal.
     Decimal(u64),
@@ -20,7 +21,7 @@ pub(crate) enum Piece {
 }
 
 /// Writes the parts, one after the other.
-pub(crate) fn write_parts<K: Sink>(sink: &mut K, parts: &[&[Piece]]) -> Result<(), WriteError>
+pub fn write_parts<K: Sink>(sink: &mut K, parts: &[&[Piece]]) -> Result<(), WriteError>
     ensures { Writes K.written K.failures result (text_of_parts parts.now) sink.old sink.new }
 {
     for part in parts {
@@ -30,7 +31,7 @@ pub(crate) fn write_parts<K: Sink>(sink: &mut K, parts: &[&[Piece]]) -> Result<(
 }
 
 /// Writes the pieces, one after the other.
-pub(crate) fn write_pieces<K: Sink>(sink: &mut K, pieces: &[Piece]) -> Result<(), WriteError>
+pub fn write_pieces<K: Sink>(sink: &mut K, pieces: &[Piece]) -> Result<(), WriteError>
     ensures { Writes K.written K.failures result (text_of pieces.now) sink.old sink.new }
 {
     for piece in pieces {

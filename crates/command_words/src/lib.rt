@@ -1,0 +1,10 @@
+//! What the words of the command line ask the program to do.
+#![tactic(auto)]
+
+pub mod help;
+pub mod request;
+
+pub use request::{StepRequest, asked};
+
+#[cfg(test)]
+mod tests;

@@ -1,0 +1,166 @@
+//! What the words ask for.
+
+ghost use Rattle.std.specs.Prelude.{◌≤◌, ◌<◌, ℕ, IfOk, IfSome};
+ghost use Rattle.command_words.specs.Bounds.{KeepsBounds};
+
+use crate::help;
+use clap::builder::ValueParser;
+use clap::error::ErrorKind;
+use clap::{Arg, ArgAction, ArgMatches, Command};
+use std::alloc::{AllocError, Global};
+use std::convert::AsStr;
+use watch_word::Layout;
+
+/// The fewest and the most page slots.
+const SLOTS: (u64, u64) = (3, 1024);
+
+/// The fewest and the most accesses skipped between two that are watched.
+const SKIP: (u64, u64) = (0, 1_000_000);
+
+/// The fewest and the most vain tries of a wait.
+const TURNS: (u64, u64) = (1, 1_000_000_000);
+
+/// What `step` is asked to do.
+#[derive(Clone, Copy, Debug, PartialEq, Eq)]
+pub struct StepRequest<'a> {
+    /// The name of the litmus file.
+    pub file: &'a str,
+    /// The text of the schedule.
+    pub schedule: &'a str,
+    /// The text of the place list.
+    pub places: &'a str,
+    /// The name of the file that the trace goes to, if it goes to one.
+    pub trace: Option<&'a str>,
+    /// How many page slots there are.
+    pub slots: usize,
+    /// How many accesses are skipped between two that are watched.
+    pub skip: u64,
+    /// Whether skips are drawn at random.
+    pub randomize: bool,
+    /// The seed of the generator that skips are drawn from.
+    pub seed: u64,
+    /// Whether aligned plain writes can race, and hits are reported where the value is the same.
+    pub strict: bool,
+    /// How many bits a watch word has.
+    pub layout: Layout,
+    /// At so many vain tries of one wait a task is stuck.
+    pub turns: u64,
+}
+
+/// What the words ask for; the first of them is the program's name. An error is a mistake in them, or asks for help.
+pub fn asked<'a, S: AsStr>(alloc: Global, words: &'a [S]) -> Result<StepRequest<'a>, clap::Error>
+    ensures { IfOk result KeepsBounds }
+{
+    let matches = program(alloc)?.try_get_matches_from(words)?;
+    if let Some(("step", step)) = matches.subcommand() {
+        if let Some(request) = step_request(step) {
+            return Ok(request);
+        }
+    }
+    Err(program(alloc)?.error(ErrorKind::MissingSubcommand, "a subcommand is missing")?)
+}
+
+/// What `step` is asked to do, by the values of its options.
+fn step_request<'a>(step: &ArgMatches<'a>) -> Option<StepRequest<'a>>
+    ensures { IfSome result KeepsBounds }
+{
+    Some(StepRequest {
+        file: step.get_str("FILE")?,
+        schedule: step.get_str("schedule")?,
+        places: step.get_str("place")?,
+        trace: step.get_str("trace"),
+        slots: number(step, "slots", SLOTS)? as usize,
+        skip: number(step, "skip", SKIP)?,
+        randomize: step.get_flag("randomize"),
+        seed: number(step, "seed", (0, u64::MAX))?,
+        strict: step.get_flag("strict"),
+        layout: layout(step),
+        turns: number(step, "turns", TURNS)?,
+    })
+}
+
+/// The number of an option, within its bounds.
+fn number(matches: &ArgMatches<'_>, option: &str, bounds: (u64, u64)) -> Option<u64>
+    ensures { IfSome result (λ number. (bounds.0 ≤ number) × (number ≤ bounds.1)) }
+{
+    let number = matches.get_one::<u64>(option)?;
+    (bounds.0 <= number && number <= bounds.1).then_some(number)
+}
+
+/// How many bits a watch word is to have.
+fn layout(matches: &ArgMatches<'_>) -> Layout {
+    match matches.get_str("word") {
+        Some("32") => Layout::W32,
+        _ => Layout::W64,
+    }
+}
+
+/// The words that the program knows.
+fn program<'a>(alloc: Global) -> Result<Command<'a>, AllocError> {
+    Command::new(alloc, "kcsan_litmus")
+        .about(help::PROGRAM)
+        .subcommand_required(true)
+        .subcommand(step_command(alloc)?)
+}
+
+/// `step`, with its file and its options.
+fn step_command<'a>(alloc: Global) -> Result<Command<'a>, AllocError> {
+    let command = Command::new(alloc, "step")
+        .about(help::STEP)
+        .after_help(help::AFTER_STEP)
+        .arg(
+            Arg::new(alloc, "FILE")
+                .help(help::FILE)
+                .required(true)
+                .action(ArgAction::Set),
+        )?
+        .arg(text_option(alloc, "schedule", "S", help::SCHEDULE).default_value(""))?
+        .arg(text_option(alloc, "place", "LIST", help::PLACE).default_value(""))?
+        .arg(text_option(alloc, "trace", "PATH", help::TRACE))?;
+    checking(alloc, command)
+}
+
+/// The options that say how accesses are checked.
+fn checking<'a>(alloc: Global, command: Command<'a>) -> Result<Command<'a>, AllocError> {
+    let word = text_option(alloc, "word", "BITS", help::WORD)
+        .value_parser(["64", "32"].as_slice())
+        .default_value("64");
+    command
+        .arg(number_option(alloc, "slots", help::SLOTS, SLOTS, "64"))?
+        .arg(number_option(alloc, "skip", help::SKIP, SKIP, "0"))?
+        .arg(flag(alloc, "randomize", help::RANDOMIZE))?
+        .arg(number_option(alloc, "seed", help::SEED, (0, u64::MAX), "1"))?
+        .arg(flag(alloc, "strict", help::STRICT))?
+        .arg(word)?
+        .arg(number_option(alloc, "turns", help::TURNS, TURNS, "1000000"))
+}
+
+/// An option that takes a text.
+fn text_option<'a>(alloc: Global, name: &'a str, value: &'a str, help: &'a str) -> Arg<'a> {
+    Arg::new(alloc, name)
+        .long(name)
+        .value_name(value)
+        .help(help)
+        .action(ArgAction::Set)
+}
+
+/// An option that takes a number within bounds.
+fn number_option<'a>(
+    alloc: Global,
+    name: &'a str,
+    help: &'a str,
+    bounds: (u64, u64),
+    default: &'a str,
+) -> Arg<'a> {
+    text_option(alloc, name, "N", help)
+        .value_parser(ValueParser::Unsigned(bounds.0, bounds.1))
+        .default_value(default)
+}
+
+/// An option that stands alone.
+fn flag<'a>(alloc: Global, name: &'a str, help: &'a str) -> Arg<'a> {
+    Arg::new(alloc, name)
+        .long(name)
+        .help(help)
+        .action(ArgAction::SetTrue)
+}

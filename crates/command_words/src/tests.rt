@@ -1,0 +1,204 @@
+//! What words ask for, and which make no sense.
+
+use crate::request::{StepRequest, asked};
+use clap::error::ErrorKind;
+use std::alloc::Global;
+use std::process::Abort;
+use std::test::Fail;
+use watch_word::Layout;
+
+/// What `step t` asks for.
+const PLAIN: StepRequest<'static> = StepRequest {
+    file: "t",
+    schedule: "",
+    places: "",
+    trace: None,
+    slots: 64,
+    skip: 0,
+    randomize: false,
+    seed: 1,
+    strict: false,
+    layout: Layout::W64,
+    turns: 1_000_000,
+};
+
+/// These words, after the program's name, ask for this.
+fn ask(
+    rt: &impl Abort,
+    alloc: Global,
+    words: &[&str],
+    wanted: StepRequest<'_>,
+) -> Result<(), Fail> {
+    let request = asked(alloc, words)?;
+    assert_eq!(rt; request, wanted);
+    Ok(())
+}
+
+#[test]
+fn options_are_read(rt: HostRuntime) -> Result<(), Fail> {
+    ask(&rt, rt.alloc(), &["k", "step", "t"], PLAIN)?;
+    ask(
+        &rt,
+        rt.alloc(),
+        &["k", "step", "--schedule", "0x7,1x9", "t"],
+        StepRequest {
+            schedule: "0x7,1x9",
+            ..PLAIN
+        },
+    )?;
+    ask(
+        &rt,
+        rt.alloc(),
+        &["k", "step", "t", "--place=x=0x1000", "--trace", "r"],
+        StepRequest {
+            places: "x=0x1000",
+            trace: Some("r"),
+            ..PLAIN
+        },
+    )?;
+    ask(
+        &rt,
+        rt.alloc(),
+        &[
+            "k", "step", "t", "--slots", "3", "--skip", "05", "--turns", "+7",
+        ],
+        StepRequest {
+            slots: 3,
+            skip: 5,
+            turns: 7,
+            ..PLAIN
+        },
+    )?;
+    ask(
+        &rt,
+        rt.alloc(),
+        &[
+            "k",
+            "step",
+            "t",
+            "--slots",
+            "1024",
+            "--skip",
+            "1000000",
+            "--turns",
+            "1000000000",
+        ],
+        StepRequest {
+            slots: 1024,
+            skip: 1_000_000,
+            turns: 1_000_000_000,
+            ..PLAIN
+        },
+    )?;
+    ask(
+        &rt,
+        rt.alloc(),
+        &[
+            "k",
+            "step",
+            "t",
+            "--randomize",
+            "--seed",
+            "18446744073709551615",
+        ],
+        StepRequest {
+            randomize: true,
+            seed: u64::MAX,
+            ..PLAIN
+        },
+    )?;
+    ask(
+        &rt,
+        rt.alloc(),
+        &["k", "step", "t", "--strict", "--word", "32"],
+        StepRequest {
+            strict: true,
+            layout: Layout::W32,
+            ..PLAIN
+        },
+    )?;
+    ask(
+        &rt,
+        rt.alloc(),
+        &[
+            "k",
+            "step",
+            "t",
+            "--schedule",
+            "",
+            "--place",
+            "",
+            "--word",
+            "64",
+        ],
+        PLAIN,
+    )
+}
+
+/// These words are answered by an error of this kind.
+fn refuse(rt: &impl Abort, alloc: Global, words: &[&str], wanted: ErrorKind) {
+    match asked(alloc, words) {
+        Ok(_) => assert!(rt; false, "at {words:?}"),
+        Err(error) => assert_eq!(rt; error.kind(), wanted),
+    }
+}
+
+#[test]
+fn other_words_make_no_sense(rt: HostRuntime) {
+    refuse(&rt, rt.alloc(), &["k"], ErrorKind::MissingSubcommand);
+    refuse(
+        &rt,
+        rt.alloc(),
+        &["k", "jump", "t"],
+        ErrorKind::InvalidSubcommand,
+    );
+    refuse(
+        &rt,
+        rt.alloc(),
+        &["k", "step"],
+        ErrorKind::MissingRequiredArgument,
+    );
+    refuse(
+        &rt,
+        rt.alloc(),
+        &["k", "step", "t", "u"],
+        ErrorKind::UnknownArgument,
+    );
+    refuse(
+        &rt,
+        rt.alloc(),
+        &["k", "step", "t", "--strict", "--strict"],
+        ErrorKind::ArgumentConflict,
+    );
+    refuse(
+        &rt,
+        rt.alloc(),
+        &["k", "step", "t", "--slots", "2"],
+        ErrorKind::ValueValidation,
+    );
+    refuse(
+        &rt,
+        rt.alloc(),
+        &["k", "step", "t", "--turns", "0"],
+        ErrorKind::ValueValidation,
+    );
+    refuse(
+        &rt,
+        rt.alloc(),
+        &["k", "step", "t", "--skip", "1000001"],
+        ErrorKind::ValueValidation,
+    );
+    refuse(
+        &rt,
+        rt.alloc(),
+        &["k", "step", "t", "--word", "16"],
+        ErrorKind::InvalidValue,
+    );
+    refuse(&rt, rt.alloc(), &["k", "--help"], ErrorKind::DisplayHelp);
+    refuse(
+        &rt,
+        rt.alloc(),
+        &["k", "step", "--help"],
+        ErrorKind::DisplayHelp,
+    );
+}

@@ -1,0 +1,9 @@
+//! Whether the condition of a litmus program holds where a run of it has ended.
+#![tactic(auto)]
+
+pub mod condition;
+
+pub use condition::{Finals, holds};
+
+#[cfg(test)]
+mod tests;
