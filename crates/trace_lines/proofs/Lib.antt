@@ -6,3 +6,4 @@ pub mod LineTexts
 pub mod HeadTexts
 pub mod PlainTruth
 pub mod Mapped
+pub mod TrueBegins

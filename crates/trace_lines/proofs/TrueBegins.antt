@@ -28,7 +28,7 @@ arms_within (lines.Arm a ∷ all) = omega (arith, arms_within all)
 arms_within (lines.Take t ∷ all) = omega (arith, arms_within all)
 arms_within (lines.Report r ∷ all) = omega (arith, arms_within all)
 
-has_bytes : (line : Line) → 1 ≤ length (line_text line)
+pub has_bytes : (line : Line) → 1 ≤ length (line_text line)
 unfolding spell_access spell_arm spell_take spell_race spell_origin
 has_bytes (lines.Access s) = omega (arith, length-append {A = ℕ})
 has_bytes (lines.Arm a) = omega (arith, length-append {A = ℕ})
@@ -44,8 +44,8 @@ lines_within (line ∷ all) = omega (arith, length-append (line_text line) (flat
 pub few_lines : (bytes : List ℕ) (head : Head) (all : List Line) (rest : List ℕ) → BeginsTruly bytes head all rest → length all ≤ size_limit
 few_lines bytes head all rest h =
     let within = h.within in
-    let size : length bytes ≡ length (head_text head ++ (flat_map line_text all ++ rest)) = ap length h.spelled in
-    omega (arith, lines_within all, length-append (head_text head) (flat_map line_text all ++ rest), length-append (flat_map line_text all) rest)
+    let size : length bytes ≡ length (head_text head ++ flat_map line_text all ++ rest) = ap length h.spelled in
+    omega (arith, lines_within all, length-append (head_text head ++ flat_map line_text all) rest, length-append (head_text head) (flat_map line_text all))
 
 pub keep_limits : (bytes : List ℕ) (head : Head) (all : List Line) (rest : List ℕ) → BeginsTruly bytes head all rest → KeepLimits all
 keep_limits bytes head all rest h = record {
