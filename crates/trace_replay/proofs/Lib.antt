@@ -1,0 +1,6 @@
+pub mod Counted
+pub mod Known
+pub mod Lines
+pub mod Bags
+pub mod Going
+pub mod Naming

@@ -1,0 +1,25 @@
+-- a report more
+use Rattle.std.proofs.Common.{◌≡◌, ◌<◌, ◌^◌, ℕ, arith, refl}
+use Rattle.std.specs.List.{flat_map}
+use Rattle.report_text.specs.Standing.{reports_of, takes_of}
+use Rattle.report_text.specs.Truth.{race_in, unknown_in}
+use Rattle.trace_replay.proofs.Bags.{on_ok}
+use Rattle.trace_replay.proofs.Lines.{few_reports, knows_report, room_by_others}
+use Rattle.trace_replay.proofs.story.Story.keep_report.Goals as goal
+
+pub overflow_add-self : goal.overflow_add-self
+overflow_add-self c = let low : c.args.self.now.reports < 2 ^ 62 = few_reports c.requires.0 c.args.self.now c.requires.1.lines c.requires.2 in omega arith
+
+pub report-requires : goal.report-requires
+report-requires c = (
+  takes_of c.requires.0,
+  flat_map race_in (reports_of c.requires.0),
+  flat_map unknown_in (reports_of c.requires.0),
+  c.requires.1.by_others,
+  room_by_others c.requires.0 c.requires.2,
+)
+
+pub returns-clause-knows : goal.returns-clause-knows
+returns-clause-knows c = λ all knows. on_ok c.report.result
+    (λ told. knows_report all c.args.report.now c.args.self.now _ knows refl refl refl told refl refl refl)
+    (c.report.ensures (takes_of all) (flat_map race_in (reports_of all)) (flat_map unknown_in (reports_of all)) knows.by_others)
