@@ -139,8 +139,7 @@ module _ (run : Run) (records : List Record) (list : RunList run records) where
   each_by later [] is = tt
   each_by later (latest ∷ earlier) is =
       let it = settled_at later latest earlier is in
-      let hand = in_hand (records_of latest.task earlier) in
-      (
+      let hand = in_hand (records_of latest.task earlier) in (
         each_by (later ++ latest ∷ []) earlier (is ∙ sym (append_assoc later (latest ∷ []) earlier)),
         subst (λ (l : List Outcome). Settles hand latest.step latest.answer l)
             (sym (ap (λ (l : List Fallen). map (λ (came : OutcomeAt). came.outcome) (map (outcome_at (length earlier) (armed_by latest.task (latest ∷ earlier))) l)) it.all
