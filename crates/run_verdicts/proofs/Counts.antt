@@ -18,7 +18,7 @@ use Rattle.slot_table.specs.declared.discipline.Part.TheVariants as parts
 use Rattle.slot_table.specs.declared.step.Answer.{Answer}
 use Rattle.slot_table.specs.declared.step.Answer.TheVariants as answers
 use Rattle.slot_table.specs.declared.step.Step.{Step}
-use Rattle.slot_table.specs.declared.step.Step.TheVariants.{CellExchange, CellLoad, Clear, Clock, Consume, Insert, Load, LockStore, LockTry, Name, PairLoad, Remove, Tell, TryConsume}
+use Rattle.slot_table.specs.declared.step.Step.TheVariants.{Consume, Insert, Load, PairLoad, Tell, TryConsume}
 use Rattle.slot_table.proofs.Phases as phases
 use Rattle.slot_table.proofs.Phases.{Fits, View, told_in}
 use Rattle.run_verdicts.specs.Settles.{AnswersTo, IsUntouched, IsUnwatched, One, OneAtMost, Settles, TellsOf, hears_finder, is_hit}
@@ -33,7 +33,8 @@ one_longer : {X : Type 0} (b : Bool) (x : X) (xs : List X) → length (cond b (x
 one_longer true x xs = let same : suc (length xs) ≡ 1 + length xs = omega arith in same
 one_longer false x xs = let same : length xs ≡ 0 + length xs = omega arith in same
 
-pub times_more : (n number : ℕ) (met : Meeting) (meetings : List Meeting) → met.number ≡ number → times n (met ∷ meetings) ≡ cond (number == n) 1 0 + times n meetings
+pub times_more : (n number : ℕ) (met : Meeting) (meetings : List Meeting) → met.number ≡ number
+    → times n (met ∷ meetings) ≡ cond (number == n) 1 0 + times n meetings
 times_more n number met meetings is =
     one_longer (met.number == n) met (filter (λ (m : Meeting). m.number == n) meetings) ∙ ap (λ (k : ℕ). cond (k == n) 1 0 + times n meetings) is
 
@@ -59,13 +60,15 @@ fewer_of p false x n index xs is there = rw there (omega arith)
 
 pub stands_once : (xs : List Meeting) (met : Meeting) → Contains xs met → 1 ≤ times met.number (meetings_at met.index xs)
 stands_once [] met h = let none : h.0 < 0 = h.1 in absurd (omega (arith, none))
-stands_once (x ∷ xs) met (zero, below, is) = rw (eq-eqb x.index met.index (ap (λ (m : Meeting). m.index) is), eq-eqb x.number met.number (ap (λ (m : Meeting). m.number) is)) (omega arith)
+stands_once (x ∷ xs) met (zero, below, is) =
+    rw (eq-eqb x.index met.index (ap (λ (m : Meeting). m.index) is), eq-eqb x.number met.number (ap (λ (m : Meeting). m.number) is)) (omega arith)
 stands_once (x ∷ xs) met (suc k, below, is) =
     let rest = stands_once xs met (k, let it : suc k < suc (length xs) = below in omega (arith, it), is) in
     let more = fewer_of (x.number == met.number) (x.index == met.index) x met.number met.index xs refl refl in omega (arith, rest, more)
 
 -- where all numbers differ, no number stands twice
-none_left : (xs : List Meeting) (n index : ℕ) → ((j d : ℕ) → j < length (numbers_met xs) → n ≢ slice_index_or (numbers_met xs) j d) → times n (meetings_at index xs) ≡ 0
+none_left : (xs : List Meeting) (n index : ℕ) → ((j d : ℕ) → j < length (numbers_met xs) → n ≢ slice_index_or (numbers_met xs) j d)
+    → times n (meetings_at index xs) ≡ 0
 none_left [] n index apart = refl
 none_left (x ∷ xs) n index apart =
     let rest = none_left xs n index (λ j d below. apart (suc j) d (omega (arith, below))) in
@@ -83,7 +86,8 @@ once_at_most (x ∷ xs) n index differ =
       | inl here ↦ elim (eqb_tells x.number n) [
         | inl same ↦
             let none : times n (meetings_at index xs) ≡ 0 =
-            none_left xs n index (λ j d below. subst (λ (k : ℕ). k ≢ slice_index_or (numbers_met xs) j d) same.1 (differ 0 (suc j) d (omega arith) (omega (arith, below)))) in
+            none_left xs n index (λ j d below. subst (λ (k : ℕ). k ≢ slice_index_or (numbers_met xs) j d) same.1
+            (differ 0 (suc j) d (omega arith) (omega (arith, below)))) in
             rw (here.0, same.0) (omega (arith, none))
         | inr apart ↦ rw (here.0, apart.0) rest
       ]
@@ -138,7 +142,8 @@ answers_all both (outcomes.Report pair seen) is = refl
 answers_all both (outcomes.Dropped reason) is = refl
 answers_all both outcome is = absurd is
 
-at_most_none : (Is : Outcome → Type 0) → ((outcome : Outcome) → Is outcome → is_answer outcome ≡ false) → (fell : List Outcome) → OneAtMost Is fell → NoAnswer fell
+at_most_none : (Is : Outcome → Type 0) → ((outcome : Outcome) → Is outcome → is_answer outcome ≡ false) → (fell : List Outcome) → OneAtMost Is fell
+    → NoAnswer fell
 at_most_none Is none fell (inl empty) = no_fell fell empty
 at_most_none Is none fell (inr one) = one_fell fell one.0 one.1 (none one.0 one.2)
 
@@ -157,7 +162,8 @@ hit_there at index parts.Untouched is = absurd (cc)
 hit_there at index parts.Cleared is = absurd (cc)
 hit_there at index (parts.Taken word) is = absurd (cc)
 
-hears_hit : (hand : Option InHand) (index finder : ℕ) → hears_finder hand index finder ≡ true → (hand ≡ Some (record { index = index; part = parts.Hit })) × (0 < finder)
+hears_hit : (hand : Option InHand) (index finder : ℕ) → hears_finder hand index finder ≡ true
+    → (hand ≡ Some (record { index = index; part = parts.Hit })) × (0 < finder)
 hears_hit None index finder is = absurd (cc)
 hears_hit (Some hand) index zero is = absurd (cc)
 hears_hit (Some hand) index (suc finder) is = (hit_there hand.index index hand.part is, omega arith)
@@ -201,7 +207,8 @@ by_hearing hand at setter finder fell false is h =
           let same : at ≡ index = ap loaded_at step_is in
           let other : finder ≡ f = ap (λ (a : Answer). (halves_of a).finder) answer_is in
           let hears : hears_finder hand index f ≡ true = ap (λ (x : Option InHand). hears_finder x index f) has ∙ hit_hears index f above in
-          let here : hears_finder hand at finder ≡ true = ap (λ (i : ℕ). hears_finder hand i finder) same ∙ (ap (λ (k : ℕ). hears_finder hand index k) other ∙ hears) in
+          let here : hears_finder hand at finder ≡ true =
+          ap (λ (i : ℕ). hears_finder hand i finder) same ∙ (ap (λ (k : ℕ). hears_finder hand index k) other ∙ hears) in
           let both : false ≡ true = sym is ∙ here in absurd (cc);
     })
 
@@ -252,7 +259,9 @@ module _ (index n : ℕ) where
 
   pub one_its : (count number : ℕ) (fallen : Fallen) → is_answer fallen.outcome ≡ true
       → length (its (outcome_at count (Some (record { index = index; number = number })) fallen ∷ [])) ≡ cond (number == n) 1 0
-  one_its count number fallen is = rw (is, eq-eqb index index refl) (one_longer (number == n) (outcome_at count (Some (record { index = index; number = number })) fallen) [] ∙ plus_none (number == n))
+  one_its count number fallen is =
+      rw (is, eq-eqb index index refl) (one_longer (number == n) (outcome_at count (Some (record { index = index; number = number })) fallen) [] ∙ plus_none
+      (number == n))
     where
       plus_none : (b : Bool) → cond b 1 0 + 0 ≡ cond b 1 0
       plus_none true = refl

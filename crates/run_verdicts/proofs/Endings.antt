@@ -1,5 +1,5 @@
 -- A taking that nobody has in hand any more was told, and its setter has heard of it.
-use Rattle.std.proofs.Common.{◌≡◌, ◌≢◌, ◌<◌, ◌≤◌, ◌==◌, ◌⊎◌, ◌+◌, ◌∙◌, ◌∷◌, [], inl, inr, ℕ, zero, suc, Bool, true, false, List, Option, None, Some, ap, arith, cond, if◌then◌else◌, length, refl, subst, sym}
+use Rattle.std.proofs.Common.{◌≡◌, ◌≢◌, ◌≤◌, ◌==◌, ◌⊎◌, ◌+◌, ◌∙◌, ◌∷◌, [], inl, inr, ℕ, Bool, true, false, List, Option, None, Some, ap, arith, cond, length, refl, subst, sym}
 use Rattle.std.specs.Option.{option_map}
 use Rattle.std.proofs.lemmas.Bool.{eq-eqb}
 use Rattle.std.proofs.lemmas.Bool.Decides.{eqb_tells}
@@ -19,11 +19,11 @@ use Rattle.slot_table.specs.declared.step.Answer.TheVariants as answers
 use Rattle.slot_table.specs.declared.step.Step.{Step}
 use Rattle.slot_table.specs.declared.step.Step.TheVariants.{CellExchange, CellLoad, Clear, Clock, Consume, Insert, Load, LockStore, LockTry, Name, PairLoad, Remove, Tell, TryConsume}
 use Rattle.slot_table.proofs.Lists.{Keeps, allowed_at, fits_all, keeps_before, view_of}
-use Rattle.slot_table.proofs.Moves.{is_finder, is_setter, some_same}
+use Rattle.slot_table.proofs.Moves.{is_finder, some_same}
 use Rattle.slot_table.proofs.Phases as phases
-use Rattle.slot_table.proofs.Phases.{Fits, Open, View, finder_in, finder_part, setter_part}
+use Rattle.slot_table.proofs.Phases.{Fits, Open, View, finder_in, finder_part}
 use Rattle.slot_table.proofs.Steps.{here_part}
-use Rattle.run_lists.specs.Told.{Armed, armed_by, armed_in}
+use Rattle.run_lists.specs.Told.{armed_by, armed_in}
 use Rattle.run_lists.proofs.OwnLasts.{own_latest}
 use Rattle.run_verdicts.specs.Takings.{IsOver}
 use Rattle.run_verdicts.proofs.Counts.{fewer_of, hand_with, stands_once, times, times_more}
@@ -42,7 +42,8 @@ module _ (index : ℕ) where
   abbrev Stays : Step → Answer → Option InHand → ℕ → Option ℕ → Type 0
   Stays step answer hand k last = (hand_after step answer hand ≡ hand) × (number_after index step answer k last ≡ last)
 
-  not_taken : (own : List Record) (word at : ℕ) (part : Part) → HasPart index (parts.Taken word) own → HasPart at part own → is_taken (hand_with at part) ≡ false → ⊥
+  not_taken : (own : List Record) (word at : ℕ) (part : Part) → HasPart index (parts.Taken word) own → HasPart at part own
+      → is_taken (hand_with at part) ≡ false → ⊥
   unfolding is_taken
   not_taken own word at part has other apart = absurd (let both : false ≡ true = sym apart ∙ (ap is_taken (sym other) ∙ ap is_taken has) in cc)
 
@@ -50,7 +51,8 @@ module _ (index : ℕ) where
   unfolding is_taken
   not_idle own word has idle = absurd (let both : false ≡ true = ap is_taken (sym idle) ∙ ap is_taken has in cc)
 
-  untold_step : (task : ℕ) (own : List Record) (word : ℕ) (step : Step) (answer : Answer) (k : ℕ) (last : Option ℕ) → Allows task own step → HasPart index (parts.Taken word) own
+  untold_step : (task : ℕ) (own : List Record) (word : ℕ) (step : Step) (answer : Answer) (k : ℕ) (last : Option ℕ) → Allows task own step
+      → HasPart index (parts.Taken word) own
       → Stays step answer (in_hand own) k last ⊎ ((ticket : ℕ) × (step ≡ Tell index ticket) × HasHeardSetter index own)
   unfolding is_taken
   untold_step task own word (Load at) answer k last allowed has = inl (refl, refl)
@@ -187,7 +189,8 @@ module _ (index : ℕ) where
     own_record latest earlier rules mine untold =
         let own : List Record = records_of finder earlier in
         let now : records_of finder (latest ∷ earlier) ≡ latest ∷ own = own_latest finder latest earlier mine in
-        let allowed : Allows finder own latest.step = subst (λ (t : ℕ). Allows t (records_of t earlier) latest.step) mine (allowed_at latest earlier rules.keeps) in
+        let allowed : Allows finder own latest.step =
+        subst (λ (t : ℕ). Allows t (records_of t earlier) latest.step) mine (allowed_at latest earlier rules.keeps) in
         elim (untold_step finder own untold.word latest.step latest.answer (length earlier) (last_arming_number index earlier) allowed untold.has) [
           | inl stays ↦ inr (record { word = untold.word; has = ap in_hand now ∙ (stays.0 ∙ untold.has); last = stays.1 ∙ untold.last })
           | inr tells ↦
@@ -199,7 +202,8 @@ module _ (index : ℕ) where
         ]
 
     -- a record of another task
-    other_record : (latest : Record) (earlier : List Record) → Rules (latest ∷ earlier) → (latest.task == finder) ≡ false → IsUntold earlier → IsUntold (latest ∷ earlier)
+    other_record : (latest : Record) (earlier : List Record) → Rules (latest ∷ earlier) → (latest.task == finder) ≡ false → IsUntold earlier
+        → IsUntold (latest ∷ earlier)
     other_record latest earlier rules apart untold =
         let same : records_of finder (latest ∷ earlier) ≡ records_of finder earlier = rw apart refl in
         let has : HasPart index (parts.Taken untold.word) (records_of finder (latest ∷ earlier)) = ap in_hand same ∙ untold.has in
@@ -208,7 +212,8 @@ module _ (index : ℕ) where
           | inr anew ↦
               let part : part_of finder index (latest ∷ earlier) ≡ Some (parts.Taken untold.word) =
               here_part index (in_hand (records_of finder (latest ∷ earlier))) (parts.Taken untold.word) has in
-              let inserted : taken_after index latest.task (Insert index anew.0) (answers.Flag true) (finder_at index earlier) ≡ None = rw (eq-eqb index index refl) refl in
+              let inserted : taken_after index latest.task (Insert index anew.0) (answers.Flag true) (finder_at index earlier) ≡ None =
+              rw (eq-eqb index index refl) refl in
               let none : finder_at index (latest ∷ earlier) ≡ None =
               ap (λ (st : Step). taken_after index latest.task st latest.answer (finder_at index earlier)) anew.1
               ∙ (ap (λ (a : Answer). taken_after index latest.task (Insert index anew.0) a (finder_at index earlier)) anew.2 ∙ inserted) in
@@ -235,7 +240,8 @@ module _ (index : ℕ) where
           ]
         ]
 
-    armed_with : (task : ℕ) (part : Part) (records : List Record) (number : ℕ) → HasPart index part (records_of task records) → last_arming_number index records ≡ Some number
+    armed_with : (task : ℕ) (part : Part) (records : List Record) (number : ℕ) → HasPart index part (records_of task records)
+        → last_arming_number index records ≡ Some number
         → armed_by task records ≡ Some (record { index = index; number = number })
     armed_with task part records number has last =
         ap (λ (hand : Option InHand). armed_in hand records) has

@@ -1,5 +1,5 @@
 -- At which of a check's own records its outcomes fall. Each lemma is told how to go on.
-use Rattle.std.proofs.Common.{◌≡◌, ◌<◌, ◌==◌, ◌+◌, ◌∙◌, ◌∷◌, ◌++◌, ◌||◌, [], ℕ, zero, suc, Bool, true, false, List, Option, None, Some, MatchBool, MatchOption, ap, arith, inl, inr, map, refl, subst, sym}
+use Rattle.std.proofs.Common.{◌≡◌, ◌<◌, ◌+◌, ◌∙◌, ◌∷◌, ◌++◌, ◌||◌, [], ℕ, zero, suc, Bool, true, false, List, Option, None, Some, MatchBool, MatchOption, ap, arith, inl, inr, map, refl, subst, sym}
 use Rattle.std.proofs.lemmas.Bool.{eq-eqb}
 use Rattle.access_types.specs.Access.{Access}
 use Rattle.access_types.specs.Ticket.{ticket_number}
@@ -9,7 +9,6 @@ use Rattle.slot_table.specs.declared.discipline.InHand.{InHand}
 use Rattle.slot_table.specs.declared.discipline.Part.{Part}
 use Rattle.slot_table.specs.declared.discipline.Part.TheVariants as parts
 use Rattle.slot_table.specs.declared.records.Record.{Record}
-use Rattle.slot_table.specs.declared.step.Answer.{Answer}
 use Rattle.slot_table.specs.declared.step.Answer.TheVariants as answers
 use Rattle.slot_table.specs.declared.step.Step.{Step}
 use Rattle.slot_table.specs.declared.step.Step.TheVariants.{CellLoad, Clear, Clock, Consume, Insert, Load, Name, PairLoad, Remove, Tell, TryConsume}
@@ -19,11 +18,10 @@ use Rattle.setup_access.specs.Check as cases
 use Rattle.setup_access.specs.Check.{Check, ChecksOnce, Close, Ends, Fallen, GoesOn, NoneFound, Pass, Passes, Rechecks, fallen_of, left_to_check}
 use Rattle.setup_access.specs.Find.{LooksUp}
 use Rattle.setup_access.specs.Found.{Hears, Takes, Tells, finder_half, setter_half}
-use Rattle.setup_access.specs.Hits.{Hits}
 use Rattle.setup_access.specs.Parts.{made}
 use Rattle.setup_access.specs.Records.{MakesDone, MakesFlag, MakesWord}
-use Rattle.setup_access.specs.Setting.{Setting, look_order, slot_of, try_order}
-use Rattle.setup_access.specs.Setup.{Arms, Frees, Judged, Judges, TriesInsert, WatchesAt}
+use Rattle.setup_access.specs.Setting.{Setting, slot_of}
+use Rattle.setup_access.specs.Setup.{Arms, Frees, Judged, TriesInsert, WatchesAt}
 use Rattle.setup_access.specs.Values.{LoadsFrom, both_values, source_of}
 use Rattle.setup_access.specs.Verdicts as verdicts
 use Rattle.setup_access.specs.Verdicts.{HitOutcome, UntouchedOutcome}
@@ -61,7 +59,8 @@ hit_in_hand (Some hand) = is_hit hand.part
 
 pub unhit : (own : List Record) (step : Step) → hit_in_hand (in_hand own) ≡ false → ClearsNext own step
 unfolding hit_in_hand
-unhit own step apart index has heard_so = absurd (let yes : hit_in_hand (in_hand own) ≡ true = ap hit_in_hand has in let both : false ≡ true = sym apart ∙ yes in cc)
+unhit own step apart index has heard_so =
+    absurd (let yes : hit_in_hand (in_hand own) ≡ true = ap hit_in_hand has in let both : false ≡ true = sym apart ∙ yes in cc)
 
 -- the setter has heard nothing of its finder
 abbrev Unheard : ℕ → List Record → Type 0
@@ -84,12 +83,14 @@ clears own index part has other other_has heard_so =
     let same : index ≡ other = sym (ap hand_index has) ∙ ap hand_index other_has in ap Clear same
 
 -- a record at which nothing falls, and one at which this does
-pub nothing_here : (own later : List Record) (first : Record) (outs : List Fallen) → Settles (in_hand own) first.step first.answer [] → ClearsNext own first.step
+pub nothing_here : (own later : List Record) (first : Record) (outs : List Fallen) → Settles (in_hand own) first.step first.answer []
+    → ClearsNext own first.step
     → Falls (first ∷ own) later outs → Falls own (first ∷ later) outs
 nothing_here own later first outs settles clears_so falls = ([], outs, refl, tt, settles, clears_so, falls)
 
 pub one_here : (own later : List Record) (first : Record) (fallen : Fallen) (outs : List Fallen) → fallen.later ≡ later
-    → Settles (in_hand own) first.step first.answer (fallen.outcome ∷ []) → ClearsNext own first.step → Falls (first ∷ own) later outs → Falls own (first ∷ later) (fallen ∷ outs)
+    → Settles (in_hand own) first.step first.answer (fallen.outcome ∷ []) → ClearsNext own first.step → Falls (first ∷ own) later outs
+    → Falls own (first ∷ later) (fallen ∷ outs)
 one_here own later first fallen outs is settles clears_so falls = (fallen ∷ [], outs, refl, (is, tt), settles, clears_so, falls)
 
 module _ (s : Setting) where
@@ -114,14 +115,17 @@ module _ (s : Setting) where
   step_done step Next (first ∷ later) own outs h on =
       subst (λ (r : Record). Falls own (r ∷ later) outs) (sym (record_is first s.task step answers.Done h.0 h.1 h.2.0)) (on later h.2.1)
 
-  step_halves : (index : ℕ) (Next : Halves → List Record → Type 0) (first : Record) (later own : List Record) (outs : List Fallen) → first.task ≡ s.task → first.step ≡ PairLoad index
+  step_halves : (index : ℕ) (Next : Halves → List Record → Type 0) (first : Record) (later own : List Record) (outs : List Fallen) → first.task ≡ s.task
+      → first.step ≡ PairLoad index
       → (both : Halves) → first.answer ≡ answers.Halves both.setter both.finder
       → Falls own (made s.task (PairLoad index) (answers.Halves both.setter both.finder) ∷ later) outs → Falls own (first ∷ later) outs
   step_halves index Next first later own outs mine is both answered falls =
-      subst (λ (r : Record). Falls own (r ∷ later) outs) (sym (record_is first s.task (PairLoad index) (answers.Halves both.setter both.finder) mine is answered)) falls
+      subst (λ (r : Record). Falls own (r ∷ later) outs) (sym (record_is first s.task (PairLoad index)
+      (answers.Halves both.setter both.finder) mine is answered)) falls
 
   -- a look-up: what it comes to is settled with its last load
-  looks_up : (a : Access) (outs : List Fallen) (index : ℕ) (indices : List ℕ) (records : List Record) (found : Option Watchpoint) (rest own : List Record) → in_hand own ≡ None
+  looks_up : (a : Access) (outs : List Fallen) (index : ℕ) (indices : List ℕ) (records : List Record) (found : Option Watchpoint) (rest own : List Record)
+      → in_hand own ≡ None
       → LooksUp s a (index ∷ indices) records found rest
       → ((o : List Record) (at word : ℕ) → in_hand o ≡ None → Falls o (made s.task (Load at) (answers.Word word) ∷ rest) outs) → Falls own records outs
   looks_up a outs index [] records found rest own idle h on =
@@ -138,7 +142,8 @@ module _ (s : Setting) where
       ])
 
   -- a load of a cell settles nothing
-  loads_from : (hand : Option InHand) → hit_in_hand hand ≡ false → (a : Access) (source : Option Source) (outs : List Fallen) (records : List Record) (value : Option ℕ) (rest own : List Record)
+  loads_from : (hand : Option InHand) → hit_in_hand hand ≡ false
+      → (a : Access) (source : Option Source) (outs : List Fallen) (records : List Record) (value : Option ℕ) (rest own : List Record)
       → in_hand own ≡ hand → LoadsFrom s a source records value rest → ((o : List Record) → in_hand o ≡ hand → Falls o rest outs) → Falls own records outs
   loads_from hand apart a None outs records value rest own has h on = subst (λ (r : List Record). Falls own r outs) h.1 (on own has)
   loads_from hand apart a (Some source) outs records value rest own has h on = step_word (CellLoad source.cell) _ records own outs h (λ word later got.
@@ -161,13 +166,15 @@ module _ (s : Setting) where
 
   no_verdict : (own : List Record) (hand : Option InHand) (index : ℕ) (both : Halves) → in_hand own ≡ hand → hears_finder hand index both.finder ≡ false
       → Settles (in_hand own) (PairLoad index) (answers.Halves both.setter both.finder) []
-  no_verdict own hand index both has apart = none_of (hears_finder (in_hand own) index both.finder) _ _ (ap (λ (h : Option InHand). hears_finder h index both.finder) has ∙ apart) refl
+  no_verdict own hand index both has apart =
+      none_of (hears_finder (in_hand own) index both.finder) _ _ (ap (λ (h : Option InHand). hears_finder h index both.finder) has ∙ apart) refl
 
   hit_hears : (index : ℕ) (finder : ℕ) → 0 < finder → hears_finder (Some (record { index = index; part = parts.Hit })) index finder ≡ true
   hit_hears index zero above = absurd (omega (arith, above))
   hit_hears index (suc finder) above = eq-eqb index index refl
 
-  heard_here : (index : ℕ) (both : Halves) (own : List Record) → heard index (made s.task (PairLoad index) (answers.Halves both.setter both.finder) ∷ own) ≡ Some both
+  heard_here : (index : ℕ) (both : Halves) (own : List Record)
+      → heard index (made s.task (PairLoad index) (answers.Halves both.setter both.finder) ∷ own) ≡ Some both
   heard_here index both own = rw (eq-eqb index index refl) refl
 
   -- the finder waits, and tells
@@ -193,13 +200,16 @@ module _ (s : Setting) where
 
     -- the outcome is settled with the last record of the check
     at_last : (own later : List Record) (first : Record) (outcome : Outcome) (pass_later : List Record) → pass_later ≡ later → rest ≡ later
-        → in_hand own ≡ None → in_hand (first ∷ own) ≡ None → Settles (in_hand own) first.step first.answer (outcome ∷ []) → Falls own (first ∷ later) (out outcome pass_later ∷ more)
+        → in_hand own ≡ None → in_hand (first ∷ own) ≡ None → Settles (in_hand own) first.step first.answer (outcome ∷ [])
+        → Falls own (first ∷ later) (out outcome pass_later ∷ more)
     at_last own later first outcome pass_later is same idle idle_after settles =
         one_here own later first (out outcome pass_later) more is settles (unhit own first.step (ap hit_in_hand idle))
         (subst (λ (r : List Record). Falls (first ∷ own) r more) same (goes_on (first ∷ own) idle_after))
 
-    tells : (index word setter : ℕ) (outcome : Outcome) (pass_later : List Record) → pass_later ≡ rest → (records own : List Record) → HasPart index (parts.Taken word) own
-        → MakesDone s.task (Tell index (ticket_number a)) (λ after. (outcome ≡ outcomes.Told (record { setter = setter; finder = ticket_number a })) × (rest ≡ after)) records
+    tells : (index word setter : ℕ) (outcome : Outcome) (pass_later : List Record) → pass_later ≡ rest → (records own : List Record)
+        → HasPart index (parts.Taken word) own
+        → MakesDone s.task (Tell index (ticket_number a)) (λ after. (outcome ≡ outcomes.Told (record { setter = setter; finder = ticket_number a }))
+        × (rest ≡ after)) records
         → Falls own records (out outcome pass_later ∷ more)
     tells index word setter outcome pass_later is records own has h =
         step_done (Tell index (ticket_number a)) _ records own (out outcome pass_later ∷ more) h (λ later got.
@@ -209,7 +219,8 @@ module _ (s : Setting) where
         (unhit own (Tell index (ticket_number a)) (ap hit_in_hand has))
         (subst (λ (r : List Record). Falls (told ∷ own) r more) got.1 (goes_on (told ∷ own) refl)))
 
-    tried : (found : Watchpoint) (taken : Bool) (outcome : Outcome) (pass_later : List Record) → pass_later ≡ rest → (later own : List Record) → in_hand own ≡ None
+    tried : (found : Watchpoint) (taken : Bool) (outcome : Outcome) (pass_later : List Record) → pass_later ≡ rest → (later own : List Record)
+        → in_hand own ≡ None
         → MatchBool taken (Tells s a found.index later outcome rest) ((outcome ≡ outcomes.Lost) × (rest ≡ later))
         → Falls own (made s.task (TryConsume found.index found.word) (answers.Flag taken) ∷ later) (out outcome pass_later ∷ more)
     tried found true outcome pass_later is later own idle h =
@@ -224,10 +235,12 @@ module _ (s : Setting) where
     takes : (found : Watchpoint) (outcome : Outcome) (pass_later : List Record) → pass_later ≡ rest → (records own : List Record) → in_hand own ≡ None
         → Takes s a found records outcome rest → Falls own records (out outcome pass_later ∷ more)
     takes found outcome pass_later is records own idle h =
-        step_flag (TryConsume found.index found.word) _ records own (out outcome pass_later ∷ more) h (λ taken later got. tried found taken outcome pass_later is later own idle got)
+        step_flag (TryConsume found.index found.word) _ records own (out outcome pass_later ∷ more) h
+        (λ taken later got. tried found taken outcome pass_later is later own idle got)
 
     -- a watchpoint was found at the last load of the look-up
-    found_at : (mask : Option ℕ) (found : Watchpoint) (outcome : Outcome) (pass_later : List Record) → pass_later ≡ rest → (records own : List Record) (at word : ℕ) → in_hand own ≡ None
+    found_at : (mask : Option ℕ) (found : Watchpoint) (outcome : Outcome) (pass_later : List Record) → pass_later ≡ rest
+        → (records own : List Record) (at word : ℕ) → in_hand own ≡ None
         → MatchOption mask (Takes s a found records outcome rest) (λ m. (outcome ≡ outcomes.Nothing) × (rest ≡ records))
         → Falls own (made s.task (Load at) (answers.Word word) ∷ records) (out outcome pass_later ∷ more)
     found_at None found outcome pass_later is records own at word idle h =
@@ -239,7 +252,8 @@ module _ (s : Setting) where
         (inr (outcome, refl, subst (λ (o : Outcome). IsUnwatched o) (sym h.0) tt))
 
     -- the setter gives its index back
-    frees : (index : ℕ) (part : Part) (records own : List Record) → in_hand own ≡ Some (record { index = index; part = part }) → Frees s index records rest → Falls own records more
+    frees : (index : ℕ) (part : Part) (records own : List Record) → in_hand own ≡ Some (record { index = index; part = part }) → Frees s index records rest
+        → Falls own records more
     frees index part records own has h = step_done (Clear index) _ records own more h (λ later got.
         let clear : Record = made s.task (Clear index) answers.Done in
         nothing_here own later clear more refl (clears own index part has)
@@ -258,8 +272,10 @@ module _ (s : Setting) where
     hit_is values both outcome (verdicts.dropped change reason shares c v o) = subst (λ (x : Outcome). AnswersTo both x) (sym o) tt
 
     -- the setter waits for its finder, and has its verdict with the load by which it hears it
-    judges_hit : (index : ℕ) (values : Option (ℕ × ℕ)) (outcome : Outcome) (both : Halves) (records later own : List Record) → HasPart index parts.Hit own → Unheard index own
-        → Hears finder_half s.task index records both later → HitOutcome s a values both outcome → Frees s index later rest → Falls own records (out outcome later ∷ more)
+    judges_hit : (index : ℕ) (values : Option (ℕ × ℕ)) (outcome : Outcome) (both : Halves) (records later own : List Record) → HasPart index parts.Hit own
+        → Unheard index own
+        → Hears finder_half s.task index records both later → HitOutcome s a values both outcome → Frees s index later rest
+        → Falls own records (out outcome later ∷ more)
     judges_hit index values outcome both [] later own has none h verdict free = absurd h
     judges_hit index values outcome both (first ∷ records) later own has none h verdict free =
         let got = on_halves first.answer _ h.2 in
@@ -283,13 +299,15 @@ module _ (s : Setting) where
               ap (λ (x : Halves). x.finder) (sym same) ∙ q.0) q.1 verdict free)
         ])
 
-    consumed : (index ticket : ℕ) (values : Option (ℕ × ℕ)) (untouched : Bool) (outcome : Outcome) (records later own : List Record) → HasPart index (parts.Named ticket) own
+    consumed : (index ticket : ℕ) (values : Option (ℕ × ℕ)) (untouched : Bool) (outcome : Outcome) (records later own : List Record)
+        → HasPart index (parts.Named ticket) own
         → MatchBool untouched (UntouchedOutcome s a values outcome × (later ≡ records))
         ((both : Halves) × Hears finder_half s.task index records both later × HitOutcome s a values both outcome)
         → Frees s index later rest → Falls own (made s.task (Consume index) (answers.Flag untouched) ∷ records) (out outcome later ∷ more)
     consumed index ticket values true outcome records later own has got free =
         let quiet : Record = made s.task (Consume index) (answers.Flag true) in
-        one_here own records quiet (out outcome later) more got.1 (outcome, refl, untouched_is values outcome got.0) (unhit own (Consume index) (ap hit_in_hand has))
+        one_here own records quiet (out outcome later) more got.1 (outcome, refl, untouched_is values outcome got.0)
+        (unhit own (Consume index) (ap hit_in_hand has))
         (subst (λ (r : List Record). Falls (quiet ∷ own) r more) got.1 (frees index parts.Untouched later (quiet ∷ own) refl free))
     consumed index ticket values false outcome records later own has got free =
         let hit : Record = made s.task (Consume index) (answers.Flag false) in
@@ -312,10 +330,12 @@ module _ (s : Setting) where
         consumed index (ticket_number a) (both_values got.0 got.1) untouched outcome consumed_so later q has_q verdict free)))))
 
     -- tries to insert: the last refused one leaves no place
-    tries_insert : (word : ℕ) (outs : List Fallen) (index : ℕ) (indices : List ℕ) (records : List Record) (place : Option ℕ) (mid own : List Record) → in_hand own ≡ None
+    tries_insert : (word : ℕ) (outs : List Fallen) (index : ℕ) (indices : List ℕ) (records : List Record) (place : Option ℕ) (mid own : List Record)
+        → in_hand own ≡ None
         → TriesInsert s.task word (index ∷ indices) records place mid
         → ((o : List Record) (at : ℕ) → place ≡ Some at → HasPart at (parts.Inserted word) o → Falls o mid outs)
-        → ((o : List Record) (at : ℕ) → place ≡ None → in_hand o ≡ None → Falls o (made s.task (Insert at word) (answers.Flag false) ∷ mid) outs) → Falls own records outs
+        → ((o : List Record) (at : ℕ) → place ≡ None → in_hand o ≡ None → Falls o (made s.task (Insert at word) (answers.Flag false) ∷ mid) outs)
+        → Falls own records outs
     tries_insert word outs index indices records place mid own idle h stands full =
         step_flag (Insert index word) _ records own outs h (λ accepted later got. tried_at index indices place mid own idle stands full accepted later got)
       where
@@ -343,7 +363,8 @@ module _ (s : Setting) where
     watched_at : (asked word : ℕ) (place : Option ℕ) (mid : List Record) (judged : Option Judged) (later : List Record) (pass : Pass)
         → WatchesAt s a place mid judged later → Ends s asked judged later pass rest
         → ((o : List Record) (at : ℕ) → place ≡ Some at → HasPart at (parts.Inserted word) o → Falls o mid (fallen_of a pass ∷ more))
-        × ((o : List Record) (at : ℕ) → place ≡ None → in_hand o ≡ None → Falls o (made s.task (Insert at word) (answers.Flag false) ∷ mid) (fallen_of a pass ∷ more))
+        × ((o : List Record) (at : ℕ) → place ≡ None → in_hand o ≡ None
+        → Falls o (made s.task (Insert at word) (answers.Flag false) ∷ mid) (fallen_of a pass ∷ more))
     watched_at asked word None mid judged later pass h left =
         let none : Ends s asked None later pass rest = subst (λ (j : Option Judged). Ends s asked j later pass rest) h.0 left in (
           λ o at is. absurd (let no : None ≡ Some at = is in cc),
@@ -351,7 +372,8 @@ module _ (s : Setting) where
               (ap (λ (p : Pass). p.later) none.0 ∙ h.1) (none.1 ∙ h.1) idle idle (inr (pass.outcome, refl, ap (λ (p : Pass). p.outcome) none.0)),
         )
     watched_at asked word (Some index) mid judged later pass h left =
-        let some : Ends s asked (Some (record { index = index; outcome = h.0 })) later pass rest = subst (λ (j : Option Judged). Ends s asked j later pass rest) h.2 left in (
+        let some : Ends s asked (Some (record { index = index; outcome = h.0 })) later pass rest =
+        subst (λ (j : Option Judged). Ends s asked j later pass rest) h.2 left in (
           λ o at is has.
               let same : index ≡ at = some_same is in
               subst (λ (f : Fallen). Falls o mid (f ∷ more)) (ended pass h.0 later (ap (λ (p : Pass). p.outcome) some.0) (ap (λ (p : Pass). p.later) some.0))
@@ -365,7 +387,8 @@ module _ (s : Setting) where
         at_last own mid (made s.task (Load at) (answers.Word word)) pass.outcome pass.later later same idle idle
         (inr (pass.outcome, refl, subst (λ (o : Outcome). IsUnwatched o) (sym is) kind))
 
-    none_found : (marked : Bool) (asked : ℕ) (mid : List Record) (pass : Pass) (own : List Record) (at word : ℕ) → in_hand own ≡ None → NoneFound s a marked asked mid pass rest
+    none_found : (marked : Bool) (asked : ℕ) (mid : List Record) (pass : Pass) (own : List Record) (at word : ℕ) → in_hand own ≡ None
+        → NoneFound s a marked asked mid pass rest
         → Falls own (made s.task (Load at) (answers.Word word) ∷ mid) (fallen_of a pass ∷ more)
     none_found marked asked mid pass own at word idle (cases.counts_as_marked m is r) =
         nothing_found pass outcomes.Nothing (ap (λ (p : Pass). p.outcome) is) tt mid (ap (λ (p : Pass). p.later) is) r own at word idle
@@ -386,7 +409,8 @@ module _ (s : Setting) where
     goes_from marked asked None mid pass own at word idle h = none_found marked asked mid pass own at word idle h
     goes_from marked asked (Some found) mid pass own at word idle h = found_at a.mask found pass.outcome pass.later h.2 mid own at word idle h.3
 
-    pub once : (marked : Bool) (asked : ℕ) (records : List Record) (pass : Pass) (own : List Record) → in_hand own ≡ None → ChecksOnce s a marked asked records pass rest
+    pub once : (marked : Bool) (asked : ℕ) (records : List Record) (pass : Pass) (own : List Record) → in_hand own ≡ None
+        → ChecksOnce s a marked asked records pass rest
         → Falls own records (fallen_of a pass ∷ more)
     once marked asked records pass own idle h =
         looks_up a (fallen_of a pass ∷ more) (slot_of s a) ((slot_of s a + 1) ∷ (slot_of s a + 2) ∷ []) records h.0 h.1 own idle h.2
@@ -403,7 +427,8 @@ module _ (s : Setting) where
       (λ skips. rechecks more rest goes_on scopes asked records passes skips own idle)
       (λ now.
       let one : Falls own records (fallen_of scope.access now.0 ∷ (now.2 ++ more)) =
-      once scope.access (now.2 ++ more) now.1 (λ o at. rechecks more rest goes_on scopes now.0.asked now.1 (record { outcomes = now.2; asked = passes.asked }) now.4 o at)
+      once scope.access (now.2 ++ more) now.1 (λ o at. rechecks more rest goes_on scopes now.0.asked now.1
+      (record { outcomes = now.2; asked = passes.asked }) now.4 o at)
       scope.marked asked records now.0 own idle now.3 in
       subst (λ (o : List Fallen). Falls own records (o ++ more)) (sym now.5) one)
     where
@@ -428,7 +453,8 @@ module _ (s : Setting) where
       clock_step own later first (passes.outcomes ++ more) h.2.1 idle (λ idle_after. by_silence begun.silenced idle_after got.2)
     where
       by_silence : (silenced : Bool) → in_hand (first ∷ own) ≡ None
-          → MatchBool silenced ((passes ≡ record { outcomes = []; asked = cases.asked_silenced begun.marked asked }) × (rest ≡ later)) (cases.ChecksAll s scopes begun asked later passes rest)
+          → MatchBool silenced ((passes ≡ record { outcomes = []; asked = cases.asked_silenced begun.marked asked })
+          × (rest ≡ later)) (cases.ChecksAll s scopes begun asked later passes rest)
           → Falls (first ∷ own) later (passes.outcomes ++ more)
       by_silence true idle_after quiet =
           let all : Falls (first ∷ own) rest (passes.outcomes ++ more) =
@@ -437,7 +463,8 @@ module _ (s : Setting) where
       by_silence false idle_after now =
           let left : List Begun = left_to_check now.0.settled scopes in
           let one : Falls (first ∷ own) later (fallen_of begun.access now.0 ∷ (now.2 ++ more)) =
-          once begun.access (now.2 ++ more) now.1 (λ o at. rechecks more rest goes_on left now.0.asked now.1 (record { outcomes = now.2; asked = passes.asked }) now.4 o at)
+          once begun.access (now.2 ++ more) now.1 (λ o at. rechecks more rest goes_on left now.0.asked now.1
+          (record { outcomes = now.2; asked = passes.asked }) now.4 o at)
           begun.marked asked later now.0 (first ∷ own) idle_after now.3 in
           subst (λ (o : List Fallen). Falls (first ∷ own) later (o ++ more)) (sym now.5) one
 
@@ -451,4 +478,5 @@ module _ (s : Setting) where
       ended_by [] made_so o at = absurd made_so
       ended_by (first ∷ later) made_so o at =
           let got = on_word first.answer _ made_so.2 in
-          clock_step o later first more made_so.1 at (λ idle_after. subst (λ (r : List Record). Falls (first ∷ o) r more) got.2 (goes_on (first ∷ o) idle_after))
+          clock_step o later first more made_so.1 at (λ idle_after. subst (λ (r : List Record). Falls (first ∷ o) r more) got.2
+          (goes_on (first ∷ o) idle_after))

@@ -5,3 +5,7 @@ pub mod Waiting
 pub mod Counts
 pub mod Takings
 pub mod Endings
+pub mod Quiet
+pub mod Tells
+pub mod TextTells
+pub mod Does

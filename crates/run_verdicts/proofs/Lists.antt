@@ -1,5 +1,5 @@
 -- What each record of a run list settles.
-use Rattle.std.proofs.Common.{◌≡◌, ◌≢◌, ◌<◌, ◌≤◌, ◌==◌, ◌+◌, ◌-◌, ◌∙◌, ◌∷◌, ◌++◌, [], inl, inr, ℕ, suc, List, Option, ap, append_assoc, arith, length, map, refl, reverse, subst, sym}
+use Rattle.std.proofs.Common.{◌≡◌, ◌<◌, ◌≤◌, ◌==◌, ◌+◌, ◌-◌, ◌∙◌, ◌∷◌, ◌++◌, [], inl, inr, ℕ, suc, List, Option, ap, append_assoc, arith, length, map, refl, reverse, subst, sym}
 use Rattle.std.specs.List.{filter}
 use Rattle.std.proofs.lemmas.Bool.{eq-eqb, ne_eqb}
 use Rattle.std.proofs.lemmas.Bool.Decides.{eqb_tells}
@@ -13,7 +13,7 @@ use Rattle.slot_table.specs.declared.records.Record.{Record}
 use Rattle.written_order.specs.Told.{fell_next, to_come}
 use Rattle.run_lists.specs.Run.{Run, task_of, task_setting}
 use Rattle.run_lists.specs.RunList.{RunList}
-use Rattle.run_lists.specs.Told.{Armed, OutcomeAt, armed_by, came_next, made_by, outcome_at}
+use Rattle.run_lists.specs.Told.{Armed, OutcomeAt, armed_by, made_by, outcome_at}
 use Rattle.run_lists.proofs.CheckFacts.{back}
 use Rattle.run_lists.proofs.Histories.{front_of}
 use Rattle.run_lists.proofs.OwnLasts.{own_latest}
@@ -100,7 +100,8 @@ falls_at (first ∷ p) q own x outs falls =
       clears = it.clears;
     }
 
-told_outcomes : (count : ℕ) (arming : Option Armed) (here : List Fallen) → map (λ (came : OutcomeAt). came.outcome) (map (outcome_at count arming) here) ≡ outcomes_in here
+told_outcomes : (count : ℕ) (arming : Option Armed) (here : List Fallen)
+    → map (λ (came : OutcomeAt). came.outcome) (map (outcome_at count arming) here) ≡ outcomes_in here
 told_outcomes count arming [] = refl
 told_outcomes count arming (fallen ∷ here) = ap (λ (l : List Outcome). fallen.outcome ∷ l) (told_outcomes count arming here)
 
@@ -125,7 +126,8 @@ module _ (run : Run) (records : List Record) (list : RunList run records) where
       ∙ (ap (λ (r : List Record). r ++ front.0) (reverse-append (latest ∷ []) own) ∙ append_assoc (reverse own) (latest ∷ []) front.0)) in
       let falls = whole_falls (task_setting run task) (length (task_of run task).registers) (task_of run task).body whole written.whole in
       let it = falls_at (reverse own) front.0 [] latest outs (subst (λ (r : List Record). Falls [] r outs) split falls) in
-      let long : length whole ≡ length (reverse own) + suc (length front.0) = ap (λ (r : List Record). length r) split ∙ length-append (reverse own) (latest ∷ front.0) in
+      let long : length whole ≡ length (reverse own) + suc (length front.0) =
+      ap (λ (r : List Record). length r) split ∙ length-append (reverse own) (latest ∷ front.0) in
       let same : length (reverse own) ≡ length own = length-reverse own in
       let left : to_come written (made_by task earlier + 1) ≡ length front.0 = omega (arith, long, same) in
       record {
@@ -142,7 +144,8 @@ module _ (run : Run) (records : List Record) (list : RunList run records) where
       let hand = in_hand (records_of latest.task earlier) in (
         each_by (later ++ latest ∷ []) earlier (is ∙ sym (append_assoc later (latest ∷ []) earlier)),
         subst (λ (l : List Outcome). Settles hand latest.step latest.answer l)
-            (sym (ap (λ (l : List Fallen). map (λ (came : OutcomeAt). came.outcome) (map (outcome_at (length earlier) (armed_by latest.task (latest ∷ earlier))) l)) it.all
+            (sym (ap (λ (l : List Fallen). map (λ (came : OutcomeAt). came.outcome)
+            (map (outcome_at (length earlier) (armed_by latest.task (latest ∷ earlier))) l)) it.all
             ∙ told_outcomes (length earlier) (armed_by latest.task (latest ∷ earlier)) it.here))
             it.settles,
       )

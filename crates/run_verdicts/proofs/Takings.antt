@@ -1,6 +1,5 @@
 -- Each taking that its setter heard of has one answer: by induction on the list, index by index.
-use Rattle.std.proofs.Common.{◌≡◌, ◌≢◌, ◌<◌, ◌≤◌, ◌==◌, ◌⊎◌, ◌+◌, ◌∙◌, ◌∷◌, ◌++◌, [], inl, inr, ℕ, zero, suc, Bool, true, false, List, Option, None, Some, Contains, ap, append_assoc, arith, cond, length, map, refl, subst, sym}
-use Rattle.std.specs.List.{filter}
+use Rattle.std.proofs.Common.{◌≡◌, ◌≢◌, ◌≤◌, ◌==◌, ◌⊎◌, ◌+◌, ◌∙◌, ◌∷◌, ◌++◌, [], inl, inr, ℕ, true, false, List, Option, Some, Contains, ap, append_assoc, arith, cond, length, map, refl, subst, sym}
 use Rattle.std.specs.Option.{option_map}
 use Rattle.std.proofs.lemmas.Bool.{eq-eqb}
 use Rattle.std.proofs.lemmas.Bool.Decides.{eqb_tells}
@@ -10,7 +9,7 @@ use Rattle.setup_access.specs.Check.{Fallen}
 use Rattle.setup_access.specs.declared.outcome.Outcome.{Outcome}
 use Rattle.slot.specs.Pair.{Halves}
 use Rattle.slot_table.specs.Armings.{last_arming_number}
-use Rattle.slot_table.specs.Discipline.{Allows, HasHeardFinder, HasPart, heard, in_hand, part_at}
+use Rattle.slot_table.specs.Discipline.{Allows, HasPart, heard, in_hand, part_at}
 use Rattle.slot_table.specs.Meetings.{Meeting, finders_told, heard_by, heard_from, meetings_at, setters_heard}
 use Rattle.slot_table.specs.Records.{records_of}
 use Rattle.slot_table.specs.Roles.{part_of}
@@ -22,17 +21,16 @@ use Rattle.slot_table.specs.declared.step.Step.{Step}
 use Rattle.slot_table.specs.declared.step.Step.TheVariants.{Clear, PairLoad, Tell}
 use Rattle.slot_table.proofs.Lists.{Keeps, allowed_at, fits_all, keeps_before, view_of}
 use Rattle.slot_table.proofs.Meetings.{meetings_differ}
-use Rattle.slot_table.proofs.Moves.{some_same}
 use Rattle.slot_table.proofs.Phases.{Fits, View}
 use Rattle.slot_table.proofs.Steps.{here_part}
 use Rattle.run_lists.specs.Answers.{is_answer}
 use Rattle.run_lists.specs.Run.{Run, first_cells, locks_of}
 use Rattle.run_lists.specs.RunList.{RunList}
-use Rattle.run_lists.specs.Told.{Armed, OutcomeAt, armed_by, armed_in, came_next, outcome_at, outcomes_by, outcomes_of}
+use Rattle.run_lists.specs.Told.{Armed, OutcomeAt, armed_by, armed_in, came_next, outcome_at, outcomes_by}
 use Rattle.run_lists.proofs.OwnLasts.{own_latest}
 use Rattle.run_verdicts.specs.Takings as spec
 use Rattle.run_verdicts.specs.Takings.{HasOneAnswer, answers_to}
-use Rattle.run_verdicts.proofs.Counts.{Answered, Unanswered, elsewhere_alone, fell_cases, hand_with, its, none_its, once_at_most, one_its, stands_once, times, times_more, told_covers}
+use Rattle.run_verdicts.proofs.Counts.{Answered, elsewhere_alone, fell_cases, hand_with, its, none_its, once_at_most, one_its, stands_once, times, times_more, told_covers}
 use Rattle.run_verdicts.proofs.Falls.{outcomes_in}
 use Rattle.run_verdicts.proofs.Lists.{SettledAt, settled_at}
 use Rattle.run_verdicts.proofs.Waiting.{Hears, IsWaiting, Told, Unheard, heard_so, one_setter, told_of, told_so, waits_by, waits_now}
@@ -158,13 +156,15 @@ module _ (run : Run) (records : List Record) (list : RunList run records) (rules
     waits_before : (HearsNow → ⊥) → (other : ℕ) → Waits other (latest ∷ earlier) → Waits other earlier × (task ≢ other)
     waits_before silent other waits = elim (eqb_tells task other) [
       | inl here ↦
-          let its_own : IsWaiting index (records_of task (latest ∷ earlier)) = subst (λ (t : ℕ). IsWaiting index (records_of t (latest ∷ earlier))) (sym here.1) waits in
+          let its_own : IsWaiting index (records_of task (latest ∷ earlier)) =
+          subst (λ (t : ℕ). IsWaiting index (records_of t (latest ∷ earlier))) (sym here.1) waits in
           absurd (silent (waits_by index latest own settled.clears (subst (λ (r : List Record). IsWaiting index r) mine its_own)))
       | inr apart ↦ (subst (λ (r : List Record). IsWaiting index r) (others_same other apart.0) waits, apart.1)
     ]
 
     -- a record by which no setter hears its finder at the index
-    quietly : length (its index n (map (outcome_at (length earlier) arming) settled.here)) ≡ 0 → (HearsNow → ⊥) → AreAnswered earlier → AreAnswered (latest ∷ earlier)
+    quietly : length (its index n (map (outcome_at (length earlier) arming) settled.here)) ≡ 0 → (HearsNow → ⊥) → AreAnswered earlier
+        → AreAnswered (latest ∷ earlier)
     quietly none silent before =
         let same : count (latest ∷ earlier) ≡ count earlier = let more = count_more 0 none in omega (arith, more) in
         elim (heard_so index task latest.step earlier (setters_heard earlier)) [
@@ -181,7 +181,8 @@ module _ (run : Run) (records : List Record) (list : RunList run records) (rules
               absurd ((told_by_view other earlier kept waits).nobody task allows.1.0 taken)
         ]
 
-        unheard_step : count (latest ∷ earlier) ≡ count earlier → Unheard index task latest.step earlier (setters_heard earlier) → AreAnswered earlier → AreAnswered (latest ∷ earlier)
+        unheard_step : count (latest ∷ earlier) ≡ count earlier → Unheard index task latest.step earlier (setters_heard earlier) → AreAnswered earlier
+            → AreAnswered (latest ∷ earlier)
         unheard_step same unheard (inl (nobody, all)) =
             inl (λ other waits. nobody other (waits_before silent other waits).0, same ∙ (all ∙ sym (ap (times n) unheard.same)))
         unheard_step same unheard (inr ((other, waits), all)) = elim (eqb_tells task other) [
@@ -196,7 +197,9 @@ module _ (run : Run) (records : List Record) (list : RunList run records) (rules
         heard_now step_is waits =
             let told = told_by_view task earlier kept waits in
             let hit : part_at index (in_hand own) ≡ Some parts.Hit = here_part index (in_hand own) parts.Hit waits.has in
-            let adds = heard_adds index told.number waits.hears.0 (part_at index (in_hand own)) (last_arming_number index earlier) (heard index own) (setters_heard earlier)
+            let adds =
+            heard_adds index told.number waits.hears.0 (part_at index (in_hand own)) (last_arming_number index earlier) (heard index own)
+            (setters_heard earlier)
             hit told.numbered waits.hears.1 n in
             let all : told_times earlier ≡ cond (told.number == n) 1 0 + heard_times earlier =
             ap (times n) told.told ∙ times_more n told.number told.met (meetings_at index (setters_heard earlier)) told.counts in
@@ -217,14 +220,16 @@ module _ (run : Run) (records : List Record) (list : RunList run records) (rules
                     | inr some_waits ↦ inl (
                       λ other waits_other.
                           let earlier_so = waits_before silent other waits_other in
-                          earlier_so.1 (one_setter index (view_at earlier) task other (fits earlier kept) (hit_part task earlier waits) (hit_part other earlier earlier_so.0)),
+                          earlier_so.1 (one_setter index (view_at earlier) task other (fits earlier kept) (hit_part task earlier waits)
+                          (hit_part other earlier earlier_so.0)),
                       same ∙ (some_waits.1 ∙ sym (heard_now step_is waits)),
                     )
                   ]
             ]
 
     -- a record by which a setter hears its finder at the index
-    hearing : (now : HearsNow) (outcome : Outcome) → outcomes_in settled.here ≡ outcome ∷ [] → is_answer outcome ≡ true → AreAnswered earlier → AreAnswered (latest ∷ earlier)
+    hearing : (now : HearsNow) (outcome : Outcome) → outcomes_in settled.here ≡ outcome ∷ [] → is_answer outcome ≡ true → AreAnswered earlier
+        → AreAnswered (latest ∷ earlier)
     hearing now outcome only answers before =
         let clears_not : latest.step ≡ Clear index → ⊥ = λ step_is. absurd (let both : PairLoad index ≡ Clear index = sym now.step_is ∙ step_is in cc) in
         let own_part : part_of task index earlier ≡ Some parts.Hit = here_part index (in_hand own) parts.Hit now.has in

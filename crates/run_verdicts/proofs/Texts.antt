@@ -1,8 +1,7 @@
 -- At which records of a text the outcomes of its checks fall.
-use Rattle.std.proofs.Common.{◌≡◌, ◌<◌, ◌==◌, ◌+◌, ◌∙◌, ◌∷◌, ◌++◌, [], ℕ, suc, Bool, true, false, List, Option, None, Some, ap, append_assoc, arith, length, refl, subst, sym}
+use Rattle.std.proofs.Common.{◌≡◌, ◌+◌, ◌∙◌, ◌∷◌, ◌++◌, [], ℕ, List, Option, None, Some, ap, append_assoc, refl, subst, sym}
 use Rattle.std.proofs.lemmas.List.{append-nil}
 use Rattle.access_types.specs.Access as access
-use Rattle.access_types.specs.declared.history.Happening.TheVariants as happenings
 use Rattle.litmus_syntax.specs.Tree.{Block}
 use Rattle.memory_operation.specs.declared.effect.Effect.{Effect}
 use Rattle.memory_operation.specs.declared.operation.Operation.{Operation}
@@ -14,7 +13,7 @@ use Rattle.slot_table.specs.declared.records.Record.{Record}
 use Rattle.slot_table.specs.declared.step.Step.{Step}
 use Rattle.slot_table.specs.declared.step.Step.TheVariants.{CellExchange, CellLoad, Clear, Clock, Consume, Insert, Load, LockStore, LockTry, Name, PairLoad, Remove, Tell, TryConsume}
 use Rattle.written_order.specs.Access.{Makes, operated}
-use Rattle.written_order.specs.Standing.{Setting, Standing, checks_of, counting, doing, lock_number}
+use Rattle.written_order.specs.Standing.{Setting, Standing, checks_of, lock_number}
 use Rattle.written_order.specs.WrittenOrder.{ClosesScope, OpensScope, SpellsAll, at_first}
 use Rattle.written_order.proofs.Induction.{Kept, by_block}
 use Rattle.run_lists.proofs.TaskFacts.{IsPlain, counting_outcomes, done_step, operates, takes_lock, word_step}
@@ -71,11 +70,13 @@ module _ (s : Setting) where
     pub outcomes : after.outcomes ≡ before.outcomes ++ new
     pub falls : (more : List Fallen) → Then rest more → Then records (new ++ more)
 
-  nothing_new : (before after : Standing) (records rest : List Record) → after.outcomes ≡ before.outcomes → ((more : List Fallen) → Then rest more → Then records more)
+  nothing_new : (before after : Standing) (records rest : List Record) → after.outcomes ≡ before.outcomes
+      → ((more : List Fallen) → Then rest more → Then records more)
       → Part before records after rest
   nothing_new before after records rest same falls = record { new = []; outcomes = same ∙ sym (append-nil before.outcomes); falls = falls }
 
-  both : (before between after : Standing) (records later rest : List Record) → Part before records between later → Part between later after rest → Part before records after rest
+  both : (before between after : Standing) (records later rest : List Record) → Part before records between later → Part between later after rest
+      → Part before records after rest
   both before between after records later rest p q = record {
     new = p.new ++ q.new;
     outcomes = q.outcomes ∙ (ap (λ (o : List Fallen). o ++ q.new) p.outcomes ∙ append_assoc before.outcomes p.new q.new);
@@ -90,7 +91,8 @@ module _ (s : Setting) where
   operated_outcomes a (Some (operations.Add amount)) before records effect rest = refl
   operated_outcomes a (Some (operations.Change change)) before records effect rest = refl
 
-  makes_part : (a : access.Access) (operation : Option Operation) (effect : Effect) (before : Standing) (records : List Record) (after : Standing) (rest : List Record)
+  makes_part : (a : access.Access) (operation : Option Operation) (effect : Effect) (before : Standing) (records : List Record) (after : Standing)
+      (rest : List Record)
       → Makes s before a operation records effect after rest → Part before records after rest
   makes_part a operation effect before records after rest h = record {
     new = h.passes.outcomes;
@@ -134,7 +136,8 @@ module _ (s : Setting) where
   }
 
 -- all outcomes of a text fall at its records
-pub whole_falls : (s : Setting) (registers : ℕ) (body : Block) (records : List Record) (whole : SpellsAll s registers body records) → Falls [] records whole.end.outcomes
+pub whole_falls : (s : Setting) (registers : ℕ) (body : Block) (records : List Record) (whole : SpellsAll s registers body records)
+    → Falls [] records whole.end.outcomes
 whole_falls s registers body records whole =
     let part = by_block s (Part s) (kept_parts s) 0 body (at_first registers) records whole.end [] whole.steps in
     subst (λ (o : List Fallen). Falls [] records o) (append-nil part.new ∙ sym part.outcomes) (part.falls [] (λ own idle. refl) [] refl)

@@ -1,7 +1,6 @@
 -- Who has heard its finder and hasn't cleared yet: which record makes a task such a setter, and which ends it.
-use Rattle.std.proofs.Common.{◌≡◌, ◌≢◌, ◌<◌, ◌==◌, ◌&&◌, ◌⊎◌, ◌∙◌, ◌∷◌, [], inl, inr, ℕ, zero, suc, Bool, true, false, List, Option, None, Some, ap, arith, if◌then◌else◌, length, refl, subst, sym}
-use Rattle.std.specs.List.{filter}
-use Rattle.std.proofs.lemmas.Bool.{eq-eqb, ne_eqb}
+use Rattle.std.proofs.Common.{◌≡◌, ◌≢◌, ◌<◌, ◌==◌, ◌⊎◌, ◌∙◌, ◌∷◌, inl, inr, ℕ, true, false, List, Option, None, Some, ap, arith, refl, subst, sym}
+use Rattle.std.proofs.lemmas.Bool.{eq-eqb}
 use Rattle.std.proofs.lemmas.Bool.Decides.{eqb_tells}
 use Rattle.slot.specs.Pair.{Halves}
 use Rattle.slot_table.specs.Armings.{last_arming_number}
@@ -57,7 +56,6 @@ module _ (index : ℕ) where
   IsHit hand = hand ≡ Some (record { index = index; part = parts.Hit })
 
   not_hit : (hand : Option InHand) → IsHit hand → hit_in_hand hand ≡ false → ⊥
-  unfolding hit_in_hand
   not_hit hand has apart = absurd (let both : false ≡ true = sym apart ∙ ap hit_in_hand has in cc)
 
   -- it is by that step, or it was so before
@@ -135,7 +133,8 @@ module _ (index : ℕ) where
     pub told : v.told ≡ met ∷ v.heard
     pub nobody : (other word : ℕ) → v.part other ≡ Some (parts.Taken word) → ⊥
 
-  told_in : (phase : phases.Phase) (v : View) (h : Open index phase v) (task : ℕ) (both : Halves) → phases.setter_part phase h.word ≡ parts.Hit → StillStands both v.pair
+  told_in : (phase : phases.Phase) (v : View) (h : Open index phase v) (task : ℕ) (both : Halves) → phases.setter_part phase h.word ≡ parts.Hit
+      → StillStands both v.pair
       → 0 < both.finder → Told v task
   told_in (phases.HitTaken finder ticket) v h task both e stands above =
       let none : v.pair.finder ≡ 0 = ap (λ (pair : Halves). pair.finder) h.pair_is in

@@ -6,10 +6,21 @@ ghost use Rattle.run_lists.specs.RunList.{RunList};
 ghost use Rattle.run_lists.specs.Told.{armed_by};
 ghost use Rattle.slot_table.specs.Meetings.{Meeting, setters_heard};
 ghost use Rattle.slot_table.specs.declared.records.Record.{Record};
+ghost use Rattle.written_order.specs.Told.{did_by};
+ghost use Rattle.run_verdicts.specs.Events.{AreMarks, EachDoesItsEvent};
 ghost use Rattle.run_verdicts.specs.Takings.{EachSettles, HasOneAnswer, IsOver, WasTaken};
 
 use run_lists::laws::run_lists_keep_the_discipline;
 use slot_table::step::Step;
+
+/// Law: in the history that a run list tells each record has its event, by its step and its answer, and then the marks
+/// that its task makes before its next step: a step of the clock begins or ends one access, an accepted exchange writes,
+/// and so on. Before its first step a task makes marks alone.
+pub fn records_tell_their_events()
+    ensures each { (run : Run) (records : List Record) → (list : RunList run records) → EachDoesItsEvent list records }
+    ensures first { (run : Run) (records : List Record) → (list : RunList run records)
+        → (task : ℕ) → AreMarks (did_by (list.tasks task) 0) }
+{}
 
 /// Law: the outcomes that a run list tells fall at the records that settle them, and at no others. Each refused
 /// try-consume is one lost try, each tell one telling, each untouched consume one verdict on nobody's hit, and each
