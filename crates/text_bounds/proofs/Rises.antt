@@ -16,7 +16,7 @@ use Rattle.litmus_syntax.specs.declared.statement.Call.TheVariants as calls
 use Rattle.slot_table.specs.declared.records.Record.{Record}
 use Rattle.text_bounds.proofs.Counts.{Bounds, block_grows}
 use Rattle.text_bounds.proofs.Statements.{assignment_weight, call_weight, expression_weight}
-use Rattle.text_bounds.proofs.Weights.{Weighs, one, weight_first}
+use Rattle.text_bounds.proofs.Weights.{Weighs, none_or_none, one, weight_first}
 use Rattle.written_order.proofs.MeaningLemmas.{by_block}
 use Rattle.written_order.specs.Standing.{Setting, Standing, moments}
 use Rattle.written_order.specs.WrittenOrder.{StepsOfBlock}
@@ -85,10 +85,6 @@ assignment_within site (tree.increment x) = le_refl 0
 assignment_within site (tree.atomic_add e x) = le_refl 0
 assignment_within site (tree.atomic_increment x) = le_refl 0
 assignment_within site (tree.atomic_decrement x) = le_refl 0
-
-none_or_none : (b : Bool) → (if b then 0 else 0) ≤ 0
-none_or_none true = le_refl 0
-none_or_none false = le_refl 0
 
 call_within : (site : ℕ) (c : Call) → call_weight site c (λ site. 0) mark_rises ≤ call_rises c
 call_within site (calls.Barrier b) = le_refl 0

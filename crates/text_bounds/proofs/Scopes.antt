@@ -1,5 +1,5 @@
 -- No more scoped assertions are in force at any moment than the limit, where a text keeps it.
-use Rattle.std.proofs.Common.{◌≡◌, ◌≤◌, ◌∙◌, ◌+◌, ◌-◌, ◌==◌, ◌++◌, ℕ, zero, suc, Bool, true, false, List, [], ◌∷◌, None, Option, Some, ap, append_assoc, arith, count_by, fold, inl, inr, le_refl, length, refl, subst, sym, if◌then◌else◌}
+use Rattle.std.proofs.Common.{◌≡◌, ◌<◌, ◌≤◌, ◌∙◌, ◌+◌, ◌-◌, ◌==◌, ◌++◌, ℕ, zero, suc, Bool, true, false, List, [], ◌∷◌, None, Option, Some, ap, append_assoc, arith, count_by, fold, inl, inr, le_refl, length, refl, subst, sym, if◌then◌else◌}
 use Rattle.std.proofs.lemmas.List.{append-nil}
 use Rattle.std.proofs.lemmas.List.Sums.{fold-append}
 use Rattle.access_types.specs.Access.{Access}
@@ -18,8 +18,8 @@ use Rattle.litmus_syntax.specs.declared.statement.Call.{Call}
 use Rattle.litmus_syntax.specs.declared.statement.Call.TheVariants as calls
 use Rattle.slot_table.specs.declared.records.Record.{Record}
 use Rattle.text_bounds.proofs.Statements.{assign_does, assign_weight, call_does_most, call_weight, expression_does, expression_weight, load_does, load_weight}
-use Rattle.text_bounds.proofs.Weights.{DoesAtMost, Weighs, one, weight_first}
-use Rattle.text_bounds.specs.Scopes.{in_force, is_scoped, scopes_after}
+use Rattle.text_bounds.proofs.Weights.{DoesAtMost, Weighs, none_or_none, one, weight_first}
+use Rattle.text_bounds.specs.Scopes.{AreOfNoScope, in_force, is_of_scope, is_scoped, scopes_after}
 use Rattle.written_order.proofs.MeaningLemmas.{whole_means}
 use Rattle.written_order.specs.Standing as order
 use Rattle.written_order.specs.WrittenOrder.{SpellsAll, at_first}
@@ -47,16 +47,6 @@ record Keeps (scopes : ℕ) (before after : Progress) : Type 0 where
   comes_to : after.did ≡ before.did ++ does
   few : FewFrom scopes does
   ends : fold scopes_after scopes does ≡ scopes
-
--- a scoped assertion begins or ends
-abbrev is_of_scope : Happening → Bool
-is_of_scope (Begin a) = is_scoped a.kind
-is_of_scope (End a) = is_scoped a.kind
-is_of_scope (Read bytes value) = false
-is_of_scope (Write bytes value) = false
-is_of_scope (Lock lock) = false
-is_of_scope (Unlock lock) = false
-is_of_scope (happenings.Mark m) = false
 
 scope_weighs : Weighs is_of_scope (λ site. 0) (λ m. 0)
 scope_weighs = record {
@@ -211,10 +201,6 @@ module _ (s : Setting) where
   no_assignment site data_race (tree.atomic_increment x) = omega arith
   no_assignment site data_race (tree.atomic_decrement x) = omega arith
 
-  none_or_none : (b : Bool) → (if b then 0 else 0) ≤ 0
-  none_or_none true = le_refl 0
-  none_or_none false = le_refl 0
-
   no_call : (site : ℕ) (c : Call) → call_weight site c (λ at. 0) (λ m. 0) ≤ 0
   no_call site (calls.Barrier b) = le_refl 0
   no_call site (calls.Lock l) = le_refl 0
@@ -278,3 +264,32 @@ pub none_in_force : (s : order.Setting) (registers : ℕ) (body : Block) (record
     → (spells : SpellsAll s registers body records) → in_force spells.end.progress.did ≡ 0
 none_in_force s registers body records fits spells =
     let keeps = whole_keeps s registers body records fits spells in ap in_force keeps.comes_to ∙ keeps.ends
+
+-- a scoped assertion that begins has room, and is one more
+pub one_more : (did : List Happening) (a : Access) → is_scoped a.kind ≡ true → in_force (did ++ Begin a ∷ []) ≡ in_force did + 1
+one_more did a scoped =
+    fold-append scopes_after 0 did (Begin a ∷ [])
+    ∙ (let begun : scopes_after (in_force did) (Begin a) ≡ in_force did + 1 = rw scoped refl in begun)
+
+pub one_less : (did : List Happening) (a : Access) → is_scoped a.kind ≡ true → in_force (did ++ End a ∷ []) ≡ in_force did - 1
+one_less did a scoped =
+    fold-append scopes_after 0 did (End a ∷ [])
+    ∙ (let ended : scopes_after (in_force did) (End a) ≡ in_force did - 1 = rw scoped refl in ended)
+
+still_in_force : (scopes : ℕ) (does : List Happening) → AreOfNoScope does → fold scopes_after scopes does ≡ scopes
+still_in_force scopes [] none = refl
+still_in_force scopes (happening ∷ later) none =
+    let own : one is_of_scope happening ≤ 0 = rw none.0 (le_refl 0) in
+    subst (λ (n : ℕ). fold scopes_after n later ≡ scopes) (sym (untouched scopes happening own)) (still_in_force scopes later none.1)
+
+pub as_many : (did does : List Happening) → AreOfNoScope does → in_force (did ++ does) ≡ in_force did
+as_many did does none = fold-append scopes_after 0 did does ∙ still_in_force (in_force did) does none
+
+pub room_for_scope : (s : order.Setting) (registers : ℕ) (body : Block) (records : List Record) → BlockScopes 0 body
+    → (spells : SpellsAll s registers body records) → (front : List Happening) (a : Access) (back : List Happening)
+    → spells.end.progress.did ≡ front ++ Begin a ∷ back → is_scoped a.kind ≡ true → in_force front < scoped_limit
+room_for_scope s registers body records fits spells front a back split scoped =
+    let all : spells.end.progress.did ≡ (front ++ Begin a ∷ []) ++ back = split ∙ sym (append_assoc front (Begin a ∷ []) back) in
+    let few = few_in_force s registers body records fits spells (front ++ Begin a ∷ []) back all in
+    let more = one_more front a scoped in
+    omega (arith, few, more)

@@ -1,5 +1,5 @@
 -- How much of what a task does counts, at most, by what each happening counts.
-use Rattle.std.proofs.Common.{◌≡◌, ◌≤◌, ◌∙◌, ◌+◌, ◌*◌, ◌++◌, ℕ, zero, suc, Bool, false, List, [], ◌∷◌, append_assoc, ap, arith, count_by, refl, replicate, sym, if◌then◌else◌}
+use Rattle.std.proofs.Common.{◌≡◌, ◌≤◌, ◌∙◌, ◌+◌, ◌*◌, ◌++◌, ℕ, zero, suc, Bool, true, false, List, [], ◌∷◌, append_assoc, ap, arith, count_by, le_refl, refl, replicate, sym, if◌then◌else◌}
 use Rattle.std.proofs.lemmas.List.{append-nil}
 use Rattle.std.proofs.lemmas.List.Sums.{sum_by-append, sum_by-cons}
 use Rattle.std.proofs.Math.Nat.{suc-mul}
@@ -16,6 +16,10 @@ use Rattle.text_bounds.specs.Scopes.{is_scoped}
 -- a happening counts once, or not
 abbrev pub one : (Happening → Bool) → Happening → ℕ
 one weighs happening = if weighs happening then 1 else 0
+
+pub none_or_none : (b : Bool) → (if b then 0 else 0) ≤ 0
+none_or_none true = le_refl 0
+none_or_none false = le_refl 0
 
 -- of the accesses that are no scoped assertions only the begins count, and no more than this at each site; of the marks
 -- no more than this does, and neither the end of a data_race( ) nor the mark of bits

@@ -1,7 +1,7 @@
 -- How many scoped assertions are in force, by what a task did.
-use Rattle.std.specs.Prelude.{◌+◌, ◌-◌, ℕ, Bool, true, false, List, fold, if◌then◌else◌}
+use Rattle.std.specs.Prelude.{◌≡◌, ◌+◌, ◌-◌, ℕ, Bool, true, false, List, [], ◌∷◌, fold, if◌then◌else◌}
 use Rattle.access_types.specs.declared.history.Happening.{Happening}
-use Rattle.access_types.specs.declared.history.Happening.TheVariants.{Begin, End}
+use Rattle.access_types.specs.declared.history.Happening.TheVariants.{Begin, End, Lock, Mark, Read, Unlock, Write}
 use Rattle.access_types.specs.declared.kind.Kind.{Kind}
 use Rattle.access_types.specs.declared.kind.Kind.TheVariants.{Assert, AssertScoped, Marked, Plain}
 
@@ -21,3 +21,18 @@ scopes_after scopes happening = scopes
 -- how many are in force after what a task did
 abbrev pub in_force : List Happening → ℕ
 in_force did = fold scopes_after 0 did
+
+-- a scoped assertion begins or ends
+abbrev pub is_of_scope : Happening → Bool
+is_of_scope (Begin a) = is_scoped a.kind
+is_of_scope (End a) = is_scoped a.kind
+is_of_scope (Read bytes value) = false
+is_of_scope (Write bytes value) = false
+is_of_scope (Lock lock) = false
+is_of_scope (Unlock lock) = false
+is_of_scope (Mark mark) = false
+
+-- none begins or ends in what a task did
+abbrev pub AreOfNoScope : List Happening → Type 0
+AreOfNoScope [] = Unit {0}
+AreOfNoScope (happening ∷ later) = (is_of_scope happening ≡ false) × AreOfNoScope later

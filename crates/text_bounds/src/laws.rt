@@ -1,12 +1,14 @@
 //! What each run of a text keeps.
 
-ghost use Rattle.std.specs.Prelude.{◌≡◌, ◌+◌, ◌++◌, ◌≤◌, ℕ, List, count_by, length};
+ghost use Rattle.std.specs.Prelude.{◌≡◌, ◌+◌, ◌-◌, ◌++◌, ◌<◌, ◌≤◌, [], ◌∷◌, ℕ, List, count_by, true};
+ghost use Rattle.access_types.specs.Access as access;
 ghost use Rattle.access_types.specs.Marked.{is_disable, is_nest_open, marks_of};
 ghost use Rattle.access_types.specs.declared.history.Happening.{Happening};
+ghost use Rattle.access_types.specs.declared.history.Happening.TheVariants.{Begin, End};
 ghost use Rattle.litmus_syntax.specs.Limits.{BlockScopes, block_rises, scoped_limit};
 ghost use Rattle.litmus_syntax.specs.Tree.{Block};
 ghost use Rattle.slot_table.specs.declared.records.Record.{Record};
-ghost use Rattle.text_bounds.specs.Scopes.{in_force};
+ghost use Rattle.text_bounds.specs.Scopes.{AreOfNoScope, in_force, is_scoped};
 ghost use Rattle.written_order.specs.Standing.{Setting, Standing, moments};
 ghost use Rattle.written_order.specs.WrittenOrder.{SpellsAll, StepsOfBlock};
 
@@ -20,12 +22,22 @@ pub fn counts_rise_within_the_text()
         → count_by is_nest_open (marks_of s.text.task (moments s end)) ≤ count_by is_nest_open (marks_of s.text.task (moments s before)) + block_rises body }
 {}
 
-/// Law: at no moment of a text that keeps the limit of scoped assertions are more in force than the limit. After it
-/// none is.
+/// Law: at no moment of a text that keeps the limit of scoped assertions are more in force than the limit. So where
+/// one begins, fewer are. After the text none is.
 pub fn few_scopes_are_in_force()
     ensures few { (s : Setting) (registers : ℕ) (body : Block) (records : List Record) → BlockScopes 0 body
         → (spells : SpellsAll s registers body records) → (front back : List Happening) → spells.end.progress.did ≡ front ++ back
         → in_force front ≤ scoped_limit }
+    ensures room { (s : Setting) (registers : ℕ) (body : Block) (records : List Record) → BlockScopes 0 body
+        → (spells : SpellsAll s registers body records) → (front : List Happening) (a : access.Access) (back : List Happening)
+        → spells.end.progress.did ≡ front ++ Begin a ∷ back → is_scoped a.kind ≡ true → in_force front < scoped_limit }
     ensures none { (s : Setting) (registers : ℕ) (body : Block) (records : List Record) → BlockScopes 0 body
         → (spells : SpellsAll s registers body records) → in_force spells.end.progress.did ≡ 0 }
+{}
+
+/// Law: the begin of a scoped assertion puts one more in force, its end one less, and all else leaves as many.
+pub fn scopes_are_counted()
+    ensures opens { (did : List Happening) (a : access.Access) → is_scoped a.kind ≡ true → in_force (did ++ Begin a ∷ []) ≡ in_force did + 1 }
+    ensures closes { (did : List Happening) (a : access.Access) → is_scoped a.kind ≡ true → in_force (did ++ End a ∷ []) ≡ in_force did - 1 }
+    ensures others { (did does : List Happening) → AreOfNoScope does → in_force (did ++ does) ≡ in_force did }
 {}
