@@ -17,7 +17,8 @@ use Rattle.litmus_body.specs.StatementReader.{more_declared}
 changed_left : (counters : List Bool) (s : State) (x : ℕ × State) → take_changed counters s ≡ Some x → x.1.symbols ≡ others s.symbols
 unfolding take_changed register_at
 changed_left counters s x e =
-    behind_it (register_at s) (λ r. cond (is_counter counters r.0) None (Some (r.0, after r.1))) (λ (y : ℕ × State). y.1.symbols ≡ others s.symbols) x e (λ r found e.
+    behind_it (register_at s) (λ r. cond (is_counter counters r.0) None (Some (r.0, after r.1))) (λ (y : ℕ × State). y.1.symbols ≡ others s.symbols) x e
+    (λ r found e.
     unless_it (is_counter counters r.0) (Some (r.0, after r.1)) (λ (y : ℕ × State). y.1.symbols ≡ others s.symbols) x e (λ is_not e.
     at_last (r.0, after r.1) (λ (y : ℕ × State). y.1.symbols ≡ others s.symbols) x e
     (ap others (register_fewer_named s (register_name s) r refl found).0)))

@@ -1,5 +1,6 @@
 -- What is read of a simple statement, of a declaration or of a call takes symbols.
-use Rattle.std.proofs.Common.{◌≡◌, ◌∙◌, ℕ, zero, suc, ◌+◌, ◌<◌, ◌≤◌, ◌==◌, nat_lt, List, [], ◌∷◌, Bool, true, false, cond, Option, Some, None, length, refl, sym, ap, subst, arith, if◌then◌else◌}
+use Rattle.std.proofs.Common.{◌≡◌, ◌∙◌, ℕ, zero, suc, ◌+◌, ◌<◌, ◌≤◌, ◌==◌, nat_lt, List, [], ◌∷◌, Bool, true, false, cond, Option, Some, None, length}
+use Rattle.std.proofs.Common.{refl, sym, ap, subst, arith, if◌then◌else◌}
 use Rattle.access_types.specs.declared.history.Mark.{Mark}
 use Rattle.access_types.specs.declared.history.Mark.TheVariants as marks
 use Rattle.litmus_lex.specs.declared.sign.Sign.TheVariants.{OpenParen, CloseParen, Comma, Semicolon, Assign, AddAssign, Increment}
@@ -24,13 +25,16 @@ use Rattle.litmus_expression.specs.NameReader.{count_access, register_name, take
 use Rattle.litmus_expression.specs.PlaceReader.{count_statement, take_changed}
 use Rattle.litmus_expression.specs.Places.{Place, repeats_of}
 use Rattle.litmus_expression.specs.States.{State, after, with_left}
-use Rattle.litmus_expression.proofs.Fewer.{TakesAny, TakesSome, at_last, behind_it, changed_fewer, either_way, expression_fewer, load_fewer, pure_fewer, star_fewer, unless_it}
+use Rattle.litmus_expression.proofs.Fewer.{TakesAny, TakesSome, at_last, behind_it, changed_fewer, either_way, expression_fewer, load_fewer}
+use Rattle.litmus_expression.proofs.Fewer.{pure_fewer, star_fewer, unless_it}
 use Rattle.litmus_expression.proofs.Shorter.{Less, access_same, variable_fewer}
 use Rattle.litmus_expression.proofs.Taken.{same_given, sign_fewer}
 use Rattle.litmus_body.specs.declared.statement.LoopHeader.{LoopHeader}
 use Rattle.litmus_body.specs.CallReader.{arguments, call_at, check, count_assertion, count_call, count_check, marked, sized, target}
-use Rattle.litmus_body.specs.SimpleReader.{Start, star, parenthesis, a_store, a_load, a_name, nothing, behind_variable, data_race_at, increment, register_assignment, simple_at, simple_with, start_of, starred}
-use Rattle.litmus_body.specs.StatementReader.{behind_register, bound_at, counter_at, declaration_at, header_at, is_the_register, more_declared, step_at, take_again, take_zero, zero_of}
+use Rattle.litmus_body.specs.SimpleReader.{Start, star, parenthesis, a_store, a_load, a_name, nothing, behind_variable, data_race_at, increment}
+use Rattle.litmus_body.specs.SimpleReader.{register_assignment, simple_at, simple_with, start_of, starred}
+use Rattle.litmus_body.specs.StatementReader.{behind_register, bound_at, counter_at, declaration_at, header_at, is_the_register, more_declared}
+use Rattle.litmus_body.specs.StatementReader.{step_at, take_again, take_zero, zero_of}
 use Rattle.litmus_body.specs.Statements.{Enclosable, assignment, load, raced}
 use Rattle.litmus_body.specs.StoreReader.{store_at, stored, write, written}
 
@@ -127,7 +131,8 @@ store_fewer t d w s x e =
 assignment_fewer : (p : Place) (s : State) (x : tree.Assignment × State) → register_assignment p s ≡ Some x → TakesSome s x
 unfolding register_assignment
 assignment_fewer p s x e =
-    unless_it (begins_call s.symbols) (take_changed p.counters s >>= λ r. take_sign Assign r.1.symbols >>= λ l. expression_at p.turns p.depth (with_left r.1 l) >>= λ z. Some (tree.to_register r.0 z.0, z.1))
+    unless_it (begins_call s.symbols) (take_changed p.counters s >>= λ r. take_sign Assign r.1.symbols >>= λ l. expression_at p.turns p.depth
+    (with_left r.1 l) >>= λ z. Some (tree.to_register r.0 z.0, z.1))
     (TakesSome s) x e (λ no e.
     behind_it (take_changed p.counters s) (λ r. take_sign Assign r.1.symbols >>= λ l. expression_at p.turns p.depth (with_left r.1 l)
     >>= λ z. Some (tree.to_register r.0 z.0, z.1)) (TakesSome s) x e (λ r changed e.
@@ -143,7 +148,11 @@ assignment_fewer p s x e =
 behind_at_most : (p : Place) (variable : ℕ) (s : State) (x : Enclosable × State) → behind_variable p variable s ≡ Some x → TakesAny s x
 behind_at_most p variable s x e =
     either_way (is_sign Assign (first s.symbols)) (pure_at p.turns p.depth (after s) >>= λ z. Some (assignment (tree.write writes.Plain variable z.0), z.1))
-    (cond (is_sign AddAssign (first s.symbols)) (pure_at p.turns p.depth (after s) >>= λ z. Some (assignment (tree.add variable z.0), z.1)) (Some (load (bare (tree.read reads.Plain variable)), s)))
+    (cond (is_sign AddAssign (first s.symbols)) (pure_at p.turns p.depth (after s) >>= λ z. Some (assignment (tree.add variable z.0), z.1)) (Some (
+      load
+          (bare (tree.read reads.Plain variable)),
+      s,
+    )))
     (TakesAny s) x e
     (λ assigns e.
     behind_it (pure_at p.turns p.depth (after s)) (λ z. Some (assignment (tree.write writes.Plain variable z.0), z.1)) (TakesAny s) x e (λ z value e.
@@ -381,7 +390,11 @@ behind_register_at_most : (p : Place) (register : ℕ) (s : State) (x : Option t
     → behind_register p register s ≡ Some x → TakesAny s x
 behind_register_at_most p register s x e =
     either_way (is_sign Assign (first s.symbols))
-    (count_statement s >>= λ c. expression_at p.turns p.depth (after c) >>= λ z. take_sign Semicolon z.1.symbols >>= λ l. Some (Some (tree.assign false (tree.to_register register z.0)), with_left z.1 l))
+    (count_statement s >>= λ c. expression_at p.turns p.depth (after c) >>= λ z. take_sign Semicolon z.1.symbols >>= λ l. Some (
+      Some (tree.assign false
+          (tree.to_register register z.0)),
+      with_left z.1 l,
+    ))
     (more_declared p.counters s s.symbols >>= λ u. take_sign Semicolon u.symbols >>= λ l. Some (None, with_left u l))
     (TakesAny s) x e
     (λ assigns e.

@@ -4,4 +4,5 @@ pub mod Declared
 pub mod Shorter
 pub mod Unrolled
 pub mod SimpleSound
+pub mod SimpleComplete
 pub mod CallLemmas

@@ -28,7 +28,8 @@ use Rattle.litmus_expression.proofs.Fewer.{at_last, behind_it, either_way, unles
 use Rattle.litmus_expression.proofs.Sound.{Counted, ReadsVariable, atomic_variable, integer_variable, variable_reads}
 use Rattle.litmus_expression.proofs.Taken.{front, is_sign_is, sign_taken}
 use Rattle.litmus_expression.proofs.Whole.{changed_reads, counted_reads, expression_reads, load_reads, pure_reads, star_reads}
-use Rattle.litmus_body.specs.SimpleReader.{Start, star, parenthesis, a_store, a_load, a_name, nothing, behind_variable, increment, register_assignment, simple_at, simple_with, start_of, starred}
+use Rattle.litmus_body.specs.SimpleReader.{Start, star, parenthesis, a_store, a_load, a_name, nothing, behind_variable, increment}
+use Rattle.litmus_body.specs.SimpleReader.{register_assignment, simple_at, simple_with, start_of, starred}
 use Rattle.litmus_body.specs.Reads.{ReadsSimple}
 use Rattle.litmus_body.specs.Statements as grammar
 use Rattle.litmus_body.specs.Statements.{Enclosable, Simple, alone, assignment, load}
@@ -48,7 +49,8 @@ abbrev begun : StoreWord → List Symbol → List Symbol
 begun w symbols = word (words.Store w) ∷ sign OpenParen ∷ symbols
 
 record ReadsStored (d : ℕ) (counters : List ℕ) (w : StoreWord) (u : State) (y : tree.Assignment × State) : Type 0 where
-  spelled : (rest : List Symbol) → y.1.symbols ≡ sign CloseParen ∷ rest → Simple u.parameters d counters u.names (begun w u.symbols) (assignment y.0) rest y.1.names
+  spelled : (rest : List Symbol) → y.1.symbols ≡ sign CloseParen ∷ rest
+      → Simple u.parameters d counters u.names (begun w u.symbols) (assignment y.0) rest y.1.names
   has_access : assignment_has_access y.0 ≡ true
   within : length y.1.names ≤ 32
   parameters : y.1.parameters ≡ u.parameters
@@ -69,7 +71,8 @@ record ReadsWritten (d : ℕ) (takes : Takes) (form : WriteForm) (u : State) (y 
   statements : y.1.statements ≡ u.statements
   repeats : y.1.repeats ≡ u.repeats
 
-written_reads : (t d : ℕ) (takes : Takes) (form : WriteForm) (u : State) (y : tree.Assignment × State) → d ≤ 16 → length u.names ≤ 32 → written t d takes form u ≡ Some y
+written_reads : (t d : ℕ) (takes : Takes) (form : WriteForm) (u : State) (y : tree.Assignment × State) → d ≤ 16 → length u.names ≤ 32
+    → written t d takes form u ≡ Some y
     → ReadsWritten d takes form u y
 unfolding written
 written_reads t d takes form u y deep within e =
@@ -96,11 +99,13 @@ written_reads t d takes form u y deep within e =
     }))))
 
 -- a write whose variable and value stand behind what its form has before them
-write_made : (d : ℕ) (counters : List ℕ) (w : StoreWord) (takes : Takes) (form : WriteForm) (before : List Symbol → List Symbol) (s u : State) (y : tree.Assignment × State)
+write_made : (d : ℕ) (counters : List ℕ) (w : StoreWord) (takes : Takes) (form : WriteForm) (before : List Symbol
+    → List Symbol) (s u : State) (y : tree.Assignment × State)
     → s.symbols ≡ before u.symbols → u.parameters ≡ s.parameters → u.names ≡ s.names → u.statements ≡ s.statements → u.repeats ≡ s.repeats
     → (r : ReadsWritten d takes form u y)
     → ((rest : List Symbol) → Pure s.parameters d s.names r.middle r.value (sign CloseParen ∷ rest) y.1.names
-    → Simple s.parameters d counters s.names (begun w (before (identifier r.variable.name ∷ sign Comma ∷ r.middle))) (assignment (tree.write form r.v.0 r.value)) rest y.1.names)
+    → Simple s.parameters d counters s.names (begun w (before (identifier r.variable.name ∷ sign Comma ∷ r.middle))) (assignment
+    (tree.write form r.v.0 r.value)) rest y.1.names)
     → ReadsStored d counters w s y
 write_made d counters w takes form before s u y next parameters names statements repeats r spells = record {
   spelled = λ rest closes.
@@ -120,7 +125,8 @@ write_made d counters w takes form before s u y next parameters names statements
 abbrev as_it_is : List Symbol → List Symbol
 as_it_is symbols = symbols
 
-write_reads : (t d : ℕ) (counters : List ℕ) (form : WriteForm) (s : State) (y : tree.Assignment × State) → d ≤ 16 → length s.names ≤ 32 → write t d form s ≡ Some y
+write_reads : (t d : ℕ) (counters : List ℕ) (form : WriteForm) (s : State) (y : tree.Assignment × State) → d ≤ 16 → length s.names ≤ 32
+    → write t d form s ≡ Some y
     → ReadsStored d counters (stores.Write form) s y
 unfolding write
 write_reads t d counters writes.Plain s y deep within e = absurd cc
@@ -199,7 +205,7 @@ stored_reads t d counters stores.Decrement s y deep within e =
 
 -- ---- what an access of a simple statement counts
 
-register_accesses : (t register : ℕ) (e : tree.Expression) → own_repeats t (tree.assign false (tree.to_register register e)) ≡ accesses t e
+pub register_accesses : (t register : ℕ) (e : tree.Expression) → own_repeats t (tree.assign false (tree.to_register register e)) ≡ accesses t e
 register_accesses t register (tree.pure a) = refl
 register_accesses t register (tree.loading a) = refl
 
@@ -238,7 +244,8 @@ store_reads p counters w s y deep within next e =
 
 -- ---- the others
 
-assignment_reads : (p : Place) (counters : List ℕ) (s : State) (y : tree.Assignment × State) → AreCounters p.counters counters → p.depth ≤ 16 → length s.names ≤ 32
+assignment_reads : (p : Place) (counters : List ℕ) (s : State) (y : tree.Assignment × State) → AreCounters p.counters counters → p.depth ≤ 16
+    → length s.names ≤ 32
     → register_assignment p s ≡ Some y → ReadsSimple p counters s (assignment y.0, y.1)
 unfolding register_assignment
 assignment_reads p counters s y are deep within e =
@@ -324,7 +331,8 @@ behind_reads p counters name variable s u x deep few_names parameters names is_v
       one = refl;
     })))
     (λ no_more e. at_last _ (ReadsBehind p counters name variable s u) x e (record {
-      spelled = subst (λ (n : Names). Simple s.parameters p.depth counters s.names (sign Star ∷ identifier name ∷ u.symbols) (load (bare (tree.read reads.Plain variable))) u.symbols n)
+      spelled = subst (λ (n : Names). Simple s.parameters p.depth counters s.names (sign Star ∷ identifier name ∷ u.symbols) (load (bare
+          (tree.read reads.Plain variable))) u.symbols n)
           (sym names) (grammar.a_load (expressions.plain is_variable));
       within = few_names;
       parameters = refl;
@@ -333,7 +341,8 @@ behind_reads p counters name variable s u x deep few_names parameters names is_v
       one = refl;
     })))
 
-starred_reads : (p : Place) (counters : List ℕ) (s : State) (x : Enclosable × State) → p.depth ≤ 16 → length s.names ≤ 32 → starred p s ≡ Some x → ReadsSimple p counters s x
+starred_reads : (p : Place) (counters : List ℕ) (s : State) (x : Enclosable × State) → p.depth ≤ 16 → length s.names ≤ 32 → starred p s ≡ Some x
+    → ReadsSimple p counters s x
 unfolding starred
 starred_reads p counters s x deep within e =
     behind_it (count_access p.turns s) (λ c. take_star c >>= λ u. take_variable Integers u
@@ -356,7 +365,8 @@ starred_reads p counters s x deep within e =
       repeats = omega (arith, b.repeats, r.moved.repeats, t.repeats, k.repeats, b.one);
     })))
 
-increment_reads : (p : Place) (counters : List ℕ) (s : State) (x : Enclosable × State) → length s.names ≤ 32 → increment p s ≡ Some x → ReadsSimple p counters s x
+increment_reads : (p : Place) (counters : List ℕ) (s : State) (x : Enclosable × State) → length s.names ≤ 32 → increment p s ≡ Some x
+    → ReadsSimple p counters s x
 unfolding increment
 increment_reads p counters s x within e =
     behind_it (count_access p.turns s) (λ c. take_sign OpenParen c.symbols >>= λ l. take_star (with_left c l) >>= λ u. take_variable Integers u
@@ -406,7 +416,8 @@ starts_with_store (sign Star) w e = absurd cc
 starts_with_store (sign _) w e = absurd cc
 starts_with_store fault w e = absurd cc
 
-simple_with_reads : (p : Place) (counters : List ℕ) (s : State) (b : Start) (x : Enclosable × State) → AreCounters p.counters counters → p.depth ≤ 16 → length s.names ≤ 32
+simple_with_reads : (p : Place) (counters : List ℕ) (s : State) (b : Start) (x : Enclosable × State) → AreCounters p.counters counters → p.depth ≤ 16
+    → length s.names ≤ 32
     → start_of (first s.symbols) ≡ b → simple_with p s b ≡ Some x → ReadsSimple p counters s x
 simple_with_reads p counters s star x are deep within starts e = starred_reads p counters s x deep within e
 simple_with_reads p counters s parenthesis x are deep within starts e = increment_reads p counters s x within e

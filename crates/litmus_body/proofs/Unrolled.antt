@@ -33,7 +33,8 @@ pub record Agree (f g : ℕ) (R Q : Readers) : Type 0 where
   pub repetition : (p : Place) (s : State) → 10 * length s.symbols < f → 10 * length s.symbols < g → R.repetition p s ≡ Q.repetition p s
   pub body : (p : Place) (s : State) → 10 * length s.symbols + 3 < f → 10 * length s.symbols + 3 < g → R.body p s ≡ Q.body p s
   pub block : (p : Place) (s : State) → 10 * length s.symbols < f → 10 * length s.symbols < g → R.block p s ≡ Q.block p s
-  pub more : (p : Place) (before : tree.Block) (s : State) → 10 * length s.symbols + 3 < f → 10 * length s.symbols + 3 < g → R.more p before s ≡ Q.more p before s
+  pub more : (p : Place) (before : tree.Block) (s : State) → 10 * length s.symbols + 3 < f → 10 * length s.symbols + 3 < g
+      → R.more p before s ≡ Q.more p before s
 
 module _ (f g : ℕ) (R Q : Readers) (short : Shorter R) (h : Agree f g R Q) where
   statement_agrees : (p : Place) (s : State) (o : Opening) → 10 * length s.symbols + 2 < suc f → 10 * length s.symbols + 2 < suc g
@@ -46,7 +47,8 @@ module _ (f g : ℕ) (R Q : Readers) (short : Shorter R) (h : Agree f g R Q) whe
       let same = counted_same s u counted in
       ap (λ (o : Option (tree.Statement × State)). o >>= λ x. Some (Some x.0, x.1)) (h.counted p c u (omega arith) (omega arith)))
 
-  counted_agrees : (p : Place) (c : Counted) (s : State) → 10 * length s.symbols + 1 < suc f → 10 * length s.symbols + 1 < suc g → (by R).counted p c s ≡ (by Q).counted p c s
+  counted_agrees : (p : Place) (c : Counted) (s : State) → 10 * length s.symbols + 1 < suc f → 10 * length s.symbols + 1 < suc g
+      → (by R).counted p c s ≡ (by Q).counted p c s
   counted_agrees p counteds.If s lf lg = h.branch p s (omega arith) (omega arith)
   counted_agrees p counteds.For s lf lg = h.repetition p s (omega arith) (omega arith)
   counted_agrees p counteds.DataRace s lf lg = refl
@@ -57,7 +59,8 @@ module _ (f g : ℕ) (R Q : Readers) (short : Shorter R) (h : Agree f g R Q) whe
       → behind_body R p condition body s ≡ behind_body Q p condition body s
   behind_body_agrees p condition body s lf lg =
       let le = others_at_most s.symbols in
-      ap (λ (o : Option (tree.Block × State)). cond (is_else (first s.symbols)) (o >>= λ x. Some (tree.if_else condition body x.0, x.1)) (Some (tree.if_block condition body, s)))
+      ap (λ (o : Option (tree.Block × State)). cond (is_else (first s.symbols)) (o >>= λ x. Some (tree.if_else condition body x.0, x.1)) (Some
+      (tree.if_block condition body, s)))
       (h.body p (after s) (omega arith) (omega arith))
 
   branch_agrees : (p : Place) (s : State) → 10 * length s.symbols < suc f → 10 * length s.symbols < suc g → (by R).branch p s ≡ (by Q).branch p s
@@ -118,7 +121,8 @@ module _ (f g : ℕ) (R Q : Readers) (short : Shorter R) (h : Agree f g R Q) whe
           (λ q inside. h.more q tree.empty (after s) (omega arith) (omega arith))
       if_so false none = refl
 
-  more_agrees : (p : Place) (before : tree.Block) (s : State) → 10 * length s.symbols + 3 < suc f → 10 * length s.symbols + 3 < suc g → (by R).more p before s ≡ (by Q).more p before s
+  more_agrees : (p : Place) (before : tree.Block) (s : State) → 10 * length s.symbols + 3 < suc f → 10 * length s.symbols + 3 < suc g
+      → (by R).more p before s ≡ (by Q).more p before s
   more_agrees p before s lf lg =
       choice_same (is_sign CloseBrace (first s.symbols)) (Some (before, after s))
       (R.statement p s >>= λ z. behind p z.0 >>= λ q. R.more q (added before z.0) z.1) (Some (before, after s))
@@ -220,7 +224,8 @@ pub loop_reads : (p q : Place) (s u w : State) (h : LoopHeader) (b : tree.Block)
     → body_at q u ≡ Some (b, w) → repetition_at p s ≡ Some (tree.for_turns h.register h.turns b, w)
 loop_reads p q s u w h b header inside body =
     repetition_unrolls p s
-    ∙ ap (λ (o : Option (LoopHeader × State)). o >>= λ r. body_at (in_loop p r.0.register r.0.repeats) r.1 >>= λ x. Some (tree.for_turns r.0.register r.0.turns x.0, x.1)) header
+    ∙ ap (λ (o : Option (LoopHeader × State)). o >>= λ r. body_at (in_loop p r.0.register r.0.repeats) r.1 >>= λ x. Some
+    (tree.for_turns r.0.register r.0.turns x.0, x.1)) header
     ∙ ap (λ (o : Option (tree.Block × State)). o >>= λ x. Some (tree.for_turns h.register h.turns x.0, x.1))
     (ap (λ (r : Place). body_at r u) (sym inside) ∙ body)
 

@@ -1,9 +1,19 @@
 -- What is read is spelled so, and counted: what laws say of the readers of statements.
-use Rattle.std.specs.Prelude.{◌≡◌, ◌+◌, ◌≤◌, ℕ, List, length}
+use Rattle.std.specs.Prelude.{◌≡◌, ◌+◌, ◌≤◌, ℕ, List, length, false}
+use Rattle.litmus_lex.specs.declared.sign.Sign.TheVariants.{Assign, AddAssign}
 use Rattle.litmus_syntax.specs.Limits.{own_repeats, registers_limit}
+use Rattle.litmus_cursor.specs.Front.{first, is_sign}
+use Rattle.litmus_cursor.specs.Words.{Symbol}
+use Rattle.litmus_expression.specs.Followed.{Follows}
 use Rattle.litmus_expression.specs.Places.{Place}
 use Rattle.litmus_expression.specs.States.{State}
 use Rattle.litmus_body.specs.Statements.{Enclosable, Simple, alone}
+
+-- what follows a simple statement can't continue it: no operator, and neither `=` nor `+=`
+pub record EndsSimple (rest : List Symbol) : Type 0 where
+  pub follows : Follows 7 rest
+  pub no_assign : is_sign Assign (first rest) ≡ false
+  pub no_add : is_sign AddAssign (first rest) ≡ false
 
 -- a simple statement that is read is spelled so; its access is counted, and no more
 pub record ReadsSimple (p : Place) (counters : List ℕ) (s : State) (x : Enclosable × State) : Type 0 where

@@ -1,7 +1,7 @@
 //! What is true of the readers of bodies and the grammar.
 
 ghost use Rattle.std.specs.Prelude.{◌≡◌, ◌≤◌, ◌+◌, ℕ, List, Some, length, map};
-ghost use Rattle.litmus_syntax.specs.Limits.{call_scopes, nesting_limit, registers_limit, repeats_limit, scoped_limit};
+ghost use Rattle.litmus_syntax.specs.Limits.{call_scopes, nesting_limit, own_repeats, registers_limit, repeats_limit, scoped_limit};
 ghost use Rattle.litmus_syntax.specs.declared.statement.Call.{Call};
 ghost use Rattle.litmus_cursor.specs.declared.words.CallWord.{CallWord};
 ghost use Rattle.litmus_cursor.specs.declared.words.Word.TheVariants as words;
@@ -9,12 +9,13 @@ ghost use Rattle.litmus_cursor.specs.Front.{first};
 ghost use Rattle.litmus_cursor.specs.Words.{Symbol, word};
 ghost use Rattle.litmus_expression.specs.Counters.{AreCounters};
 ghost use Rattle.litmus_expression.specs.Followed.{Differ, name_of};
+ghost use Rattle.litmus_expression.specs.Names.{Names};
 ghost use Rattle.litmus_expression.specs.Places.{Place};
 ghost use Rattle.litmus_expression.specs.States.{State};
 ghost use Rattle.litmus_body.specs.CallReader.{ReadsCall, call_accesses, call_at};
-ghost use Rattle.litmus_body.specs.Reads.{ReadsSimple};
+ghost use Rattle.litmus_body.specs.Reads.{EndsSimple, ReadsSimple};
 ghost use Rattle.litmus_body.specs.SimpleReader.{simple_at};
-ghost use Rattle.litmus_body.specs.Statements.{Calls, Enclosable};
+ghost use Rattle.litmus_body.specs.Statements.{Calls, Enclosable, Simple, alone};
 
 /// Law: what is read as a call is spelled so, and its scope and its access are counted.
 pub fn what_is_read_as_a_call_is_spelled()
@@ -38,4 +39,14 @@ pub fn what_is_read_as_a_simple_statement_is_spelled()
     ensures { (p : Place) (counters : List ℕ) (s : State) (x : Enclosable × State)
         → AreCounters p.counters counters → p.depth ≤ nesting_limit → length s.names ≤ registers_limit → simple_at p s ≡ Some x
         → ReadsSimple p counters s x }
+{}
+
+/// Law: what is spelled as a simple statement is read so, whatever follows it that can't continue it, where the
+/// limit of accesses is kept. Names of parameters and of registers differ.
+pub fn what_is_spelled_as_a_simple_statement_is_read()
+    ensures { (p : Place) (counters : List ℕ) (s : State) (x : Enclosable) (rest : List Symbol) (later : Names)
+        → AreCounters p.counters counters → Differ (map name_of s.parameters) → Differ s.names → EndsSimple rest
+        → s.repeats + own_repeats p.turns (alone x) ≤ repeats_limit
+        → Simple s.parameters p.depth counters s.names s.symbols x rest later
+        → simple_at p s ≡ Some (x, record s { symbols = rest; names = later; repeats = s.repeats + own_repeats p.turns (alone x) }) }
 {}

@@ -149,11 +149,11 @@ module _ (P : List Parameter) (st : ℕ) (apart : Differ (map name_of P)) where
       ap (variable_of takes (placed P st (identifier name ∷ rest) names n)) (named_there P (record { name = name; variable = variable; type = is.type }) apart is.parameter)
       ∙ ap (λ (b : Bool). cond b (Some (variable, placed P st rest names n)) None) (form is.type is.of_form)
 
-  integer_back : (name : List ℕ) (variable : ℕ) → IsVariable P IsInteger name variable → (rest : List Symbol) (names : Names) (n : ℕ)
+  pub integer_back : (name : List ℕ) (variable : ℕ) → IsVariable P IsInteger name variable → (rest : List Symbol) (names : Names) (n : ℕ)
       → take_variable Integers (placed P st (identifier name ∷ rest) names n) ≡ Some (variable, placed P st rest names n)
   integer_back name variable is rest names n = variable_back Integers IsInteger integer_taken name variable is rest names n
 
-  atomic_back : (name : List ℕ) (variable : ℕ) → IsVariable P IsAtomic name variable → (rest : List Symbol) (names : Names) (n : ℕ)
+  pub atomic_back : (name : List ℕ) (variable : ℕ) → IsVariable P IsAtomic name variable → (rest : List Symbol) (names : Names) (n : ℕ)
       → take_variable Atomics (placed P st (identifier name ∷ rest) names n) ≡ Some (variable, placed P st rest names n)
   atomic_back name variable is rest names n = variable_back Atomics IsAtomic (λ type same. ap (takes_type Atomics) same) name variable is rest names n
 
@@ -168,7 +168,7 @@ module _ (P : List Parameter) (st : ℕ) (apart : Differ (map name_of P)) where
       ap (numbered (placed P st symbols before n) name) (nowhere before name out)
       ∙ ap (λ (b : Bool). cond b None (Some (length before, placed P st symbols (before ++ name ∷ []) n))) (not_limit (length before) lt)
 
-  register_back : (name : List ℕ) (register : ℕ) (before later : Names) (rest : List Symbol) (n : ℕ) → Differ before → IsRegister P before name register later
+  pub register_back : (name : List ℕ) (register : ℕ) (before later : Names) (rest : List Symbol) (n : ℕ) → Differ before → IsRegister P before name register later
       → register_at (placed P st (identifier name ∷ rest) before n) ≡ Some (register, placed P st (identifier name ∷ rest) later n)
   unfolding register_at
   register_back name register before later rest n differ is =
@@ -189,7 +189,7 @@ module _ (P : List Parameter) (st : ℕ) (apart : Differ (map name_of P)) where
       ap (λ (b : Bool). cond b None (as_operand (taken_after (register_at (placed P st (identifier name ∷ rest) before n))))) no_call
       ∙ ap (λ (o : Option (ℕ × State)). as_operand (taken_after o)) (register_back name register before later rest n differ is)
 
-numbered_differ : (name : List ℕ) (register : ℕ) (before later : Names) → Differ before → Numbered 32 before name register later → Differ later
+pub numbered_differ : (name : List ℕ) (register : ℕ) (before later : Names) → Differ before → Numbered 32 before name register later → Differ later
 numbered_differ name register before later differ (known there) = differ
 numbered_differ name register before later differ (new out lt) = differ_more before name differ out
 
@@ -500,7 +500,7 @@ module _ (P : List Parameter) (st t : ℕ) (apart : Differ (map name_of P)) wher
   atomic_read name variable names rest n v =
       ap (λ (o : Option (ℕ × State)). o >>= λ x. Some (tree.read reads.Atomic x.0, x.1)) (atomic_back P st apart name variable v rest names n)
 
-  star_there : (symbols : List Symbol) (names : Names) (n : ℕ) → take_star (placed P st (sign Star ∷ symbols) names n) ≡ Some (placed P st symbols names n)
+  pub star_there : (symbols : List Symbol) (names : Names) (n : ℕ) → take_star (placed P st (sign Star ∷ symbols) names n) ≡ Some (placed P st symbols names n)
   unfolding take_star
   star_there symbols names n = ap (λ (o : Option (List Symbol)). o >>= λ l. Some (placed P st l names n)) (sign_there Star symbols)
 

@@ -1,5 +1,6 @@
 -- What whole readers read is spelled so, and counted.
-use Rattle.std.proofs.Common.{◌≡◌, ◌∙◌, ℕ, ◌+◌, ◌*◌, ◌<◌, ◌≤◌, ◌==◌, nat_lt, List, [], ◌∷◌, Bool, true, false, cond, Option, Some, None, length, refl, sym, ap, subst, arith}
+use Rattle.std.proofs.Common.{◌≡◌, ◌∙◌, ℕ, ◌+◌, ◌*◌, ◌<◌, ◌≤◌, ◌==◌, nat_lt, List, [], ◌∷◌, Bool, true, false, cond, Option, Some, None, length, refl}
+use Rattle.std.proofs.Common.{sym, ap, subst, arith}
 use Rattle.std.specs.Prelude.{Contains, get_or, slice_get}
 use Rattle.litmus_lex.specs.declared.sign.Sign.TheVariants.{Star}
 use Rattle.litmus_syntax.specs.Limits.{operators}
@@ -63,13 +64,15 @@ pub record ReadsChanged (counters : List ℕ) (s : State) (x : ℕ × State) : T
   pub statements : x.1.statements ≡ s.statements
   pub repeats : x.1.repeats ≡ s.repeats
 
-uncounted : (flags : List Bool) (counters : List ℕ) (register : ℕ) → AreCounters flags counters → is_counter flags register ≡ false → ¬ Contains counters register
+uncounted : (flags : List Bool) (counters : List ℕ) (register : ℕ) → AreCounters flags counters → is_counter flags register ≡ false
+    → ¬ Contains counters register
 uncounted flags counters register are is_not there = not_both (is_counter flags register) (are.flagged register there) is_not
   where
     not_both : (b : Bool) → b ≡ true → b ≡ false → ⊥
     not_both b e f = cc
 
-pub changed_reads : (flags : List Bool) (counters : List ℕ) (s : State) (x : ℕ × State) → AreCounters flags counters → length s.names ≤ 32 → take_changed flags s ≡ Some x
+pub changed_reads : (flags : List Bool) (counters : List ℕ) (s : State) (x : ℕ × State) → AreCounters flags counters → length s.names ≤ 32
+    → take_changed flags s ≡ Some x
     → ReadsChanged counters s x
 unfolding take_changed
 changed_reads flags counters s x are within e =
@@ -100,7 +103,8 @@ pub star_reads : (s u : State) → take_star s ≡ Some u → ReadsStar s u
 unfolding take_star
 star_reads s u e =
     behind_it (take_sign Star s.symbols) (λ l. Some (with_left s l)) (ReadsStar s) u e (λ l is e.
-    at_last (with_left s l) (ReadsStar s) u e (record { next = sign_taken Star s.symbols l is; parameters = refl; names = refl; statements = refl; repeats = refl }))
+    at_last (with_left s l) (ReadsStar s) u e
+    (record { next = sign_taken Star s.symbols l is; parameters = refl; names = refl; statements = refl; repeats = refl }))
 
 -- ---- accesses
 

@@ -18,5 +18,6 @@ read_repetition-returns-clause-reads t c =
     let w = state_of c.read_body.new.process in
     let header : header_at p (after s) ≡ Some (c.in_ok-header.header, u) =
     subst (λ (l : List Symbol). header_at p (with_left s l) ≡ Some (c.in_ok-header.header, u)) c.advance.ensures.symbols c.in_ok-header.ensures.reads in
-    loop_reads p (place_of c.repeated.result) s u w c.in_ok-header.header (block_of c.in_ok-body.body.items) header c.repeated.ensures c.in_ok-body.ensures.reads
+    loop_reads p (place_of c.repeated.result) s u w c.in_ok-header.header
+    (block_of c.in_ok-body.body.items) header c.repeated.ensures c.in_ok-body.ensures.reads
     ∙ ap (λ (x : tree.Statement). Some (x, w)) (sym (statement_of-For c.in_ok-header.header.register c.in_ok-header.header.turns c.in_ok-body.body))
