@@ -63,7 +63,6 @@ module _ (s : Setting) (old new : Machine) (kept : OtherChecker old new) where
   pub walk_kept : new.walk ≡ old.walk
   walk_kept = ap (λ (m : Machine). m.walk) kept
 
-
 -- after a record no begin is the next step
 pub begun_before : (begun : Begun) (records : List Record) (last : Record) (next : Option Begun) → next ≡ None → next ≡ begins_now begun (records ++ last ∷ [])
 begun_before begun [] last next none = none

@@ -34,7 +34,8 @@ followed_both rest (one ∷ others) second =
 followed_again : (first rest : List Record) (fallen : List Fallen) → followed rest (followed first fallen) ≡ followed (first ++ rest) fallen
 followed_again first rest fallen = ap (λ (p : Passes). p.outcomes) (moved_twice first rest (record { outcomes = fallen; asked = 0 }))
 
-fall_shorter : (s : Setting) (records rest : List Record) (fallen : List Fallen) → AllFallIn s records fallen → AllShorter (length (records ++ rest)) (followed rest fallen)
+fall_shorter : (s : Setting) (records rest : List Record) (fallen : List Fallen) → AllFallIn s records fallen
+    → AllShorter (length (records ++ rest)) (followed rest fallen)
 fall_shorter s records rest [] h = tt
 fall_shorter s records rest (one ∷ others) h =
     let falls = h.0 in
@@ -44,7 +45,8 @@ fall_shorter s records rest (one ∷ others) h =
     let whole : length (records ++ rest) ≡ length records + length rest = length-append records rest in
     (omega (arith, all, parts, left, whole), fall_shorter s records rest others h.1)
 
-module _ (s : Setting) (scopes : List Begun) (doing : Doing) (asked : ℕ) (Begins : List Record → Passes → List Record → Type 0) (framed : FramedChecks Begins) where
+module _ (s : Setting) (scopes : List Begun) (doing : Doing) (asked : ℕ) (Begins : List Record → Passes → List Record
+    → Type 0) (framed : FramedChecks Begins) where
   -- where the part that is whole is all of these records and more
   more_come : ((records : List Record) (passes : Passes) → Begins records passes [] → Does s scopes doing asked records passes)
       → (mine : List Record) (checker : Checker) (leads : checks.Leads s scopes doing asked mine checker)
@@ -138,9 +140,12 @@ module _ (s : Setting) (scopes : List Begun) (begun : Begun) (asked : ℕ) (oper
   by_stage (stages.Over effect) h = (
     h.fallen,
     h.outcomes,
-    λ later passes came rest makes. let all = h.alone later passes came rest makes in
-        ([], ap (λ (p : Passes). p.outcomes) all.1
-        ∙ (ap (λ (l : List Record). followed l h.fallen) all.0 ∙ sym (append-nil (followed later h.fallen))), tt),
+    λ later passes came rest makes. let all = h.alone later passes came rest makes in (
+      [],
+      ap (λ (p : Passes). p.outcomes) all.1
+          ∙ (ap (λ (l : List Record). followed l h.fallen) all.0 ∙ sym (append-nil (followed later h.fallen))),
+      tt,
+    ),
   )
 
   pub access_come : (run : AccessRun) → AccessLeads s scopes begun asked operation mine run checker → SoFar

@@ -1,5 +1,6 @@
 -- The outcome that falls at a record is the next one that a check comes to, and the only one there.
-use Rattle.std.proofs.Common.{◌≡◌, ◌∙◌, ◌+◌, ◌++◌, ◌<◌, ◌≤◌, ◌==◌, ◌||◌, ℕ, Bool, true, false, MatchBool, List, [], ◌∷◌, None, Option, Some, ap, arith, filter, length, refl, slice_get, subst, sym}
+use Rattle.std.proofs.Common.{◌≡◌, ◌∙◌, ◌+◌, ◌++◌, ◌<◌, ◌≤◌, ◌==◌, ◌||◌, ℕ, Bool, true, false, MatchBool}
+use Rattle.std.proofs.Common.{List, [], ◌∷◌, None, Option, Some, ap, arith, filter, length, refl, slice_get, subst, sym}
 use Rattle.std.proofs.lemmas.Bool.{eq-eqb, eqb-true}
 use Rattle.std.proofs.lemmas.List.{length-append}
 use Rattle.access_types.specs.Access.{Access}
@@ -74,7 +75,8 @@ one_fell last later limit outcomes [] [] descends was is =
 one_fell last later limit outcomes [] (new ∷ more) descends was is =
     let one : Fallen = record new { later = new.later ++ later } in
     let others : List Fallen = followed later more ++ is.0 in
-    let short : AllShorter (length (last ∷ later)) (one ∷ others) = subst (λ (o : List Fallen). AllShorter (length (last ∷ later)) o) (sym was.1 ∙ is.1) was.2 in
+    let short : AllShorter (length (last ∷ later)) (one ∷ others) = subst (λ (o : List Fallen). AllShorter (length (last ∷ later)) o) (sym was.1
+    ∙ is.1) was.2 in
     let down : Descends limit (one ∷ others) = subst (λ (o : List Fallen). Descends limit o) is.1 descends in
     let size : length (new.later ++ later) ≡ length new.later + length later = length-append new.later later in
     let least = short.0 in
@@ -153,10 +155,12 @@ module _ (s : Setting) where
   then_descend a records pass later more outcomes once others is =
       subst (λ (o : List Fallen). Descends (length records) o) (sym is) (once.0, descends_below (length later) (length pass.later) more once.1 others)
 
-  rechecks_descend : (scopes : List Begun) (asked : ℕ) (records : List Record) (passes : Passes) (rest : List Record) → Rechecks s scopes asked records passes rest
+  rechecks_descend : (scopes : List Begun) (asked : ℕ) (records : List Record) (passes : Passes) (rest : List Record)
+      → Rechecks s scopes asked records passes rest
       → Descends (length records) passes.outcomes
   rechecks_descend [] asked records passes rest h = subst (λ (p : Passes). Descends (length records) p.outcomes) (sym h.0) tt
-  rechecks_descend (scope ∷ scopes) asked records passes rest h = by_silence scope.silenced h (λ now left some more. rechecks_descend scopes now left some rest more)
+  rechecks_descend (scope ∷ scopes) asked records passes rest h = by_silence scope.silenced h
+      (λ now left some more. rechecks_descend scopes now left some rest more)
     where
       by_silence : (silenced : Bool)
           → MatchBool silenced (Rechecks s scopes asked records passes rest)
@@ -165,7 +169,8 @@ module _ (s : Setting) where
           → ((now : ℕ) (left : List Record) (some : Passes) → Rechecks s scopes now left some rest → Descends (length left) some.outcomes)
           → Descends (length records) passes.outcomes
       by_silence true h on = on asked records passes h
-      by_silence false h on = then_descend scope.access records h.0 h.1 h.2 passes.outcomes (once_descends s scope.access scope.marked asked records h.0 h.1 h.3)
+      by_silence false h on = then_descend scope.access records h.0 h.1 h.2 passes.outcomes
+          (once_descends s scope.access scope.marked asked records h.0 h.1 h.3)
           (on h.0.asked h.1 (record { outcomes = h.2; asked = passes.asked }) h.4) h.5
 
   begun_descend : (silenced : Bool) (scopes : List Begun) (begun : Begun) (asked now : ℕ) (records : List Record) (passes : Passes) (rest : List Record)

@@ -41,11 +41,13 @@ next_fell : (last : Record) (later : List Record) (limit : ℕ) (outcomes before
     → Descends limit outcomes → HasCome (last ∷ later) outcomes before → HasCome later outcomes after → FallsBefore later outcomes fell
 next_fell last later limit outcomes before after old new fell is was now descends so_far then =
     subst (λ (o : Option Outcome). FallsBefore later outcomes o)
-    (sym (is ∙ (ap (λ (l : List Outcome). slice_get l (length (outcomes_of old))) now ∙ ap (λ (l : List Outcome). slice_get (outcomes_in after) (length l)) was)))
+    (sym (is ∙ (ap (λ (l : List Outcome). slice_get l (length (outcomes_of old))) now
+    ∙ ap (λ (l : List Outcome). slice_get (outcomes_in after) (length l)) was)))
     (one_fell last later limit outcomes before after descends so_far then)
 
 module _ (s : Setting) (registers : ℕ) (body : Block) (records : List Record) (old : TaskRun) (leads : Leads s registers body records old) (made : Record)
-    (machine : Machine) (fell : Option Outcome) (is_next : fell ≡ slice_get (outcomes_of machine.checker) (length (outcomes_of old.machine.checker))) (later : List Record) where
+    (machine : Machine) (fell : Option Outcome) (is_next : fell ≡ slice_get (outcomes_of machine.checker) (length (outcomes_of old.machine.checker)))
+    (later : List Record) where
   abbrev all : List Record
   all = leads.mine ++ made ∷ later
 
@@ -89,7 +91,8 @@ module _ (s : Setting) (registers : ℕ) (body : Block) (records : List Record) 
 
   pub opening_fell : old.stage ≡ stages.Opening
       → ((scopes : List Begun) (what : Doing) (asked : ℕ) (so_far : List Record) → (checks_of s).sites ≡ old.machine.sites
-      → checks.Leads (checks_of s) scopes what asked so_far old.machine.checker → checks.Leads (checks_of s) scopes what asked (so_far ++ made ∷ []) machine.checker)
+      → checks.Leads (checks_of s) scopes what asked so_far old.machine.checker
+      → checks.Leads (checks_of s) scopes what asked (so_far ++ made ∷ []) machine.checker)
       → FallsInPart s leads.part before all later fell
   opening_fell is leads_on =
       let part = in_opening s before leads.mine old.machine old.stage leads.part (leads.agrees all).is_in is in
@@ -103,7 +106,8 @@ module _ (s : Setting) (registers : ℕ) (body : Block) (records : List Record) 
       subst (λ (b : Begun). Check (checks_of s) before.scopes b before.asked all own.passes inside) begun_same own.check in
       let after = check_then is_in.0 now is_in.5 own.passes inside
       (subst (λ (r : List Record). Check (checks_of s) before.scopes is_in.0 before.asked r own.passes inside) (sym one_more) whole) in
-      next_fell made later (length all) own.passes.outcomes is_in.4.fallen now.fallen old.machine.checker machine.checker fell is_next is_in.4.outcomes now.outcomes
+      next_fell made later (length all) own.passes.outcomes is_in.4.fallen now.fallen old.machine.checker machine.checker fell is_next is_in.4.outcomes
+      now.outcomes
       (check_descends (checks_of s) before.scopes is_in.0 before.asked all own.passes inside whole)
       (going_come (checks_of s) before.scopes (Checks is_in.0) before.asked (Check (checks_of s) before.scopes is_in.0 before.asked)
       (framed_checks (Check (checks_of s) before.scopes is_in.0 before.asked) (check (checks_of s) before.scopes is_in.0 before.asked)) (λ r p h. h)
@@ -120,7 +124,8 @@ module _ (s : Setting) (registers : ℕ) (body : Block) (records : List Record) 
 
   pub closing_fell : old.stage ≡ stages.Closing
       → ((scopes : List Begun) (what : Doing) (asked : ℕ) (so_far : List Record) → (checks_of s).sites ≡ old.machine.sites
-      → checks.Leads (checks_of s) scopes what asked so_far old.machine.checker → checks.Leads (checks_of s) scopes what asked (so_far ++ made ∷ []) machine.checker)
+      → checks.Leads (checks_of s) scopes what asked so_far old.machine.checker
+      → checks.Leads (checks_of s) scopes what asked (so_far ++ made ∷ []) machine.checker)
       → FallsInPart s leads.part before all later fell
   closing_fell is leads_on =
       let part = in_closing s before leads.mine old.machine old.stage leads.part (leads.agrees all).is_in is in
@@ -136,7 +141,8 @@ module _ (s : Setting) (registers : ℕ) (body : Block) (records : List Record) 
       (subst (λ (b : Begun). Close (checks_of s) b own.silenced before.asked all own.passes rest) ends.1 own.close) in
       let framed : FramedChecks (Close (checks_of s) is_in.1 is_in.2 before.asked) =
       framed_checks (Close (checks_of s) is_in.1 is_in.2 before.asked) (close (checks_of s) is_in.1 is_in.2 before.asked) in
-      next_fell made later (length all) own.passes.outcomes is_in.6.fallen now.fallen old.machine.checker machine.checker fell is_next is_in.6.outcomes now.outcomes
+      next_fell made later (length all) own.passes.outcomes is_in.6.fallen now.fallen old.machine.checker machine.checker fell is_next is_in.6.outcomes
+      now.outcomes
       (close_descends (checks_of s) is_in.1 is_in.2 before.asked all own.passes rest whole)
       (going_come (checks_of s) is_in.0 (Closes is_in.1 is_in.2) before.asked (Close (checks_of s) is_in.1 is_in.2 before.asked) framed (λ r p h. h)
       leads.mine old.machine.checker is_in.6 is_in.7 (made ∷ later) own.passes rest whole)

@@ -247,7 +247,9 @@ impl<'a> TaskRun<'a> {
 
     /// What the next step is.
     pub fn before(&self) -> Before {
-        self.news.latest.before(self.next(), self.begins().is_some())
+        self.news
+            .latest
+            .before(self.next(), self.begins().is_some())
     }
 
     /// What the last step was.
@@ -256,12 +258,7 @@ impl<'a> TaskRun<'a> {
     }
 
     /// An access takes the answer, and what fell is told. Once it is over, what follows on it is done.
-    fn answers_access(
-        &mut self,
-        run: AccessRun,
-        after: Then<'a>,
-        answer: Answer,
-    ) -> Option<Outcome>
+    fn answers_access(&mut self, run: AccessRun, after: Then<'a>, answer: Answer) -> Option<Outcome>
         requires { (step : Step) × AccessSays run self.old.machine.checker step × Answers step answer }
         ensures leads { self.old.stage ≡ Making run after.entry → LeadsOn self.old self.new answer }
         ensures fell { self.old.stage ≡ Making run after.entry → FellAt self.old result answer }

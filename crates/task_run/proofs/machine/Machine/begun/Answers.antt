@@ -23,7 +23,8 @@ returns-clause-begins c = λ s before stands own.
     record {
       own = own;
       access = refl;
-      marked = subst (λ (r : Rules). IsTrue c.counts_as_marked-marked.result ↔ CountsAfter r.plain_writes_atomic c.args.access.now (moments s before)) stands.of.rules
+      marked = subst (λ (r : Rules). IsTrue c.counts_as_marked-marked.result ↔ CountsAfter r.plain_writes_atomic c.args.access.now
+          (moments s before)) stands.of.rules
           (c.counts_as_marked-marked.ensures.counts (moments s before) by_rules);
       silenced = (λ h. heard.0 (no.0 h), λ h. no.1 (heard.1 h));
     }

@@ -17,7 +17,8 @@ returns-in-Making-clause-leads c = λ s registers body records step leads says.
     (c.answers_access-fell.ensures.leads c.in-Making.is s registers body records step leads says)
 
 pub returns-in-Making-clause-fell : goal.returns-in-Making-clause-fell
-returns-in-Making-clause-fell c = λ s registers body records step leads says later. c.answers_access-fell.ensures.fell c.in-Making.is s registers body records step leads says later
+returns-in-Making-clause-fell c = λ s registers body records step leads says later. c.answers_access-fell.ensures.fell c.in-Making.is s registers body
+    records step leads says later
 
 pub returns-in-Opening-clause-leads : goal.returns-in-Opening-clause-leads
 returns-in-Opening-clause-leads c = λ s registers body records step leads says.
@@ -25,7 +26,8 @@ returns-in-Opening-clause-leads c = λ s registers body records step leads says.
     (c.answers_open-fell.ensures.leads c.in-Opening.is s registers body records step leads says)
 
 pub returns-in-Opening-clause-fell : goal.returns-in-Opening-clause-fell
-returns-in-Opening-clause-fell c = λ s registers body records step leads says later. c.answers_open-fell.ensures.fell c.in-Opening.is s registers body records step leads says later
+returns-in-Opening-clause-fell c = λ s registers body records step leads says later. c.answers_open-fell.ensures.fell c.in-Opening.is s registers body
+    records step leads says later
 
 pub returns-in-Closing-clause-leads : goal.returns-in-Closing-clause-leads
 returns-in-Closing-clause-leads c = λ s registers body records step leads says.
@@ -33,7 +35,8 @@ returns-in-Closing-clause-leads c = λ s registers body records step leads says.
     (c.answers_close-fell.ensures.leads c.in-Closing.is s registers body records step leads says)
 
 pub returns-in-Closing-clause-fell : goal.returns-in-Closing-clause-fell
-returns-in-Closing-clause-fell c = λ s registers body records step leads says later. c.answers_close-fell.ensures.fell c.in-Closing.is s registers body records step leads says later
+returns-in-Closing-clause-fell c = λ s registers body records step leads says later. c.answers_close-fell.ensures.fell c.in-Closing.is s registers body
+    records step leads says later
 
 pub returns-in-Locking-clause-leads : goal.returns-in-Locking-clause-leads
 returns-in-Locking-clause-leads c = λ s registers body records step leads says.

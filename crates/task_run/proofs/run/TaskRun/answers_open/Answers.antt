@@ -25,7 +25,8 @@ returns-then-came-clause-leads c = λ is s registers body records step leads say
 
 pub returns-else-came-clause-leads : goal.returns-else-came-clause-leads
 returns-else-came-clause-leads c = λ is s registers body records step leads says.
-    subst (λ stage. Leads s registers body (records ++ made s.text.task step c.args.answer ∷ []) (record c.args.self.now { machine = c.answers_check-came.new.self; stage = stage })) (sym is)
+    subst (λ stage. Leads s registers body (records ++ made s.text.task step c.args.answer ∷ [])
+    (record c.args.self.now { machine = c.answers_check-came.new.self; stage = stage })) (sym is)
     (opening_inside s registers body records c.args.self.now leads (made s.text.task step c.args.answer) c.answers_check-came.new.self is
     c.answers_check-came.ensures.kept c.answers_check-came.ensures.context
     (λ scopes what asked so_far sites l. c.answers_check-came.ensures.leads (checks_of s) scopes what asked so_far step sites l
@@ -36,14 +37,16 @@ returns-else-came-clause-leads c = λ is s registers body records step leads say
 
 pub returns-then-came-clause-fell : goal.returns-then-came-clause-fell
 returns-then-came-clause-fell c = λ is s registers body records step leads says later.
-    opening_fell s registers body records c.args.self.now leads (made s.text.task step c.args.answer) c.answers_check-came.new.self c.answers_check-came.result.fell
+    opening_fell s registers body records c.args.self.now leads
+    (made s.text.task step c.args.answer) c.answers_check-came.new.self c.answers_check-came.result.fell
     c.answers_check-came.ensures.fell later is
     (λ scopes what asked so_far sites l. c.answers_check-came.ensures.leads (checks_of s) scopes what asked so_far step sites l
     (subst (λ stage. StageSays stage c.args.self.now step) is says))
 
 pub returns-else-came-clause-fell : goal.returns-else-came-clause-fell
 returns-else-came-clause-fell c = λ is s registers body records step leads says later.
-    opening_fell s registers body records c.args.self.now leads (made s.text.task step c.args.answer) c.answers_check-came.new.self c.answers_check-came.result.fell
+    opening_fell s registers body records c.args.self.now leads
+    (made s.text.task step c.args.answer) c.answers_check-came.new.self c.answers_check-came.result.fell
     c.answers_check-came.ensures.fell later is
     (λ scopes what asked so_far sites l. c.answers_check-came.ensures.leads (checks_of s) scopes what asked so_far step sites l
     (subst (λ stage. StageSays stage c.args.self.now step) is says))

@@ -44,7 +44,14 @@ returns-clause-leads c =
     let new : TaskRun = record { machine = c.advance-stage.new.self; stage = c.advance-stage.result; news = record { fell = None; latest = Other } } in
     starts s registers (block_of c.args.task.now.body.items) machine new
     (first_stands s registers machine
-    (record { task = refl; rules = refl; variables = c.as_slice-variables.ensures; layout = rw (← c.as_slice-variables.ensures) c.in_ok-new.ensures.lays; sites = refl })
+    (record {
+      task = refl;
+      rules = refl;
+      variables = c.as_slice-variables.ensures;
+      layout = rw
+          (← c.as_slice-variables.ensures) c.in_ok-new.ensures.lays;
+      sites = refl;
+    })
     (rw (← c.as_slice-variables.ensures, ← c.as_slice-registers.ensures) c.in_ok-new-3.ensures) c.in_ok-new-4.ensures.context refl
     (rw (← c.requires.cells) (c.in_ok-new-4.ensures.rests c.args.sites)))
     (λ before records after rest. rw (← c.as_slice.ensures.value) (c.in_ok-new-2.ensures.left s before records after rest))
