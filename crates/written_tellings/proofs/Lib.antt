@@ -12,3 +12,4 @@ pub mod Telling
 pub mod OneOutcome
 pub mod CheckNames
 pub mod StepNames
+pub mod BeginsBound

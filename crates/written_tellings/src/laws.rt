@@ -2,6 +2,7 @@
 
 ghost use Rattle.std.specs.Prelude.{◌++◌, ◌≡◌, ◌<◌, ◌≤◌, ℕ, All, List, [], count_by, length};
 ghost use Rattle.litmus_meaning.specs.Layout.{cells_at_first};
+ghost use Rattle.litmus_syntax.specs.Limits.{BodyKeepsLimits, block_repeats};
 ghost use Rattle.litmus_syntax.specs.Tree.{Block};
 ghost use Rattle.slot_table.specs.StepLine.{Names};
 ghost use Rattle.slot_table.specs.Words.{words_at_first};
@@ -9,9 +10,11 @@ ghost use Rattle.slot_table.specs.declared.records.Record.{Record};
 ghost use Rattle.written_order.specs.Standing.{Setting, is_lock};
 ghost use Rattle.written_order.specs.Told.{fell_next, stands_by};
 ghost use Rattle.written_order.specs.WrittenOrder.{SpellsAll, WrittenOrder, stands_after};
+ghost use Rattle.written_tellings.specs.Begins.{begins_in};
 ghost use Rattle.written_tellings.specs.TellAlike.{TellAlike};
 
 use watch_word::words_are_above_one;
+use written_order::what_is_done_is_meant;
 
 /// Law: what a task's records tell is told by them alone, however they are completed, and by the same records at
 /// the beginning of a longer list. Where the task stands is where it stood after all of its records. Nothing
@@ -41,4 +44,15 @@ pub fn steps_name_words_of_the_run()
         (cells_at_first s.text.places s.text.variables)) made.step) records }
 {
     words_are_above_one();
+}
+
+/// Law: by its records a task has begun no more accesses than the loops of its text repeat its statements, so at most
+/// 1,024 where the text keeps the limits.
+pub fn few_accesses_begin()
+    ensures text { (s : Setting) (registers : ℕ) (body : Block) (records : List Record) → (written : WrittenOrder s registers body records)
+        → begins_in (stands_after written).progress.did ≤ block_repeats 1 body }
+    ensures limits { (s : Setting) (registers : ℕ) (body : Block) (records : List Record) → (written : WrittenOrder s registers body records)
+        → BodyKeepsLimits body → begins_in (stands_after written).progress.did ≤ 1024 }
+{
+    what_is_done_is_meant();
 }

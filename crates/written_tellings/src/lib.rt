@@ -4,4 +4,6 @@
 
 pub mod laws;
 
-pub use laws::{one_outcome_a_record, one_telling, steps_name_words_of_the_run};
+pub use laws::{
+    few_accesses_begin, one_outcome_a_record, one_telling, steps_name_words_of_the_run,
+};
