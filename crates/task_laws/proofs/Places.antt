@@ -35,15 +35,15 @@ Both X Y P Q before records value after rest =
 pub part_both : (X Y : Type 0) (P : Valued X) (Q : X → Valued Y) (at : Core) (One : X → Core → Type 0) (Two : Y → Core → Type 0) → PartIsOpen X P at One
     → ((value : X) (between : Core) → One value between → PartIsOpen Y (Q value) between Two) → PartIsOpen Y (Both X Y P Q) at Two
 part_both X Y P Q at One Two first second E A follows =
-    let E2 : X → Core → Lists = λ value between. BySome Y (Q value) between E in
-    let A2 : X → Core → Lists = λ value between. ByEach Y (Q value) between A in
-    open_map (BySome X P at E2) (BySome Y (Both X Y P Q) at E) (ByEach X P at A2) (ByEach Y (Both X Y P Q) at A)
+    let some_later : X → Core → Lists = λ value between. BySome Y (Q value) between E in
+    let each_later : X → Core → Lists = λ value between. ByEach Y (Q value) between A in
+    open_map (BySome X P at some_later) (BySome Y (Both X Y P Q) at E) (ByEach X P at each_later) (ByEach Y (Both X Y P Q) at A)
     (λ records h. (h.0, h.1, h.5.0, h.5.1, h.5.2, h.5.3, (h.5.1.way, h.5.1.outcomes, h.2, h.3, h.4, h.5.4, h.6)))
     (λ records h way outcomes.
     let one = h way outcomes in
     let two = one.4 one.1.way one.1.outcomes in
     (two.0, two.1, two.2, (one.0, one.1, one.2, one.3, two.3), two.4))
-    (first E2 A2 (λ value between is. second value between is E A follows))
+    (first some_later each_later (λ value between is. second value between is E A follows))
 
 -- the same steps
 pub part_as : (X : Type 0) (P Q : Valued X) (at : Core) (Leads : X → Core → Type 0)
@@ -76,9 +76,9 @@ module _ (X Y : Type 0) (P : Valued X) (Q : Valued Y) (at from : Core) (value_of
       → PartIsOpen X P from One → ((first : X) (between : Core) → One first between → Two (value_of first) (end_of first between))
       → PartIsOpen Y Q at Two
   part_via into out part goes E A follows =
-      let E2 : X → Core → Lists = λ first between. E (value_of first) (end_of first between) in
-      let A2 : X → Core → Lists = λ first between. A (value_of first) (end_of first between) in
-      open_map (BySome X P from E2) (BySome Y Q at E) (ByEach X P from A2) (ByEach Y Q at A)
+      let some_later : X → Core → Lists = λ first between. E (value_of first) (end_of first between) in
+      let each_later : X → Core → Lists = λ first between. A (value_of first) (end_of first between) in
+      open_map (BySome X P from some_later) (BySome Y Q at E) (ByEach X P from each_later) (ByEach Y Q at A)
       (λ records h.
       let own = into h.0 h.1 records h.2 h.3 h.4 h.5 in
       (own.0, own.1, own.2, own.3, h.4, own.4, subst (λ (c : Core). E (value_of own.2) c h.4) own.6 (subst (λ (y : Y). E y (core_of h.3) h.4) own.5 h.6)))
@@ -87,7 +87,7 @@ module _ (X Y : Type 0) (P : Valued X) (Q : Valued Y) (at from : Core) (value_of
       let one = h goes_out.0 goes_out.1 in
       let whole = goes_out.2 one.0 one.1 one.2 one.3 in
       (value_of one.0, whole.0, one.2, whole.1, subst (λ (c : Core). A (value_of one.0) c one.2) (sym whole.2) one.4))
-      (part E2 A2 (λ first between is. follows (value_of first) (end_of first between) (goes first between is)))
+      (part some_later each_later (λ first between is. follows (value_of first) (end_of first between) (goes first between is)))
 
 -- a part that makes no step, and comes to this
 pub part_still : (X : Type 0) (P : Valued X) (at : Core) (one : X) (end : Core) (Leads : X → Core → Type 0) → Leads one end
@@ -116,16 +116,16 @@ pub part_of : (X : Type 0) (R : Begins X) (P : Valued X) (at : Core) (end_of : X
     → (after : Standing) × P (standing at way outcomes) records value after rest × (core_of after ≡ end_of value))
     → IsOpen X R → PartIsOpen X P at Leads
 part_of X R P at end_of Leads are into out opens E A follows =
-    let E2 : X → Lists = λ value. E value (end_of value) in
-    let A2 : X → Lists = λ value. A value (end_of value) in
-    open_map (After X R E2) (BySome X P at E) (After X R A2) (ByEach X P at A)
+    let some_later : X → Lists = λ value. E value (end_of value) in
+    let each_later : X → Lists = λ value. A value (end_of value) in
+    open_map (After X R some_later) (BySome X P at E) (After X R each_later) (ByEach X P at A)
     (λ records h.
     let own = into h.0 h.1 records h.2 h.3 h.4 h.5 in
     (h.2, h.4, own.0, subst (λ (c : Core). E h.2 c h.4) own.1 h.6))
     (λ records h way outcomes.
     let own = out way outcomes records h.0 h.1 h.2 in
     (h.0, own.0, h.1, own.1, subst (λ (c : Core). A h.0 c h.1) (sym own.2) h.3))
-    (opens E2 A2 (λ value. follows value (end_of value) (are value)))
+    (opens some_later each_later (λ value. follows value (end_of value) (are value)))
 
 -- one of those of which this holds: it is the same before and after another answer
 pub sum_open : (X : Type 0) (P : X → Type 0) (E A : X → Lists) → (one : X) → P one → ((each : X) → P each → Open (E each) (A each))
