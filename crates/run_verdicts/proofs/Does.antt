@@ -6,7 +6,7 @@ use Rattle.std.proofs.lemmas.List.{append-nil, length-append, length-reverse, re
 use Rattle.access_types.specs.declared.history.Happening.{Happening}
 use Rattle.slot_table.specs.Records.{records_of}
 use Rattle.slot_table.specs.declared.records.Record.{Record}
-use Rattle.written_order.specs.Standing.{Point, point_by}
+use Rattle.written_order.specs.Standing.{Point, Setting, point_by}
 use Rattle.written_order.specs.Told.{did_by, did_next, to_come}
 use Rattle.written_order.specs.WrittenOrder.{first_point}
 use Rattle.run_lists.specs.Run.{Run, task_of, task_setting}
@@ -34,12 +34,12 @@ stops n last point points above = elim (leb_tells n point.to_come) [
 ]
 
 -- no point stands before the records that it tells
-stays : (n : ℕ) (last : Point) (records : List Record) (did : List Happening) (points : List Point) → Tells records did points → length records < n
+stays : (s : Setting) (n : ℕ) (last : Point) (records : List Record) (did : List Happening) (points : List Point) → Tells s records did points → length records < n
     → point_by n last points ≡ last
-stays n last records did points (tells.over d) above = refl
-stays n last records did points (tells.marks r d more point others here says are goes) above = stops n last point others (omega (arith, here, above))
-stays n last records did points (tells.silent first later d others event goes) above = stays n last later d others goes (omega (arith, above))
-stays n last records did points (tells.event first later d more point others here says event goes) above =
+stays s n last records did points (tells.over d) above = refl
+stays s n last records did points (tells.marks r d more point others here says are goes) above = stops n last point others (omega (arith, here, above))
+stays s n last records did points (tells.silent first later d others event goes) above = stays s n last later d others goes (omega (arith, above))
+stays s n last records did points (tells.event first later d more point others here says event goes) above =
     stops n last point others (omega (arith, here, above))
 
 -- what is computed by then, before the records
@@ -48,45 +48,45 @@ pub record Computes (last : Point) (records : List Record) (points : List Point)
   pub all : (point_by (length records) last points).progress.did ≡ last.progress.did ++ marks
   pub are : AreMarks marks
 
-computes : (last : Point) (records : List Record) (did : List Happening) (points : List Point) → last.progress.did ≡ did → Tells records did points
+computes : (s : Setting) (last : Point) (records : List Record) (did : List Happening) (points : List Point) → last.progress.did ≡ did → Tells s records did points
     → Computes last records points
-computes last records did points same (tells.over d) = record { marks = []; all = sym (append-nil last.progress.did); are = tt }
-computes last records did points same (tells.marks r d more point others here says are goes) =
-    let rest = computes point r point.progress.did others refl goes in record {
+computes s last records did points same (tells.over d) = record { marks = []; all = sym (append-nil last.progress.did); are = tt }
+computes s last records did points same (tells.marks r d more point others here says are goes) =
+    let rest = computes s point r point.progress.did others refl goes in record {
       marks = more ++ rest.marks;
       all = ap (λ (p : Point). p.progress.did) (goes_on (length r) last point others (omega (arith, here)))
           ∙ (rest.all ∙ (ap (λ (x : List Happening). x ++ rest.marks) (says ∙ ap (λ (x : List Happening). x ++ more) (sym same))
           ∙ append_assoc last.progress.did more rest.marks));
       are = marks_both more rest.marks are rest.are;
     }
-computes last records did points same (tells.silent first later d others event goes) = record {
+computes s last records did points same (tells.silent first later d others event goes) = record {
   marks = [];
-  all = ap (λ (p : Point). p.progress.did) (stays (suc (length later)) last later d others goes (omega arith)) ∙ sym (append-nil last.progress.did);
+  all = ap (λ (p : Point). p.progress.did) (stays s (suc (length later)) last later d others goes (omega arith)) ∙ sym (append-nil last.progress.did);
   are = tt;
 }
-computes last records did points same (tells.event first later d more point others here says event goes) = record {
+computes s last records did points same (tells.event first later d more point others here says event goes) = record {
   marks = [];
   all = ap (λ (p : Point). p.progress.did) (stops (suc (length later)) last point others (omega (arith, here))) ∙ sym (append-nil last.progress.did);
   are = tt;
 }
 
 -- what is done with a record, up to the next
-pub record DoneWith (last : Point) (x : Record) (q : List Record) (points : List Point) : Type 0 where
+pub record DoneWith (s : Setting) (last : Point) (x : Record) (q : List Record) (points : List Point) : Type 0 where
   pub event : List Happening
   pub marks : List Happening
   pub all : (point_by (length q) last points).progress.did ≡ (point_by (suc (length q)) last points).progress.did ++ (event ++ marks)
-  pub is_event : IsEvent x.step x.answer event
+  pub is_event : IsEvent s (point_by (suc (length q)) last points).progress.did x.step x.answer event
   pub are : AreMarks marks
 
 same_first : (first x : Record) (later q : List Record) → first ∷ later ≡ x ∷ q → (first ≡ x) × (later ≡ q)
 same_first first x later q is = (cc, cc)
 
-done_with : (last : Point) (records : List Record) (did : List Happening) (points : List Point) → last.progress.did ≡ did → Tells records did points
-    → (p : List Record) (x : Record) (q : List Record) → records ≡ p ++ x ∷ q → DoneWith last x q points
-done_with last records did points same (tells.over d) p x q is =
+done_with : (s : Setting) (last : Point) (records : List Record) (did : List Happening) (points : List Point) → last.progress.did ≡ did → Tells s records did points
+    → (p : List Record) (x : Record) (q : List Record) → records ≡ p ++ x ∷ q → DoneWith s last x q points
+done_with s last records did points same (tells.over d) p x q is =
     let long : 0 ≡ length p + suc (length q) = ap (λ (r : List Record). length r) is ∙ length-append p (x ∷ q) in absurd (omega (arith, long))
-done_with last records did points same (tells.marks r d more point others here says are goes) p x q is =
-    let rest = done_with point r point.progress.did others refl goes p x q is in
+done_with s last records did points same (tells.marks r d more point others here says are goes) p x q is =
+    let rest = done_with s point r point.progress.did others refl goes p x q is in
     let long : length r ≡ length p + suc (length q) = ap (λ (l : List Record). length l) is ∙ length-append p (x ∷ q) in
     record {
       event = rest.event;
@@ -94,27 +94,30 @@ done_with last records did points same (tells.marks r d more point others here s
       all = ap (λ (t : Point). t.progress.did) (goes_on (length q) last point others (omega (arith, here, long)))
           ∙ (rest.all ∙ ap (λ (t : Point). t.progress.did ++ (rest.event ++ rest.marks))
           (sym (goes_on (suc (length q)) last point others (omega (arith, here, long)))));
-      is_event = rest.is_event;
+      is_event = subst (λ (t : Point). IsEvent s t.progress.did x.step x.answer rest.event)
+          (sym (goes_on (suc (length q)) last point others (omega (arith, here, long)))) rest.is_event;
       are = rest.are;
     }
-done_with last records did points same (tells.silent first later d others event goes) [] x q is =
+done_with s last records did points same (tells.silent first later d others event goes) [] x q is =
     let it = same_first first x later q is in
-    let at_q : Tells q d others = subst (λ (r : List Record). Tells r d others) it.1 goes in
-    let then = computes last q d others same at_q in
-    let before : point_by (suc (length q)) last others ≡ last = stays (suc (length q)) last q d others at_q (omega arith) in
+    let at_q : Tells s q d others = subst (λ (r : List Record). Tells s r d others) it.1 goes in
+    let then = computes s last q d others same at_q in
+    let before : point_by (suc (length q)) last others ≡ last = stays s (suc (length q)) last q d others at_q (omega arith) in
     record {
       event = [];
       marks = then.marks;
       all = then.all ∙ ap (λ (t : Point). t.progress.did ++ then.marks) (sym before);
-      is_event = subst (λ (r : Record). IsEvent r.step r.answer []) it.0 event;
+      is_event = subst (λ (r : Record). IsEvent s (point_by (suc (length q)) last others).progress.did r.step r.answer []) it.0
+          (subst (λ (d : List Happening). IsEvent s d first.step first.answer [])
+          (sym (ap (λ (t : Point). t.progress.did) before ∙ same)) event);
       are = then.are;
     }
-done_with last records did points same (tells.silent first later d others event goes) (f ∷ p) x q is =
-    let it = same_first first f later (p ++ x ∷ q) is in done_with last later d others same goes p x q it.1
-done_with last records did points same (tells.event first later d more point others here says event goes) [] x q is =
+done_with s last records did points same (tells.silent first later d others event goes) (f ∷ p) x q is =
+    let it = same_first first f later (p ++ x ∷ q) is in done_with s last later d others same goes p x q it.1
+done_with s last records did points same (tells.event first later d more point others here says event goes) [] x q is =
     let it = same_first first x later q is in
-    let at_q : Tells q point.progress.did others = subst (λ (r : List Record). Tells r point.progress.did others) it.1 goes in
-    let then = computes point q point.progress.did others refl at_q in
+    let at_q : Tells s q point.progress.did others = subst (λ (r : List Record). Tells s r point.progress.did others) it.1 goes in
+    let then = computes s point q point.progress.did others refl at_q in
     let there : point.to_come ≡ length q = here ∙ ap (λ (r : List Record). length r) it.1 in
     let before : point_by (suc (length q)) last (point ∷ others) ≡ last = stops (suc (length q)) last point others (omega (arith, there)) in
     record {
@@ -123,20 +126,23 @@ done_with last records did points same (tells.event first later d more point oth
       all = ap (λ (t : Point). t.progress.did) (goes_on (length q) last point others (omega (arith, there)))
           ∙ (then.all ∙ (ap (λ (l : List Happening). l ++ then.marks) (says ∙ ap (λ (l : List Happening). l ++ more) (sym same))
           ∙ (append_assoc last.progress.did more then.marks ∙ ap (λ (t : Point). t.progress.did ++ (more ++ then.marks)) (sym before))));
-      is_event = subst (λ (r : Record). IsEvent r.step r.answer more) it.0 event;
+      is_event = subst (λ (r : Record). IsEvent s (point_by (suc (length q)) last (point ∷ others)).progress.did r.step r.answer more) it.0
+          (subst (λ (d : List Happening). IsEvent s d first.step first.answer more)
+          (sym (ap (λ (t : Point). t.progress.did) before ∙ same)) event);
       are = then.are;
     }
-done_with last records did points same (tells.event first later d more point others here says event goes) (f ∷ p) x q is =
+done_with s last records did points same (tells.event first later d more point others here says event goes) (f ∷ p) x q is =
     let it = same_first first f later (p ++ x ∷ q) is in
     let long : length later ≡ length p + suc (length q) = ap (λ (l : List Record). length l) it.1 ∙ length-append p (x ∷ q) in
-    let rest = done_with point later point.progress.did others refl goes p x q it.1 in
+    let rest = done_with s point later point.progress.did others refl goes p x q it.1 in
     record {
       event = rest.event;
       marks = rest.marks;
       all = ap (λ (t : Point). t.progress.did) (goes_on (length q) last point others (omega (arith, here, long)))
           ∙ (rest.all ∙ ap (λ (t : Point). t.progress.did ++ (rest.event ++ rest.marks))
           (sym (goes_on (suc (length q)) last point others (omega (arith, here, long)))));
-      is_event = rest.is_event;
+      is_event = subst (λ (t : Point). IsEvent s t.progress.did x.step x.answer rest.event)
+          (sym (goes_on (suc (length q)) last point others (omega (arith, here, long)))) rest.is_event;
       are = rest.are;
     }
 
@@ -146,7 +152,8 @@ drop_front (one ∷ first) rest = drop_front first rest
 
 module _ (run : Run) (records : List Record) (list : RunList run records) where
   does_at : (later : List Record) (latest : Record) (earlier : List Record) → records ≡ later ++ latest ∷ earlier
-      → DoesEvent latest.step latest.answer (did_next (list.tasks latest.task) (made_by latest.task earlier))
+      → DoesEvent (task_setting run latest.task) (did_by (list.tasks latest.task) (made_by latest.task earlier)) latest.step latest.answer
+      (did_next (list.tasks latest.task) (made_by latest.task earlier))
   does_at later latest earlier is =
       let task : ℕ = latest.task in
       let written = list.tasks task in
@@ -160,7 +167,7 @@ module _ (run : Run) (records : List Record) (list : RunList run records) where
       ∙ (ap (λ (r : List Record). r ++ front.0) (reverse-append (latest ∷ []) own) ∙ append_assoc (reverse own) (latest ∷ []) front.0)) in
       let first : Point = first_point (to_come written 0) registers in
       let told = whole_tells (task_setting run task) registers (task_of run task).body whole written.whole in
-      let it = done_with first whole [] written.whole.end.way refl told (reverse own) latest front.0 split in
+      let it = done_with (task_setting run task) first whole [] written.whole.end.way refl told (reverse own) latest front.0 split in
       let long : length whole ≡ length (reverse own) + suc (length front.0) =
       ap (λ (r : List Record). length r) split ∙ length-append (reverse own) (latest ∷ front.0) in
       let same : length (reverse own) ≡ length own = length-reverse own in
@@ -173,7 +180,8 @@ module _ (run : Run) (records : List Record) (list : RunList run records) where
         event = it.event;
         marks = it.marks;
         all = ap (λ (d : List Happening). drop (length (did_by written made)) d) by_now ∙ drop_front (did_by written made) (it.event ++ it.marks);
-        is_event = it.is_event;
+        is_event = subst (λ (n : ℕ). IsEvent (task_setting run task) (point_by n first written.whole.end.way).progress.did latest.step latest.answer it.event)
+            (sym with_it) it.is_event;
         are_marks = it.are;
       }
 
@@ -192,7 +200,7 @@ module _ (run : Run) (records : List Record) (list : RunList run records) where
       let registers : ℕ = length (task_of run task).registers in
       let whole : List Record = reverse (records_of task records) ++ written.more in
       let first : Point = first_point (to_come written 0) registers in
-      let it = computes first whole [] written.whole.end.way refl
+      let it = computes (task_setting run task) first whole [] written.whole.end.way refl
       (whole_tells (task_setting run task) registers (task_of run task).body whole written.whole) in
       let all_left : to_come written 0 ≡ length whole = omega arith in
       let by_then : did_by written 0 ≡ it.marks = ap (λ (n : ℕ). (point_by n first written.whole.end.way).progress.did) all_left ∙ it.all in

@@ -1,20 +1,22 @@
 -- What a text's records tell, point by point: each record's event, and the marks that come with it.
-use Rattle.std.proofs.Common.{◌≡◌, ◌+◌, ◌∙◌, ◌∷◌, ◌++◌, [], inl, inr, ℕ, zero, suc, Bool, true, false, List, MatchBool, ap, append_assoc, drop, length, refl, replicate, subst, sym}
+use Rattle.std.proofs.Common.{◌≡◌, ◌<◌, ◌⊎◌, ◌+◌, ◌%◌, ◌^◌, ◌∙◌, ◌∷◌, ◌++◌, [], inl, inr, ℕ, zero, suc, Bool, true, false, List, MatchBool, Some, ap, append_assoc, drop, length, refl, replicate, subst, sym}
 use Rattle.access_types.specs.Access as access
 use Rattle.access_types.specs.Race.{bytes_of}
 use Rattle.access_types.specs.declared.history.Happening.{Happening}
 use Rattle.access_types.specs.declared.history.Happening.TheVariants as happenings
 use Rattle.access_types.specs.declared.history.Mark.{Mark}
 use Rattle.litmus_meaning.specs.Task as meaning
-use Rattle.memory_operation.specs.Effects.{changed, moments_of, only_read}
+use Rattle.litmus_meaning.specs.Values.{cut}
+use Rattle.memory_operation.proofs.WordLemmas.{cut_fits, range_is}
+use Rattle.memory_operation.specs.Effects.{changed, moments_of, only_read, write_moments}
 use Rattle.memory_operation.specs.Operations.{Changes, Exchanges, OnExchange}
-use Rattle.memory_operation.specs.Values.{is_wanted, new_value, with_value}
+use Rattle.memory_operation.specs.Values.{is_wanted, new_value, sum_of, with_value}
 use Rattle.memory_operation.specs.declared.effect.Effect.{Effect}
 use Rattle.memory_operation.specs.declared.operation.Change.{Change}
 use Rattle.memory_operation.specs.declared.operation.Change.TheVariants as changes
 use Rattle.setup_access.specs.Check.{Check, Passes, left_to_check}
 use Rattle.setup_access.specs.Records.{MakesWord}
-use Rattle.setup_access.specs.Values.{value_in}
+use Rattle.setup_access.specs.Values.{source_of, value_in}
 use Rattle.setup_access.specs.declared.begun.Begun.{Begun}
 use Rattle.setup_access.specs.declared.source.Source.{Source}
 use Rattle.setup_access.proofs.DisciplineLemmas.{on_word}
@@ -24,48 +26,50 @@ use Rattle.slot_table.specs.declared.step.Answer.TheVariants as answers
 use Rattle.slot_table.specs.declared.step.Step.{Step}
 use Rattle.slot_table.specs.declared.step.Step.TheVariants.{CellExchange, CellLoad, Clear, Clock, Consume, Insert, Load, LockStore, LockTry, Name, PairLoad, Remove, Tell, TryConsume}
 use Rattle.written_order.specs.Standing.{Point, Setting, Standing, checks_of, coming, counting}
-use Rattle.run_verdicts.specs.Events.{AreMarks, IsEvent, ReadsAtMost, Writes}
+use Rattle.run_verdicts.specs.Events.{AreMarks, IsEvent, Reads, ReadsAtMost, Writes}
 use Rattle.run_verdicts.proofs.Quiet.{IsOfCheck, once, rechecks}
 
 -- From records that are to come and what was done before them, what the points of a way tell: some marks now, or the
 -- first record, with its event or without one.
-pub data Tells : List Record → List Happening → List Point → Type 0 where
-  over : (did : List Happening) → Tells [] did []
+pub data Tells (s : Setting) : List Record → List Happening → List Point → Type 0 where
+  over : (did : List Happening) → Tells s [] did []
   marks : (records : List Record) (did more : List Happening) (point : Point) (points : List Point) → point.to_come ≡ length records
-      → point.progress.did ≡ did ++ more → AreMarks more → Tells records point.progress.did points → Tells records did (point ∷ points)
-  silent : (first : Record) (later : List Record) (did : List Happening) (points : List Point) → IsEvent first.step first.answer []
-      → Tells later did points → Tells (first ∷ later) did points
+      → point.progress.did ≡ did ++ more → AreMarks more → Tells s records point.progress.did points → Tells s records did (point ∷ points)
+  silent : (first : Record) (later : List Record) (did : List Happening) (points : List Point) → IsEvent s did first.step first.answer []
+      → Tells s later did points → Tells s (first ∷ later) did points
   event : (first : Record) (later : List Record) (did more : List Happening) (point : Point) (points : List Point) → point.to_come ≡ length later
-      → point.progress.did ≡ did ++ more → IsEvent first.step first.answer more → Tells later point.progress.did points
-      → Tells (first ∷ later) did (point ∷ points)
+      → point.progress.did ≡ did ++ more → IsEvent s did first.step first.answer more → Tells s later point.progress.did points
+      → Tells s (first ∷ later) did (point ∷ points)
 
 -- a step of a check has no event
-check_silent : (step : Step) (answer : Answer) → IsOfCheck step → IsEvent step answer []
-check_silent (CellLoad cell) answer ok = inl refl
-check_silent (Load index) answer ok = refl
-check_silent (Insert index word) answer ok = refl
-check_silent (TryConsume index word) answer ok = refl
-check_silent (Consume index) answer ok = refl
-check_silent (Remove index) answer ok = refl
-check_silent (PairLoad index) answer ok = refl
-check_silent (Name index ticket) answer ok = refl
-check_silent (Tell index ticket) answer ok = refl
-check_silent (Clear index) answer ok = refl
-check_silent (CellExchange cell expected new) answer ok = absurd ok
-check_silent (LockTry lock holder) answer ok = absurd ok
-check_silent (LockStore lock) answer ok = absurd ok
-check_silent Clock answer ok = absurd ok
+check_silent : (s : Setting) (did : List Happening) (step : Step) (answer : Answer) → IsOfCheck step → IsEvent s did step answer []
+check_silent s did (CellLoad cell) answer ok = inl refl
+check_silent s did (Load index) answer ok = refl
+check_silent s did (Insert index word) answer ok = refl
+check_silent s did (TryConsume index word) answer ok = refl
+check_silent s did (Consume index) answer ok = refl
+check_silent s did (Remove index) answer ok = refl
+check_silent s did (PairLoad index) answer ok = refl
+check_silent s did (Name index ticket) answer ok = refl
+check_silent s did (Tell index ticket) answer ok = refl
+check_silent s did (Clear index) answer ok = refl
+check_silent s did (CellExchange cell expected new) answer ok = absurd ok
+check_silent s did (LockTry lock holder) answer ok = absurd ok
+check_silent s did (LockStore lock) answer ok = absurd ok
+check_silent s did Clock answer ok = absurd ok
 
-pub silent_check : (did : List Happening) (points : List Point) (first : Record) (later : List Record) → IsOfCheck first.step → Tells later did points
-    → Tells (first ∷ later) did points
-silent_check did points first later ok tells = silent first later did points (check_silent first.step first.answer ok) tells
+pub silent_check : (s : Setting) (did : List Happening) (points : List Point) (first : Record) (later : List Record) → IsOfCheck first.step → Tells s later did points
+    → Tells s (first ∷ later) did points
+silent_check s did points first later ok tells = silent first later did points (check_silent s did first.step first.answer ok) tells
 
 -- the step of the clock at which an access begins or ends
-begins_at : (first : Record) (a : access.Access) → first.step ≡ Clock → IsEvent first.step first.answer (happenings.Begin a ∷ [])
-begins_at first a is = subst (λ (st : Step). IsEvent st first.answer (happenings.Begin a ∷ [])) (sym is) (a, inl refl)
+begins_at : (s : Setting) (did : List Happening) (first : Record) (a : access.Access) → first.step ≡ Clock
+    → IsEvent s did first.step first.answer (happenings.Begin a ∷ [])
+begins_at s did first a is = subst (λ (st : Step). IsEvent s did st first.answer (happenings.Begin a ∷ [])) (sym is) (a, inl refl)
 
-ends_at : (first : Record) (a : access.Access) → first.step ≡ Clock → IsEvent first.step first.answer (happenings.End a ∷ [])
-ends_at first a is = subst (λ (st : Step). IsEvent st first.answer (happenings.End a ∷ [])) (sym is) (a, inr refl)
+ends_at : (s : Setting) (did : List Happening) (first : Record) (a : access.Access) → first.step ≡ Clock
+    → IsEvent s did first.step first.answer (happenings.End a ∷ [])
+ends_at s did first a is = subst (λ (st : Step). IsEvent s did st first.answer (happenings.End a ∷ [])) (sym is) (a, inr refl)
 
 pub marks_of_one : (count : ℕ) (m : Mark) → AreMarks (replicate count (happenings.Mark m))
 marks_of_one zero m = tt
@@ -75,48 +79,61 @@ pick : (b : Bool) (Yes No Goal : Type 0) → MatchBool b Yes No → (Yes → Goa
 pick true Yes No Goal given at_true at_false = at_true given
 pick false Yes No Goal given at_true at_false = at_false given
 
--- what an operation tells of its effect
-module _ (a : access.Access) (tells_of : Effect → List Happening) (did : List Happening) (point : Point) (points : List Point) where
-  -- a record that may be the last of a change: nothing comes of it, or what was read
-  record MayEnd (made : Record) : Type 0 where
-    silently : IsEvent made.step made.answer []
-    reading : (value : ℕ) → IsEvent made.step made.answer (tells_of (only_read value))
+on_exchange : (answer : Answer) (Accepted : Type 0) (Refused : ℕ → Type 0) (Goal : Type 0) → OnExchange answer Accepted Refused
+    → (answer ≡ answers.Flag true → Accepted → Goal) → ((word : ℕ) → answer ≡ answers.Word word → Refused word → Goal) → Goal
+on_exchange (answers.Word word) Accepted Refused Goal h at_yes at_no = at_no word refl h
+on_exchange (answers.Flag true) Accepted Refused Goal h at_yes at_no = at_yes refl h
+on_exchange (answers.Flag false) Accepted Refused Goal h at_yes at_no = absurd h
+on_exchange (answers.Halves setter finder) Accepted Refused Goal h at_yes at_no = absurd h
+on_exchange answers.Done Accepted Refused Goal h at_yes at_no = absurd h
 
-  refused : (first : Record) (cell expected new word : ℕ) → ((value : ℕ) → ReadsAtMost (tells_of (only_read value)))
-      → first.step ≡ CellExchange cell expected new
-      → first.answer ≡ answers.Word word → MayEnd first
-  refused first cell expected new word reads is answered =
-      let event_of : (more : List Happening) → ReadsAtMost more → IsEvent first.step first.answer more =
-      λ more read. subst (λ (st : Step). IsEvent st first.answer more) (sym is)
-      (subst (λ (an : Answer). IsEvent (CellExchange cell expected new) an more) (sym answered) read) in
-      record { silently = event_of [] (inl refl); reading = λ value. event_of (tells_of (only_read value)) (reads value) }
+-- what an operation on the bytes of an access in their cell tells of its effect
+module _ (s : Setting) (a : access.Access) (source : Source) (tells_of : Effect → List Happening) (did : List Happening)
+    (point : Point) (points : List Point) where
+  -- a record that may be the last of a change, and that saw this word: nothing comes of it, or what was read
+  record MayEnd (made : Record) (seen : ℕ) : Type 0 where
+    silently : IsEvent s did made.step made.answer []
+    reading : IsEvent s did made.step made.answer (tells_of (only_read (value_in a source seen)))
 
-  loaded : (first : Record) (cell : ℕ) → ((value : ℕ) → ReadsAtMost (tells_of (only_read value))) → first.step ≡ CellLoad cell → MayEnd first
-  loaded first cell reads is = record {
-    silently = subst (λ (st : Step). IsEvent st first.answer []) (sym is) (inl refl);
-    reading = λ value. subst (λ (st : Step). IsEvent st first.answer (tells_of (only_read value))) (sym is) (reads value);
+  -- what was read, and what was changed
+  abbrev IsReading : Type 0
+  IsReading = (answer : Answer) (word : ℕ) → answer ≡ answers.Word word
+      → ReadsAtMost s source.cell answer (tells_of (only_read (value_in a source word)))
+
+  abbrev IsWriting : Change → Type 0
+  IsWriting change = (seen : ℕ)
+      → Writes s source.cell seen (with_value a source seen (new_value a.size change (value_in a source seen)))
+      (tells_of (changed a.size change (value_in a source seen)))
+
+  refused : (first : Record) (expected new word : ℕ) → IsReading → first.step ≡ CellExchange source.cell expected new
+      → first.answer ≡ answers.Word word → MayEnd first word
+  refused first expected new word reads is answered =
+      let event_of : (more : List Happening) → ReadsAtMost s source.cell (answers.Word word) more → IsEvent s did first.step first.answer more =
+      λ more read. subst (λ (st : Step). IsEvent s did st first.answer more) (sym is)
+      (subst (λ (an : Answer). IsEvent s did (CellExchange source.cell expected new) an more) (sym answered) read) in
+      record {
+        silently = event_of [] (inl refl);
+        reading = event_of (tells_of (only_read (value_in a source word))) (reads (answers.Word word) word refl);
+      }
+
+  loaded : (first : Record) (word : ℕ) → IsReading → first.step ≡ CellLoad source.cell → first.answer ≡ answers.Word word → MayEnd first word
+  loaded first word reads is answered = record {
+    silently = subst (λ (st : Step). IsEvent s did st first.answer []) (sym is) (inl refl);
+    reading = subst (λ (st : Step). IsEvent s did st first.answer (tells_of (only_read (value_in a source word)))) (sym is)
+        (reads first.answer word answered);
   }
 
-  on_exchange : (answer : Answer) (Accepted : Type 0) (Refused : ℕ → Type 0) (Goal : Type 0) → OnExchange answer Accepted Refused
-      → (answer ≡ answers.Flag true → Accepted → Goal) → ((word : ℕ) → answer ≡ answers.Word word → Refused word → Goal) → Goal
-  on_exchange (answers.Word word) Accepted Refused Goal h at_yes at_no = at_no word refl h
-  on_exchange (answers.Flag true) Accepted Refused Goal h at_yes at_no = at_yes refl h
-  on_exchange (answers.Flag false) Accepted Refused Goal h at_yes at_no = absurd h
-  on_exchange (answers.Halves setter finder) Accepted Refused Goal h at_yes at_no = absurd h
-  on_exchange answers.Done Accepted Refused Goal h at_yes at_no = absurd h
-
-  module _ (task : ℕ) (source : Source) (change : Change) (effect : Effect) (rest : List Record)
-      (reads : (value : ℕ) → ReadsAtMost (tells_of (only_read value))) (writes : (value : ℕ) → Writes (tells_of (changed a.size change value)))
-      (here : point.to_come ≡ length rest) (tells_so : point.progress.did ≡ did ++ tells_of effect) (goes : Tells rest point.progress.did points) where
-    stopped : (made : Record) (records : List Record) (seen : ℕ) → MayEnd made → (effect ≡ only_read (value_in a source seen)) × (rest ≡ records)
-        → Tells (made ∷ records) did (point ∷ points)
+  module _ (task : ℕ) (change : Change) (effect : Effect) (rest : List Record) (reads : IsReading) (writes : IsWriting change)
+      (here : point.to_come ≡ length rest) (tells_so : point.progress.did ≡ did ++ tells_of effect) (goes : Tells s rest point.progress.did points) where
+    stopped : (made : Record) (records : List Record) (seen : ℕ) → MayEnd made seen → (effect ≡ only_read (value_in a source seen)) × (rest ≡ records)
+        → Tells s (made ∷ records) did (point ∷ points)
     stopped made records seen may ends =
         let says : point.progress.did ≡ did ++ tells_of (only_read (value_in a source seen)) = tells_so ∙ ap (λ (e : Effect). did ++ tells_of e) ends.0 in
         event made records did (tells_of (only_read (value_in a source seen))) point points (here ∙ ap (λ (r : List Record). length r) ends.1) says
-        (may.reading (value_in a source seen)) (subst (λ (r : List Record). Tells r point.progress.did points) ends.1 goes)
+        may.reading (subst (λ (r : List Record). Tells s r point.progress.did points) ends.1 goes)
 
-    exchanges : (made : Record) (seen : ℕ) (records : List Record) → MayEnd made → Exchanges task a source change seen records effect rest
-        → Tells (made ∷ records) did (point ∷ points)
+    exchanges : (made : Record) (seen : ℕ) (records : List Record) → MayEnd made seen → Exchanges task a source change seen records effect rest
+        → Tells s (made ∷ records) did (point ∷ points)
     exchanges made seen [] may h =
         pick (is_wanted a.size change (value_in a source seen)) _ _ _ h (λ none. absurd none) (λ ends. stopped made [] seen may ends)
     exchanges made seen (first ∷ later) may h =
@@ -124,41 +141,79 @@ module _ (a : access.Access) (tells_of : Effect → List Happening) (did : List 
         (λ now. silent made (first ∷ later) did (point ∷ points) may.silently
         (on_exchange first.answer _ _ _ now.1
         (λ accepted done.
-        let says : point.progress.did ≡ did ++ tells_of (changed a.size change (value_in a source seen)) =
-        tells_so ∙ ap (λ (e : Effect). did ++ tells_of e) done.0 in
-        let written : IsEvent first.step first.answer (tells_of (changed a.size change (value_in a source seen))) =
-        subst (λ (st : Step). IsEvent st first.answer (tells_of (changed a.size change (value_in a source seen)))) (sym now.0.1)
-        (subst (λ (an : Answer). IsEvent (CellExchange source.cell seen (with_value a source seen (new_value a.size change (value_in a source seen)))) an
-        (tells_of (changed a.size change (value_in a source seen)))) (sym accepted) (writes (value_in a source seen))) in
-        event first later did (tells_of (changed a.size change (value_in a source seen))) point points
-        (here ∙ ap (λ (r : List Record). length r) done.1) says written
-        (subst (λ (r : List Record). Tells r point.progress.did points) done.1 goes))
+        let new : ℕ = with_value a source seen (new_value a.size change (value_in a source seen)) in
+        let more : List Happening = tells_of (changed a.size change (value_in a source seen)) in
+        let says : point.progress.did ≡ did ++ more = tells_so ∙ ap (λ (e : Effect). did ++ tells_of e) done.0 in
+        let written : IsEvent s did first.step first.answer more = subst (λ (st : Step). IsEvent s did st first.answer more) (sym now.0.1)
+        (subst (λ (an : Answer). IsEvent s did (CellExchange source.cell seen new) an more) (sym accepted) (writes seen)) in
+        event first later did more point points (here ∙ ap (λ (r : List Record). length r) done.1) says written
+        (subst (λ (r : List Record). Tells s r point.progress.did points) done.1 goes))
         (λ word refused_so again.
         exchanges first word later
-        (refused first source.cell seen (with_value a source seen (new_value a.size change (value_in a source seen))) word reads now.0.1 refused_so) again)))
+        (refused first seen (with_value a source seen (new_value a.size change (value_in a source seen))) word reads now.0.1 refused_so) again)))
         (λ ends. stopped made (first ∷ later) seen may ends)
 
-    pub makes_changes : (records : List Record) → Changes task a source change records effect rest → Tells records did (point ∷ points)
+    pub makes_changes : (records : List Record) → Changes task a source change records effect rest → Tells s records did (point ∷ points)
     makes_changes [] h = absurd h
     makes_changes (first ∷ later) h =
-        let got = on_word first.answer _ h.2 in exchanges first got.0 later (loaded first source.cell reads h.1) got.2
+        let got = on_word first.answer _ h.2 in exchanges first got.0 later (loaded first got.0 reads h.1 got.1) got.2
 
-pub read_once : (a : access.Access) (value : ℕ) → ReadsAtMost (moments_of a (only_read value))
-read_once a value = inr (bytes_of a, value, refl)
+-- what a change gives so many bytes is cut to what they can hold
+cut_below : (size value : ℕ) → cut size value < 256 ^ size
+cut_below size value = subst (λ n. value % 256 ^ size < n) (sym (range_is size)) (cut_fits size value)
 
-pub writes_once : (a : access.Access) (change : Change) (value : ℕ) → Writes (moments_of a (changed a.size change value))
-writes_once a (changes.Write new) value = (bytes_of a, new_value a.size (changes.Write new) value, inl refl)
-writes_once a (changes.Exchange new) value = (bytes_of a, new_value a.size (changes.Exchange new) value, inr (value, refl))
-writes_once a (changes.AtomicAdd amount) value = (bytes_of a, new_value a.size (changes.AtomicAdd amount) value, inr (value, refl))
-writes_once a (changes.CompareExchange expected replacement) value =
-    (bytes_of a, new_value a.size (changes.CompareExchange expected replacement) value, inr (value, refl))
+new_below : (size : ℕ) (change : Change) (old : ℕ) → new_value size change old < 256 ^ size
+new_below size (changes.Write new) old = cut_below size new
+new_below size (changes.Exchange new) old = cut_below size new
+new_below size (changes.AtomicAdd amount) old = cut_below size (sum_of size old amount)
+new_below size (changes.CompareExchange expected replacement) old = cut_below size replacement
+
+-- the happenings of an access whose bytes lie in a cell
+module _ (s : Setting) (a : access.Access) (source : Source) (lies : source_of (checks_of s) a ≡ Some source) where
+  pub read_of : (answer : Answer) (word : ℕ) → answer ≡ answers.Word word
+      → Reads s source.cell answer (happenings.Read (bytes_of a) (value_in a source word) ∷ [])
+  read_of answer word answered =
+      record { word = word; answered = answered; access = a; source = source; lies = lies; there = refl; is = refl }
+
+  pub read_once : (answer : Answer) (word : ℕ) → answer ≡ answers.Word word
+      → ReadsAtMost s source.cell answer (moments_of a (only_read (value_in a source word)))
+  read_once answer word answered = inr (read_of answer word answered)
+
+  writes_so : (change : Change) (seen : ℕ) (told : List Happening)
+      → (told ≡ happenings.Write (bytes_of a) (new_value a.size change (value_in a source seen)) ∷ [])
+      ⊎ (told ≡ happenings.Read (bytes_of a) (value_in a source seen)
+      ∷ happenings.Write (bytes_of a) (new_value a.size change (value_in a source seen)) ∷ [])
+      → Writes s source.cell seen (with_value a source seen (new_value a.size change (value_in a source seen))) told
+  writes_so change seen told is = record {
+    access = a;
+    source = source;
+    lies = lies;
+    there = refl;
+    value = new_value a.size change (value_in a source seen);
+    fits = new_below a.size change (value_in a source seen);
+    lays = refl;
+    is = is;
+  }
+
+  pub writes_once : (change : Change) (seen : ℕ)
+      → Writes s source.cell seen (with_value a source seen (new_value a.size change (value_in a source seen)))
+      (moments_of a (changed a.size change (value_in a source seen)))
+  writes_once (changes.Write new) seen = writes_so (changes.Write new) seen _ (inl refl)
+  writes_once (changes.Exchange new) seen = writes_so (changes.Exchange new) seen _ (inr refl)
+  writes_once (changes.AtomicAdd amount) seen = writes_so (changes.AtomicAdd amount) seen _ (inr refl)
+  writes_once (changes.CompareExchange expected replacement) seen = writes_so (changes.CompareExchange expected replacement) seen _ (inr refl)
+
+  pub only_writes : (value seen : ℕ)
+      → Writes s source.cell seen (with_value a source seen (new_value a.size (changes.Write value) (value_in a source seen)))
+      (write_moments a (changed a.size (changes.Write value) (value_in a source seen)).written)
+  only_writes value seen = writes_so (changes.Write value) seen _ (inl refl)
 
 -- the points of a way
 module _ (s : Setting) where
   pub record Part (before : Standing) (records : List Record) (after : Standing) (rest : List Record) : Type 0 where
     pub points : List Point
     pub adds : after.way ≡ before.way ++ points
-    pub tells : (more : List Point) → Tells rest after.progress.did more → Tells records before.progress.did (points ++ more)
+    pub tells : (more : List Point) → Tells s rest after.progress.did more → Tells s records before.progress.did (points ++ more)
 
   abbrev pub comes_at : Standing → List Record → meaning.Progress → Point
   comes_at before later progress = record { to_come = length later; progress = progress; unbalanced = before.unbalanced }
@@ -168,7 +223,7 @@ module _ (s : Setting) where
   both before between after records later rest p q = record {
     points = p.points ++ q.points;
     adds = q.adds ∙ (ap (λ (l : List Point). l ++ q.points) p.adds ∙ append_assoc before.way p.points q.points);
-    tells = λ more goes. subst (λ (l : List Point). Tells records before.progress.did l) (sym (append_assoc p.points q.points more))
+    tells = λ more goes. subst (λ (l : List Point). Tells s records before.progress.did l) (sym (append_assoc p.points q.points more))
         (p.tells (q.points ++ more) (q.tells more goes));
   }
 
@@ -188,34 +243,34 @@ module _ (s : Setting) where
   -- the check of an access or its close, after its begin or before its end
   checked : (did : List Happening) (points : List Point) (scopes : List Begun) (begun : Begun) (asked : ℕ) (first : Record) (later : List Record)
       (passes : Passes) (rest : List Record)
-      → Check (checks_of s) scopes begun asked (first ∷ later) passes rest → Tells rest did points → Tells later did points
+      → Check (checks_of s) scopes begun asked (first ∷ later) passes rest → Tells s rest did points → Tells s later did points
   checked did points scopes begun asked first later passes rest h goes =
       let got = on_word first.answer _ h.2.2 in
       pick begun.silenced _ _ _ got.2
-      (λ quiet. subst (λ (r : List Record). Tells r did points) quiet.1 goes)
-      (λ now. once (λ (r : List Record). Tells r did points) (silent_check did points) (checks_of s) begun.access begun.marked asked later now.0 now.1 now.3
-      (rechecks (λ (r : List Record). Tells r did points) (silent_check did points) (checks_of s) (left_to_check now.0.settled scopes) now.0.asked now.1
+      (λ quiet. subst (λ (r : List Record). Tells s r did points) quiet.1 goes)
+      (λ now. once (λ (r : List Record). Tells s r did points) (silent_check s did points) (checks_of s) begun.access begun.marked asked later now.0 now.1 now.3
+      (rechecks (λ (r : List Record). Tells s r did points) (silent_check s did points) (checks_of s) (left_to_check now.0.settled scopes) now.0.asked now.1
       (record { outcomes = now.2; asked = passes.asked }) rest now.4 goes))
 
   -- an access begins at its first record
   pub begun_part : (a : access.Access) (scopes : List Begun) (begun : Begun) (asked : ℕ) (before : Standing) (records : List Record) (passes : Passes)
       (rest : List Record)
       → Check (checks_of s) scopes begun asked records passes rest → (more : List Point)
-      → Tells rest (before.progress.did ++ happenings.Begin a ∷ []) more
-      → Tells records before.progress.did (comes_at before (drop 1 records) (meaning.doing before.progress (happenings.Begin a ∷ [])) ∷ more)
+      → Tells s rest (before.progress.did ++ happenings.Begin a ∷ []) more
+      → Tells s records before.progress.did (comes_at before (drop 1 records) (meaning.doing before.progress (happenings.Begin a ∷ [])) ∷ more)
   begun_part a scopes begun asked before [] passes rest h more goes = absurd h.2
   begun_part a scopes begun asked before (first ∷ later) passes rest h more goes =
-      event first later before.progress.did (happenings.Begin a ∷ []) _ more refl refl (begins_at first a h.2.1)
+      event first later before.progress.did (happenings.Begin a ∷ []) _ more refl refl (begins_at s before.progress.did first a h.2.1)
       (checked (before.progress.did ++ happenings.Begin a ∷ []) more scopes begun asked first later passes rest h goes)
 
   -- and ends at its last
   pub ended_part : (a : access.Access) (before : Standing) (did : List Happening) (records rest : List Record)
       → MakesWord s.text.task Clock (λ stamp later. rest ≡ later) records
-      → before.progress.did ≡ did → (more : List Point) → Tells rest (did ++ happenings.End a ∷ []) more
-      → Tells records did (comes_at before rest (meaning.doing before.progress (happenings.End a ∷ [])) ∷ more)
+      → before.progress.did ≡ did → (more : List Point) → Tells s rest (did ++ happenings.End a ∷ []) more
+      → Tells s records did (comes_at before rest (meaning.doing before.progress (happenings.End a ∷ [])) ∷ more)
   ended_part a before did [] rest h same more goes = absurd h
   ended_part a before did (first ∷ later) rest h same more goes =
       let got = on_word first.answer _ h.2 in
       let says : before.progress.did ++ happenings.End a ∷ [] ≡ did ++ happenings.End a ∷ [] = ap (λ (d : List Happening). d ++ happenings.End a ∷ []) same in
-      event first later did (happenings.End a ∷ []) _ more (ap (λ (r : List Record). length r) got.2) says (ends_at first a h.1)
-      (subst (λ (d : List Happening). Tells later d more) (sym says) (subst (λ (r : List Record). Tells r (did ++ happenings.End a ∷ []) more) got.2 goes))
+      event first later did (happenings.End a ∷ []) _ more (ap (λ (r : List Record). length r) got.2) says (ends_at s did first a h.1)
+      (subst (λ (d : List Happening). Tells s later d more) (sym says) (subst (λ (r : List Record). Tells s r (did ++ happenings.End a ∷ []) more) got.2 goes))

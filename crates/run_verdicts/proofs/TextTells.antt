@@ -1,11 +1,12 @@
 -- What all records of a text tell.
-use Rattle.std.proofs.Common.{◌≡◌, ◌+◌, ◌||◌, ◌∙◌, ◌∷◌, ◌++◌, [], inl, inr, ℕ, Bool, true, false, List, Option, None, Some, MatchBool, ap, append_assoc, drop, length, refl, replicate, subst, sym}
+use Rattle.std.proofs.Common.{◌≡◌, ◌+◌, ◌||◌, ◌∙◌, ◌∷◌, ◌++◌, [], inl, inr, ℕ, Bool, true, false, IsTrue, List, Option, None, Some, MatchBool, ap, append_assoc, drop, length, refl, replicate, subst, sym}
 use Rattle.std.proofs.lemmas.List.{append-nil}
 use Rattle.access_types.specs.Access as access
 use Rattle.access_types.specs.Race.{bytes_of}
 use Rattle.access_types.specs.declared.history.Happening.{Happening}
 use Rattle.access_types.specs.declared.history.Happening.TheVariants as happenings
 use Rattle.litmus_meaning.specs.Task as meaning
+use Rattle.litmus_meaning.specs.Task.{has_lock}
 use Rattle.litmus_syntax.specs.Tree.{Block}
 use Rattle.memory_operation.specs.Effects.{moments_of, read_moments, write_moments}
 use Rattle.memory_operation.specs.Locks.{TakesLock}
@@ -25,17 +26,18 @@ use Rattle.slot_table.specs.declared.step.Answer.TheVariants as answers
 use Rattle.slot_table.specs.declared.step.Step.{Step}
 use Rattle.slot_table.specs.declared.step.Step.TheVariants.{CellLoad, LockStore, LockTry}
 use Rattle.written_order.specs.Access.{Makes, operated}
-use Rattle.written_order.specs.Standing.{Point, Setting, Standing, checks_of, counting, doing, lock_number}
+use Rattle.written_order.specs.Standing.{IsLockAt, Point, Setting, Standing, checks_of, counting, doing, lock_number}
 use Rattle.written_order.specs.WrittenOrder.{ClosesScope, OpensScope, SpellsAll, at_first}
 use Rattle.written_order.proofs.AccessLemmas.{counting_progress}
 use Rattle.written_order.proofs.Induction.{Kept, by_block}
 use Rattle.run_verdicts.specs.Events.{IsEvent, ReadsAtMost}
 use Rattle.run_verdicts.proofs.Quiet.{rechecks}
-use Rattle.run_verdicts.proofs.Tells.{Part, Tells, begun_part, both, comes_at, computes, counting_way, ended_part, makes_changes, marks_of_one, read_once, silent_check, writes_once}
+use Rattle.run_verdicts.proofs.Tells.{Part, Tells, begun_part, both, comes_at, computes, counting_way, ended_part, makes_changes, marks_of_one, only_writes, read_of, read_once, silent_check, writes_once}
 use Rattle.run_verdicts.proofs.Tells as tells
 
-reads_at : (first : Record) (cell : ℕ) (did : List Happening) → first.step ≡ CellLoad cell → ReadsAtMost did → IsEvent first.step first.answer did
-reads_at first cell did is reads = subst (λ (st : Step). IsEvent st first.answer did) (sym is) reads
+reads_at : (s : Setting) (before : List Happening) (first : Record) (cell : ℕ) (did : List Happening) → first.step ≡ CellLoad cell
+    → ReadsAtMost s cell first.answer did → IsEvent s before first.step first.answer did
+reads_at s before first cell did is reads = subst (λ (st : Step). IsEvent s before st first.answer did) (sym is) reads
 
 module _ (s : Setting) where
   operated_part : (a : access.Access) (operation : Option Operation) (before : Standing) (records : List Record) (effect : Effect) (rest : List Record)
@@ -43,19 +45,20 @@ module _ (s : Setting) where
   operated_part a None before records effect rest h = record {
     points = [];
     adds = sym (append-nil before.way);
-    tells = λ more goes. subst (λ (r : List Record). Tells r before.progress.did more) h.1 goes;
+    tells = λ more goes. subst (λ (r : List Record). Tells s r before.progress.did more) h.1 goes;
   }
   operated_part a (Some operations.Load) before [] effect rest h = absurd h.2
   operated_part a (Some operations.Load) before (first ∷ later) effect rest h =
       let got = on_word first.answer _ h.2.2 in
       let point : Point = comes_at s before rest (meaning.doing before.progress (moments_of a effect)) in
-      let reads : ReadsAtMost (moments_of a effect) = subst (λ (e : Effect). ReadsAtMost (moments_of a e)) (sym got.2.0) (read_once a _) in
+      let reads : ReadsAtMost s h.0.cell first.answer (moments_of a effect) =
+      subst (λ (e : Effect). ReadsAtMost s h.0.cell first.answer (moments_of a e)) (sym got.2.0) (read_once s a h.0 h.1 first.answer got.0 got.1) in
       record {
         points = point ∷ [];
         adds = refl;
         tells = λ more goes. tells.event first later before.progress.did (moments_of a effect) point more (ap (λ (r : List Record). length r) got.2.1) refl
-            (reads_at first h.0.cell (moments_of a effect) h.2.1 reads)
-            (subst (λ (r : List Record). Tells r point.progress.did more) got.2.1 goes);
+            (reads_at s before.progress.did first h.0.cell (moments_of a effect) h.2.1 reads)
+            (subst (λ (r : List Record). Tells s r point.progress.did more) got.2.1 goes);
       }
   operated_part a (Some (operations.Add amount)) before [] effect rest h = absurd h.2
   operated_part a (Some (operations.Add amount)) before (first ∷ later) effect rest h =
@@ -64,16 +67,17 @@ module _ (s : Setting) where
       let read : Standing = doing before later (read_moments a effect.read) in
       let one : Point = comes_at s before later (meaning.doing before.progress (read_moments a effect.read)) in
       let two : Point = comes_at s read rest (meaning.doing read.progress (write_moments a effect.written)) in
-      let reads : ReadsAtMost (read_moments a effect.read) =
-      subst (λ (e : Effect). ReadsAtMost (read_moments a e.read)) (sym got.2.2) (inr (bytes_of a, old, refl)) in
+      let reads : ReadsAtMost s h.0.cell first.answer (read_moments a effect.read) =
+      subst (λ (e : Effect). ReadsAtMost s h.0.cell first.answer (read_moments a e.read)) (sym got.2.2)
+      (inr (read_of s a h.0 h.1 first.answer got.0 got.1)) in
       let sum : ℕ = sum_of a.size old amount in
       record {
         points = one ∷ two ∷ [];
         adds = append_assoc before.way (one ∷ []) (two ∷ []);
         tells = λ more goes. tells.event first later before.progress.did (read_moments a effect.read) one (two ∷ more) refl refl
-            (reads_at first h.0.cell (read_moments a effect.read) h.2.1 reads)
-            (makes_changes a (λ (e : Effect). write_moments a e.written) one.progress.did two more s.text.task h.0 (changes.Write sum) got.2.0 rest
-            (λ value. inl refl) (λ value. (bytes_of a, new_value a.size (changes.Write sum) value, inl refl)) refl
+            (reads_at s before.progress.did first h.0.cell (read_moments a effect.read) h.2.1 reads)
+            (makes_changes s a h.0 (λ (e : Effect). write_moments a e.written) one.progress.did two more s.text.task (changes.Write sum) got.2.0 rest
+            (λ answer word answered. inl refl) (only_writes s a h.0 h.1 sum) refl
             (ap (λ (e : Effect). one.progress.did ++ write_moments a e.written) got.2.2) goes later got.2.1);
       }
   operated_part a (Some (operations.Change change)) before records effect rest h =
@@ -82,8 +86,8 @@ module _ (s : Setting) where
         points = point ∷ [];
         adds = refl;
         tells =
-            λ more goes. makes_changes a (moments_of a) before.progress.did point more s.text.task h.0 change effect rest (read_once a)
-            (writes_once a change) refl refl goes records h.2;
+            λ more goes. makes_changes s a h.0 (moments_of a) before.progress.did point more s.text.task change effect rest (read_once s a h.0 h.1)
+            (writes_once s a h.0 h.1 change) refl refl goes records h.2;
       }
 
   makes_part : (a : access.Access) (operation : Option Operation) (effect : Effect) (before : Standing) (records : List Record) (after : Standing)
@@ -102,9 +106,9 @@ module _ (s : Setting) where
             ∙ (ap (λ (l : List Point). l ++ last ∷ []) middle.adds
             ∙ (append_assoc began.way middle.points (last ∷ []) ∙ append_assoc before.way (first ∷ []) (middle.points ++ last ∷ [])));
         tells = λ more goes. begun_part s a before.scopes h.begun before.asked before records h.passes h.checked h.check ((middle.points ++ last ∷ []) ++ more)
-            (subst (λ (l : List Point). Tells h.checked began.progress.did l) (sym (append_assoc middle.points (last ∷ []) more))
+            (subst (λ (l : List Point). Tells s h.checked began.progress.did l) (sym (append_assoc middle.points (last ∷ []) more))
             (middle.tells (last ∷ more)
-            (ended_part s a made made.progress.did h.done rest h.ends refl more (subst (λ (d : List Happening). Tells rest d more) did goes))));
+            (ended_part s a made made.progress.did h.done rest h.ends refl more (subst (λ (d : List Happening). Tells s rest d more) did goes))));
       }
 
   scoped_part : (a : access.Access) (begun : Begun) (before opened closing after : Standing) (records inside later rest : List Record)
@@ -119,52 +123,56 @@ module _ (s : Setting) where
         points = first ∷ [];
         adds = ap (λ (st : Standing). st.way) opens.comes_to;
         tells = λ more goes. begun_part s a before.scopes begun before.asked before records opens.passes inside opens.check more
-            (subst (λ (d : List Happening). Tells inside d more) opened_did goes);
+            (subst (λ (d : List Happening). Tells s inside d more) opened_did goes);
       } in
       let ending : Part s closing later after rest = record {
         points = last ∷ [];
         adds = ap (λ (st : Standing). st.way) closes.comes_to;
         tells = λ more goes.
             let mid : List Record = closes.close.1.0 in
-            rechecks (λ (r : List Record). Tells r closing.progress.did (last ∷ more)) (silent_check closing.progress.did (last ∷ more))
+            rechecks (λ (r : List Record). Tells s r closing.progress.did (last ∷ more)) (silent_check s closing.progress.did (last ∷ more))
             (checks_of s)
             (record begun { silenced = begun.silenced || closes.silenced } ∷ []) closing.asked later closes.passes mid
             closes.close.1.1
             (ended_part s begun.access closing closing.progress.did mid rest closes.close.1.2 refl more
-            (subst (λ (d : List Happening). Tells rest d more) after_did goes));
+            (subst (λ (d : List Happening). Tells s rest d more) after_did goes));
       } in
       both s before opened after records inside rest opening (both s opened closing after inside later rest inner ending)
 
-  takes_lock : (lock : ℕ) (did : List Happening) (point : Point) (more : List Point) (variable : ℕ) (records rest : List Record)
-      → TakesLock s.text.task lock records rest
-      → point.to_come ≡ length rest → point.progress.did ≡ did ++ happenings.Lock variable ∷ [] → Tells rest point.progress.did more
-      → Tells records did (point ∷ more)
-  takes_lock lock did point more variable [] rest h here says goes = absurd h
-  takes_lock lock did point more variable (first ∷ later) rest h here says goes =
+  takes_lock : (variable : ℕ) (did : List Happening) (point : Point) (more : List Point) (records rest : List Record)
+      → IsLockAt s variable → TakesLock s.text.task (lock_number s variable) records rest
+      → point.to_come ≡ length rest → point.progress.did ≡ did ++ happenings.Lock variable ∷ [] → Tells s rest point.progress.did more
+      → Tells s records did (point ∷ more)
+  takes_lock variable did point more [] rest is_lock h here says goes = absurd h
+  takes_lock variable did point more (first ∷ later) rest is_lock h here says goes =
+      let lock : ℕ = lock_number s variable in
       let got = on_flag first.answer _ h.2 in
-      by_answer got.0 (λ (more_did : List Happening) (event : IsEvent (LockTry lock s.text.task) (answers.Flag got.0) more_did).
-      subst (λ (st : Step). IsEvent st first.answer more_did) (sym h.1)
-      (subst (λ (an : Answer). IsEvent (LockTry lock s.text.task) an more_did) (sym got.1) event))
-      got.2 (λ again. takes_lock lock did point more variable later rest again here says goes)
+      by_answer got.0 (λ (more_did : List Happening) (event : IsEvent s did (LockTry lock s.text.task) (answers.Flag got.0) more_did).
+      subst (λ (st : Step). IsEvent s did st first.answer more_did) (sym h.1)
+      (subst (λ (an : Answer). IsEvent s did (LockTry lock s.text.task) an more_did) (sym got.1) event))
+      got.2 (λ again. takes_lock variable did point more later rest is_lock again here says goes)
     where
-      by_answer : (was_free : Bool) → ((more_did : List Happening) → IsEvent (LockTry lock s.text.task) (answers.Flag was_free) more_did
-          → IsEvent first.step first.answer more_did)
-          → MatchBool was_free (rest ≡ later) (TakesLock s.text.task lock later rest) → (TakesLock s.text.task lock later rest → Tells later did (point ∷ more))
-          → Tells (first ∷ later) did (point ∷ more)
+      by_answer : (was_free : Bool)
+          → ((more_did : List Happening) → IsEvent s did (LockTry (lock_number s variable) s.text.task) (answers.Flag was_free) more_did
+          → IsEvent s did first.step first.answer more_did)
+          → MatchBool was_free (rest ≡ later) (TakesLock s.text.task (lock_number s variable) later rest)
+          → (TakesLock s.text.task (lock_number s variable) later rest → Tells s later did (point ∷ more))
+          → Tells s (first ∷ later) did (point ∷ more)
       by_answer true event_of taken again =
           tells.event first later did (happenings.Lock variable ∷ []) point more (here ∙ ap (λ (r : List Record). length r) taken) says
-          (event_of (happenings.Lock variable ∷ []) (variable, refl)) (subst (λ (r : List Record). Tells r point.progress.did more) taken goes)
+          (event_of (happenings.Lock variable ∷ []) (variable, is_lock, refl, refl))
+          (subst (λ (r : List Record). Tells s r point.progress.did more) taken goes)
       by_answer false event_of refused again = tells.silent first later did (point ∷ more) (event_of [] refl) (again refused)
 
-  frees_lock : (lock : ℕ) (did : List Happening) (point : Point) (more : List Point) (variable : ℕ) (records rest : List Record)
-      → MakesDone s.text.task (LockStore lock) (λ later. rest ≡ later) records
-      → point.to_come ≡ length rest → point.progress.did ≡ did ++ happenings.Unlock variable ∷ [] → Tells rest point.progress.did more
-      → Tells records did (point ∷ more)
-  frees_lock lock did point more variable [] rest h here says goes = absurd h
-  frees_lock lock did point more variable (first ∷ later) rest h here says goes =
+  frees_lock : (variable : ℕ) (did : List Happening) (point : Point) (more : List Point) (records rest : List Record)
+      → IsTrue (has_lock variable did) → MakesDone s.text.task (LockStore (lock_number s variable)) (λ later. rest ≡ later) records
+      → point.to_come ≡ length rest → point.progress.did ≡ did ++ happenings.Unlock variable ∷ [] → Tells s rest point.progress.did more
+      → Tells s records did (point ∷ more)
+  frees_lock variable did point more [] rest has h here says goes = absurd h
+  frees_lock variable did point more (first ∷ later) rest has h here says goes =
       tells.event first later did (happenings.Unlock variable ∷ []) point more (here ∙ ap (λ (r : List Record). length r) h.2.1) says
-      (subst (λ (st : Step). IsEvent st first.answer (happenings.Unlock variable ∷ [])) (sym h.1) (variable, refl))
-      (subst (λ (r : List Record). Tells r point.progress.did more) h.2.1 goes)
+      (subst (λ (st : Step). IsEvent s did st first.answer (happenings.Unlock variable ∷ [])) (sym h.1) (variable, has, refl, refl))
+      (subst (λ (r : List Record). Tells s r point.progress.did more) h.2.1 goes)
 
   kept_parts : Kept s (Part s)
   kept_parts = record {
@@ -182,23 +190,23 @@ module _ (s : Setting) where
     locks = λ lock before records rest is takes. record {
       points = comes_at s before rest (meaning.doing before.progress (happenings.Lock lock ∷ [])) ∷ [];
       adds = refl;
-      tells = λ more goes. takes_lock (lock_number s lock) before.progress.did
+      tells = λ more goes. takes_lock lock before.progress.did
           (comes_at s before rest (meaning.doing before.progress (happenings.Lock lock ∷ []))) more
-          lock records rest takes refl refl goes;
+          records rest is takes refl refl goes;
     };
     unlocks = λ lock before records rest has stores. record {
       points = comes_at s before rest (meaning.doing before.progress (happenings.Unlock lock ∷ [])) ∷ [];
       adds = refl;
-      tells = λ more goes. frees_lock (lock_number s lock) before.progress.did
+      tells = λ more goes. frees_lock lock before.progress.did
           (comes_at s before rest (meaning.doing before.progress (happenings.Unlock lock ∷ []))) more
-          lock records rest stores refl refl goes;
+          records rest has stores refl refl goes;
     };
     scoped = scoped_part;
   }
 
 -- the points of a whole text tell its records
 pub whole_tells : (s : Setting) (registers : ℕ) (body : Block) (records : List Record) (whole : SpellsAll s registers body records)
-    → Tells records [] whole.end.way
+    → Tells s records [] whole.end.way
 whole_tells s registers body records whole =
     let part = by_block s (Part s) (kept_parts s) 0 body (at_first registers) records whole.end [] whole.steps in
-    subst (λ (l : List Point). Tells records [] l) (append-nil part.points ∙ sym part.adds) (part.tells [] (tells.over whole.end.progress.did))
+    subst (λ (l : List Point). Tells s records [] l) (append-nil part.points ∙ sym part.adds) (part.tells [] (tells.over whole.end.progress.did))

@@ -1,18 +1,23 @@
--- What a task does at its records: the events of history.
-use Rattle.std.specs.Prelude.{◌≡◌, ◌++◌, ◌⊎◌, ℕ, true, List, [], ◌∷◌}
+-- What a task does at its records: the events of history, with their accesses and values.
+use Rattle.std.specs.Prelude.{◌≡◌, ◌<◌, ◌^◌, ◌++◌, ◌⊎◌, ℕ, true, List, [], ◌∷◌, IsTrue, Some}
 use Rattle.access_types.specs.Access.{Access}
-use Rattle.access_types.specs.declared.history.Bytes.{Bytes}
+use Rattle.access_types.specs.Race.{bytes_of}
 use Rattle.access_types.specs.declared.history.Happening.{Happening}
 use Rattle.access_types.specs.declared.history.Happening.TheVariants as happenings
-use Rattle.run_lists.specs.Run.{Run}
+use Rattle.litmus_meaning.specs.Task.{has_lock}
+use Rattle.memory_operation.specs.Values.{with_value}
+use Rattle.run_lists.specs.Run.{Run, task_setting}
 use Rattle.run_lists.specs.RunList.{RunList}
 use Rattle.run_lists.specs.Told.{made_by}
+use Rattle.setup_access.specs.Values.{source_of, value_in}
+use Rattle.setup_access.specs.declared.source.Source.{Source}
 use Rattle.slot_table.specs.declared.records.Record.{Record}
 use Rattle.slot_table.specs.declared.step.Answer.{Answer}
 use Rattle.slot_table.specs.declared.step.Answer.TheVariants as answers
 use Rattle.slot_table.specs.declared.step.Step.{Step}
 use Rattle.slot_table.specs.declared.step.Step.TheVariants.{CellExchange, CellLoad, Clock, LockStore, LockTry}
-use Rattle.written_order.specs.Told.{did_next}
+use Rattle.written_order.specs.Standing.{IsLockAt, Setting, checks_of, lock_number}
+use Rattle.written_order.specs.Told.{did_by, did_next}
 
 abbrev pub IsMark : Happening → Type 0
 IsMark (happenings.Mark mark) = Unit {0}
@@ -23,44 +28,67 @@ abbrev pub AreMarks : List Happening → Type 0
 AreMarks [] = Unit {0}
 AreMarks (happening ∷ later) = IsMark happening × AreMarks later
 
--- a read of some bytes, or nothing
-abbrev pub ReadsAtMost : List Happening → Type 0
-ReadsAtMost did =
-    (did ≡ []) ⊎ ((bytes : Bytes) × (value : ℕ) × (did ≡ happenings.Read bytes value ∷ []))
+-- a read of an access's bytes, which lie in this cell: the value is theirs in the word that was answered
+pub record Reads (s : Setting) (cell : ℕ) (answer : Answer) (did : List Happening) : Type 0 where
+  pub word : ℕ
+  pub answered : answer ≡ answers.Word word
+  pub access : Access
+  pub source : Source
+  pub lies : source_of (checks_of s) access ≡ Some source
+  pub there : source.cell ≡ cell
+  pub is : did ≡ happenings.Read (bytes_of access) (value_in access source word) ∷ []
 
--- a write of some bytes, after a read of them or not
-abbrev pub Writes : List Happening → Type 0
-Writes did =
-    (bytes : Bytes) × (value : ℕ)
-    × ((did ≡ happenings.Write bytes value ∷ [])
-    ⊎ ((old : ℕ) × (did ≡ happenings.Read bytes old ∷ happenings.Write bytes value ∷ [])))
+-- such a read, or nothing
+abbrev pub ReadsAtMost : Setting → ℕ → Answer → List Happening → Type 0
+ReadsAtMost s cell answer did = (did ≡ []) ⊎ Reads s cell answer did
 
--- The event of a record, by its step and its answer: a step of the clock begins or ends an access, an
--- exchange that is accepted writes, a load of a cell or a refused exchange reads or is none, a try that
--- finds a lock free takes it, and a store frees one. All else is none.
-abbrev pub IsEvent : Step → Answer → List Happening → Type 0
-IsEvent Clock answer did =
+-- A write of an access's bytes, which lie in this cell, from its old word to its new one: the new word
+-- has the value in their place, and else what the old one had. What they held is read before, or not.
+pub record Writes (s : Setting) (cell old new : ℕ) (did : List Happening) : Type 0 where
+  pub access : Access
+  pub source : Source
+  pub lies : source_of (checks_of s) access ≡ Some source
+  pub there : source.cell ≡ cell
+  pub value : ℕ
+  pub fits : value < 256 ^ access.size
+  pub lays : new ≡ with_value access source old value
+  pub is : (did ≡ happenings.Write (bytes_of access) value ∷ [])
+      ⊎ (did ≡ happenings.Read (bytes_of access) (value_in access source old)
+      ∷ happenings.Write (bytes_of access) value ∷ [])
+
+-- The event of a record of a task which had done this before, by the record's step and its answer. A
+-- step of the clock begins or ends an access. An exchange that is accepted writes; a load of a cell or a
+-- refused exchange reads or is none. A try that finds a lock's word free takes the lock, and a store
+-- gives one up that the task has. All else is none.
+abbrev pub IsEvent : Setting → List Happening → Step → Answer → List Happening → Type 0
+IsEvent s before Clock answer did =
     (a : Access) × ((did ≡ happenings.Begin a ∷ []) ⊎ (did ≡ happenings.End a ∷ []))
-IsEvent (CellLoad cell) answer did = ReadsAtMost did
-IsEvent (CellExchange cell expected new) (answers.Flag true) did = Writes did
-IsEvent (CellExchange cell expected new) answer did = ReadsAtMost did
-IsEvent (LockTry lock holder) (answers.Flag true) did =
-    (variable : ℕ) × (did ≡ happenings.Lock variable ∷ [])
-IsEvent (LockStore lock) answer did = (variable : ℕ) × (did ≡ happenings.Unlock variable ∷ [])
-IsEvent step answer did = did ≡ []
+IsEvent s before (CellLoad cell) answer did = ReadsAtMost s cell answer did
+IsEvent s before (CellExchange cell expected new) (answers.Flag true) did =
+    Writes s cell expected new did
+IsEvent s before (CellExchange cell expected new) answer did = ReadsAtMost s cell answer did
+IsEvent s before (LockTry lock holder) (answers.Flag true) did =
+    (variable : ℕ) × IsLockAt s variable × (lock ≡ lock_number s variable)
+    × (did ≡ happenings.Lock variable ∷ [])
+IsEvent s before (LockStore lock) answer did =
+    (variable : ℕ) × IsTrue (has_lock variable before) × (lock ≡ lock_number s variable)
+    × (did ≡ happenings.Unlock variable ∷ [])
+IsEvent s before step answer did = did ≡ []
 
 -- what a task does at a record is its event, and then the marks before its next step
-pub record DoesEvent (step : Step) (answer : Answer) (did : List Happening) : Type 0 where
+pub record DoesEvent (s : Setting) (before : List Happening) (step : Step) (answer : Answer)
+    (did : List Happening) : Type 0 where
   pub event : List Happening
   pub marks : List Happening
   pub all : did ≡ event ++ marks
-  pub is_event : IsEvent step answer event
+  pub is_event : IsEvent s before step answer event
   pub are_marks : AreMarks marks
 
 -- so is it at each of these records
 abbrev pub EachDoesItsEvent : {run : Run} {all : List Record} → RunList run all → List Record → Type 0
 EachDoesItsEvent list [] = Unit {0}
-EachDoesItsEvent list (latest ∷ earlier) =
+EachDoesItsEvent {run = run} list (latest ∷ earlier) =
     EachDoesItsEvent list earlier
-    × DoesEvent latest.step latest.answer
+    × DoesEvent (task_setting run latest.task)
+    (did_by (list.tasks latest.task) (made_by latest.task earlier)) latest.step latest.answer
     (did_next (list.tasks latest.task) (made_by latest.task earlier))

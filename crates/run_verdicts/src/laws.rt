@@ -14,8 +14,10 @@ use run_lists::laws::run_lists_keep_the_discipline;
 use slot_table::step::Step;
 
 /// Law: in the history that a run list tells each record has its event, by its step and its answer, and then the marks
-/// that its task makes before its next step: a step of the clock begins or ends one access, an accepted exchange writes,
-/// and so on. Before its first step a task makes marks alone.
+/// that its task makes before its next step. A step of the clock begins or ends one access. A read has the value that its
+/// bytes have in the word that the load or the refused exchange answered. An accepted exchange changes only the bytes
+/// that it writes, to the value that it writes. A lock is taken or given up at the step on its own word. Before its first
+/// step a task makes marks alone.
 pub fn records_tell_their_events()
     ensures each { (run : Run) (records : List Record) → (list : RunList run records) → EachDoesItsEvent list records }
     ensures first { (run : Run) (records : List Record) → (list : RunList run records)
