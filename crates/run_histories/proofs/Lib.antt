@@ -1,0 +1,4 @@
+pub mod WordBytes
+pub mod CellBlocks
+pub mod Memories
+pub mod Cells
