@@ -16,31 +16,14 @@ use Rattle.run_lists.proofs.Histories.{front_of}
 use Rattle.run_lists.proofs.OwnLasts.{own_latest}
 use Rattle.run_verdicts.specs.Events.{AreMarks, DoesEvent, EachDoesItsEvent, IsEvent}
 use Rattle.run_verdicts.proofs.Tells as tells
-use Rattle.run_verdicts.proofs.Tells.{Tells}
+use Rattle.setup_access.specs.Check.{Fallen}
+use Rattle.run_verdicts.proofs.Onces.{begin_once}
+use Rattle.run_verdicts.proofs.Tells.{Tells, goes_on, stays, stops}
 use Rattle.run_verdicts.proofs.TextTells.{whole_tells}
 
 marks_both : (first second : List Happening) → AreMarks first → AreMarks second → AreMarks (first ++ second)
 marks_both [] second one two = two
 marks_both (x ∷ first) second one two = (one.0, marks_both first second one.1 two)
-
--- the next point is taken where it stands so many records from the end, or more
-goes_on : (n : ℕ) (last point : Point) (points : List Point) → n ≤ point.to_come → point_by n last (point ∷ points) ≡ point_by n point points
-goes_on n last point points below = rw (le-leb n point.to_come below) refl
-
-stops : (n : ℕ) (last point : Point) (points : List Point) → point.to_come < n → point_by n last (point ∷ points) ≡ last
-stops n last point points above = elim (leb_tells n point.to_come) [
-  | inl more ↦ let it : n ≤ point.to_come = more.1 in absurd (omega (arith, it, above))
-  | inr there ↦ rw there.0 refl
-]
-
--- no point stands before the records that it tells
-stays : (s : Setting) (n : ℕ) (last : Point) (records : List Record) (did : List Happening) (points : List Point) → Tells s records did points → length records < n
-    → point_by n last points ≡ last
-stays s n last records did points (tells.over d) above = refl
-stays s n last records did points (tells.marks r d more point others here says are goes) above = stops n last point others (omega (arith, here, above))
-stays s n last records did points (tells.silent first later d others event goes) above = stays s n last later d others goes (omega (arith, above))
-stays s n last records did points (tells.event first later d more point others here says event goes) above =
-    stops n last point others (omega (arith, here, above))
 
 -- what is computed by then, before the records
 pub record Computes (last : Point) (records : List Record) (points : List Point) : Type 0 where
@@ -48,27 +31,28 @@ pub record Computes (last : Point) (records : List Record) (points : List Point)
   pub all : (point_by (length records) last points).progress.did ≡ last.progress.did ++ marks
   pub are : AreMarks marks
 
-computes : (s : Setting) (last : Point) (records : List Record) (did : List Happening) (points : List Point) → last.progress.did ≡ did → Tells s records did points
+computes : (s : Setting) (last : Point) (records : List Record) (did : List Happening) (points : List Point) (outs : List Fallen) → last.progress.did ≡ did → Tells s records did points outs
     → Computes last records points
-computes s last records did points same (tells.over d) = record { marks = []; all = sym (append-nil last.progress.did); are = tt }
-computes s last records did points same (tells.marks r d more point others here says are goes) =
-    let rest = computes s point r point.progress.did others refl goes in record {
+computes s last records did points outs same (tells.over d) = record { marks = []; all = sym (append-nil last.progress.did); are = tt }
+computes s last records did points outs same (tells.marks r d more point others o here says are goes) =
+    let rest = computes s point r point.progress.did others o refl goes in record {
       marks = more ++ rest.marks;
       all = ap (λ (p : Point). p.progress.did) (goes_on (length r) last point others (omega (arith, here)))
           ∙ (rest.all ∙ (ap (λ (x : List Happening). x ++ rest.marks) (says ∙ ap (λ (x : List Happening). x ++ more) (sym same))
           ∙ append_assoc last.progress.did more rest.marks));
       are = marks_both more rest.marks are rest.are;
     }
-computes s last records did points same (tells.silent first later d others event goes) = record {
+computes s last records did points outs same (tells.silent first later d others o event goes) = record {
   marks = [];
-  all = ap (λ (p : Point). p.progress.did) (stays s (suc (length later)) last later d others goes (omega arith)) ∙ sym (append-nil last.progress.did);
+  all = ap (λ (p : Point). p.progress.did) (stays s (suc (length later)) last later d others o goes (omega arith)) ∙ sym (append-nil last.progress.did);
   are = tt;
 }
-computes s last records did points same (tells.event first later d more point others here says event goes) = record {
+computes s last records did points outs same (tells.event first later d more point others o here says event goes) = record {
   marks = [];
   all = ap (λ (p : Point). p.progress.did) (stops (suc (length later)) last point others (omega (arith, here))) ∙ sym (append-nil last.progress.did);
   are = tt;
 }
+computes s last records did points outs same (tells.fell r d others o fallen so goes) = computes s last r d others o same goes
 
 -- what is done with a record, up to the next
 pub record DoneWith (s : Setting) (last : Point) (x : Record) (q : List Record) (points : List Point) : Type 0 where
@@ -81,12 +65,12 @@ pub record DoneWith (s : Setting) (last : Point) (x : Record) (q : List Record) 
 same_first : (first x : Record) (later q : List Record) → first ∷ later ≡ x ∷ q → (first ≡ x) × (later ≡ q)
 same_first first x later q is = (cc, cc)
 
-done_with : (s : Setting) (last : Point) (records : List Record) (did : List Happening) (points : List Point) → last.progress.did ≡ did → Tells s records did points
+done_with : (s : Setting) (last : Point) (records : List Record) (did : List Happening) (points : List Point) (outs : List Fallen) → last.progress.did ≡ did → Tells s records did points outs
     → (p : List Record) (x : Record) (q : List Record) → records ≡ p ++ x ∷ q → DoneWith s last x q points
-done_with s last records did points same (tells.over d) p x q is =
+done_with s last records did points outs same (tells.over d) p x q is =
     let long : 0 ≡ length p + suc (length q) = ap (λ (r : List Record). length r) is ∙ length-append p (x ∷ q) in absurd (omega (arith, long))
-done_with s last records did points same (tells.marks r d more point others here says are goes) p x q is =
-    let rest = done_with s point r point.progress.did others refl goes p x q is in
+done_with s last records did points outs same (tells.marks r d more point others o here says are goes) p x q is =
+    let rest = done_with s point r point.progress.did others o refl goes p x q is in
     let long : length r ≡ length p + suc (length q) = ap (λ (l : List Record). length l) is ∙ length-append p (x ∷ q) in
     record {
       event = rest.event;
@@ -98,11 +82,11 @@ done_with s last records did points same (tells.marks r d more point others here
           (sym (goes_on (suc (length q)) last point others (omega (arith, here, long)))) rest.is_event;
       are = rest.are;
     }
-done_with s last records did points same (tells.silent first later d others event goes) [] x q is =
+done_with s last records did points outs same (tells.silent first later d others o event goes) [] x q is =
     let it = same_first first x later q is in
-    let at_q : Tells s q d others = subst (λ (r : List Record). Tells s r d others) it.1 goes in
-    let then = computes s last q d others same at_q in
-    let before : point_by (suc (length q)) last others ≡ last = stays s (suc (length q)) last q d others at_q (omega arith) in
+    let at_q : Tells s q d others o = subst (λ (r : List Record). Tells s r d others o) it.1 goes in
+    let then = computes s last q d others o same at_q in
+    let before : point_by (suc (length q)) last others ≡ last = stays s (suc (length q)) last q d others o at_q (omega arith) in
     record {
       event = [];
       marks = then.marks;
@@ -112,12 +96,12 @@ done_with s last records did points same (tells.silent first later d others even
           (sym (ap (λ (t : Point). t.progress.did) before ∙ same)) event);
       are = then.are;
     }
-done_with s last records did points same (tells.silent first later d others event goes) (f ∷ p) x q is =
-    let it = same_first first f later (p ++ x ∷ q) is in done_with s last later d others same goes p x q it.1
-done_with s last records did points same (tells.event first later d more point others here says event goes) [] x q is =
+done_with s last records did points outs same (tells.silent first later d others o event goes) (f ∷ p) x q is =
+    let it = same_first first f later (p ++ x ∷ q) is in done_with s last later d others o same goes p x q it.1
+done_with s last records did points outs same (tells.event first later d more point others o here says event goes) [] x q is =
     let it = same_first first x later q is in
-    let at_q : Tells s q point.progress.did others = subst (λ (r : List Record). Tells s r point.progress.did others) it.1 goes in
-    let then = computes s point q point.progress.did others refl at_q in
+    let at_q : Tells s q point.progress.did others o = subst (λ (r : List Record). Tells s r point.progress.did others o) it.1 goes in
+    let then = computes s point q point.progress.did others o refl at_q in
     let there : point.to_come ≡ length q = here ∙ ap (λ (r : List Record). length r) it.1 in
     let before : point_by (suc (length q)) last (point ∷ others) ≡ last = stops (suc (length q)) last point others (omega (arith, there)) in
     record {
@@ -131,10 +115,10 @@ done_with s last records did points same (tells.event first later d more point o
           (sym (ap (λ (t : Point). t.progress.did) before ∙ same)) event);
       are = then.are;
     }
-done_with s last records did points same (tells.event first later d more point others here says event goes) (f ∷ p) x q is =
+done_with s last records did points outs same (tells.event first later d more point others o here says event goes) (f ∷ p) x q is =
     let it = same_first first f later (p ++ x ∷ q) is in
     let long : length later ≡ length p + suc (length q) = ap (λ (l : List Record). length l) it.1 ∙ length-append p (x ∷ q) in
-    let rest = done_with s point later point.progress.did others refl goes p x q it.1 in
+    let rest = done_with s point later point.progress.did others o refl goes p x q it.1 in
     record {
       event = rest.event;
       marks = rest.marks;
@@ -145,12 +129,22 @@ done_with s last records did points same (tells.event first later d more point o
           (sym (goes_on (suc (length q)) last point others (omega (arith, here, long)))) rest.is_event;
       are = rest.are;
     }
+done_with s last records did points outs same (tells.fell r d others o fallen so goes) p x q is = done_with s last r d others o same goes p x q is
 
 drop_front : (first rest : List Happening) → drop (length first) (first ++ rest) ≡ rest
 drop_front [] rest = refl
 drop_front (one ∷ first) rest = drop_front first rest
 
 module _ (run : Run) (records : List Record) (list : RunList run records) where
+  -- all records of a task
+  pub told_whole : (task : ℕ) → Tells (task_setting run task) (reverse (records_of task records) ++ (list.tasks task).more) []
+      (list.tasks task).whole.end.way (list.tasks task).whole.end.outcomes
+  told_whole task =
+      let registers : ℕ = length (task_of run task).registers in
+      let all : List Record = reverse (records_of task records) ++ (list.tasks task).more in
+      whole_tells (task_setting run task) registers (task_of run task).body all (list.tasks task).whole
+      (begin_once (task_setting run task) registers (task_of run task).body all (list.tasks task).whole)
+
   does_at : (later : List Record) (latest : Record) (earlier : List Record) → records ≡ later ++ latest ∷ earlier
       → DoesEvent (task_setting run latest.task) (did_by (list.tasks latest.task) (made_by latest.task earlier)) latest.step latest.answer
       (did_next (list.tasks latest.task) (made_by latest.task earlier))
@@ -166,8 +160,8 @@ module _ (run : Run) (records : List Record) (list : RunList run records) where
       front.1 ∙ (ap (λ (r : List Record). reverse r ++ front.0) (own_latest task latest earlier refl)
       ∙ (ap (λ (r : List Record). r ++ front.0) (reverse-append (latest ∷ []) own) ∙ append_assoc (reverse own) (latest ∷ []) front.0)) in
       let first : Point = first_point (to_come written 0) registers in
-      let told = whole_tells (task_setting run task) registers (task_of run task).body whole written.whole in
-      let it = done_with (task_setting run task) first whole [] written.whole.end.way refl told (reverse own) latest front.0 split in
+      let told = told_whole task in
+      let it = done_with (task_setting run task) first whole [] written.whole.end.way written.whole.end.outcomes refl told (reverse own) latest front.0 split in
       let long : length whole ≡ length (reverse own) + suc (length front.0) =
       ap (λ (r : List Record). length r) split ∙ length-append (reverse own) (latest ∷ front.0) in
       let same : length (reverse own) ≡ length own = length-reverse own in
@@ -200,8 +194,7 @@ module _ (run : Run) (records : List Record) (list : RunList run records) where
       let registers : ℕ = length (task_of run task).registers in
       let whole : List Record = reverse (records_of task records) ++ written.more in
       let first : Point = first_point (to_come written 0) registers in
-      let it = computes (task_setting run task) first whole [] written.whole.end.way refl
-      (whole_tells (task_setting run task) registers (task_of run task).body whole written.whole) in
+      let it = computes (task_setting run task) first whole [] written.whole.end.way written.whole.end.outcomes refl (told_whole task) in
       let all_left : to_come written 0 ≡ length whole = omega arith in
       let by_then : did_by written 0 ≡ it.marks = ap (λ (n : ℕ). (point_by n first written.whole.end.way).progress.did) all_left ∙ it.all in
       subst AreMarks (sym by_then) it.are

@@ -6,6 +6,10 @@ pub mod Counts
 pub mod Takings
 pub mod Endings
 pub mod Quiet
+pub mod Opens
+pub mod Onces
 pub mod Tells
+pub mod Watched
 pub mod TextTells
 pub mod Does
+pub mod Watches

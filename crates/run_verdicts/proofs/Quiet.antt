@@ -15,7 +15,7 @@ use Rattle.setup_access.specs.Find.{LooksUp}
 use Rattle.setup_access.specs.Found.{Hears, Takes, Tells, finder_half, setter_half}
 use Rattle.setup_access.specs.Records.{MakesDone, MakesFlag, MakesWord, OnFlag, OnHalves, OnWord}
 use Rattle.setup_access.specs.Setting.{Setting, look_order, slot_of, try_order}
-use Rattle.setup_access.specs.Setup.{Arms, Frees, Judged, Judges, TriesInsert, WatchesAt}
+use Rattle.setup_access.specs.Setup.{Arms, Frees, Judged, Judges, SetsUp, TriesInsert, WatchesAt}
 use Rattle.setup_access.specs.Values.{LoadsFrom, both_values, source_of}
 use Rattle.setup_access.specs.declared.begun.Begun.{Begun}
 use Rattle.setup_access.specs.declared.outcome.Outcome.{Outcome}
@@ -84,7 +84,7 @@ module _ (P : List Record → Type 0) (before : (first : Record) (later : List R
         | inr not_yet ↦ hears half task index later both rest not_yet.1 p
       ]))
 
-  looks_up : (s : Setting) (a : Access) (indices : List ℕ) (records : List Record) (found : Option Watchpoint) (rest : List Record)
+  pub looks_up : (s : Setting) (a : Access) (indices : List ℕ) (records : List Record) (found : Option Watchpoint) (rest : List Record)
       → LooksUp s a indices records found rest → P rest → P records
   looks_up s a [] records found rest h p = ends records rest h.1 p
   looks_up s a (index ∷ indices) records found rest h p = step_word s.task (Load index) _ records tt h (λ word later got. elim got [
@@ -102,12 +102,12 @@ module _ (P : List Record → Type 0) (before : (first : Record) (later : List R
   takes s a found records outcome rest h p = step_flag s.task (TryConsume found.index found.word) _ records tt h (λ taken later got.
       pick taken _ _ _ got (λ told. tells s a found.index later outcome rest told p) (λ lost. ends later rest lost.1 p))
 
-  masked : (mask : Option ℕ) (s : Setting) (a : Access) (found : Watchpoint) (records : List Record) (outcome none : Outcome) (rest : List Record)
+  pub masked : (mask : Option ℕ) (s : Setting) (a : Access) (found : Watchpoint) (records : List Record) (outcome none : Outcome) (rest : List Record)
       → MatchOption mask (Takes s a found records outcome rest) (λ m. (outcome ≡ none) × (rest ≡ records)) → P rest → P records
   masked None s a found records outcome none rest h p = takes s a found records outcome rest h p
   masked (Some m) s a found records outcome none rest h p = ends records rest h.1 p
 
-  tries_insert : (task word : ℕ) (indices : List ℕ) (records : List Record) (place : Option ℕ) (rest : List Record)
+  pub tries_insert : (task word : ℕ) (indices : List ℕ) (records : List Record) (place : Option ℕ) (rest : List Record)
       → TriesInsert task word indices records place rest → P rest → P records
   tries_insert task word [] records place rest h p = ends records rest h.1 p
   tries_insert task word (index ∷ indices) records place rest h p = step_flag task (Insert index word) _ records tt h (λ accepted later got.
@@ -123,15 +123,26 @@ module _ (P : List Record → Type 0) (before : (first : Record) (later : List R
   judges s a index values records outcome rest h p = step_flag s.task (Consume index) _ records tt h (λ untouched later got.
       pick untouched _ _ _ got (λ quiet. ends later rest quiet.1 p) (λ hit. hears finder_half s.task index later hit.0 rest hit.1 p))
 
-  arms : (s : Setting) (a : Access) (index : ℕ) (records : List Record) (outcome : Outcome) (rest : List Record) → Arms s a index records outcome rest
+  pub arms : (s : Setting) (a : Access) (index : ℕ) (records : List Record) (outcome : Outcome) (rest : List Record) → Arms s a index records outcome rest
       → P rest → P records
   arms s a index records outcome rest h p = step_done s.task (Name index (ticket_number a)) _ records tt h (λ later got.
       loads_from s a (source_of s a) later got.0 got.2 got.4
       (loads_from s a (source_of s a) got.2 got.1 got.3 got.5 (judges s a index (both_values got.0 got.1) got.3 outcome rest got.6 p)))
 
-  frees : (s : Setting) (index : ℕ) (records rest : List Record) → Frees s index records rest → P rest → P records
+  pub frees : (s : Setting) (index : ℕ) (records rest : List Record) → Frees s index records rest → P rest → P records
   frees s index records rest h p = step_done s.task (Clear index) _ records tt h (λ later got.
       step_done s.task (Remove index) _ later tt got (λ after over. ends after rest over p))
+
+  -- a watchpoint that was set up, or tries for one
+  watches_at : (s : Setting) (a : Access) (place : Option ℕ) (records : List Record) (judged : Option Judged) (rest : List Record)
+      → WatchesAt s a place records judged rest → P rest → P records
+  watches_at s a None records judged rest h p = ends records rest h.1 p
+  watches_at s a (Some index) records judged rest h p = arms s a index records h.0 rest h.1 p
+
+  pub sets_up : (s : Setting) (a : Access) (word : ℕ) (judged : Option Judged) (records rest : List Record) → SetsUp s a word records judged rest
+      → P rest → P records
+  sets_up s a word judged records rest h p =
+      tries_insert s.task word (try_order (slot_of s a)) records h.0 h.1 h.2 (watches_at s a h.0 h.1 judged rest h.3 p)
 
   watched_at : (s : Setting) (a : Access) (asked : ℕ) (place : Option ℕ) (records : List Record) (judged : Option Judged) (later : List Record) (pass : Pass)
       (rest : List Record)

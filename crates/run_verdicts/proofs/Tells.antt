@@ -1,5 +1,7 @@
 -- What a text's records tell, point by point: each record's event, and the marks that come with it.
-use Rattle.std.proofs.Common.{◌≡◌, ◌<◌, ◌⊎◌, ◌+◌, ◌%◌, ◌^◌, ◌∙◌, ◌∷◌, ◌++◌, [], inl, inr, ℕ, zero, suc, Bool, true, false, List, MatchBool, Some, ap, append_assoc, drop, length, refl, replicate, subst, sym}
+use Rattle.std.proofs.Common.{◌≡◌, ◌<◌, ◌≤◌, ◌⊎◌, ◌+◌, ◌%◌, ◌^◌, ◌∙◌, ◌∷◌, ◌++◌, [], inl, inr, ℕ, zero, suc, Bool, true, false, List, IsTrue, MatchBool, Some, ap, append_assoc, arith, drop, length, refl, replicate, subst, sym}
+use Rattle.std.proofs.lemmas.Bool.{le-leb}
+use Rattle.std.proofs.lemmas.Bool.Decides.{leb_tells}
 use Rattle.access_types.specs.Access as access
 use Rattle.access_types.specs.Race.{bytes_of}
 use Rattle.access_types.specs.declared.history.Happening.{Happening}
@@ -14,10 +16,10 @@ use Rattle.memory_operation.specs.Values.{is_wanted, new_value, sum_of, with_val
 use Rattle.memory_operation.specs.declared.effect.Effect.{Effect}
 use Rattle.memory_operation.specs.declared.operation.Change.{Change}
 use Rattle.memory_operation.specs.declared.operation.Change.TheVariants as changes
-use Rattle.setup_access.specs.Check.{Check, Passes, left_to_check}
+use Rattle.setup_access.specs.Check.{Check, Fallen}
+use Rattle.setup_access.specs.Own.{IsOwn}
 use Rattle.setup_access.specs.Records.{MakesWord}
 use Rattle.setup_access.specs.Values.{source_of, value_in}
-use Rattle.setup_access.specs.declared.begun.Begun.{Begun}
 use Rattle.setup_access.specs.declared.source.Source.{Source}
 use Rattle.setup_access.proofs.DisciplineLemmas.{on_word}
 use Rattle.slot_table.specs.declared.records.Record.{Record}
@@ -25,21 +27,60 @@ use Rattle.slot_table.specs.declared.step.Answer.{Answer}
 use Rattle.slot_table.specs.declared.step.Answer.TheVariants as answers
 use Rattle.slot_table.specs.declared.step.Step.{Step}
 use Rattle.slot_table.specs.declared.step.Step.TheVariants.{CellExchange, CellLoad, Clear, Clock, Consume, Insert, Load, LockStore, LockTry, Name, PairLoad, Remove, Tell, TryConsume}
-use Rattle.written_order.specs.Standing.{Point, Setting, Standing, checks_of, coming, counting}
+use Rattle.written_order.specs.Standing.{Point, Setting, Standing, checks_of, coming, counting, point_by}
 use Rattle.run_verdicts.specs.Events.{AreMarks, IsEvent, Reads, ReadsAtMost, Writes}
-use Rattle.run_verdicts.proofs.Quiet.{IsOfCheck, once, rechecks}
+use Rattle.run_lists.proofs.Intervals.{IsOpen}
+use Rattle.run_verdicts.specs.Watches.{IsWatch, is_verdict}
+use Rattle.run_verdicts.proofs.Quiet.{IsOfCheck}
+
+-- What falls is the verdict on a watch at the front of these records, of an access in progress, which the task doesn't
+-- end or go on with before the last of them; or no verdict.
+pub record IsWatched (s : Setting) (records : List Record) (did : List Happening) (points : List Point) (fallen : Fallen) : Type 0 where
+  pub watch : List Record
+  pub split : records ≡ watch ++ fallen.later
+  pub is_watch : IsWatch (checks_of s) fallen.access fallen.outcome watch
+  pub own : IsOwn (checks_of s) fallen.access
+  pub goes : IsOpen did fallen.access
+  pub stays : (n : ℕ) (last : Point) → length fallen.later < n → point_by n last points ≡ last
+
+abbrev pub FallsSo : Setting → List Record → List Happening → List Point → Fallen → Type 0
+FallsSo s records did points fallen = IsTrue (is_verdict fallen.outcome) → IsWatched s records did points fallen
 
 -- From records that are to come and what was done before them, what the points of a way tell: some marks now, or the
--- first record, with its event or without one.
-pub data Tells (s : Setting) : List Record → List Happening → List Point → Type 0 where
-  over : (did : List Happening) → Tells s [] did []
-  marks : (records : List Record) (did more : List Happening) (point : Point) (points : List Point) → point.to_come ≡ length records
-      → point.progress.did ≡ did ++ more → AreMarks more → Tells s records point.progress.did points → Tells s records did (point ∷ points)
-  silent : (first : Record) (later : List Record) (did : List Happening) (points : List Point) → IsEvent s did first.step first.answer []
-      → Tells s later did points → Tells s (first ∷ later) did points
-  event : (first : Record) (later : List Record) (did more : List Happening) (point : Point) (points : List Point) → point.to_come ≡ length later
-      → point.progress.did ≡ did ++ more → IsEvent s did first.step first.answer more → Tells s later point.progress.did points
-      → Tells s (first ∷ later) did (point ∷ points)
+-- first record, with its event or without one. These outcomes fall at the records.
+pub data Tells (s : Setting) : List Record → List Happening → List Point → List Fallen → Type 0 where
+  over : (did : List Happening) → Tells s [] did [] []
+  marks : (records : List Record) (did more : List Happening) (point : Point) (points : List Point) (outs : List Fallen) → point.to_come ≡ length records
+      → point.progress.did ≡ did ++ more → AreMarks more → Tells s records point.progress.did points outs → Tells s records did (point ∷ points) outs
+  silent : (first : Record) (later : List Record) (did : List Happening) (points : List Point) (outs : List Fallen)
+      → IsEvent s did first.step first.answer []
+      → Tells s later did points outs → Tells s (first ∷ later) did points outs
+  event : (first : Record) (later : List Record) (did more : List Happening) (point : Point) (points : List Point) (outs : List Fallen)
+      → point.to_come ≡ length later
+      → point.progress.did ≡ did ++ more → IsEvent s did first.step first.answer more → Tells s later point.progress.did points outs
+      → Tells s (first ∷ later) did (point ∷ points) outs
+  fell : (records : List Record) (did : List Happening) (points : List Point) (outs : List Fallen) (fallen : Fallen)
+      → FallsSo s records did points fallen → Tells s records did points outs → Tells s records did points (fallen ∷ outs)
+
+-- the next point is taken where it stands so many records from the end, or more
+pub goes_on : (n : ℕ) (last point : Point) (points : List Point) → n ≤ point.to_come → point_by n last (point ∷ points) ≡ point_by n point points
+goes_on n last point points below = rw (le-leb n point.to_come below) refl
+
+pub stops : (n : ℕ) (last point : Point) (points : List Point) → point.to_come < n → point_by n last (point ∷ points) ≡ last
+stops n last point points above = elim (leb_tells n point.to_come) [
+  | inl more ↦ let it : n ≤ point.to_come = more.1 in absurd (omega (arith, it, above))
+  | inr there ↦ rw there.0 refl
+]
+
+-- no point stands before the records that it tells
+pub stays : (s : Setting) (n : ℕ) (last : Point) (records : List Record) (did : List Happening) (points : List Point) (outs : List Fallen)
+    → Tells s records did points outs → length records < n → point_by n last points ≡ last
+stays s n last records did points outs (over d) above = refl
+stays s n last records did points outs (marks r d more point others o here says are goes) above = stops n last point others (omega (arith, here, above))
+stays s n last records did points outs (silent first later d others o event_so goes) above = stays s n last later d others o goes (omega (arith, above))
+stays s n last records did points outs (event first later d more point others o here says event_so goes) above =
+    stops n last point others (omega (arith, here, above))
+stays s n last records did points outs (fell r d others o fallen so goes) above = stays s n last r d others o goes above
 
 -- a step of a check has no event
 check_silent : (s : Setting) (did : List Happening) (step : Step) (answer : Answer) → IsOfCheck step → IsEvent s did step answer []
@@ -58,9 +99,9 @@ check_silent s did (LockTry lock holder) answer ok = absurd ok
 check_silent s did (LockStore lock) answer ok = absurd ok
 check_silent s did Clock answer ok = absurd ok
 
-pub silent_check : (s : Setting) (did : List Happening) (points : List Point) (first : Record) (later : List Record) → IsOfCheck first.step → Tells s later did points
-    → Tells s (first ∷ later) did points
-silent_check s did points first later ok tells = silent first later did points (check_silent s did first.step first.answer ok) tells
+pub silent_check : (s : Setting) (did : List Happening) (points : List Point) (outs : List Fallen) (first : Record) (later : List Record) → IsOfCheck first.step → Tells s later did points outs
+    → Tells s (first ∷ later) did points outs
+silent_check s did points outs first later ok tells = silent first later did points outs (check_silent s did first.step first.answer ok) tells
 
 -- the step of the clock at which an access begins or ends
 begins_at : (s : Setting) (did : List Happening) (first : Record) (a : access.Access) → first.step ≡ Clock
@@ -89,7 +130,7 @@ on_exchange answers.Done Accepted Refused Goal h at_yes at_no = absurd h
 
 -- what an operation on the bytes of an access in their cell tells of its effect
 module _ (s : Setting) (a : access.Access) (source : Source) (tells_of : Effect → List Happening) (did : List Happening)
-    (point : Point) (points : List Point) where
+    (point : Point) (points : List Point) (outs : List Fallen) where
   -- a record that may be the last of a change, and that saw this word: nothing comes of it, or what was read
   record MayEnd (made : Record) (seen : ℕ) : Type 0 where
     silently : IsEvent s did made.step made.answer []
@@ -124,21 +165,21 @@ module _ (s : Setting) (a : access.Access) (source : Source) (tells_of : Effect 
   }
 
   module _ (task : ℕ) (change : Change) (effect : Effect) (rest : List Record) (reads : IsReading) (writes : IsWriting change)
-      (here : point.to_come ≡ length rest) (tells_so : point.progress.did ≡ did ++ tells_of effect) (goes : Tells s rest point.progress.did points) where
+      (here : point.to_come ≡ length rest) (tells_so : point.progress.did ≡ did ++ tells_of effect) (goes : Tells s rest point.progress.did points outs) where
     stopped : (made : Record) (records : List Record) (seen : ℕ) → MayEnd made seen → (effect ≡ only_read (value_in a source seen)) × (rest ≡ records)
-        → Tells s (made ∷ records) did (point ∷ points)
+        → Tells s (made ∷ records) did (point ∷ points) outs
     stopped made records seen may ends =
         let says : point.progress.did ≡ did ++ tells_of (only_read (value_in a source seen)) = tells_so ∙ ap (λ (e : Effect). did ++ tells_of e) ends.0 in
-        event made records did (tells_of (only_read (value_in a source seen))) point points (here ∙ ap (λ (r : List Record). length r) ends.1) says
-        may.reading (subst (λ (r : List Record). Tells s r point.progress.did points) ends.1 goes)
+        event made records did (tells_of (only_read (value_in a source seen))) point points outs (here ∙ ap (λ (r : List Record). length r) ends.1) says
+        may.reading (subst (λ (r : List Record). Tells s r point.progress.did points outs) ends.1 goes)
 
     exchanges : (made : Record) (seen : ℕ) (records : List Record) → MayEnd made seen → Exchanges task a source change seen records effect rest
-        → Tells s (made ∷ records) did (point ∷ points)
+        → Tells s (made ∷ records) did (point ∷ points) outs
     exchanges made seen [] may h =
         pick (is_wanted a.size change (value_in a source seen)) _ _ _ h (λ none. absurd none) (λ ends. stopped made [] seen may ends)
     exchanges made seen (first ∷ later) may h =
         pick (is_wanted a.size change (value_in a source seen)) _ _ _ h
-        (λ now. silent made (first ∷ later) did (point ∷ points) may.silently
+        (λ now. silent made (first ∷ later) did (point ∷ points) outs may.silently
         (on_exchange first.answer _ _ _ now.1
         (λ accepted done.
         let new : ℕ = with_value a source seen (new_value a.size change (value_in a source seen)) in
@@ -146,14 +187,14 @@ module _ (s : Setting) (a : access.Access) (source : Source) (tells_of : Effect 
         let says : point.progress.did ≡ did ++ more = tells_so ∙ ap (λ (e : Effect). did ++ tells_of e) done.0 in
         let written : IsEvent s did first.step first.answer more = subst (λ (st : Step). IsEvent s did st first.answer more) (sym now.0.1)
         (subst (λ (an : Answer). IsEvent s did (CellExchange source.cell seen new) an more) (sym accepted) (writes seen)) in
-        event first later did more point points (here ∙ ap (λ (r : List Record). length r) done.1) says written
-        (subst (λ (r : List Record). Tells s r point.progress.did points) done.1 goes))
+        event first later did more point points outs (here ∙ ap (λ (r : List Record). length r) done.1) says written
+        (subst (λ (r : List Record). Tells s r point.progress.did points outs) done.1 goes))
         (λ word refused_so again.
         exchanges first word later
         (refused first seen (with_value a source seen (new_value a.size change (value_in a source seen))) word reads now.0.1 refused_so) again)))
         (λ ends. stopped made (first ∷ later) seen may ends)
 
-    pub makes_changes : (records : List Record) → Changes task a source change records effect rest → Tells s records did (point ∷ points)
+    pub makes_changes : (records : List Record) → Changes task a source change records effect rest → Tells s records did (point ∷ points) outs
     makes_changes [] h = absurd h
     makes_changes (first ∷ later) h =
         let got = on_word first.answer _ h.2 in exchanges first got.0 later (loaded first got.0 reads h.1 got.1) got.2
@@ -208,69 +249,29 @@ module _ (s : Setting) (a : access.Access) (source : Source) (lies : source_of (
       (write_moments a (changed a.size (changes.Write value) (value_in a source seen)).written)
   only_writes value seen = writes_so (changes.Write value) seen _ (inl refl)
 
--- the points of a way
+pub counting_way : (ends_nothing : Bool) (before : Standing) → (counting ends_nothing before).way ≡ before.way
+counting_way true before = refl
+counting_way false before = refl
+
+abbrev pub comes_at : Standing → List Record → meaning.Progress → Point
+comes_at before later progress = record { to_come = length later; progress = progress; unbalanced = before.unbalanced }
+
 module _ (s : Setting) where
-  pub record Part (before : Standing) (records : List Record) (after : Standing) (rest : List Record) : Type 0 where
-    pub points : List Point
-    pub adds : after.way ≡ before.way ++ points
-    pub tells : (more : List Point) → Tells s rest after.progress.did more → Tells s records before.progress.did (points ++ more)
-
-  abbrev pub comes_at : Standing → List Record → meaning.Progress → Point
-  comes_at before later progress = record { to_come = length later; progress = progress; unbalanced = before.unbalanced }
-
-  pub both : (before between after : Standing) (records later rest : List Record) → Part before records between later → Part between later after rest
-      → Part before records after rest
-  both before between after records later rest p q = record {
-    points = p.points ++ q.points;
-    adds = q.adds ∙ (ap (λ (l : List Point). l ++ q.points) p.adds ∙ append_assoc before.way p.points q.points);
-    tells = λ more goes. subst (λ (l : List Point). Tells s records before.progress.did l) (sym (append_assoc p.points q.points more))
-        (p.tells (q.points ++ more) (q.tells more goes));
-  }
-
-  -- marks, or nothing but what isn't seen
-  pub computes : (before counted : Standing) (records : List Record) (progress : meaning.Progress) (did : List Happening) → counted.way ≡ before.way
-      → progress.did ≡ before.progress.did ++ did → AreMarks did → Part before records (coming counted records progress) records
-  computes before counted records progress did way says are = record {
-    points = comes_at counted records progress ∷ [];
-    adds = ap (λ (l : List Point). l ++ comes_at counted records progress ∷ []) way;
-    tells = λ more goes. marks records before.progress.did did (comes_at counted records progress) more refl says are goes;
-  }
-
-  pub counting_way : (ends_nothing : Bool) (before : Standing) → (counting ends_nothing before).way ≡ before.way
-  counting_way true before = refl
-  counting_way false before = refl
-
-  -- the check of an access or its close, after its begin or before its end
-  checked : (did : List Happening) (points : List Point) (scopes : List Begun) (begun : Begun) (asked : ℕ) (first : Record) (later : List Record)
-      (passes : Passes) (rest : List Record)
-      → Check (checks_of s) scopes begun asked (first ∷ later) passes rest → Tells s rest did points → Tells s later did points
-  checked did points scopes begun asked first later passes rest h goes =
-      let got = on_word first.answer _ h.2.2 in
-      pick begun.silenced _ _ _ got.2
-      (λ quiet. subst (λ (r : List Record). Tells s r did points) quiet.1 goes)
-      (λ now. once (λ (r : List Record). Tells s r did points) (silent_check s did points) (checks_of s) begun.access begun.marked asked later now.0 now.1 now.3
-      (rechecks (λ (r : List Record). Tells s r did points) (silent_check s did points) (checks_of s) (left_to_check now.0.settled scopes) now.0.asked now.1
-      (record { outcomes = now.2; asked = passes.asked }) rest now.4 goes))
-
   -- an access begins at its first record
-  pub begun_part : (a : access.Access) (scopes : List Begun) (begun : Begun) (asked : ℕ) (before : Standing) (records : List Record) (passes : Passes)
-      (rest : List Record)
-      → Check (checks_of s) scopes begun asked records passes rest → (more : List Point)
-      → Tells s rest (before.progress.did ++ happenings.Begin a ∷ []) more
-      → Tells s records before.progress.did (comes_at before (drop 1 records) (meaning.doing before.progress (happenings.Begin a ∷ [])) ∷ more)
-  begun_part a scopes begun asked before [] passes rest h more goes = absurd h.2
-  begun_part a scopes begun asked before (first ∷ later) passes rest h more goes =
-      event first later before.progress.did (happenings.Begin a ∷ []) _ more refl refl (begins_at s before.progress.did first a h.2.1)
-      (checked (before.progress.did ++ happenings.Begin a ∷ []) more scopes begun asked first later passes rest h goes)
+  pub begun_part : (a : access.Access) (before : Standing) (first : Record) (later : List Record) → first.step ≡ Clock → (more : List Point) (outs : List Fallen)
+      → Tells s later (before.progress.did ++ happenings.Begin a ∷ []) more outs
+      → Tells s (first ∷ later) before.progress.did (comes_at before later (meaning.doing before.progress (happenings.Begin a ∷ [])) ∷ more) outs
+  begun_part a before first later is more outs goes =
+      event first later before.progress.did (happenings.Begin a ∷ []) _ more outs refl refl (begins_at s before.progress.did first a is) goes
 
   -- and ends at its last
   pub ended_part : (a : access.Access) (before : Standing) (did : List Happening) (records rest : List Record)
       → MakesWord s.text.task Clock (λ stamp later. rest ≡ later) records
-      → before.progress.did ≡ did → (more : List Point) → Tells s rest (did ++ happenings.End a ∷ []) more
-      → Tells s records did (comes_at before rest (meaning.doing before.progress (happenings.End a ∷ [])) ∷ more)
-  ended_part a before did [] rest h same more goes = absurd h
-  ended_part a before did (first ∷ later) rest h same more goes =
+      → before.progress.did ≡ did → (more : List Point) (outs : List Fallen) → Tells s rest (did ++ happenings.End a ∷ []) more outs
+      → Tells s records did (comes_at before rest (meaning.doing before.progress (happenings.End a ∷ [])) ∷ more) outs
+  ended_part a before did [] rest h same more outs goes = absurd h
+  ended_part a before did (first ∷ later) rest h same more outs goes =
       let got = on_word first.answer _ h.2 in
       let says : before.progress.did ++ happenings.End a ∷ [] ≡ did ++ happenings.End a ∷ [] = ap (λ (d : List Happening). d ++ happenings.End a ∷ []) same in
-      event first later did (happenings.End a ∷ []) _ more (ap (λ (r : List Record). length r) got.2) says (ends_at s did first a h.1)
-      (subst (λ (d : List Happening). Tells s later d more) (sym says) (subst (λ (r : List Record). Tells s r (did ++ happenings.End a ∷ []) more) got.2 goes))
+      event first later did (happenings.End a ∷ []) _ more outs (ap (λ (r : List Record). length r) got.2) says (ends_at s did first a h.1)
+      (subst (λ (d : List Happening). Tells s later d more outs) (sym says) (subst (λ (r : List Record). Tells s r (did ++ happenings.End a ∷ []) more outs) got.2 goes))

@@ -1,3 +1,4 @@
 pub mod Settles
 pub mod Takings
 pub mod Events
+pub mod Watches

@@ -1,14 +1,15 @@
 //! What is true of the outcomes that each run list tells.
 
-ghost use Rattle.std.specs.Prelude.{◌≡◌, ◌∷◌, ℕ, Contains, List, None};
+ghost use Rattle.std.specs.Prelude.{◌≡◌, ◌∷◌, ℕ, All, Contains, List, None};
 ghost use Rattle.run_lists.specs.Run.{Run};
 ghost use Rattle.run_lists.specs.RunList.{RunList};
-ghost use Rattle.run_lists.specs.Told.{armed_by};
+ghost use Rattle.run_lists.specs.Told.{armed_by, outcomes_of};
 ghost use Rattle.slot_table.specs.Meetings.{Meeting, setters_heard};
 ghost use Rattle.slot_table.specs.declared.records.Record.{Record};
 ghost use Rattle.written_order.specs.Told.{did_by};
 ghost use Rattle.run_verdicts.specs.Events.{AreMarks, EachDoesItsEvent};
 ghost use Rattle.run_verdicts.specs.Takings.{EachSettles, HasOneAnswer, IsOver, WasTaken};
+ghost use Rattle.run_verdicts.specs.Watches.{IfVerdict};
 
 use run_lists::laws::run_lists_keep_the_discipline;
 use slot_table::step::Step;
@@ -29,6 +30,14 @@ pub fn records_tell_their_events()
 /// load by which a setter whose word was hit hears its finder one report of that pair or one named discard.
 pub fn outcomes_fall_where_they_are_settled()
     ensures { (run : Run) (records : List Record) → (list : RunList run records) → EachSettles list records }
+{}
+
+/// Law: each verdict that a run list tells, a report, a named discard or none, is on a watch that its task has just made
+/// of the very access that was checked: set up under the access's word, named by its ticket, and judged by its two loads
+/// and by the pair that was heard. The access is in progress all the while.
+pub fn verdicts_are_on_watches()
+    ensures { (run : Run) (records : List Record) → (list : RunList run records)
+        → All (IfVerdict list) (outcomes_of list) }
 {}
 
 /// Law: each taking has one answer in the list once its setter has heard of it: one report of two sides or one named
