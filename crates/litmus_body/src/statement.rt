@@ -20,7 +20,7 @@ use litmus_syntax::{Assignment, Call, Statement};
 
 /// How a statement begins.
 #[derive(Clone, Copy)]
-enum Opening {
+pub enum Opening {
     /// `;`
     Empty,
     /// A type of registers.
@@ -31,7 +31,7 @@ enum Opening {
 
 /// How a statement that counts begins.
 #[derive(Clone, Copy)]
-enum Counted {
+pub enum Counted {
     If,
     For,
     DataRace,
@@ -430,9 +430,9 @@ fn take_zero(cursor: &mut Cursor<'_>) -> Result<(), Refusal>
 
 /// What the parentheses of a loop say.
 #[derive(Clone, Copy)]
-struct LoopHeader {
-    register: usize,
-    turns: u64,
+pub struct LoopHeader {
+    pub register: usize,
+    pub turns: u64,
     /// How often it and the loops round it repeat its body.
-    repeats: u64,
+    pub repeats: u64,
 }
