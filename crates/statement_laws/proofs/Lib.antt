@@ -1,0 +1,9 @@
+pub mod Places
+pub mod Openings
+pub mod HeaderSound
+pub mod Sound
+pub mod Named
+pub mod Counts
+pub mod HeaderComplete
+pub mod Complete
+pub mod Whole

@@ -1,0 +1,2 @@
+pub mod Reads
+pub mod Spelled
