@@ -1,3 +1,4 @@
+pub mod SaysLemmas
 pub mod CountsLemmas
 pub mod StandsLemmas
 pub mod PartLemmas

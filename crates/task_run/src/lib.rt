@@ -5,11 +5,13 @@
 mod begins;
 mod checks;
 mod follows;
+pub mod laws;
 mod machine;
 mod marks;
 pub mod points;
 pub mod run;
 mod stage;
 
+pub use laws::one_step_is_next;
 pub use points::{After, Before};
 pub use run::{TaskRun, TaskRunError};
