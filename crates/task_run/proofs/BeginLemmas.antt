@@ -45,11 +45,13 @@ use Rattle.task_run.proofs.EndLemmas.{begins_one}
 use Rattle.task_run.proofs.FollowLemmas.{ends_standing}
 use Rattle.task_run.proofs.PartLemmas.{lock_left, no_unlock_left, unlock_left}
 use Rattle.task_run.proofs.StandsLemmas.{stands_as, stands_keeping}
+use Rattle.task_run.proofs.ToldLemmas.{before_computes, counts_now, registers_more}
 use Rattle.task_run.specs.Agrees.{Agrees, IsFit}
 use Rattle.task_run.specs.Due.{PartBegins, StatementDue}
 use Rattle.task_run.specs.Part.{PartLeft, before_access, closes, disabled, locks, makes, opens, over, stops, unlocks}
 use Rattle.task_run.specs.Plans.{PlanLeft}
 use Rattle.task_run.specs.Stands.{Stands}
+use Rattle.task_run.specs.Told.{nothing}
 use Rattle.task_run.specs.declared.machine.Machine.{Machine}
 use Rattle.task_run.specs.declared.stage.Stage.TheVariants as stages
 use Rattle.text_walk.specs.Left.{DueLeft}
@@ -65,6 +67,7 @@ begins_stopped s due machine = λ before stands. (
   before,
   λ later. record { of = (stands later).of; counts = (stands later).counts; is_in = (refl, refl, (stands later).rests) },
   λ later end. (λ h. h, λ h. h),
+  λ later. nothing,
 )
 
 pub begins_over : (s : Setting) (walk : Walk) (machine : Machine) → PartBegins s (DueLeft s dues.Ends walk) machine machine (Some stages.Over)
@@ -73,6 +76,7 @@ begins_over s walk machine = λ before stands. (
   before,
   λ later. record { of = (stands later).of; counts = (stands later).counts; is_in = (refl, refl, (stands later).rests) },
   λ later end. (λ h. h, λ h. h),
+  λ later. nothing,
 )
 
 -- the tries of a lock
@@ -96,6 +100,7 @@ begins_locking s site variable machine number wait there numbers leads = λ befo
     );
   },
   λ later end. lock_left s machine.walk site variable (before later) later end [],
+  λ later. nothing,
 )
 
 -- the step that gives a lock back
@@ -107,6 +112,7 @@ begins_unlocking s site variable machine has = λ before stands. (
   before,
   λ later. record { of = (stands later).of; counts = (stands later).counts; is_in = (refl, refl, (stands later).rests, has (before later) (stands later)) },
   λ later end. unlock_left s machine.walk site variable (before later) later end [] (has (before later) (stands later)),
+  λ later. nothing,
 )
 
 -- there is none where the task hasn't the lock: the call is counted
@@ -118,7 +124,7 @@ ends_unlocking s site variable machine after walk hasnt stands_on = λ before st
     ends_standing s (StatementDue s (tree.call (calls.Unlock variable)) site machine.walk) before
     (λ later. coming (counting true (before later)) later (before later).progress) machine.walk after walk
     (λ later end. no_unlock_left s machine.walk site variable (before later) later end [] (hasnt (before later) (stands later)))
-    (λ later. stands_on (before later) later (stands later))
+    (λ later. stands_on (before later) later (stands later)) (λ later. counts_now later (before later))
 
 -- a mask without a bit is no mask
 pub proper : (mask : Option ℕ) → proper_mask mask ≢ Some 0
@@ -211,6 +217,7 @@ module _ (s : Setting) (site : ℕ) (plan : Plan) (a : access.Access) (old off :
         (subst (λ (w : Walk). PlanLeft s old.walk site plan (before later) later end []
         ↔ PartLeft s (makes (planned_access s (before_access plan.follow (before later) later) plan site) plan.operation plan.follow) w
         (before_access plan.follow (before later) later) later end []) (sym walk) (λ h. h, λ h. h)),
+    λ later. before_computes plan.follow later (before later),
   )
     where
       a_now : (before : Standing) (later : List Record) → Stands s before old → a ≡ planned_access s (before_access plan.follow before later) plan site
@@ -304,6 +311,7 @@ begins_closing s machine checker some closes_it context = λ before stands. (
   before,
   λ later. agrees (before later) (stands later),
   λ later end. (λ h. h, λ h. h),
+  λ later. nothing,
 )
   where
     agrees : (before : Standing) → Stands s before machine → Agrees s closes before [] (record machine { checker = checker }) stages.Closing
@@ -343,6 +351,7 @@ begins_opening s kind variable site a machine progress checker begun in_limits m
   λ later. agrees (before later) (stands later),
   λ later end. subst (λ (x : access.Access). DueLeft s (dues.Opens kind variable site) machine.walk (before later) later end []
       ↔ PartLeft s (opens x) machine.walk (before later) later end []) (sym (is_scoped (before later) (stands later))) (λ h. h, λ h. h),
+  λ later. nothing,
 )
   where
     agrees : (before : Standing) → Stands s before machine
@@ -394,8 +403,10 @@ ends_setting s register value machine progress keeps = λ before stands.
     (record machine { progress = progress }) refl (λ later end. (λ h. h, λ h. h))
     (λ later. stands_keeping s (before later) (registered (before later) later register value) machine progress refl refl refl
     (keeps (length s.text.variables) (before later) later (stands later).counts.keeps) (stands later))
+    (λ later. registers_more later (before later) (before later) register value nothing)
 
 -- a block is left
 pub ends_leaving : (s : Setting) (machine : Machine) → PartBegins s (DueLeft s dues.Leaves machine.walk) machine machine None
 ends_leaving s machine = λ before stands.
     ends_standing s (DueLeft s dues.Leaves machine.walk) before before machine.walk machine refl (λ later end. (λ h. h, λ h. h)) stands
+    (λ later. nothing)

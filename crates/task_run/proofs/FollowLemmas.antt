@@ -9,9 +9,11 @@ use Rattle.litmus_syntax.specs.Tree.{Loading}
 use Rattle.memory_operation.specs.declared.effect.Effect.{Effect}
 use Rattle.slot_table.specs.declared.records.Record.{Record}
 use Rattle.task_plan.specs.Follow.{Taker, assigned, condition, goes_on, loaded_by, marks_next, nobody, so_often, to_register}
+use Rattle.task_run.proofs.ToldLemmas.{computes_both, does_more, does_now, registers_more}
 use Rattle.task_run.specs.Due.{EndsAtOnce, PartBegins}
 use Rattle.task_run.specs.Part.{FollowLeft, TakerLeft, enabled}
 use Rattle.task_run.specs.Stands.{Stands, StandsBy}
+use Rattle.task_run.specs.Told.{ComputesBy, nothing}
 use Rattle.task_run.specs.declared.machine.Machine.{Machine}
 use Rattle.task_run.specs.declared.stage.Stage.{Stage}
 use Rattle.text_walk.proofs.StepsLemmas.{through}
@@ -29,24 +31,25 @@ walk_as s walk other is before records after rest =
 -- only where the task stands has changed
 pub ends_standing : (s : Setting) (P : Steps) (before now : List Record → Standing) (walk : Walk) (machine : Machine) → machine.walk ≡ walk
     → ((later : List Record) (end : Standing) → P (before later) later end [] ↔ WalkLeft s walk (now later) later end [])
-    → StandsBy s now machine → EndsAtOnce s P before machine
-ends_standing s P before now walk machine is same stands =
-    (now, stands, λ later end. through (same later end) (walk_as s walk machine.walk is (now later) later end []))
+    → StandsBy s now machine → ComputesBy before now → EndsAtOnce s P before machine
+ends_standing s P before now walk machine is same stands computes =
+    (now, stands, λ later end. through (same later end) (walk_as s walk machine.walk is (now later) later end []), computes)
 
 -- a part that goes on as another is
 pub begins_as : (s : Setting) (P Q : Steps) (old new : Machine) (stage : Option Stage)
     → ((before : List Record → Standing) → StandsBy s before old → (later : List Record) (end : Standing) → P (before later) later end [] ↔ Q (before later) later end [])
     → PartBegins s Q old new stage → PartBegins s P old new stage
 begins_as s P Q old new None same begins = λ before stands. let goes = begins before stands in
-    (goes.0, goes.1, λ later end. through (same before stands later end) (goes.2 later end))
+    (goes.0, goes.1, λ later end. through (same before stands later end) (goes.2 later end), goes.3)
 begins_as s P Q old new (Some stage) same begins = λ before stands. let goes = begins before stands in
-    (goes.0, goes.1, goes.2, λ later end. through (same before stands later end) (goes.3 later end))
+    (goes.0, goes.1, goes.2, λ later end. through (same before stands later end) (goes.3 later end), goes.4)
 
 -- whatever is over at once goes on as what follows on it
 pub ends_on : (s : Setting) (P Q : Steps) (before now : List Record → Standing) (machine : Machine)
-    → ((later : List Record) (end : Standing) → P (before later) later end [] ↔ Q (now later) later end []) → EndsAtOnce s Q now machine
-    → EndsAtOnce s P before machine
-ends_on s P Q before now machine same ends = (ends.0, ends.1, λ later end. through (same later end) (ends.2 later end))
+    → ((later : List Record) (end : Standing) → P (before later) later end [] ↔ Q (now later) later end []) → ComputesBy before now
+    → EndsAtOnce s Q now machine → EndsAtOnce s P before machine
+ends_on s P Q before now machine same computes ends =
+    (ends.0, ends.1, λ later end. through (same later end) (ends.2 later end), λ later. computes_both (computes later) (ends.3 later))
 
 -- what is chosen where a value is 0, and where it isn't
 pub chosen_holds : (value : ℕ) (P Q : Type 0) → value ≢ 0 → Chooses value P Q ↔ P
@@ -64,22 +67,26 @@ chosen_fails value P Q fails = (
 module _ (s : Setting) (walk : Walk) (before : List Record → Standing) (machine : Machine) where
   -- nobody takes a value, or nothing follows
   pub takes_nobody : (loaded : ℕ) → machine.walk ≡ walk → StandsBy s before machine → EndsAtOnce s (TakerLeft s walk nobody loaded) before machine
-  takes_nobody loaded is stands = ends_standing s (TakerLeft s walk nobody loaded) before before walk machine is (λ later end. (λ h. h, λ h. h)) stands
+  takes_nobody loaded is stands =
+      ends_standing s (TakerLeft s walk nobody loaded) before before walk machine is (λ later end. (λ h. h, λ h. h)) stands (λ later. nothing)
 
   pub follows_nothing : (effect : Effect) → machine.walk ≡ walk → StandsBy s before machine → EndsAtOnce s (FollowLeft s walk goes_on effect) before machine
-  follows_nothing effect is stands = ends_standing s (FollowLeft s walk goes_on effect) before before walk machine is (λ later end. (λ h. h, λ h. h)) stands
+  follows_nothing effect is stands =
+      ends_standing s (FollowLeft s walk goes_on effect) before before walk machine is (λ later end. (λ h. h, λ h. h)) stands (λ later. nothing)
 
   pub follows_mark : (effect : Effect) → machine.walk ≡ walk
       → ((later : List Record) → Stands s (doing (before later) later (happenings.Mark (marks.Next 1) ∷ [])) machine)
       → EndsAtOnce s (FollowLeft s walk marks_next effect) before machine
   follows_mark effect is stands = ends_standing s (FollowLeft s walk marks_next effect) before
       (λ later. doing (before later) later (happenings.Mark (marks.Next 1) ∷ [])) walk machine is (λ later end. (λ h. h, λ h. h)) stands
+      (λ later. does_now later (before later) _)
 
   pub follows_assignment : (data_race : Bool) (effect : Effect) → machine.walk ≡ walk
       → ((later : List Record) → Stands s (enabled (so_often data_race) (before later) later) machine)
       → EndsAtOnce s (FollowLeft s walk (assigned data_race) effect) before machine
   follows_assignment data_race effect is stands = ends_standing s (FollowLeft s walk (assigned data_race) effect) before
       (λ later. enabled (so_often data_race) (before later) later) walk machine is (λ later end. (λ h. h, λ h. h)) stands
+      (λ later. does_now later (before later) _)
 
   -- a load's value is taken
   pub follows_load : (size data_races : ℕ) (taker : Taker) (effect : Effect) (old : ℕ) → effect.read ≡ Some old
@@ -92,7 +99,7 @@ module _ (s : Setting) (walk : Walk) (before : List Record → Standing) (machin
         λ h. let same : h.0 ≡ old = let both : Some h.0 ≡ Some old = sym h.1 ∙ read in cc in
             subst (λ (n : ℕ). TakerLeft s walk taker (sign_extended size n) (enabled data_races (before later) later) later end []) same h.2,
         λ t. (old, read, t),
-      )) ends
+      )) (λ later. does_now later (before later) _) ends
 
   -- a register takes it
   pub takes_register : (register : ℕ) (value : Loading) (data_race : Bool) (loaded given : ℕ)
@@ -104,7 +111,7 @@ module _ (s : Setting) (walk : Walk) (before : List Record → Standing) (machin
       (λ later. enabled (so_often data_race) (registered (before later) later register given) later) walk machine is
       (λ later end. subst (λ (g : ℕ). TakerLeft s walk (to_register register value data_race) loaded (before later) later end []
       ↔ WalkLeft s walk (enabled (so_often data_race) (registered (before later) later register g) later) later end []) (sym (gives later)) (λ h. h, λ h. h))
-      stands
+      stands (λ later. does_more later (before later) _ _ (registers_more later (before later) _ register given nothing))
 
   -- a condition takes it
   pub takes_holding : (value : Loading) (loaded : ℕ) → ((later : List Record) → loading_value (before later).progress.registers loaded value ≢ 0)
@@ -113,6 +120,7 @@ module _ (s : Setting) (walk : Walk) (before : List Record → Standing) (machin
     before,
     stands,
     λ later end. through (chosen_holds (loading_value (before later).progress.registers loaded value) _ _ (holds later)) (chosen (before later) later end []),
+    λ later. nothing,
   )
 
   pub takes_failing : (value : Loading) (loaded : ℕ) → ((later : List Record) → loading_value (before later).progress.registers loaded value ≡ 0)
@@ -120,3 +128,4 @@ module _ (s : Setting) (walk : Walk) (before : List Record → Standing) (machin
   takes_failing value loaded fails is stands =
       ends_standing s (TakerLeft s walk (condition value) loaded) before before walk machine is
       (λ later end. chosen_fails (loading_value (before later).progress.registers loaded value) _ _ (fails later)) stands
+      (λ later. nothing)

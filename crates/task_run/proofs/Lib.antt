@@ -3,10 +3,13 @@ pub mod CountsLemmas
 pub mod StandsLemmas
 pub mod PartLemmas
 pub mod EndLemmas
+pub mod ToldLemmas
 pub mod FollowLemmas
 pub mod BeginLemmas
 pub mod PlanLemmas
 pub mod BeginsLemmas
+pub mod WaitLemmas
+pub mod TriesLemmas
 pub mod LeadsLemmas
 pub mod StageLemmas
 pub mod AnswerLemmas

@@ -1,7 +1,7 @@
 -- What a task's machine says of where the task stands, and of its next step.
-use Rattle.std.proofs.Common.{◌≡◌, ◌↔◌, ◌∙◌, ◌++◌, ◌∷◌, [], append_assoc, ℕ, Bool, false, true, List, Option, None, Some, IfSome, IsNone, ◌⊎◌, ap, count_by, length, take, inl, inr, refl, subst, sym}
-use Rattle.std.proofs.lemmas.List.{append-nil}
-use Rattle.access_run.specs.Leads.{AccessIsOver, AccessIsStuck, AccessLeads, AccessOnlyStep}
+use Rattle.std.proofs.Common.{◌≡◌, ◌↔◌, ◌∙◌, ◌++◌, ◌∷◌, [], append_assoc, ℕ, Bool, false, true, List, Option, None, Some, IfSome, IsNone, ◌⊎◌, ap, count_by, length, reverse, take, inl, inr, refl, subst, sym}
+use Rattle.std.proofs.lemmas.List.{append-nil, reverse-append}
+use Rattle.access_run.specs.Leads.{AccessIsOver, AccessIsStuck, AccessLeads, AccessOnlyStep, AccessSays}
 use Rattle.access_run.specs.Whole.{NoneWhole}
 use Rattle.access_run.proofs.CheckFronts.{check, close, framed_checks}
 use Rattle.access_run.proofs.WholeLemmas.{split}
@@ -12,7 +12,7 @@ use Rattle.access_types.specs.Access as access
 use Rattle.litmus_syntax.specs.Tree.{Block}
 use Rattle.litmus_syntax.specs.declared.program.Variable.{Variable}
 use Rattle.memory_operation.specs.Leads as operations
-use Rattle.memory_operation.specs.LockLeads.{IsStuckAtLock, LockIsOver, LockLeads, LockLeft, OnlyLockStep}
+use Rattle.memory_operation.specs.LockLeads.{IsStuckAtLock, LockIsOver, LockLeads, LockLeft, LockSays, OnlyLockStep}
 use Rattle.memory_operation.specs.Locks.{TakesLock}
 use Rattle.memory_operation.specs.Operations.{Operates}
 use Rattle.memory_operation.specs.declared.lock.LockWait.{LockWait}
@@ -26,6 +26,7 @@ use Rattle.setup_access.specs.declared.begun.Begun.{Begun}
 use Rattle.setup_access.specs.declared.rules.Rules.{Rules}
 use Rattle.slot_table.specs.declared.records.Record.{Record}
 use Rattle.slot_table.specs.declared.step.Step.{Step}
+use Rattle.slot_table.specs.declared.step.Answer.{Answer}
 use Rattle.slot_table.specs.declared.step.Answer.TheVariants as answers
 use Rattle.slot_table.specs.declared.step.Step.TheVariants.{LockStore, LockTry}
 use Rattle.setup_access.specs.Parts.{made}
@@ -35,6 +36,8 @@ use Rattle.task_plan.specs.Views.{follow_of}
 use Rattle.task_plan.specs.declared.follow.Then.{Then}
 use Rattle.task_run.proofs.LeadsLemmas.{agrees_in}
 use Rattle.task_run.proofs.EndLemmas.{begins_one, lock_only, one_answer}
+use Rattle.task_run.proofs.ToldLemmas.{first_told, told_on}
+use Rattle.task_run.proofs.TriesLemmas.{access_tried, all_onto, check_tried, lock_tried, onto}
 use Rattle.task_run.proofs.StageLemmas.{in_closing, in_locking, in_making, in_opening, in_unlocking}
 use Rattle.setup_access.specs.Shown.{context_of}
 use Rattle.task_context.proofs.Leads.{leads-nil}
@@ -48,8 +51,8 @@ use Rattle.text_walk.specs.Left.{Same, WalkLeft}
 use Rattle.written_order.specs.WrittenOrder.{SpellsAll, StepsOfBlock, at_first}
 use Rattle.task_run.specs.Agrees.{Agrees, Begins, IsIn, in_part}
 use Rattle.task_run.specs.Leads.{IsStuck, Leads, WaitsTooLong}
-use Rattle.written_order.specs.Waits.{OnlyStep}
-use Rattle.task_run.specs.Says.{IsStopped}
+use Rattle.written_order.specs.Waits.{IsTooMuch, OnlyStep, WithinTurns, vain_tries}
+use Rattle.task_run.specs.Says.{IsStopped, Says, StageSays}
 use Rattle.setup_access.specs.Waits.{IsStuckBy}
 use Rattle.task_run.specs.Part.{Part, PartLeft, closes, locks, makes, opens, over, stops, unlocks}
 use Rattle.task_run.specs.declared.run.TaskRun.{TaskRun}
@@ -258,9 +261,11 @@ starts s registers body machine new stands same goes =
     let begins = goes (λ later. at_first registers) (λ later. stands) in record {
       part = begins.0;
       earlier = [];
+      waits = λ lock task. refl;
       mine = [];
       spelled = refl;
       now = begins.1;
+      told = λ later. told_on registers (begins.4 later) (first_told registers later);
       agrees = begins.2;
       left = λ later end. through (same (at_first registers) later end []) (begins.3 later end);
     }
@@ -389,6 +394,11 @@ module _ (s : Setting) (registers : ℕ) (body : Block) (records : List Record) 
           λ stuck. all.1 (inr (making_is.1 stuck)),
         )
 
+    pub making_tried : (before : List Record) (step : Step) → AccessSays own run.machine.checker step → IsTooMuch s.rules.turns step (onto leads.mine before)
+        → IsStuck leads
+    making_tried before step says tried = making_is.0 (access_tried (checks_of s) here.scopes making_agrees.is_in.2 here.asked making_part.1 leads.mine own
+        run.machine.checker making_leads making_agrees.is_in.8 before step says tried)
+
   module _ (is : run.stage ≡ stages.Opening) where
     opening_part : (a : access.Access) × (leads.part ≡ opens a)
     opening_part = in_opening s here leads.mine run.machine run.stage leads.part (leads.agrees leads.mine).is_in is
@@ -420,6 +430,11 @@ module _ (s : Setting) (registers : ℕ) (body : Block) (records : List Record) 
           λ stuck. all.1 (inr (opening_is.1 stuck)),
         )
 
+    pub opening_tried : (before : List Record) (step : Step) → checks.Says run.machine.checker step → IsTooMuch s.rules.turns step (onto leads.mine before)
+        → IsStuck leads
+    opening_tried before step says tried = opening_is.0 (check_tried (checks_of s) here.scopes (Checks opening_agrees.is_in.0) here.asked leads.mine
+        run.machine.checker opening_agrees.is_in.4 s.rules.turns before step says tried)
+
   module _ (is : run.stage ≡ stages.Closing) where
     closing_part : leads.part ≡ closes
     closing_part = in_closing s here leads.mine run.machine run.stage leads.part (leads.agrees leads.mine).is_in is
@@ -450,6 +465,11 @@ module _ (s : Setting) (registers : ℕ) (body : Block) (records : List Record) 
           ],
           λ stuck. all.1 (inr (closing_is.1 stuck)),
         )
+
+    pub closing_tried : (before : List Record) (step : Step) → checks.Says run.machine.checker step → IsTooMuch s.rules.turns step (onto leads.mine before)
+        → IsStuck leads
+    closing_tried before step says tried = closing_is.0 (check_tried (checks_of s) closing_agrees.is_in.0
+        (Closes closing_agrees.is_in.1 closing_agrees.is_in.2) here.asked leads.mine run.machine.checker closing_agrees.is_in.6 s.rules.turns before step says tried)
 
   module _ (wait : LockWait) (variable : ℕ) (is : run.stage ≡ stages.Locking wait variable) where
     locking_part : leads.part ≡ locks variable
@@ -488,3 +508,37 @@ module _ (s : Setting) (registers : ℕ) (body : Block) (records : List Record) 
           ],
           λ stuck. all.1 (inr (locking_is.1 stuck)),
         )
+
+    pub locking_tried : (before : List Record) → ((lock task : ℕ) → vain_tries (LockTry lock task) before ≡ 0) → (step : Step) → LockSays wait step
+        → IsTooMuch s.rules.turns step (onto leads.mine before) → IsStuck leads
+    locking_tried before none step says tried = subst (λ (p : Part). WaitsTooLong s p here leads.mine) (sym locking_part)
+        (lock_tried s.rules.turns s.text.task (lock_number s variable) leads.mine before wait none locking_agrees.is_in.5 step says tried)
+
+  -- the step that a machine is before is a try too much only where its part is stuck
+  pub too_much_stuck : (step : Step) → Says run step → IsTooMuch s.rules.turns step (reverse records) → IsStuck leads
+  too_much_stuck step says tried = by_stage run.stage refl says
+    where
+      before : List Record
+      before = reverse leads.earlier
+
+      too_much : IsTooMuch s.rules.turns step (onto leads.mine before)
+      too_much = subst (λ (r : List Record). IsTooMuch s.rules.turns step r) (ap (λ (r : List Record). reverse r) leads.spelled ∙ all_onto leads.earlier leads.mine) tried
+
+      by_stage : (stage : Stage) → run.stage ≡ stage → StageSays stage run step → IsStuck leads
+      by_stage stages.Over is h = absurd h
+      by_stage stages.Stopped is h = absurd h
+      by_stage (stages.Making own kept) is h = making_tried own kept is before step h too_much
+      by_stage stages.Opening is h = opening_tried is before step h too_much
+      by_stage stages.Closing is h = closing_tried is before step h too_much
+      by_stage (stages.Locking wait variable) is h = locking_tried wait variable is before leads.waits step h too_much
+      by_stage (stages.Unlocking variable) is h =
+          let none : IsTooMuch s.rules.turns (LockStore (count_by (λ v. is_lock v.contents) (take variable run.machine.variables.now))) (onto leads.mine before) =
+          subst (λ (x : Step). IsTooMuch s.rules.turns x (onto leads.mine before)) h too_much in absurd none.0
+
+  -- so with its record the records are within the turns
+  pub within_on : (o : Option Step) → IfSome o (λ step. Says run step) → (IsStuck leads → IsNone o) → WithinTurns s.rules.turns (reverse records)
+      → IfSome o (λ step. (answer : Answer) → WithinTurns s.rules.turns (reverse (records ++ made s.text.task step answer ∷ [])))
+  within_on None says none within = tt
+  within_on (Some step) says none within = λ answer.
+      subst (λ (r : List Record). WithinTurns s.rules.turns r) (sym (reverse-append records (made s.text.task step answer ∷ [])))
+      (within, λ tried. let no : true ≡ false = none (too_much_stuck step says tried) in cc)

@@ -20,11 +20,13 @@ use Rattle.task_plan.specs.Views.{Plan}
 use Rattle.task_run.proofs.EndLemmas.{one_answer}
 use Rattle.task_run.proofs.FollowLemmas.{begins_as, ends_standing}
 use Rattle.task_run.proofs.PartLemmas.{assigned_left, bits_left, check_left, condition_left, load_left, only_left, register_left}
+use Rattle.task_run.proofs.ToldLemmas.{counts_more}
 use Rattle.task_run.specs.Agrees.{IsFit, Reads}
 use Rattle.task_run.specs.Due.{ConditionDue, PartBegins, StatementDue}
 use Rattle.task_run.specs.Part.{disabled}
 use Rattle.task_run.specs.Plans.{LoadLeft, PlanLeft}
 use Rattle.task_run.specs.Stands.{Stands}
+use Rattle.task_run.specs.Told as computes
 use Rattle.task_run.specs.declared.machine.Machine.{Machine}
 use Rattle.task_run.specs.declared.stage.Stage.{Stage}
 use Rattle.text_walk.specs.Left.{BodyLeft, WalkLeft}
@@ -130,7 +132,7 @@ ends_nothing s call site machine nothing = λ before stands.
     (λ later end. let only = only_left s machine.walk (before later) later end [] in (
       λ h. only.0 (h.0, h.1, (nothing (before later) later h.0 h.1).0 h.2, h.3),
       λ n. let h = only.1 n in (h.0, h.1, (nothing (before later) later h.0 h.1).1 h.2, h.3),
-    )) stands
+    )) stands (λ later. computes.nothing)
 
 -- a condition without a load chooses at once
 pub decides_left : (s : Setting) (walk : Walk) (site : ℕ) (value : Pure) (before : Standing) (records : List Record) (after : Standing) (rest : List Record)
@@ -224,6 +226,7 @@ ends_mark s m site old new walk makes = λ before stands.
       λ n. let h = only.1 n in (h.0, h.1, (made.0, made.1, h.2), h.3),
     ))
     (λ later. (makes (before later) (stands later)).2 later)
+    (λ later. counts_more later (before later) (makes (before later) (stands later)).0 (happenings.Mark m ∷ []))
 
 pub begins_register : (s : Setting) (site register : ℕ) (value : Loading) (data_race : Bool) (load : Load) (old new : Machine) (stage : Option Stage) → load ≡ load_in value
     → PartBegins s (LoadLeft s old.walk site load (to_register register value data_race)) old new stage

@@ -25,7 +25,8 @@ use Rattle.setup_access.specs.declared.begun.Begun.{Begun}
 use Rattle.setup_access.specs.declared.checker.Checker.{Checker}
 use Rattle.slot_table.specs.declared.records.Record.{Record}
 use Rattle.slot_table.specs.declared.step.Answer.TheVariants.{Done}
-use Rattle.slot_table.specs.declared.step.Step.TheVariants.{LockStore}
+use Rattle.slot_table.specs.declared.step.Step.{Step}
+use Rattle.slot_table.specs.declared.step.Step.TheVariants.{LockStore, LockTry}
 use Rattle.task_context.specs.Context.{Context}
 use Rattle.task_context.specs.History.{LeadsTo}
 use Rattle.task_plan.proofs.KeepsLemmas.{keeps_alike}
@@ -40,6 +41,8 @@ use Rattle.task_run.proofs.EndLemmas.{after_access, after_closing, after_opening
 use Rattle.task_run.proofs.LeadsLemmas.{agrees_in, inside, next_part}
 use Rattle.task_run.proofs.ReadLemmas.{operation_reads}
 use Rattle.task_run.proofs.StageLemmas.{in_closing, in_locking, in_making, in_opening, in_unlocking}
+use Rattle.task_run.proofs.ToldLemmas.{access_told, closing_told, done_told, opening_told, told_on}
+use Rattle.task_run.proofs.WaitLemmas.{IsNoWait, no_try_no_wait, taken_no_wait}
 use Rattle.task_run.specs.Agrees.{Agrees, Begins, IsFit}
 use Rattle.task_run.specs.Due.{EndsAtOnce}
 use Rattle.task_run.specs.Follows.{IsRead}
@@ -53,6 +56,7 @@ use Rattle.text_walk.proofs.StepsLemmas.{through}
 use Rattle.text_walk.specs.Left.{WalkLeft}
 use Rattle.text_walk.specs.declared.walk.Walk.{Walk}
 use Rattle.written_order.specs.Standing.{Setting, Standing, checks_of, doing, lock_number}
+use Rattle.written_order.specs.Waits.{was_vain}
 
 -- what is there is within the list
 pub in_list : {A : Type 0} (xs : List A) (index : ℕ) (P : A → Type 0) → IsSomeAnd (slice_get xs index) P → index < length xs
@@ -124,7 +128,9 @@ module _ (s : Setting) (registers : ℕ) (body : Block) (records : List Record) 
         → Leads s registers body (records ++ made ∷ []) new
     lock_ended taken progress keeps new goes =
         let next : List Record → Standing = λ later. doing (at_begin later) later (happenings.Lock variable ∷ []) in
-        next_part s registers body records old leads (locks variable) lock_part made new old.machine.walk next
+        next_part s registers body records old leads (locks variable) lock_part made
+        (taken_no_wait s.text.task (lock_number s variable) leads.mine made (taken (lock_number s variable) mine (lock_leads []))) new old.machine.walk next
+        (λ later. done_told registers mine (at_begin later) later (happenings.Lock variable) (leads.told (mine ++ later)))
         (λ later end. let a = lock_agrees (mine ++ later) in
         lock_over s (at_begin later) variable mine old.machine.walk a.is_in.2
         (taken (lock_number s variable) mine (lock_leads (mine ++ later))) later end)
@@ -174,7 +180,7 @@ module _ (s : Setting) (registers : ℕ) (body : Block) (records : List Record) 
           );
         })
 
-    pub access_ended : (effect : Effect)
+    pub access_ended : IsNoWait made → (effect : Effect)
         → ((scopes : List Begun) (begun : Begun) (asked : ℕ) (operation : Option Operation) (so_far : List Record)
         → AccessLeads (checks_of s) scopes begun asked operation so_far next_run machine.checker
         → AccessIsComplete (checks_of s) scopes begun asked operation so_far effect machine.checker)
@@ -183,7 +189,7 @@ module _ (s : Setting) (registers : ℕ) (body : Block) (records : List Record) 
         → EndsAtOnce s (FollowLeft s machine.walk (follow_of kept) effect) before after)
         → (new : TaskRun) → ((before : List Record → Standing) → StandsBy s before after → Begins s (WalkLeft s after.walk) before new.machine new.stage)
         → Leads s registers body (records ++ made ∷ []) new
-    access_ended effect ends after follows new goes =
+    access_ended none effect ends after follows new goes =
         let complete : (later : List Record) → AccessIsComplete (checks_of s) (at_begin later).scopes (access_agrees (mine ++ later)).is_in.2 (at_begin later).asked making.1 mine effect machine.checker =
         λ later. ends (at_begin later).scopes (access_agrees (mine ++ later)).is_in.2 (at_begin later).asked making.1 mine (access_leads (mine ++ later)) in
         let next : List Record → Standing = λ later. let a = access_agrees (mine ++ later) in
@@ -195,7 +201,11 @@ module _ (s : Setting) (registers : ℕ) (body : Block) (records : List Record) 
         let first = access_agrees (mine ++ []) in
         let read : IsRead (follow_of kept) effect = read_where_fit (checks_of s) first.is_in.2.access (follow_of kept) making.1 _ effect _ first.is_in.5 (complete []).makes.operates in
         let over = follows next stands read in
-        next_part s registers body records old leads (makes making.0 making.1 (follow_of kept)) making.2 made new after.walk over.0
+        next_part s registers body records old leads (makes making.0 making.1 (follow_of kept)) making.2 made none new after.walk over.0
+        (λ later. told_on registers (over.3 later)
+        (access_told registers (checks_of s) making.0 (access_agrees (mine ++ later)).is_in.2.access making.1 (at_begin later) leads.mine made
+        (complete later).makes.checked (complete later).makes.done later effect (complete later).makes.done (complete later).fallen (complete later).now
+        (complete later).makes.operates (leads.told (mine ++ later))))
         (λ later end. let a = access_agrees (mine ++ later) in
         through (subst (λ (w : Walk). PartLeft s (makes making.0 making.1 (follow_of kept)) w (at_begin later) (mine ++ later) end []
         ↔ FollowLeft s machine.walk (follow_of kept) effect (next later) later end []) (walk_kept s old.machine machine other)
@@ -224,7 +234,10 @@ module _ (s : Setting) (registers : ℕ) (body : Block) (records : List Record) 
         record { of = a.of; counts = a.counts; rests = a.is_in.2 } in
         let only : (later : List Record) → mine ++ later ≡ made ∷ later = λ later.
         ap (λ (m : List Record). (m ++ made ∷ []) ++ later) (unlock_agrees []).is_in.1 in
-        next_part s registers body records old leads (unlocks variable) unlock_part made new old.machine.walk next
+        let none : IsNoWait made = subst (λ (x : Step). (lock task : ℕ) → was_vain x made.answer (LockTry lock task) ≡ false)
+        (sym (step (at_begin []) (stands []))) (no_try_no_wait (LockStore (lock_number s variable)) made.answer tt) in
+        next_part s registers body records old leads (unlocks variable) unlock_part made none new old.machine.walk next
+        (λ later. done_told registers mine (at_begin later) later (happenings.Unlock variable) (leads.told (mine ++ later)))
         (λ later end. subst (λ (r : List Record). PartLeft s (unlocks variable) old.machine.walk (at_begin later) r end []
         ↔ WalkLeft s old.machine.walk (next later) later end []) (sym (only later)) (
           λ h. subst (λ (l : List Record). WalkLeft s old.machine.walk (doing (at_begin later) l (happenings.Unlock variable ∷ [])) l end []) h.1.2.1 h.2,
@@ -274,7 +287,7 @@ module _ (s : Setting) (registers : ℕ) (body : Block) (records : List Record) 
           );
         })
 
-    pub opening_ended : ((scopes : List Begun) (what : Doing) (asked : ℕ) (so_far : List Record) → checks.Leads (checks_of s) scopes what asked so_far machine.checker
+    pub opening_ended : IsNoWait made → ((scopes : List Begun) (what : Doing) (asked : ℕ) (so_far : List Record) → checks.Leads (checks_of s) scopes what asked so_far machine.checker
         → checks.IsComplete (checks_of s) scopes what asked so_far machine.checker)
         → (checker : Checker)
         → ((scopes : List Begun) (begun : Begun) (asked : ℕ) → checks.Rests (checks_of s) scopes asked (Some begun) machine.checker → IsOwn (checks_of s) begun.access
@@ -283,7 +296,7 @@ module _ (s : Setting) (registers : ℕ) (body : Block) (records : List Record) 
         → ((before : List Record → Standing) → StandsBy s before (record machine { checker = checker; in_force = in_force })
         → Begins s (WalkLeft s machine.walk) before new.machine new.stage)
         → Leads s registers body (records ++ made ∷ []) new
-    opening_ended ends checker opened context_on in_force rises new goes =
+    opening_ended none ends checker opened context_on in_force rises new goes =
         let Complete : List Record → Type 0 = λ later.
         checks.IsComplete (checks_of s) (at_begin later).scopes (Checks (opening_agrees (mine ++ later)).is_in.0) (at_begin later).asked mine machine.checker in
         let complete : (later : List Record) → Complete later = λ later.
@@ -315,7 +328,9 @@ module _ (s : Setting) (registers : ℕ) (body : Block) (records : List Record) 
           };
           rests = (None, opened (at_begin later).scopes a.is_in.0 (complete later).now (complete later).rests own a.is_in.3);
         } in
-        next_part s registers body records old leads (opens opening.0) opening.1 made new machine.walk next
+        next_part s registers body records old leads (opens opening.0) opening.1 made none new machine.walk next
+        (λ later. opening_told registers opening.0 (opening_agrees (mine ++ later)).is_in.0 (at_begin later) leads.mine made later (complete later).fallen
+        (complete later).now (leads.told (mine ++ later)))
         (λ later end. let a = opening_agrees (mine ++ later) in
         subst (λ (w : Walk). PartLeft s (opens opening.0) w (at_begin later) (mine ++ later) end [] ↔ WalkLeft s machine.walk (next later) later end [])
         (walk_kept s old.machine machine other)
@@ -360,13 +375,13 @@ module _ (s : Setting) (registers : ℕ) (body : Block) (records : List Record) 
           );
         })
 
-    pub closing_ended : ((scopes : List Begun) (what : Doing) (asked : ℕ) (so_far : List Record) → checks.Leads (checks_of s) scopes what asked so_far machine.checker
+    pub closing_ended : IsNoWait made → ((scopes : List Begun) (what : Doing) (asked : ℕ) (so_far : List Record) → checks.Leads (checks_of s) scopes what asked so_far machine.checker
         → checks.IsComplete (checks_of s) scopes what asked so_far machine.checker)
         → (new : TaskRun)
         → ((before : List Record → Standing) → StandsBy s before (record machine { in_force = machine.in_force - 1 })
         → Begins s (WalkLeft s machine.walk) before new.machine new.stage)
         → Leads s registers body (records ++ made ∷ []) new
-    closing_ended ends new goes =
+    closing_ended none ends new goes =
         let Complete : List Record → Type 0 = λ later. let a = closing_agrees (mine ++ later) in
         checks.IsComplete (checks_of s) a.is_in.0 (Closes a.is_in.1 a.is_in.2) (at_begin later).asked mine machine.checker in
         let complete : (later : List Record) → Complete later = λ later. let a = closing_agrees (mine ++ later) in
@@ -399,7 +414,9 @@ module _ (s : Setting) (registers : ℕ) (body : Block) (records : List Record) 
           };
           rests = (None, (complete later).rests);
         } in
-        next_part s registers body records old leads closes closing made new machine.walk next
+        next_part s registers body records old leads closes closing made none new machine.walk next
+        (λ later. let a = closing_agrees (mine ++ later) in
+        closing_told registers a.is_in.1.access a.is_in.0 (at_begin later) mine later (complete later).fallen (complete later).now (leads.told (mine ++ later)))
         (λ later end. let a = closing_agrees (mine ++ later) in
         subst (λ (w : Walk). PartLeft s closes w (at_begin later) (mine ++ later) end [] ↔ WalkLeft s machine.walk (next later) later end [])
         (walk_kept s old.machine machine other)

@@ -53,6 +53,8 @@ keeping s registers body records run news leads = record {
   mine = leads.mine;
   spelled = leads.spelled;
   now = leads.now;
+  waits = leads.waits;
+  told = leads.told;
   agrees = leads.agrees;
   left = leads.left;
 }

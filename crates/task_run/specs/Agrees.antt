@@ -19,6 +19,7 @@ use Rattle.slot_table.specs.declared.records.Record.{Record}
 use Rattle.task_plan.specs.Follow.{Follow, loaded_by}
 use Rattle.task_run.specs.Part.{Part, PartLeft, closes, locks, makes, opens, over, stops, unlocks}
 use Rattle.task_run.specs.Stands.{Counts, IsOf, RestsAt, SameToEnd}
+use Rattle.task_run.specs.Told.{ComputesBy}
 use Rattle.task_plan.specs.Views.{follow_of}
 use Rattle.task_plan.specs.declared.follow.Then.{Then}
 use Rattle.task_run.specs.declared.machine.Machine.{Machine}
@@ -90,9 +91,10 @@ pub record Agrees (s : Setting) (part : Part) (before : Standing) (mine : List R
   pub counts : Counts s (in_part part before) machine
   pub is_in : IsIn s part before mine machine stage
 
--- a part begins, of the same steps to the end as this from these standings on
+-- a part begins, of the same steps to the end as this from these standings on, after what the task
+-- computes before its next step
 abbrev pub Begins : Setting → Steps → (List Record → Standing) → Machine → Stage → Type 0
 Begins s Left before machine stage =
     (part : Part) × (now : List Record → Standing)
     × ((later : List Record) → Agrees s part (now later) [] machine stage)
-    × SameToEnd Left before (PartLeft s part machine.walk) now
+    × SameToEnd Left before (PartLeft s part machine.walk) now × ComputesBy before now

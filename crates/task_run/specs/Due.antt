@@ -5,6 +5,7 @@ use Rattle.litmus_syntax.specs.Tree.{Expression, Statement}
 use Rattle.slot_table.specs.declared.records.Record.{Record}
 use Rattle.task_run.specs.Agrees.{Begins}
 use Rattle.task_run.specs.Stands.{SameToEnd, StandsBy}
+use Rattle.task_run.specs.Told.{ComputesBy}
 use Rattle.task_run.specs.declared.machine.Machine.{Machine}
 use Rattle.task_run.specs.declared.stage.Stage.{Stage}
 use Rattle.text_walk.specs.Left.{BodyLeft, Then, WalkLeft}
@@ -28,7 +29,7 @@ ConditionDue s condition site walk before records after rest =
 abbrev pub EndsAtOnce : Setting → Steps → (List Record → Standing) → Machine → Type 0
 EndsAtOnce s Left before machine =
     (now : List Record → Standing) × StandsBy s now machine
-    × SameToEnd Left before (WalkLeft s machine.walk) now
+    × SameToEnd Left before (WalkLeft s machine.walk) now × ComputesBy before now
 
 -- from wherever the machine stood, what is to be made begins in this stage, or is over where there is
 -- none

@@ -1,5 +1,5 @@
 -- Records of a task that lead to its machine.
-use Rattle.std.specs.Prelude.{◌≡◌, ◌↔◌, ◌++◌, ℕ, List, [], ◌∷◌, Option, None, Some}
+use Rattle.std.specs.Prelude.{◌≡◌, ◌↔◌, ◌++◌, ℕ, List, [], ◌∷◌, Option, None, Some, reverse}
 use Rattle.litmus_syntax.specs.Tree.{Block}
 use Rattle.access_run.specs.Leads.{AccessIsStuck}
 use Rattle.memory_operation.specs.LockLeads.{IsStuckAtLock}
@@ -9,24 +9,33 @@ use Rattle.setup_access.specs.declared.begun.Begun.{Begun}
 use Rattle.slot_table.specs.declared.records.Record.{Record}
 use Rattle.slot_table.specs.declared.step.Answer.{Answer}
 use Rattle.slot_table.specs.declared.step.Step.{Step}
+use Rattle.slot_table.specs.declared.step.Step.TheVariants.{LockTry}
 use Rattle.task_run.specs.Agrees.{Agrees}
 use Rattle.task_run.specs.Part.{Part, PartLeft, closes, locks, makes, opens, over, stops, unlocks}
 use Rattle.task_run.specs.Says.{Says}
+use Rattle.task_run.specs.Told.{IsTold}
 use Rattle.task_run.specs.declared.run.TaskRun.{TaskRun}
 use Rattle.written_order.specs.Standing.{BeginsNow, Setting, Standing, checks_of, lock_number}
+use Rattle.written_order.specs.Waits.{vain_tries}
 use Rattle.written_order.specs.WrittenOrder.{StepsOfBlock, at_first}
+
+-- these records, the oldest first, end in no vain try of a lock
+abbrev pub EndInNoWait : List Record → Type 0
+EndInNoWait records = (lock task : ℕ) → vain_tries (LockTry lock task) (reverse records) ≡ 0
 
 -- The records so far, of a task with so many registers, lead to the machine: it is in a part of the
 -- text, by the last of the records, and whatever completes the records completes the part and what is
 -- left of the text. Where the task stood when the part began is told by the records that were to come
--- then, since a standing counts these.
+-- then, since a standing counts these. A wait for a lock is all of one part.
 pub record Leads (s : Setting) (registers : ℕ) (body : Block) (records : List Record) (run : TaskRun) :
     Type 0 where
   pub part : Part
   pub earlier : List Record
   pub mine : List Record
   pub spelled : records ≡ earlier ++ mine
+  pub waits : EndInNoWait earlier
   pub now : List Record → Standing
+  pub told : (later : List Record) → IsTold registers later (now later)
   pub agrees : (later : List Record) → Agrees s part (now later) mine run.machine run.stage
   pub left : (later : List Record) (end : Standing)
       → StepsOfBlock s 0 body (at_first registers) (records ++ later) end []

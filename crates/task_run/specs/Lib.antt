@@ -2,6 +2,7 @@ pub mod Errors
 pub mod Part
 pub mod Plans
 pub mod Stands
+pub mod Told
 pub mod Agrees
 pub mod Follows
 pub mod Due

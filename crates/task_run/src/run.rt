@@ -1,6 +1,6 @@
 //! A task of a program, under way.
 
-ghost use Rattle.std.specs.Prelude.{◌≡◌, ◌↔◌, ◌<◌, ◌≤◌, ◌⊎◌, [], ℕ, List, IfOk, IfSome, IsErrOf, IsNone, IsTrue, None, Some, length, slice_get};
+ghost use Rattle.std.specs.Prelude.{◌≡◌, ◌↔◌, ◌++◌, ◌<◌, ◌≤◌, ◌⊎◌, ◌∷◌, [], ℕ, List, IfOk, IfSome, IsErrOf, IsNone, IsTrue, None, Some, length, reverse, slice_get};
 
 use crate::machine::Machine;
 use crate::points::{After, Before, Latest, News};
@@ -94,7 +94,9 @@ impl<'a> TaskRun<'a> {
     ghost use Rattle.access_run.specs.Leads.{AccessSays};
     ghost use Rattle.task_run.specs.Says.{IsStopped, Says};
     ghost use Rattle.task_run.specs.Fell.{FellAt, fell_of};
-    ghost use Rattle.written_order.specs.Waits.{OnlyStep};
+    ghost use Rattle.written_order.specs.Waits.{OnlyStep, WithinTurns};
+    ghost use Rattle.setup_access.specs.Parts.{made};
+    ghost use Rattle.slot_table.specs.declared.step.Answer.{Answer};
     ghost use Rattle.task_run.specs.declared.run.TaskRunError.TheVariants.{BadPlace, BadSlots};
     ghost use Rattle.task_run.specs.declared.stage.Stage.TheVariants.{Closing, Locking, Making, Opening, Unlocking};
     ghost use Rattle.written_order.specs.Standing.{Setting};
@@ -160,6 +162,9 @@ impl<'a> TaskRun<'a> {
             → IfSome result (OnlyStep s registers body records) }
         ensures none { (s : Setting) (registers : ℕ) (body : Block) (records : List Record) → (leads : Leads s registers body records self.now)
             → (IsNone result ↔ (SpellsAll s registers body records ⊎ (IsStuck leads ⊎ IsStopped self.now))) }
+        ensures within { (s : Setting) (registers : ℕ) (body : Block) (records : List Record) → Leads s registers body records self.now
+            → WithinTurns s.rules.turns (reverse records)
+            → IfSome result (λ step. (answer : Answer) → WithinTurns s.rules.turns (reverse (records ++ made s.text.task step answer ∷ []))) }
     {
         match self.stage {
             Stage::Over => None,

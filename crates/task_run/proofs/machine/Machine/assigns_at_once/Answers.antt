@@ -8,6 +8,7 @@ use Rattle.task_plan.specs.Follow.{so_often}
 use Rattle.task_run.proofs.FollowLemmas.{ends_standing}
 use Rattle.task_run.proofs.PartLemmas.{at_once_left}
 use Rattle.task_run.proofs.StandsLemmas.{stands_keeping}
+use Rattle.task_run.proofs.ToldLemmas.{does_more, does_now, registers_more}
 use Rattle.task_run.specs.Due.{StatementDue}
 use Rattle.task_run.specs.Part.{disabled, enabled}
 use Rattle.task_run.specs.Stands.{Stands}
@@ -34,3 +35,4 @@ returns-clause-begins c = λ s site before stands.
     (c.enable.ensures.stands s (registered (start later) later c.args.register value) later
     (stands_keeping s (start later) (registered (start later) later c.args.register value) c.disable.new.self c.assign.new.self refl refl refl
     (c.assign.ensures (length s.text.variables) (start later) later (began later).counts.keeps) (began later))))
+    (λ later. does_more later (before later) _ _ (registers_more later (before later) _ c.args.register value (does_now later (before later) _)))

@@ -5,6 +5,7 @@ use Rattle.litmus_syntax.specs.Views.{pure_of}
 use Rattle.task_run.proofs.BeginsLemmas.{walked}
 use Rattle.task_run.proofs.FollowLemmas.{chosen_fails, chosen_holds}
 use Rattle.task_run.proofs.PlanLemmas.{decides_left}
+use Rattle.task_run.specs.Told.{nothing}
 use Rattle.task_run.proofs.machine.Machine.decides.Goals as goal
 use Rattle.text_walk.proofs.StepsLemmas.{through}
 
@@ -17,6 +18,7 @@ returns-then-pure_value-ne0-clause-begins c = λ s site before stands. (
       (λ none. c.if-pure_value-ne0.true (c.pure_value.ensures
       ∙ (ap (λ (r : List ℕ). pure_value r (pure_of c.args.value.now)) (c.registers.ensures (length s.text.variables) (before later) (stands later).counts.keeps) ∙ none))))
       (c.holds.ensures.left s (before later) later end [])),
+  λ later. nothing,
 )
 
 pub returns-else-pure_value-ne0-clause-begins : goal.returns-else-pure_value-ne0-clause-begins
@@ -28,4 +30,5 @@ returns-else-pure_value-ne0-clause-begins c = λ s site before stands. (
       (sym (c.pure_value.ensures
       ∙ ap (λ (r : List ℕ). pure_value r (pure_of c.args.value.now)) (c.registers.ensures (length s.text.variables) (before later) (stands later).counts.keeps))
       ∙ c.if-pure_value-ne0.false)),
+  λ later. nothing,
 )

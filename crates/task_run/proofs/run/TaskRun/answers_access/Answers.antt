@@ -4,6 +4,7 @@ use Rattle.setup_access.specs.Shown.{outcomes_of}
 use Rattle.task_run.proofs.NewsLemmas.{making_fell}
 use Rattle.setup_access.specs.Parts.{made}
 use Rattle.task_run.proofs.RunLemmas.{access_ended, access_inside}
+use Rattle.task_run.proofs.WaitLemmas.{access_no_try, no_try_no_wait}
 use Rattle.task_run.specs.Says.{StageSays}
 use Rattle.task_run.proofs.run.TaskRun.answers_access.Goals as goal
 use Rattle.written_order.specs.Standing.{checks_of}
@@ -15,6 +16,8 @@ returns-then-is_over-clause-leads c = λ is s registers body records step leads 
     c.answers_access-run.new.self is c.answers_access-run.ensures.kept c.answers_access-run.ensures.context
     (λ scopes begun asked operation so_far sites l. c.answers_access-run.ensures.leads (checks_of s) scopes begun asked operation so_far step sites l
     (subst (λ stage. StageSays stage c.args.self.now step) is says))
+    (no_try_no_wait step c.args.answer (access_no_try c.args.self.now.machine.checker c.args.run.stage step
+    (subst (λ stage. StageSays stage c.args.self.now step) is says)))
     c.effect.result
     (λ scopes begun asked operation so_far l. c.effect.ensures.complete (checks_of s) scopes begun asked operation so_far checker l
     ((c.is_over.ensures (checks_of s) scopes begun asked operation so_far checker l).0 c.if-is_over.true))

@@ -3,6 +3,7 @@ use Rattle.std.proofs.Common.{◌≡◌, ◌∙◌, ◌++◌, ◌∷◌, [], ap,
 use Rattle.setup_access.specs.Parts.{made}
 use Rattle.task_run.proofs.NewsLemmas.{opening_fell}
 use Rattle.task_run.proofs.RunLemmas.{opening_ended, opening_inside}
+use Rattle.task_run.proofs.WaitLemmas.{check_says, no_try_no_wait, of_check_tries_none}
 use Rattle.task_run.specs.Agrees.{Begins}
 use Rattle.task_run.specs.Leads.{Leads}
 use Rattle.task_run.specs.Says.{StageSays}
@@ -17,6 +18,8 @@ returns-then-came-clause-leads c = λ is s registers body records step leads say
     c.answers_check-came.ensures.kept c.answers_check-came.ensures.context
     (λ scopes what asked so_far sites l. c.answers_check-came.ensures.leads (checks_of s) scopes what asked so_far step sites l
     (subst (λ stage. StageSays stage c.args.self.now step) is says))
+    (no_try_no_wait step c.args.answer (of_check_tries_none step (check_says c.args.self.now.machine.checker step
+    (subst (λ stage. StageSays stage c.args.self.now step) is says))))
     (λ scopes what asked so_far l. c.answers_check-came.ensures.complete (checks_of s) scopes what asked so_far l
     ((c.answers_check-came.ensures.over (checks_of s) scopes what asked so_far l).0 c.if-came.true))
     c.opened.new.self.checker (c.opened.ensures.opens (checks_of s)) c.opened.ensures.context c.opened.new.self.in_force c.opened.ensures.in_force _

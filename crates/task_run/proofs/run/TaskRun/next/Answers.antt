@@ -1,5 +1,5 @@
 -- The step of the part under way is the only one that the text goes on with.
-use Rattle.std.proofs.Common.{◌≡◌, ◌∙◌, ℕ, IsNone, Some, ap, false, inl, inr, refl, subst, sym, true}
+use Rattle.std.proofs.Common.{◌≡◌, ◌∙◌, ℕ, IfSome, IsNone, Some, ap, false, inl, inr, refl, subst, sym, true}
 use Rattle.access_run.specs.Leads.{AccessOnlyStep}
 use Rattle.memory_operation.specs.LockLeads.{LockSays, OnlyLockStep}
 use Rattle.setup_access.specs.Leads as checks
@@ -8,7 +8,7 @@ use Rattle.written_order.specs.Waits.{OnlyStep}
 use Rattle.task_run.specs.Says.{StageSays}
 use Rattle.task_run.specs.declared.stage.Stage.TheVariants as stages
 use Rattle.written_order.specs.Standing.{checks_of}
-use Rattle.task_run.proofs.NextLemmas.{closing_none, closing_only, locking_none, locking_only, making_none, making_only, none_left, opening_none, opening_only, over_spelled, some_says, step_only, unlocking_only, unlocking_stuck}
+use Rattle.task_run.proofs.NextLemmas.{closing_none, closing_only, locking_none, locking_only, making_none, making_only, none_left, opening_none, opening_only, over_spelled, some_says, step_only, unlocking_only, unlocking_stuck, within_on}
 use Rattle.task_run.proofs.run.TaskRun.next.Goals as goal
 
 pub returns-in-Over-clause-none : goal.returns-in-Over-clause-none
@@ -104,3 +104,37 @@ returns-in-Unlocking-clause-none c = λ s registers body records leads.
     (λ h. absurd (let no : true ≡ false = h in cc))
     (λ stuck. absurd (unlocking_stuck s registers body records c.args.self.now leads c.in-Unlocking.variable c.in-Unlocking.is stuck))
     (λ stopped. let no : stages.Unlocking c.in-Unlocking.variable ≡ stages.Stopped = sym c.in-Unlocking.is ∙ stopped in cc)
+
+pub returns-in-Making-clause-within : goal.returns-in-Making-clause-within
+returns-in-Making-clause-within c = λ s registers body records leads.
+    within_on s registers body records c.args.self.now leads c.next.result
+    (subst (λ stage. IfSome c.next.result (λ step. StageSays stage c.args.self.now step)) (sym c.in-Making.is) c.next.ensures.says)
+    (making_none s registers body records c.args.self.now leads c.in-Making.run' c.in-Making.field-1 c.in-Making.is (IsNone c.next.result)
+    (λ scopes begun asked operation so_far own. c.next.ensures.none (checks_of s) scopes begun asked operation so_far own)).1
+
+pub returns-in-Opening-clause-within : goal.returns-in-Opening-clause-within
+returns-in-Opening-clause-within c = λ s registers body records leads.
+    within_on s registers body records c.args.self.now leads c.next-in-Opening.result
+    (subst (λ stage. IfSome c.next-in-Opening.result (λ step. StageSays stage c.args.self.now step)) (sym c.in-Opening.is) c.next-in-Opening.ensures.says)
+    (opening_none s registers body records c.args.self.now leads c.in-Opening.is (IsNone c.next-in-Opening.result)
+    (λ scopes doing asked so_far own. c.next-in-Opening.ensures.none (checks_of s) scopes doing asked so_far own)).1
+
+pub returns-in-Closing-clause-within : goal.returns-in-Closing-clause-within
+returns-in-Closing-clause-within c = λ s registers body records leads.
+    within_on s registers body records c.args.self.now leads c.next-in-Closing.result
+    (subst (λ stage. IfSome c.next-in-Closing.result (λ step. StageSays stage c.args.self.now step)) (sym c.in-Closing.is) c.next-in-Closing.ensures.says)
+    (closing_none s registers body records c.args.self.now leads c.in-Closing.is (IsNone c.next-in-Closing.result)
+    (λ scopes doing asked so_far own. c.next-in-Closing.ensures.none (checks_of s) scopes doing asked so_far own)).1
+
+pub returns-in-Locking-clause-within : goal.returns-in-Locking-clause-within
+returns-in-Locking-clause-within c = λ s registers body records leads.
+    within_on s registers body records c.args.self.now leads c.next-in-Locking.result
+    (subst (λ stage. IfSome c.next-in-Locking.result (λ step. StageSays stage c.args.self.now step)) (sym c.in-Locking.is) c.next-in-Locking.ensures.says)
+    (locking_none s registers body records c.args.self.now leads c.in-Locking.wait c.in-Locking.field-1 c.in-Locking.is (IsNone c.next-in-Locking.result)
+    (λ lock so_far own. c.next-in-Locking.ensures.none s.text.task lock so_far own)).1
+
+pub returns-in-Unlocking-clause-within : goal.returns-in-Unlocking-clause-within
+returns-in-Unlocking-clause-within c = λ s registers body records leads.
+    within_on s registers body records c.args.self.now leads (Some (LockStore c.lock_number.result))
+    (subst (λ x. StageSays x c.args.self.now (LockStore c.lock_number.result)) (sym c.in-Unlocking.is) (ap LockStore c.lock_number.ensures.value))
+    (λ stuck. absurd (unlocking_stuck s registers body records c.args.self.now leads c.in-Unlocking.variable c.in-Unlocking.is stuck))
