@@ -1,14 +1,18 @@
 //! What is true of the history that each run list tells.
 
-ghost use Rattle.std.specs.Prelude.{◌≡◌, ◌++◌, List, Some, length};
+ghost use Rattle.std.specs.Prelude.{◌≡◌, ◌++◌, All, Contains, List, Some, length};
 ghost use Rattle.access_types.specs.Access.{Access};
 ghost use Rattle.access_types.specs.History.{content};
 ghost use Rattle.access_types.specs.Race.{bytes_of};
+ghost use Rattle.access_types.specs.declared.report.Report.{Report};
 ghost use Rattle.litmus_meaning.specs.Layout.{memory_at_first};
 ghost use Rattle.run_histories.specs.Cells.{CellsHold, memory_after, run_cells};
+ghost use Rattle.run_histories.specs.Origins.{NamesChange};
+ghost use Rattle.run_histories.specs.Reported.{IsOfOutcome, IsTrueReport};
+ghost use Rattle.run_lists.specs.Reports.{reported, reports_of};
 ghost use Rattle.run_lists.specs.Run.{Run, first_words, task_setting};
 ghost use Rattle.run_lists.specs.RunList.{RunList};
-ghost use Rattle.run_lists.specs.Told.{history_by, history_of};
+ghost use Rattle.run_lists.specs.Told.{OutcomeAt, history_by, history_of, outcomes_of};
 ghost use Rattle.setup_access.specs.Values.{source_of, value_in};
 ghost use Rattle.setup_access.specs.declared.source.Source.{Source};
 ghost use Rattle.slot_table.specs.Records.{words_after};
@@ -16,7 +20,8 @@ ghost use Rattle.slot_table.specs.declared.records.Record.{Record};
 ghost use Rattle.std.specs.Prelude.{ℕ, slice_index};
 ghost use Rattle.written_order.specs.Standing.{checks_of};
 
-use run_verdicts::laws::records_tell_their_events;
+use run_lists::laws::reports_name_two_sides;
+use run_verdicts::laws::{records_tell_their_events, verdicts_are_on_watches};
 
 /// Law: at each point of a run list the cells hold the content of memory, byte by byte: what the writes of the history
 /// that is told by then have laid over the initial values. So the bytes of an access that lie in one cell have as their
@@ -31,4 +36,31 @@ pub fn cells_hold_the_content()
         ≡ value_in a source (slice_index (words_after (first_words run) records).cells source.cell) }
 {
     records_tell_their_events();
+}
+
+/// Law: each report of unknown origin that a run list tells names bytes that changed under the watch of the access that
+/// was checked. In the history that the list tells their content was the old value after the first load of the watch and
+/// the new one before the second, the access was in progress at both, and no moment between them is of its own task.
+pub fn unknown_origins_changed()
+    ensures { (run : Run) (records : List Record) → (list : RunList run records)
+        → All (NamesChange list) (outcomes_of list) }
+{
+    cells_hold_the_content();
+    verdicts_are_on_watches();
+}
+
+/// Law: the reports of a run list are true. Each of two sides names two accesses of the program by their tickets, the
+/// setter's first, which race in the history that the list tells; each of unknown origin names an access whose bytes
+/// changed under its watch. They are the reports of the list's outcomes, and each outcome that is a report has it.
+pub fn reports_are_true()
+    ensures all { (run : Run) (records : List Record) → (list : RunList run records)
+        → All (IsTrueReport list) (reports_of list) }
+    ensures outcomes { (run : Run) (records : List Record) → (list : RunList run records)
+        → All (IsOfOutcome list) (reports_of list) }
+    ensures reports { (run : Run) (records : List Record) → (list : RunList run records)
+        → (came : OutcomeAt) (report : Report) → Contains (outcomes_of list) came
+        → reported came.access came.outcome ≡ Some report → Contains (reports_of list) report }
+{
+    reports_name_two_sides();
+    unknown_origins_changed();
 }
