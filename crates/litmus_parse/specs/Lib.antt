@@ -3,3 +3,5 @@ pub mod Mentions
 pub mod Headers
 pub mod Conditions
 pub mod Grammar
+pub mod HeaderReader
+pub mod ConditionReader

@@ -1,7 +1,9 @@
 //! The condition of a text.
 
-ghost use Rattle.std.specs.Prelude.{◌≡◌, ◌≤◌, ◌<◌, OnOk};
+ghost use Rattle.std.specs.Prelude.{◌≡◌, ◌≤◌, ◌<◌, IsTrue, OnOk};
 ghost use Rattle.litmus_cursor.specs.Cursor.{count_left};
+ghost use Rattle.litmus_cursor.specs.Front.{Answers, first, symbols_left};
+ghost use Rattle.litmus_parse.specs.ConditionReader as reader;
 
 use crate::declaration::Declarations;
 use litmus_cursor::{Cursor, Excess, Refusal, Word};
@@ -19,16 +21,39 @@ pub struct Condition<'a> {
     pub processes: Vec<Process<'a>>,
 }
 
+/// Whether `forall` is next.
+fn is_at_forall(cursor: &Cursor<'_>) -> bool
+    ensures { result ≡ reader.is_forall (first (symbols_left cursor.now)) }
+{
+    matches!(cursor.word(), Some(Word::Forall))
+}
+
+/// Takes `exists`.
+fn take_exists(cursor: &mut Cursor<'_>) -> Result<(), Refusal>
+    ensures { Answers result (λ _. symbols_left cursor.new) (reader.take_exists (symbols_left cursor.old)) }
+{
+    match cursor.word() {
+        Some(Word::Exists) => {
+            cursor.advance();
+            Ok(())
+        }
+        _ => Err(cursor.offence()),
+    }
+}
+
 impl<'a> Condition<'a> {
     /// `exists`, `~exists` or `forall`
-    pub fn quantifier(&mut self) -> Result<Quantifier, Refusal> {
-        if self.cursor.accept_word(Word::Forall) {
+    #[tactic(auto, unfolding(crate::specs::ConditionReader::quantifier_at))]
+    pub fn quantifier(&mut self) -> Result<Quantifier, Refusal>
+        ensures reads { Answers result (λ quantifier. (quantifier, symbols_left self.new.cursor))
+            (reader.quantifier_at (symbols_left self.old.cursor)) }
+    {
+        if is_at_forall(&self.cursor) {
+            self.cursor.advance();
             return Ok(Quantifier::Forall);
         }
         let is_denied = self.cursor.accept(Sign::Tilde);
-        if !self.cursor.accept_word(Word::Exists) {
-            return Err(self.cursor.offence());
-        }
+        take_exists(&mut self.cursor)?;
         Ok(if is_denied {
             Quantifier::NotExists
         } else {
@@ -184,8 +209,10 @@ impl<'a> Condition<'a> {
     }
 
     /// `= num`
+    #[tactic(auto, unfolding(crate::specs::ConditionReader::given_value))]
     fn value(&mut self) -> Result<u64, Refusal>
-        ensures { OnOk result (count_left self.new.cursor < count_left self.old.cursor) }
+        ensures moves { OnOk result (count_left self.new.cursor < count_left self.old.cursor) }
+        ensures reads { Answers result (λ value. (value, symbols_left self.new.cursor)) (reader.given_value (symbols_left self.old.cursor)) }
     {
         self.cursor.take(Sign::Assign)?;
         self.cursor.take_signed_number()

@@ -1,13 +1,23 @@
 //! The initialization block, and the headers of processes.
 
-ghost use Rattle.std.specs.Prelude.{◌≡◌, ◌≤◌, ◌<◌, OnOk};
+ghost use Rattle.std.specs.Prelude.{◌≡◌, ◌≤◌, ◌<◌, IsTrue, OnOk};
 ghost use Rattle.litmus_cursor.specs.Cursor.{count_left};
+ghost use Rattle.litmus_cursor.specs.Front.{Answers, first, symbols_left};
+ghost use Rattle.litmus_parse.specs.HeaderReader as reader;
 
 use crate::declaration::Declarations;
 use litmus_cursor::{Cursor, Refusal, VariableType, Word, word_of};
 use litmus_expression::Parameter;
 use litmus_lex::{Sign, Token};
 use std::alloc::Global;
+
+/// Whether `ATOMIC_INIT` is next.
+fn is_at_atomic_init(cursor: &Cursor<'_>) -> bool
+    ensures exact { result ≡ reader.is_atomic_init (first (symbols_left cursor.now)) }
+    ensures some { IsTrue result → 0 < count_left cursor.now }
+{
+    matches!(cursor.word(), Some(Word::AtomicInit))
+}
 
 /// What stands before the bodies: a cursor, and the variables that the text has named.
 #[derive(Drop)]
@@ -79,7 +89,9 @@ impl<'a> Header<'a> {
 
     /// Takes a type, if one is next.
     fn accept_type(&mut self) -> Option<VariableType>
-        ensures { count_left self.new.cursor ≤ count_left self.old.cursor }
+        ensures moves { count_left self.new.cursor ≤ count_left self.old.cursor }
+        ensures exact { result ≡ reader.type_at (first (symbols_left self.old.cursor)) }
+        ensures symbols { symbols_left self.new.cursor ≡ reader.behind_type result (symbols_left self.old.cursor) }
     {
         match self.cursor.word() {
             Some(Word::Type(variable_type)) => {
@@ -102,20 +114,35 @@ impl<'a> Header<'a> {
     }
 
     /// `[-] NUMBER` or `ATOMIC_INIT ( [-] NUMBER )`. Another name and an address are unsupported.
+    #[tactic(auto, unfolding(crate::specs::HeaderReader::value_at, litmus_cursor::specs::Front::take_signed, litmus_cursor::specs::Front::take_number))]
     fn value(&mut self) -> Result<u64, Refusal>
-        ensures { OnOk result (count_left self.new.cursor < count_left self.old.cursor) }
+        ensures moves { OnOk result (count_left self.new.cursor < count_left self.old.cursor) }
+        ensures reads { Answers result (λ value. (value, symbols_left self.new.cursor)) (reader.value_at (symbols_left self.old.cursor)) }
     {
-        self.cursor.refuse_address()?;
-        if self.cursor.accept_word(Word::AtomicInit) {
-            self.cursor.take(Sign::OpenParen)?;
-            let value = self.cursor.take_signed_number()?;
-            self.cursor.take(Sign::CloseParen)?;
-            return Ok(value);
+        if is_at_atomic_init(&self.cursor) {
+            self.cursor.advance();
+            return self.enclosed_value();
         }
-        if let Token::Name(_) = self.cursor.token() {
-            return Err(self.cursor.unsupported());
+        match self.cursor.token() {
+            Token::Name(_) => Err(self.cursor.unsupported()),
+            Token::Number(_) | Token::Sign(Sign::Minus) => self.cursor.take_signed_number(),
+            _ => {
+                self.cursor.refuse_address()?;
+                Err(self.cursor.offence())
+            }
         }
-        self.cursor.take_signed_number()
+    }
+
+    /// `( [-] NUMBER )`
+    #[tactic(auto, unfolding(crate::specs::HeaderReader::enclosed_value))]
+    fn enclosed_value(&mut self) -> Result<u64, Refusal>
+        ensures moves { OnOk result (count_left self.new.cursor < count_left self.old.cursor) }
+        ensures reads { Answers result (λ value. (value, symbols_left self.new.cursor)) (reader.enclosed_value (symbols_left self.old.cursor)) }
+    {
+        self.cursor.take(Sign::OpenParen)?;
+        let value = self.cursor.take_signed_number()?;
+        self.cursor.take(Sign::CloseParen)?;
+        Ok(value)
     }
 
     /// `(` parameters joined by `,`, or none, `)`.
