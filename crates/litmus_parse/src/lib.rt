@@ -4,6 +4,7 @@
 mod condition;
 mod declaration;
 mod initialization;
+pub mod laws;
 pub mod limits;
 mod text;
 

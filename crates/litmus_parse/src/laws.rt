@@ -1,0 +1,22 @@
+//! What is true of the readers of whole texts and the grammar.
+
+ghost use Rattle.std.specs.Prelude.{◌≡◌, ◌↔◌, ℕ, List, Some};
+ghost use Rattle.litmus_syntax.specs.declared.proposition.Quantifier.{Quantifier};
+ghost use Rattle.litmus_cursor.specs.Front.{take_signed};
+ghost use Rattle.litmus_cursor.specs.Words.{Symbol};
+ghost use Rattle.litmus_parse.specs.ConditionReader.{quantifier_at};
+ghost use Rattle.litmus_parse.specs.Conditions.{Quantifies};
+ghost use Rattle.litmus_parse.specs.HeaderReader.{value_at};
+ghost use Rattle.litmus_parse.specs.Headers.{Signed, Value};
+
+/// Law: what is read as a number, with a sign or without, or as an initial value, is what is spelled as one.
+pub fn values_are_read_as_they_are_spelled()
+    ensures signed { (symbols rest : List Symbol) (value : ℕ) → Signed symbols value rest ↔ (take_signed symbols ≡ Some (value, rest)) }
+    ensures initial { (symbols rest : List Symbol) (value : ℕ) → Value symbols value rest ↔ (value_at symbols ≡ Some (value, rest)) }
+{}
+
+/// Law: what is read as a quantifier is what is spelled as one.
+pub fn quantifiers_are_read_as_they_are_spelled()
+    ensures { (symbols rest : List Symbol) (quantifier : Quantifier)
+        → Quantifies symbols quantifier rest ↔ (quantifier_at symbols ≡ Some (quantifier, rest)) }
+{}
