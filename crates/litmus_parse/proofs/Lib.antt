@@ -1,2 +1,3 @@
 pub mod Values
 pub mod Quantifiers
+pub mod Numbers

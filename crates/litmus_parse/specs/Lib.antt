@@ -5,3 +5,4 @@ pub mod Conditions
 pub mod Grammar
 pub mod HeaderReader
 pub mod ConditionReader
+pub mod VariableReader

@@ -4,6 +4,7 @@ ghost use Rattle.std.specs.Prelude.{◌≡◌, ◌≤◌, ◌<◌, IsTrue, OnOk}
 ghost use Rattle.litmus_cursor.specs.Cursor.{count_left};
 ghost use Rattle.litmus_cursor.specs.Front.{Answers, first, symbols_left};
 ghost use Rattle.litmus_parse.specs.ConditionReader as reader;
+ghost use Rattle.litmus_parse.specs.VariableReader.{known_variable, locks_of, names_of};
 
 use crate::declaration::Declarations;
 use litmus_cursor::{Cursor, Excess, Refusal, Word};
@@ -192,10 +193,13 @@ impl<'a> Condition<'a> {
     }
 
     /// A variable that the text has named. A lock is unsupported.
+    #[tactic(auto, unfolding(crate::specs::VariableReader::known_variable))]
     fn variable(&mut self) -> Result<usize, Refusal>
-        ensures { OnOk result (count_left self.new.cursor < count_left self.old.cursor) }
+        ensures moves { OnOk result (count_left self.new.cursor < count_left self.old.cursor) }
+        ensures reads { Answers result (λ variable. (variable, symbols_left self.new.cursor))
+            (known_variable (names_of self.old.declarations) (locks_of self.old.declarations) (symbols_left self.old.cursor)) }
     {
-        let Token::Name(name) = self.cursor.token() else {
+        let Some(name) = self.cursor.identifier() else {
             return Err(self.cursor.offence());
         };
         let Some(variable) = self.declarations.find(name) else {

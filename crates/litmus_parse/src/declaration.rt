@@ -1,5 +1,12 @@
 //! The variables of a text: what its items and parameters say of them.
 
+ghost use Rattle.std.specs.Prelude.{◌≡◌, [], false, get_or, position};
+ghost use Rattle.litmus_cursor.specs.Front.{Answers};
+ghost use Rattle.litmus_cursor.specs.Words.{is_same};
+ghost use Rattle.litmus_expression.specs.NameReader.{index_of};
+ghost use Rattle.litmus_parse.specs.VariableReader as reader;
+ghost use Rattle.litmus_parse.specs.VariableReader.{locks_of, names_of};
+
 use litmus_cursor::{Excess, Refusal, VariableType};
 use litmus_syntax::{Contents, Name, Variable};
 use std::alloc::{AllocError, Global};
@@ -26,7 +33,9 @@ pub struct Declared<'a> {
 
 impl<'a> Declared<'a> {
     /// A variable that nothing is known of but its name.
-    fn new(name: &'a [u8]) -> Declared<'a> {
+    fn new(name: &'a [u8]) -> Declared<'a>
+        ensures { reader.name_of result ≡ name.now }
+    {
         Declared {
             name,
             variable_type: None,
@@ -139,6 +148,13 @@ pub fn name_of(alloc: Global, bytes: &[u8]) -> Result<Name, AllocError> {
     Ok(Name::from_string(text))
 }
 
+/// The place of a name, among variables.
+fn find_declared(variables: &[Declared<'_>], name: &[u8]) -> Option<usize>
+    ensures { result ≡ position (λ declared. is_same declared.name.now name.now) variables.now }
+{
+    variables.iter().position(|declared| declared.name == name)
+}
+
 /// The variables of a text, each at its number.
 #[derive(Drop)]
 pub struct Declarations<'a> {
@@ -147,21 +163,26 @@ pub struct Declarations<'a> {
 
 impl<'a> Declarations<'a> {
     /// None.
-    pub fn new(alloc: Global) -> Declarations<'a> {
+    pub fn new(alloc: Global) -> Declarations<'a>
+        ensures { result.variables.items ≡ [] }
+    {
         Declarations {
             variables: Vec::new(alloc),
         }
     }
 
     /// The number of a name that has appeared.
-    pub fn find(&self, name: &[u8]) -> Option<usize> {
-        self.variables
-            .iter()
-            .position(|declared| declared.name == name)
+    pub fn find(&self, name: &[u8]) -> Option<usize>
+        ensures { result ≡ index_of (names_of self.now) name.now }
+    {
+        find_declared(&self.variables, name)
     }
 
     /// The number of a name. Its first appearance gives it the next one.
-    pub fn number(&mut self, name: &'a [u8]) -> Result<usize, Refusal> {
+    #[tactic(auto, unfolding(crate::specs::VariableReader::number_at))]
+    pub fn number(&mut self, name: &'a [u8]) -> Result<usize, Refusal>
+        ensures { Answers result (λ number. (number, names_of self.new)) (reader.number_at (names_of self.old) name.now) }
+    {
         if let Some(number) = self.find(name) {
             return Ok(number);
         }
@@ -179,7 +200,9 @@ impl<'a> Declarations<'a> {
     }
 
     /// Whether the variable of a number is a lock.
-    pub fn is_lock(&self, number: usize) -> bool {
+    pub fn is_lock(&self, number: usize) -> bool
+        ensures { result ≡ get_or (locks_of self.now) number false }
+    {
         match self.variables.get(number) {
             Some(declared) => declared.variable_type == Some(VariableType::Lock),
             None => false,

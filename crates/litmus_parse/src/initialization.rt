@@ -4,9 +4,10 @@ ghost use Rattle.std.specs.Prelude.{◌≡◌, ◌≤◌, ◌<◌, IsTrue, OnOk}
 ghost use Rattle.litmus_cursor.specs.Cursor.{count_left};
 ghost use Rattle.litmus_cursor.specs.Front.{Answers, first, symbols_left};
 ghost use Rattle.litmus_parse.specs.HeaderReader as reader;
+ghost use Rattle.litmus_parse.specs.VariableReader.{names_of, variable_at};
 
 use crate::declaration::Declarations;
-use litmus_cursor::{Cursor, Refusal, VariableType, Word, word_of};
+use litmus_cursor::{Cursor, Refusal, VariableType, Word};
 use litmus_expression::Parameter;
 use litmus_lex::{Sign, Token};
 use std::alloc::Global;
@@ -103,14 +104,17 @@ impl<'a> Header<'a> {
     }
 
     /// The number of the variable that is next: a name that is no word.
+    #[tactic(auto, unfolding(crate::specs::VariableReader::variable_at))]
     fn variable(&mut self) -> Result<usize, Refusal>
         ensures stays { self.new.cursor ≡ self.old.cursor }
         ensures some { OnOk result (0 < count_left self.old.cursor) }
+        ensures reads { Answers result (λ number. (number, names_of self.new.declarations))
+            (variable_at (names_of self.old.declarations) (symbols_left self.old.cursor)) }
     {
-        match self.cursor.token() {
-            Token::Name(name) if word_of(name).is_none() => self.declarations.number(name),
-            _ => Err(self.cursor.offence()),
-        }
+        let Some(name) = self.cursor.identifier() else {
+            return Err(self.cursor.offence());
+        };
+        self.declarations.number(name)
     }
 
     /// `[-] NUMBER` or `ATOMIC_INIT ( [-] NUMBER )`. Another name and an address are unsupported.

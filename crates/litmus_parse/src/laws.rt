@@ -1,13 +1,17 @@
 //! What is true of the readers of whole texts and the grammar.
 
-ghost use Rattle.std.specs.Prelude.{◌≡◌, ◌↔◌, ℕ, List, Some};
+ghost use Rattle.std.specs.Prelude.{◌≡◌, ◌↔◌, ◌≤◌, ℕ, List, Some, length};
 ghost use Rattle.litmus_syntax.specs.declared.proposition.Quantifier.{Quantifier};
 ghost use Rattle.litmus_cursor.specs.Front.{take_signed};
 ghost use Rattle.litmus_cursor.specs.Words.{Symbol};
+ghost use Rattle.litmus_syntax.specs.Limits.{variables_limit};
+ghost use Rattle.litmus_expression.specs.Followed.{Differ};
+ghost use Rattle.litmus_expression.specs.Names.{Names, Numbered};
 ghost use Rattle.litmus_parse.specs.ConditionReader.{quantifier_at};
 ghost use Rattle.litmus_parse.specs.Conditions.{Quantifies};
 ghost use Rattle.litmus_parse.specs.HeaderReader.{value_at};
 ghost use Rattle.litmus_parse.specs.Headers.{Signed, Value};
+ghost use Rattle.litmus_parse.specs.VariableReader.{number_at};
 
 /// Law: what is read as a number, with a sign or without, or as an initial value, is what is spelled as one.
 pub fn values_are_read_as_they_are_spelled()
@@ -19,4 +23,11 @@ pub fn values_are_read_as_they_are_spelled()
 pub fn quantifiers_are_read_as_they_are_spelled()
     ensures { (symbols rest : List Symbol) (quantifier : Quantifier)
         → Quantifies symbols quantifier rest ↔ (quantifier_at symbols ≡ Some (quantifier, rest)) }
+{}
+
+/// Law: among names that differ and are no more than there may be, the number that a name of a variable gets is the one
+/// that it has, or the next one.
+pub fn variables_are_numbered_as_they_appear()
+    ensures { (names later : Names) (name : List ℕ) (number : ℕ) → Differ names → length names ≤ variables_limit
+        → Numbered variables_limit names name number later ↔ (number_at names name ≡ Some (number, later)) }
 {}
