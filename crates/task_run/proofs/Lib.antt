@@ -15,7 +15,10 @@ pub mod StageLemmas
 pub mod AnswerLemmas
 pub mod LimitLemmas
 pub mod RunLemmas
+pub mod PairLemmas
+pub mod LongLemmas
 pub mod NextLemmas
+pub mod StuckLemmas
 pub mod ReadLemmas
 pub mod TellLemmas
 pub mod FellLemmas

@@ -354,19 +354,19 @@ module _ (s : Setting) (registers : ℕ) (body : Block) (records : List Record) 
       }
 
   module _ (own : AccessRun) (kept : Then) (is : run.stage ≡ stages.Making own kept) where
-    making_part : (a : access.Access) × (operation : Option Operation) × (leads.part ≡ makes a operation (follow_of kept))
+    pub making_part : (a : access.Access) × (operation : Option Operation) × (leads.part ≡ makes a operation (follow_of kept))
     making_part = in_making s here leads.mine run.machine run.stage leads.part (leads.agrees leads.mine).is_in own kept is
 
-    making_agrees : Agrees s (makes making_part.0 making_part.1 (follow_of kept)) here leads.mine run.machine run.stage
+    pub making_agrees : Agrees s (makes making_part.0 making_part.1 (follow_of kept)) here leads.mine run.machine run.stage
     making_agrees = agrees_in s registers body records run leads (makes making_part.0 making_part.1 (follow_of kept)) making_part.2 leads.mine
 
-    making_leads : AccessLeads (checks_of s) here.scopes making_agrees.is_in.2 here.asked making_part.1 leads.mine own run.machine.checker
+    pub making_leads : AccessLeads (checks_of s) here.scopes making_agrees.is_in.2 here.asked making_part.1 leads.mine own run.machine.checker
     making_leads =
         let both : stages.Making making_agrees.is_in.0 making_agrees.is_in.1 ≡ stages.Making own kept = sym making_agrees.is_in.3 ∙ is in
         let same : making_agrees.is_in.0 ≡ own = cc in
         subst (λ (r : AccessRun). AccessLeads (checks_of s) here.scopes making_agrees.is_in.2 here.asked making_part.1 leads.mine r run.machine.checker) same making_agrees.is_in.7
 
-    making_is : AccessIsStuck (checks_of s) here.scopes making_agrees.is_in.2 here.asked making_part.1 leads.mine ↔ IsStuck leads
+    pub making_is : AccessIsStuck (checks_of s) here.scopes making_agrees.is_in.2 here.asked making_part.1 leads.mine ↔ IsStuck leads
     making_is = (
       λ stuck. subst (λ (p : Part). WaitsTooLong s p here leads.mine) (sym making_part.2) (making_agrees.is_in.2, making_agrees.is_in.6, stuck),
       λ stuck. let at : WaitsTooLong s (makes making_part.0 making_part.1 (follow_of kept)) here leads.mine =
@@ -400,13 +400,13 @@ module _ (s : Setting) (registers : ℕ) (body : Block) (records : List Record) 
         run.machine.checker making_leads making_agrees.is_in.8 before step says tried)
 
   module _ (is : run.stage ≡ stages.Opening) where
-    opening_part : (a : access.Access) × (leads.part ≡ opens a)
+    pub opening_part : (a : access.Access) × (leads.part ≡ opens a)
     opening_part = in_opening s here leads.mine run.machine run.stage leads.part (leads.agrees leads.mine).is_in is
 
-    opening_agrees : Agrees s (opens opening_part.0) here leads.mine run.machine run.stage
+    pub opening_agrees : Agrees s (opens opening_part.0) here leads.mine run.machine run.stage
     opening_agrees = agrees_in s registers body records run leads (opens opening_part.0) opening_part.1 leads.mine
 
-    opening_is : IsStuckBy s.rules.turns leads.mine ↔ IsStuck leads
+    pub opening_is : IsStuckBy s.rules.turns leads.mine ↔ IsStuck leads
     opening_is = (
       λ stuck. subst (λ (p : Part). WaitsTooLong s p here leads.mine) (sym opening_part.1) stuck,
       λ stuck. subst (λ (p : Part). WaitsTooLong s p here leads.mine) opening_part.1 stuck,
@@ -436,13 +436,13 @@ module _ (s : Setting) (registers : ℕ) (body : Block) (records : List Record) 
         run.machine.checker opening_agrees.is_in.4 s.rules.turns before step says tried)
 
   module _ (is : run.stage ≡ stages.Closing) where
-    closing_part : leads.part ≡ closes
+    pub closing_part : leads.part ≡ closes
     closing_part = in_closing s here leads.mine run.machine run.stage leads.part (leads.agrees leads.mine).is_in is
 
-    closing_agrees : Agrees s closes here leads.mine run.machine run.stage
+    pub closing_agrees : Agrees s closes here leads.mine run.machine run.stage
     closing_agrees = agrees_in s registers body records run leads closes closing_part leads.mine
 
-    closing_is : IsStuckBy s.rules.turns leads.mine ↔ IsStuck leads
+    pub closing_is : IsStuckBy s.rules.turns leads.mine ↔ IsStuck leads
     closing_is = (
       λ stuck. subst (λ (p : Part). WaitsTooLong s p here leads.mine) (sym closing_part) stuck,
       λ stuck. subst (λ (p : Part). WaitsTooLong s p here leads.mine) closing_part stuck,
@@ -472,19 +472,19 @@ module _ (s : Setting) (registers : ℕ) (body : Block) (records : List Record) 
         (Closes closing_agrees.is_in.1 closing_agrees.is_in.2) here.asked leads.mine run.machine.checker closing_agrees.is_in.6 s.rules.turns before step says tried)
 
   module _ (wait : LockWait) (variable : ℕ) (is : run.stage ≡ stages.Locking wait variable) where
-    locking_part : leads.part ≡ locks variable
+    pub locking_part : leads.part ≡ locks variable
     locking_part = in_locking s here leads.mine run.machine run.stage leads.part (leads.agrees leads.mine).is_in wait variable is
 
-    locking_agrees : Agrees s (locks variable) here leads.mine run.machine run.stage
+    pub locking_agrees : Agrees s (locks variable) here leads.mine run.machine run.stage
     locking_agrees = agrees_in s registers body records run leads (locks variable) locking_part leads.mine
 
-    locking_leads : LockLeads s.text.task (lock_number s variable) leads.mine wait
+    pub locking_leads : LockLeads s.text.task (lock_number s variable) leads.mine wait
     locking_leads =
         let both : stages.Locking locking_agrees.is_in.0 variable ≡ stages.Locking wait variable = sym locking_agrees.is_in.1 ∙ is in
         let same : locking_agrees.is_in.0 ≡ wait = cc in
         subst (λ (w : LockWait). LockLeads s.text.task (lock_number s variable) leads.mine w) same locking_agrees.is_in.3
 
-    locking_is : IsStuckAtLock run.machine.rules.turns s.text.task (lock_number s variable) leads.mine ↔ IsStuck leads
+    pub locking_is : IsStuckAtLock run.machine.rules.turns s.text.task (lock_number s variable) leads.mine ↔ IsStuck leads
     locking_is = (
       λ stuck. subst (λ (p : Part). WaitsTooLong s p here leads.mine) (sym locking_part)
           (subst (λ (n : ℕ). IsStuckAtLock n s.text.task (lock_number s variable) leads.mine) (ap (λ (r : Rules). r.turns) locking_agrees.of.rules) stuck),

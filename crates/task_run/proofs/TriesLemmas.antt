@@ -66,7 +66,7 @@ onto_is (first ∷ later) before =
 pub all_onto : (earlier mine : List Record) → reverse (earlier ++ mine) ≡ onto mine (reverse earlier)
 all_onto earlier mine = reverse-append earlier mine ∙ onto_is mine (reverse earlier)
 
-onto_both : (one other before : List Record) → onto (one ++ other) before ≡ onto other (onto one before)
+pub onto_both : (one other before : List Record) → onto (one ++ other) before ≡ onto other (onto one before)
 onto_both [] other before = refl
 onto_both (first ∷ later) other before = onto_both later other (first ∷ before)
 
@@ -279,15 +279,18 @@ module _ (task : ℕ) (a : Access) (source : Source) (operation : Operation) (do
       → Exchanges task a source change seen (exchange change seen ∷ []) (changed a.size change (value_in a source seen)) []
   accepted change seen wanted = rw wanted ((refl, refl), (refl, refl))
 
-  ended : (change : Change) (seen tries : ℕ) → run.stage ≡ operating_stages.Exchange change seen tries → LoadsFirst source (done ++ exchange change seen ∷ [])
-  ended change seen tries is =
+  pub exchange_ends : (change : Change) (seen tries : ℕ) → run.stage ≡ operating_stages.Exchange change seen tries
+      → OperatesIn task a source operation (done ++ exchange change seen ∷ []) (and_then run.effect (changed a.size change (value_in a source seen))) []
+  exchange_ends change seen tries is =
       let ready : is_wanted a.size change (value_in a source seen) ≡ true =
       subst (λ (stage : operating.Stage). operation_stages.IsReady a source stage) is leads.ready in
       let more : Effect = changed a.size change (value_in a source seen) in
       let left : operation_stages.StageLeft task a source run.stage (exchange change seen ∷ []) more =
       subst (λ (stage : operating.Stage). operation_stages.StageLeft task a source stage (exchange change seen ∷ []) more) (sym is) (accepted change seen ready) in
-      operation_loads task a source operation (done ++ exchange change seen ∷ []) (and_then run.effect more) []
-      ((leads.left (exchange change seen ∷ []) (and_then run.effect more)).1 (more, left, refl))
+      (leads.left (exchange change seen ∷ []) (and_then run.effect more)).1 (more, left, refl)
+
+  ended : (change : Change) (seen tries : ℕ) → run.stage ≡ operating_stages.Exchange change seen tries → LoadsFirst source (done ++ exchange change seen ∷ [])
+  ended change seen tries is = operation_loads task a source operation _ _ [] (exchange_ends change seen tries is)
 
   few_exchanges : (last : Record) (cell seen new : ℕ) → last.step ≡ CellExchange cell seen new → LoadsFirst source (done ++ last ∷ []) → (before : List Record)
       → FewExchanges (waits.vain_tries done) (onto done before)

@@ -1,11 +1,24 @@
 //! What is true of a task's machine, whatever it does.
 
-ghost use Rattle.std.specs.Prelude.{◌≡◌};
+ghost use Rattle.std.specs.Prelude.{◌≡◌, ℕ, List};
+ghost use Rattle.litmus_syntax.specs.Tree.{Block};
+ghost use Rattle.slot_table.specs.declared.records.Record.{Record};
 ghost use Rattle.slot_table.specs.declared.step.Step.{Step};
+ghost use Rattle.task_run.specs.Leads.{IsStuck, Leads};
 ghost use Rattle.task_run.specs.Says.{Says};
 ghost use Rattle.task_run.specs.declared.run.TaskRun.{TaskRun};
+ghost use Rattle.written_order.specs.Standing.{Setting};
+ghost use Rattle.written_order.specs.Waits as waits;
+ghost use Rattle.written_order.specs.WrittenOrder.{WrittenOrder};
 
 /// Law: a machine is before one step at most.
 pub fn one_step_is_next()
     ensures { (run : TaskRun) (one other : Step) → Says run one → Says run other → one ≡ other }
+{}
+
+/// Law: where a part of the text waits too long, the task is stuck by its records in the written order: the only step
+/// that they go on with is a try too much.
+pub fn too_long_a_wait_is_told_by_the_records()
+    ensures { (s : Setting) (registers : ℕ) (body : Block) (records : List Record) (run : TaskRun) → (leads : Leads s registers body records run)
+        → WrittenOrder s registers body records → IsStuck leads → waits.IsStuck s registers body records }
 {}
