@@ -1,5 +1,5 @@
 -- A part that waits too long is stuck by the records: the only step that they go on with is a try too much.
-use Rattle.std.proofs.Common.{◌≡◌, ◌<◌, ◌≤◌, ◌∙◌, ◌++◌, ◌∷◌, [], ℕ, Bool, true, false, List, None, Option, Some, ap, inl, inr, refl, reverse, subst, sym}
+use Rattle.std.proofs.Common.{◌≡◌, ◌↔◌, ◌<◌, ◌≤◌, ◌⊎◌, ◌∙◌, ◌++◌, ◌∷◌, [], ℕ, Bool, true, false, IfSome, IsNone, List, None, Option, Some, ap, inl, inr, refl, reverse, subst, sym}
 use Rattle.access_run.proofs.CheckFronts.{check, close, framed_checks}
 use Rattle.access_run.proofs.LeadsLemmas.{check_only, check_stuck, end_not_stuck, operate_going, operate_only, operate_stuck}
 use Rattle.access_run.proofs.WholeLemmas.{split}
@@ -35,12 +35,13 @@ use Rattle.task_plan.specs.declared.follow.Then.{Then}
 use Rattle.task_run.proofs.EndLemmas.{begins_one, one_answer}
 use Rattle.task_run.proofs.LeadsLemmas.{agrees_in}
 use Rattle.task_run.proofs.LongLemmas.{CheckWaits, LoadsNext, check_long, lock_long, operation_long}
-use Rattle.task_run.proofs.NextLemmas.{closing_is, closing_only, closing_part, locking_leads, locking_part, locking_only, making_agrees, making_is, making_leads, making_only, making_part, opening_is, opening_only, opening_part, over_stuck, stopped_stuck, unlocking_stuck}
+use Rattle.task_run.proofs.NextLemmas.{closing_is, closing_only, closing_part, locking_leads, locking_part, locking_only, making_agrees, making_is, making_leads, making_only, making_part, opening_is, opening_only, opening_part, over_stuck, stopped_stuck, too_much_stuck, unlocking_stuck}
 use Rattle.task_run.proofs.PairLemmas.{AreOfOne, check_of_one, close_of_one}
 use Rattle.task_run.proofs.TriesLemmas.{all_onto, onto, onto_both}
 use Rattle.task_run.specs.Agrees.{Agrees}
 use Rattle.task_run.specs.Leads.{IsStuck, Leads, WaitsTooLong}
 use Rattle.task_run.specs.Part.{Part, PartLeft, closes, locks, makes, opens}
+use Rattle.task_run.specs.Says.{IsStopped, Says}
 use Rattle.task_run.specs.declared.run.TaskRun.{TaskRun}
 use Rattle.task_run.specs.declared.stage.Stage.{Stage}
 use Rattle.task_run.specs.declared.stage.Stage.TheVariants as stages
@@ -261,3 +262,37 @@ module _ (s : Setting) (registers : ℕ) (body : Block) (records : List Record) 
 pub stuck_by_records : (s : Setting) (registers : ℕ) (body : Block) (records : List Record) (run : TaskRun) (leads : Leads s registers body records run)
     → WrittenOrder s registers body records → IsStuck leads → waits.IsStuck s registers body records
 stuck_by_records s registers body records run leads written stuck = stuck_waits s registers body records run leads written stuck
+
+-- the same step both times
+one_next : (task : ℕ) (one other : Step) (records : List Record) → operations.GoesOn task one records → operations.GoesOn task other records → one ≡ other
+one_next task one other [] h k = absurd h
+one_next task one other (first ∷ later) h k = sym h.1 ∙ k.1
+
+-- no step is left exactly where the text is over, or the task is stuck by its records, or the machine has stopped
+module _ (s : Setting) (registers : ℕ) (body : Block) (records : List Record) (run : TaskRun) (leads : Leads s registers body records run) (o : Option Step)
+    (only : IfSome o (OnlyStep s registers body records)) (says : IfSome o (λ step. Says run step)) (stuck_none : IsStuck leads → IsNone o) where
+  none_by_records : waits.IsStuck s registers body records → IsNone o
+  none_by_records by = at_step o only says stuck_none
+    where
+      at_step : (x : Option Step) → IfSome x (OnlyStep s registers body records) → IfSome x (λ step. Says run step) → (IsStuck leads → IsNone x) → IsNone x
+      at_step None one here none = refl
+      at_step (Some step) one here none =
+          let same : by.step ≡ step = one_next s.text.task by.step step by.written.more (by.only by.written.more by.written.whole) (one by.written.more by.written.whole) in
+          none (too_much_stuck s registers body records run leads step here
+          (subst (λ (x : Step). IsTooMuch s.rules.turns x (reverse records)) same by.tried))
+
+  pub over_by_records : (IsNone o ↔ (SpellsAll s registers body records ⊎ (IsStuck leads ⊎ IsStopped run))) → WrittenOrder s registers body records
+      → IsNone o ↔ (SpellsAll s registers body records ⊎ (waits.IsStuck s registers body records ⊎ IsStopped run))
+  over_by_records none written = (to, from)
+    where
+      stuck_or : IsStuck leads ⊎ IsStopped run → waits.IsStuck s registers body records ⊎ IsStopped run
+      stuck_or (inl stuck) = inl (stuck_by_records s registers body records run leads written stuck)
+      stuck_or (inr stopped) = inr stopped
+
+      to : IsNone o → SpellsAll s registers body records ⊎ (waits.IsStuck s registers body records ⊎ IsStopped run)
+      to h = elim (none.0 h) [ inl all ↦ inl all | inr rest ↦ inr (stuck_or rest) ]
+
+      from : SpellsAll s registers body records ⊎ (waits.IsStuck s registers body records ⊎ IsStopped run) → IsNone o
+      from (inl all) = none.1 (inl all)
+      from (inr (inl by)) = none_by_records by
+      from (inr (inr stopped)) = none.1 (inr (inr stopped))

@@ -100,7 +100,8 @@ impl<'a> TaskRun<'a> {
     ghost use Rattle.task_run.specs.declared.run.TaskRunError.TheVariants.{BadPlace, BadSlots};
     ghost use Rattle.task_run.specs.declared.stage.Stage.TheVariants.{Closing, Locking, Making, Opening, Unlocking};
     ghost use Rattle.written_order.specs.Standing.{Setting};
-    ghost use Rattle.written_order.specs.WrittenOrder.{SpellsAll};
+    ghost use Rattle.written_order.specs.Waits as waits;
+    ghost use Rattle.written_order.specs.WrittenOrder.{SpellsAll, WrittenOrder};
 
     /// A task that has made no step yet. `cells` are the addresses of the cells of memory, and `sites`
     /// the accesses of the whole program. It takes all its room, and no call after it takes memory.
@@ -162,6 +163,8 @@ impl<'a> TaskRun<'a> {
             → IfSome result (OnlyStep s registers body records) }
         ensures none { (s : Setting) (registers : ℕ) (body : Block) (records : List Record) → (leads : Leads s registers body records self.now)
             → (IsNone result ↔ (SpellsAll s registers body records ⊎ (IsStuck leads ⊎ IsStopped self.now))) }
+        ensures over { (s : Setting) (registers : ℕ) (body : Block) (records : List Record) → Leads s registers body records self.now → WrittenOrder s registers body records
+            → (IsNone result ↔ (SpellsAll s registers body records ⊎ (waits.IsStuck s registers body records ⊎ IsStopped self.now))) }
         ensures within { (s : Setting) (registers : ℕ) (body : Block) (records : List Record) → Leads s registers body records self.now
             → WithinTurns s.rules.turns (reverse records)
             → IfSome result (λ step. (answer : Answer) → WithinTurns s.rules.turns (reverse (records ++ made s.text.task step answer ∷ []))) }

@@ -1,5 +1,5 @@
 -- The step of the part under way is the only one that the text goes on with.
-use Rattle.std.proofs.Common.{◌≡◌, ◌∙◌, ℕ, IfSome, IsNone, Some, ap, false, inl, inr, refl, subst, sym, true}
+use Rattle.std.proofs.Common.{◌≡◌, ◌∙◌, ℕ, IfSome, IsNone, None, Some, ap, false, inl, inr, refl, subst, sym, true}
 use Rattle.access_run.specs.Leads.{AccessOnlyStep}
 use Rattle.memory_operation.specs.LockLeads.{LockSays, OnlyLockStep}
 use Rattle.setup_access.specs.Leads as checks
@@ -9,6 +9,7 @@ use Rattle.task_run.specs.Says.{StageSays}
 use Rattle.task_run.specs.declared.stage.Stage.TheVariants as stages
 use Rattle.written_order.specs.Standing.{checks_of}
 use Rattle.task_run.proofs.NextLemmas.{closing_none, closing_only, locking_none, locking_only, making_none, making_only, none_left, opening_none, opening_only, over_spelled, some_says, step_only, unlocking_only, unlocking_stuck, within_on}
+use Rattle.task_run.proofs.StuckLemmas.{over_by_records}
 use Rattle.task_run.proofs.run.TaskRun.next.Goals as goal
 
 pub returns-in-Over-clause-none : goal.returns-in-Over-clause-none
@@ -138,3 +139,58 @@ returns-in-Unlocking-clause-within c = λ s registers body records leads.
     within_on s registers body records c.args.self.now leads (Some (LockStore c.lock_number.result))
     (subst (λ x. StageSays x c.args.self.now (LockStore c.lock_number.result)) (sym c.in-Unlocking.is) (ap LockStore c.lock_number.ensures.value))
     (λ stuck. absurd (unlocking_stuck s registers body records c.args.self.now leads c.in-Unlocking.variable c.in-Unlocking.is stuck))
+
+pub returns-in-Over-clause-over : goal.returns-in-Over-clause-over
+returns-in-Over-clause-over c = λ s registers body records leads.
+    over_by_records s registers body records c.args.self.now leads None tt tt (λ stuck. refl)
+    (λ h. inl (over_spelled s registers body records c.args.self.now leads c.in-Over.is), λ h. refl)
+
+pub returns-in-Stopped-clause-over : goal.returns-in-Stopped-clause-over
+returns-in-Stopped-clause-over c = λ s registers body records leads.
+    over_by_records s registers body records c.args.self.now leads None tt tt (λ stuck. refl) (λ h. inr (inr c.in-Stopped.is), λ h. refl)
+
+pub returns-in-Making-clause-over : goal.returns-in-Making-clause-over
+returns-in-Making-clause-over c = λ s registers body records leads.
+    let is = making_none s registers body records c.args.self.now leads c.in-Making.run' c.in-Making.field-1 c.in-Making.is (IsNone c.next.result)
+    (λ scopes begun asked operation so_far own. c.next.ensures.none (checks_of s) scopes begun asked operation so_far own) in
+    over_by_records s registers body records c.args.self.now leads c.next.result (making c s registers body records leads)
+    (subst (λ stage. IfSome c.next.result (λ step. StageSays stage c.args.self.now step)) (sym c.in-Making.is) c.next.ensures.says) is.1
+    (none_left s registers body records c.args.self.now leads c.next.result (making c s registers body records leads) is.0 is.1
+    (λ stopped. let no : stages.Making c.in-Making.run' c.in-Making.field-1 ≡ stages.Stopped = sym c.in-Making.is ∙ stopped in cc))
+
+pub returns-in-Opening-clause-over : goal.returns-in-Opening-clause-over
+returns-in-Opening-clause-over c = λ s registers body records leads.
+    let is = opening_none s registers body records c.args.self.now leads c.in-Opening.is (IsNone c.next-in-Opening.result)
+    (λ scopes doing asked so_far own. c.next-in-Opening.ensures.none (checks_of s) scopes doing asked so_far own) in
+    over_by_records s registers body records c.args.self.now leads c.next-in-Opening.result (opening c s registers body records leads)
+    (subst (λ stage. IfSome c.next-in-Opening.result (λ step. StageSays stage c.args.self.now step)) (sym c.in-Opening.is) c.next-in-Opening.ensures.says) is.1
+    (none_left s registers body records c.args.self.now leads c.next-in-Opening.result (opening c s registers body records leads) is.0 is.1
+    (λ stopped. let no : stages.Opening ≡ stages.Stopped = sym c.in-Opening.is ∙ stopped in cc))
+
+pub returns-in-Closing-clause-over : goal.returns-in-Closing-clause-over
+returns-in-Closing-clause-over c = λ s registers body records leads.
+    let is = closing_none s registers body records c.args.self.now leads c.in-Closing.is (IsNone c.next-in-Closing.result)
+    (λ scopes doing asked so_far own. c.next-in-Closing.ensures.none (checks_of s) scopes doing asked so_far own) in
+    over_by_records s registers body records c.args.self.now leads c.next-in-Closing.result (closing c s registers body records leads)
+    (subst (λ stage. IfSome c.next-in-Closing.result (λ step. StageSays stage c.args.self.now step)) (sym c.in-Closing.is) c.next-in-Closing.ensures.says) is.1
+    (none_left s registers body records c.args.self.now leads c.next-in-Closing.result (closing c s registers body records leads) is.0 is.1
+    (λ stopped. let no : stages.Closing ≡ stages.Stopped = sym c.in-Closing.is ∙ stopped in cc))
+
+pub returns-in-Locking-clause-over : goal.returns-in-Locking-clause-over
+returns-in-Locking-clause-over c = λ s registers body records leads.
+    let is = locking_none s registers body records c.args.self.now leads c.in-Locking.wait c.in-Locking.field-1 c.in-Locking.is (IsNone c.next-in-Locking.result)
+    (λ lock so_far own. c.next-in-Locking.ensures.none s.text.task lock so_far own) in
+    over_by_records s registers body records c.args.self.now leads c.next-in-Locking.result (locking c s registers body records leads)
+    (subst (λ stage. IfSome c.next-in-Locking.result (λ step. StageSays stage c.args.self.now step)) (sym c.in-Locking.is) c.next-in-Locking.ensures.says) is.1
+    (none_left s registers body records c.args.self.now leads c.next-in-Locking.result (locking c s registers body records leads) is.0 is.1
+    (λ stopped. let no : stages.Locking c.in-Locking.wait c.in-Locking.field-1 ≡ stages.Stopped = sym c.in-Locking.is ∙ stopped in cc))
+
+pub returns-in-Unlocking-clause-over : goal.returns-in-Unlocking-clause-over
+returns-in-Unlocking-clause-over c = λ s registers body records leads.
+    over_by_records s registers body records c.args.self.now leads (Some (LockStore c.lock_number.result)) (unlocking c s registers body records leads)
+    (subst (λ x. StageSays x c.args.self.now (LockStore c.lock_number.result)) (sym c.in-Unlocking.is) (ap LockStore c.lock_number.ensures.value))
+    (λ stuck. absurd (unlocking_stuck s registers body records c.args.self.now leads c.in-Unlocking.variable c.in-Unlocking.is stuck))
+    (none_left s registers body records c.args.self.now leads (Some (LockStore c.lock_number.result)) (unlocking c s registers body records leads)
+    (λ h. absurd (let no : true ≡ false = h in cc))
+    (λ stuck. absurd (unlocking_stuck s registers body records c.args.self.now leads c.in-Unlocking.variable c.in-Unlocking.is stuck))
+    (λ stopped. let no : stages.Unlocking c.in-Unlocking.variable ≡ stages.Stopped = sym c.in-Unlocking.is ∙ stopped in cc))
