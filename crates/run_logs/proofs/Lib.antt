@@ -1,1 +1,13 @@
 pub mod Growth
+pub mod Sums
+pub mod Points
+pub mod Begun
+pub mod Unfinished
+pub mod Afters
+pub mod Ties
+pub mod Machines
+pub mod Counting
+pub mod Owns
+pub mod Naming
+pub mod Reporting
+pub mod Rooms

@@ -1,15 +1,35 @@
 //! What is true of what a run list notes.
 
-ghost use Rattle.std.specs.Prelude.{◌++◌, ◌≡◌, ◌≢◌, ◌∷◌, ℕ, [], List, length, reverse};
+ghost use Rattle.std.specs.Prelude.{◌+◌, ◌++◌, ◌≡◌, ◌≢◌, ◌≤◌, ◌∷◌, ℕ, [], List, Option, length, reverse};
+ghost use Rattle.litmus_syntax.specs.Limits.{BodyKeepsLimits, block_repeats};
 ghost use Rattle.litmus_syntax.specs.Tree.{Block};
-ghost use Rattle.run_lists.specs.Run.{Run};
+ghost use Rattle.std.specs.Option.{option_to_list};
+ghost use Rattle.run_lists.specs.Reports.{reports_of};
+ghost use Rattle.run_lists.specs.Run.{Run, task_of, task_setting};
 ghost use Rattle.run_lists.specs.RunList.{RunList};
 ghost use Rattle.run_lists.specs.Told.{made_by};
 ghost use Rattle.run_logs.specs.Noted.{AreNoted, IsNoted, Notes};
+ghost use Rattle.run_logs.specs.Totals.{AddUp, CountsList, CountsTasks};
+ghost use Rattle.setup_access.specs.declared.begun.Begun.{Begun};
+ghost use Rattle.setup_access.specs.declared.outcome.Outcome.{Outcome};
+ghost use Rattle.slot_table.specs.Records.{records_of};
 ghost use Rattle.slot_table.specs.declared.records.Record.{Record};
+ghost use Rattle.task_log.specs.Counters.{Count};
+ghost use Rattle.task_log.specs.Reports.{reported};
+ghost use Rattle.task_log.specs.Touches.{touches_of};
+ghost use Rattle.task_log.specs.declared.counters.Counters.{Counters};
 ghost use Rattle.task_log.specs.declared.noted.Noted.{Noted};
+ghost use Rattle.task_run.specs.Fell.{FellAt};
+ghost use Rattle.task_run.specs.Leads.{BeginsNext, Leads, stands_at};
+ghost use Rattle.task_run.specs.Says.{Says};
+ghost use Rattle.task_run.specs.declared.run.TaskRun.{TaskRun};
 ghost use Rattle.written_order.specs.Standing.{Setting};
 ghost use Rattle.written_order.specs.WrittenOrder.{WrittenOrder};
+
+use run_verdicts::laws::{
+    outcomes_fall_where_they_are_settled, records_tell_their_events, verdicts_are_on_watches,
+};
+use written_tellings::{few_accesses_begin, one_telling};
 
 /// Law: of one record more is noted what was noted before, and what is noted of that record. So it is of a task's
 /// own records, and of the list of all: what is noted of the other tasks stays.
@@ -27,3 +47,56 @@ pub fn one_more_is_noted()
         → Notes one task before → Notes other task before }
     ensures none { (run : Run) (list : RunList run []) → (task : ℕ) → Notes list task [] }
 {}
+
+/// Law: a task's machine says before a step which access begins with it, and after the answer which outcome fell at
+/// it: just this is noted of the record.
+pub fn a_machine_says_what_is_noted()
+    ensures { (run : Run) (latest : Record) (earlier : List Record) (old : TaskRun) (begins : Option Begun) (fell : Option Outcome)
+        → (list : RunList run (latest ∷ earlier))
+        → (leads : Leads (task_setting run latest.task) (length (task_of run latest.task).registers) (task_of run latest.task).body (reverse (records_of latest.task earlier)) old)
+        → Says old latest.step
+        → ((later : List Record) → BeginsNext (task_setting run latest.task) leads.part (stands_at leads later) leads.mine begins)
+        → FellAt old fell latest.answer
+        → IsNoted (list.tasks latest.task) (made_by latest.task earlier) latest
+        (record { step = latest.step; answer = latest.answer; begins = begins; outcome = fell }) }
+{
+    records_tell_their_events();
+}
+
+/// Law: the counters of the tasks of a run list, added one task after the other, are those of the whole list: so many
+/// armings, consumes and lost tries are among its records, and so many outcomes of each kind among those that it
+/// tells.
+pub fn counters_of_tasks_add_up()
+    ensures none { (run : Run) (records : List Record) (list : RunList run records) (counters : Counters) → Count [] counters → CountsTasks list 0 counters }
+    ensures more { (run : Run) (records : List Record) (list : RunList run records) (task : ℕ) (noted : List Noted) (some one both : Counters)
+        → CountsTasks list task some → Notes list task noted → Count noted one → AddUp some one both → CountsTasks list (task + 1) both }
+    ensures all { (run : Run) (records : List Record) (list : RunList run records) (counters : Counters)
+        → CountsTasks list (length run.program.tasks) counters → CountsList list counters }
+{}
+
+/// Law: with one record more a run list reports what a log reports at that step, by what was noted of the task before:
+/// the two sides by the pair that the setter heard, or, where the origin is unknown, the access by the ticket by which
+/// the task has last named itself.
+pub fn a_log_reports_what_the_list_does()
+    ensures { (run : Run) (latest : Record) (earlier : List Record) (before : List Noted) (noted : Noted)
+        → (one : RunList run earlier) → (other : RunList run (latest ∷ earlier))
+        → Notes one latest.task before → IsNoted (other.tasks latest.task) (made_by latest.task earlier) latest noted
+        → reports_of other ≡ reports_of one ++ option_to_list (reported noted.outcome before) }
+{
+    verdicts_are_on_watches();
+    outcomes_fall_where_they_are_settled();
+}
+
+/// Law: of a task no more accesses are noted than the loops of its text repeat its statements, so at most 1,024 where
+/// the text keeps the limits.
+pub fn few_accesses_are_noted()
+    ensures text { (s : Setting) (registers : ℕ) (body : Block) (records : List Record) (noted : List Noted)
+        → (written : WrittenOrder s registers body records) → AreNoted written (reverse records) noted
+        → length (touches_of noted) ≤ block_repeats 1 body }
+    ensures limits { (s : Setting) (registers : ℕ) (body : Block) (records : List Record) (noted : List Noted)
+        → (written : WrittenOrder s registers body records) → AreNoted written (reverse records) noted
+        → BodyKeepsLimits body → length (touches_of noted) ≤ 1024 }
+{
+    few_accesses_begin();
+    one_telling();
+}
