@@ -11,3 +11,5 @@ pub mod Owns
 pub mod Naming
 pub mod Reporting
 pub mod Rooms
+pub mod Hands
+pub mod Removals

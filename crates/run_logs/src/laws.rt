@@ -1,6 +1,6 @@
 //! What is true of what a run list notes.
 
-ghost use Rattle.std.specs.Prelude.{◌+◌, ◌++◌, ◌≡◌, ◌≢◌, ◌≤◌, ◌∷◌, ℕ, [], List, Option, length, reverse};
+ghost use Rattle.std.specs.Prelude.{◌+◌, ◌++◌, ◌≡◌, ◌≢◌, ◌≤◌, ◌∷◌, ℕ, [], List, Option, length, map, reverse};
 ghost use Rattle.litmus_syntax.specs.Limits.{BodyKeepsLimits, block_repeats};
 ghost use Rattle.litmus_syntax.specs.Tree.{Block};
 ghost use Rattle.std.specs.Option.{option_to_list};
@@ -9,11 +9,13 @@ ghost use Rattle.run_lists.specs.Run.{Run, task_of, task_setting};
 ghost use Rattle.run_lists.specs.RunList.{RunList};
 ghost use Rattle.run_lists.specs.Told.{made_by};
 ghost use Rattle.run_logs.specs.Noted.{AreNoted, IsNoted, Notes};
+ghost use Rattle.run_logs.specs.Removed.{as_removed, removed_by};
 ghost use Rattle.run_logs.specs.Totals.{AddUp, CountsList, CountsTasks};
 ghost use Rattle.setup_access.specs.declared.begun.Begun.{Begun};
 ghost use Rattle.setup_access.specs.declared.outcome.Outcome.{Outcome};
 ghost use Rattle.slot_table.specs.Records.{records_of};
 ghost use Rattle.slot_table.specs.declared.records.Record.{Record};
+ghost use Rattle.task_log.specs.Arms.{arms_of};
 ghost use Rattle.task_log.specs.Counters.{Count};
 ghost use Rattle.task_log.specs.Reports.{reported};
 ghost use Rattle.task_log.specs.Touches.{touches_of};
@@ -26,6 +28,7 @@ ghost use Rattle.task_run.specs.declared.run.TaskRun.{TaskRun};
 ghost use Rattle.written_order.specs.Standing.{Setting};
 ghost use Rattle.written_order.specs.WrittenOrder.{WrittenOrder};
 
+use run_lists::laws::run_lists_keep_the_discipline;
 use run_verdicts::laws::{
     outcomes_fall_where_they_are_settled, records_tell_their_events, verdicts_are_on_watches,
 };
@@ -99,4 +102,14 @@ pub fn few_accesses_are_noted()
 {
     few_accesses_begin();
     one_telling();
+}
+
+/// Law: the armings that a log of a task keeps are those that the task has removed, in this order, each with its index,
+/// its watch word and the ticket by which its setter had named itself, as the list has them of the last arming at that
+/// index.
+pub fn a_log_keeps_the_armings_that_are_over()
+    ensures { (run : Run) (records : List Record) (list : RunList run records) (task : ℕ) (noted : List Noted)
+        → Notes list task noted → map (as_removed task) (arms_of noted) ≡ removed_by task records }
+{
+    run_lists_keep_the_discipline();
 }
