@@ -12,7 +12,7 @@ use Rattle.written_order.specs.WrittenOrder.{SpellsAll}
 use Rattle.written_order.proofs.MeaningLemmas.{whole_means}
 use Rattle.run_lists.proofs.OwnMarks.{begins_once}
 
-there : (before later : List Happening) (x : Happening) → slice_get (before ++ x ∷ later) (length before) ≡ Some x
+pub there : (before later : List Happening) (x : Happening) → slice_get (before ++ x ∷ later) (length before) ≡ Some x
 there [] later x = refl
 there (first ∷ before) later x = there before later x
 

@@ -7,7 +7,7 @@ use Rattle.access_types.specs.declared.history.Happening.TheVariants as happenin
 use Rattle.setup_access.specs.declared.begun.Begun.{Begun}
 use Rattle.run_lists.proofs.Intervals.{Has, IsNoEnd, IsOpen, IsPaired, has_either, has_first, has_last}
 
-has_split : (xs : List Happening) (x : Happening) → Has xs x → (p : List Happening) × (q : List Happening) × (xs ≡ p ++ x ∷ q)
+pub has_split : (xs : List Happening) (x : Happening) → Has xs x → (p : List Happening) × (q : List Happening) × (xs ≡ p ++ x ∷ q)
 has_split [] x h = absurd h
 has_split (y ∷ xs) x h = elim h [
   | inl here ↦ ([], xs, ap (λ (z : Happening). z ∷ xs) here)

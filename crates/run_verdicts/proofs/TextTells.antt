@@ -123,7 +123,7 @@ module _ (s : Setting) where
           → Tells s (first ∷ later) did (point ∷ more) outs
       by_answer true event_of taken again =
           tells.event first later did (happenings.Lock variable ∷ []) point more outs (here ∙ ap (λ (r : List Record). length r) taken) says
-          (event_of (happenings.Lock variable ∷ []) (variable, is_lock, refl, refl))
+          (event_of (happenings.Lock variable ∷ []) (variable, refl, is_lock, refl, refl))
           (subst (λ (r : List Record). Tells s r point.progress.did more outs) taken goes)
       by_answer false event_of refused again = tells.silent first later did (point ∷ more) outs (event_of [] refl) (again refused)
 

@@ -1,5 +1,5 @@
 -- Each verdict that a run list tells is on a watch of an access in progress.
-use Rattle.std.proofs.Common.{◌≡◌, ◌∙◌, ◌<◌, ◌≤◌, ◌+◌, ◌-◌, ◌==◌, ◌∷◌, ◌++◌, [], inl, inr, ℕ, suc, All, IsTrue, List, Option, Some, ap, append_assoc, arith, get_or, length, map, refl, reverse, subst, sym}
+use Rattle.std.proofs.Common.{◌≡◌, ◌∙◌, ◌<◌, ◌≤◌, ◌+◌, ◌-◌, ◌==◌, ◌∷◌, ◌++◌, [], inl, inr, ℕ, suc, All, IsTrue, List, Option, Some, ap, append_assoc, arith, get_or, length, map, refl, reverse, slice_get, subst, sym}
 use Rattle.std.specs.List.{filter}
 use Rattle.std.proofs.Math.ListN.{get_or-eq_default}
 use Rattle.std.proofs.lemmas.Bool.Decides.{eqb_tells, leb_tells}
@@ -8,22 +8,31 @@ use Rattle.std.proofs.lemmas.List.Elements.{All-append, All-cons, All-nil}
 use Rattle.access_types.specs.Access.{Access}
 use Rattle.access_types.specs.History.{InProgress}
 use Rattle.access_types.specs.declared.history.Happening.{Happening}
+use Rattle.access_types.specs.declared.history.Happening.TheVariants as happenings
+use Rattle.litmus_meaning.specs.RunOfProgram.{setting_of}
+use Rattle.litmus_meaning.specs.TextSites.{IsOfText}
+use Rattle.litmus_meaning.proofs.TicketLemmas.{of_text}
 use Rattle.litmus_syntax.specs.Tree.{Task}
 use Rattle.setup_access.specs.Check.{Fallen}
 use Rattle.setup_access.specs.Own.{IsOwn}
+use Rattle.setup_access.specs.Setting as checks
+use Rattle.setup_access.specs.declared.outcome.Outcome.{Outcome}
 use Rattle.slot_table.specs.Records.{records_of}
 use Rattle.slot_table.specs.declared.records.Record.{Record}
 use Rattle.written_order.specs.Standing.{Point, Setting, checks_of, point_by}
 use Rattle.written_order.specs.Told.{did_by, fell_next, to_come}
 use Rattle.written_order.specs.WrittenOrder.{StepsOfBlock, at_first, first_point}
-use Rattle.run_lists.specs.Run.{Run, idle, task_of, task_setting}
+use Rattle.written_order.proofs.MeaningLemmas.{whole_means}
+use Rattle.run_lists.specs.Run.{IsOfProgram, Run, idle, task_of, task_setting}
 use Rattle.run_lists.specs.RunList.{RunList}
 use Rattle.run_lists.specs.Told.{Armed, OutcomeAt, armed_by, came_next, history_by, history_of, made_by, outcome_at, outcomes_by, outcomes_of}
-use Rattle.run_lists.proofs.Histories.{front_of, in_progress}
-use Rattle.run_lists.proofs.Intervals.{IsOpen}
+use Rattle.run_lists.proofs.Histories.{did_of_all, front_of, in_progress}
+use Rattle.run_lists.proofs.Intervals.{Has, IsOpen, has_first}
 use Rattle.run_lists.proofs.OwnLasts.{own_latest}
 use Rattle.run_verdicts.specs.Watches.{IfVerdict, IsOfWatch, IsWatch, is_verdict}
 use Rattle.run_verdicts.proofs.Does.{told_whole}
+use Rattle.run_verdicts.proofs.Onces.{there}
+use Rattle.run_verdicts.proofs.Opens.{has_split}
 use Rattle.run_verdicts.proofs.Tells as tells
 use Rattle.run_verdicts.proofs.Tells.{IsWatched, Tells, goes_on}
 
@@ -158,6 +167,29 @@ module _ (run : Run) (records : List Record) (list : RunList run records) where
         absurd (omega (arith, long, so_many))
   ]
 
+  -- an access that a task has begun is one of the program
+  of_program : (task made : ℕ) (a : Access) → a.task ≡ task → IsOpen (did_by (list.tasks task) made) a → IsOfProgram run a
+  of_program task made a mine goes =
+      let s : Setting = task_setting run task in
+      let written = list.tasks task in
+      let end = written.whole.end.progress in
+      let begins = did_of_all written made in
+      let has : Has end.did (happenings.Begin a) =
+      subst (λ (d : List Happening). Has d (happenings.Begin a)) (sym begins.1)
+      (has_first (did_by written made) begins.0 (happenings.Begin a) goes.begun) in
+      let split = has_split end.did (happenings.Begin a) has in
+      let at : slice_get end.did (length split.0) ≡ Some (happenings.Begin a) =
+      subst (λ (d : List Happening). slice_get d (length split.0) ≡ Some (happenings.Begin a)) (sym split.2) (there split.0 split.1 (happenings.Begin a)) in
+      let means = whole_means s (length (task_of run task).registers) (task_of run task).body (whole task) written.whole in
+      let text : IsOfText (setting_of run.program run.places task) (task_of run task).body a =
+      of_text s.text (task_of run task).body _ end means (length split.0) a at in
+      subst (λ (t : ℕ). IsOfText (setting_of run.program run.places t) (task_of run t).body a) (sym mine) text
+
+  -- a watch has records
+  some_watch : (s : checks.Setting) (a : Access) (outcome : Outcome) (watch : List Record) → IsWatch s a outcome watch → 0 < length watch
+  some_watch s a outcome [] it = absurd it.sets_up.2
+  some_watch s a outcome (first ∷ watch) it = omega arith
+
   of_watch : (later : List Record) (latest : Record) (earlier : List Record) → records ≡ later ++ latest ∷ earlier → (f : Fallen)
       → FellSo (task_setting run latest.task) (first_of latest.task) (whole latest.task) (list.tasks latest.task).whole.end.way f
       → length f.later ≡ to_come (list.tasks latest.task) (made_by latest.task earlier + 1)
@@ -185,11 +217,19 @@ module _ (run : Run) (records : List Record) (list : RunList run records) where
       sym (reverse-reverse own) ∙ (ap (λ (r : List Record). reverse r) (sym same) ∙ reverse-append it.front it.watch) in
       let mine : f.access.task ≡ task = it.own.task in
       let before_long : length (reverse it.front) ≡ length it.front = length-reverse it.front in
+      let some : 0 < length it.watch = some_watch (checks_of (task_setting run task)) f.access f.outcome it.watch it.is_watch in
+      let made_then : ℕ = length (whole task) - suc (length f.later) in
+      let left_then : to_come written made_then ≡ suc (length f.later) = omega (arith, parts, some) in
+      let open_then : IsOpen (did_by written made_then) f.access =
+      subst (λ (n : ℕ). IsOpen (point_by n (first_of task) written.whole.end.way).progress.did f.access) (sym left_then)
+      (it.goes (suc (length f.later)) (omega arith) (omega (arith, some))) in
       record {
         later = later;
         by_then = latest ∷ earlier;
         split = is;
         at = refl;
+        mine = λ first others same. let one : latest ≡ first = cc in ap (λ (r : Record). r.task) (sym one) ∙ sym mine;
+        access_is = of_program task made_then f.access mine open_then;
         watch = it.watch;
         before = reverse it.front;
         own = ap (λ (t : ℕ). records_of t (latest ∷ earlier)) mine ∙ reversed;

@@ -68,7 +68,7 @@ IsEvent s before (CellExchange cell expected new) (answers.Flag true) did =
     Writes s cell expected new did
 IsEvent s before (CellExchange cell expected new) answer did = ReadsAtMost s cell answer did
 IsEvent s before (LockTry lock holder) (answers.Flag true) did =
-    (variable : ℕ) × IsLockAt s variable × (lock ≡ lock_number s variable)
+    (variable : ℕ) × (holder ≡ s.text.task) × IsLockAt s variable × (lock ≡ lock_number s variable)
     × (did ≡ happenings.Lock variable ∷ [])
 IsEvent s before (LockStore lock) answer did =
     (variable : ℕ) × IsTrue (has_lock variable before) × (lock ≡ lock_number s variable)

@@ -1,8 +1,8 @@
 -- The watches that verdicts are on.
-use Rattle.std.specs.Prelude.{◌≡◌, ◌<◌, ◌≤◌, ◌+◌, ◌++◌, ℕ, suc, Bool, true, false, List, [], IsTrue, Some, length, reverse}
+use Rattle.std.specs.Prelude.{◌≡◌, ◌<◌, ◌≤◌, ◌+◌, ◌++◌, ℕ, suc, Bool, true, false, List, [], ◌∷◌, IsTrue, Some, length, reverse}
 use Rattle.access_types.specs.Access.{Access}
 use Rattle.access_types.specs.History.{InProgress}
-use Rattle.run_lists.specs.Run.{Run, task_setting}
+use Rattle.run_lists.specs.Run.{IsOfProgram, Run, task_setting}
 use Rattle.run_lists.specs.RunList.{RunList}
 use Rattle.run_lists.specs.Told.{OutcomeAt, history_by, history_of, made_by}
 use Rattle.setup_access.specs.Setting as checks
@@ -32,13 +32,17 @@ pub record IsWatch (s : checks.Setting) (a : Access) (outcome : Outcome) (watch 
       (Some (record { index = index; outcome = outcome })) []
 
 -- The verdict is on a watch of the access that was checked, which the access's task made with its last
--- records by then. The access is in progress from before them to before the last of them.
+-- records by then, and fell at the last of them. The access is one of the program, and it is in progress
+-- from before the watch to before its last record.
 pub record IsOfWatch {run : Run} {records : List Record} (list : RunList run records) (came : OutcomeAt) :
     Type 0 where
   pub later : List Record
   pub by_then : List Record
   pub split : records ≡ later ++ by_then
   pub at : length by_then ≡ suc came.at
+  pub mine : (latest : Record) (earlier : List Record) → by_then ≡ latest ∷ earlier
+      → latest.task ≡ came.access.task
+  pub access_is : IsOfProgram run came.access
   pub watch : List Record
   pub before : List Record
   pub own : records_of came.access.task by_then ≡ reverse watch ++ before
