@@ -230,7 +230,7 @@ module _ (s : Setting) (before : List Happening) (cells : List ℕ) (same_cells 
       exchange (old == expected) cell expected new answer did refl told within answered event
 
   lock_tried : (lock holder : ℕ) (answer : Answer) (did : List Happening) → IsEvent s before (LockTry lock holder) answer did → after_did memory did ≡ memory
-  lock_tried lock holder (answers.Flag true) did event = ap (λ (d : List Happening). after_did memory d) event.3
+  lock_tried lock holder (answers.Flag true) did event = ap (λ (d : List Happening). after_did memory d) event.4
   lock_tried lock holder (answers.Flag false) did event = nothing did event
   lock_tried lock holder (answers.Word word) did event = nothing did event
   lock_tried lock holder (answers.Halves setter finder) did event = nothing did event

@@ -4,3 +4,4 @@ pub mod Memories
 pub mod Cells
 pub mod Origins
 pub mod Reported
+pub mod HeldReads

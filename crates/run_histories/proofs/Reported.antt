@@ -1,5 +1,5 @@
 -- Reports are those of outcomes, in their order.
-use Rattle.std.proofs.Common.{◌≡◌, ◌∙◌, ◌<◌, ◌∷◌, [], ℕ, zero, suc, All, Contains, List, Option, None, Some, ap, arith, length, refl, subst, sym}
+use Rattle.std.proofs.Common.{◌≡◌, ◌∙◌, ◌<◌, ◌∷◌, [], ℕ, zero, suc, All, Contains, IsTrue, List, Option, None, Some, ap, arith, length, refl, subst, sym}
 use Rattle.std.specs.Prelude.{filter_map}
 use Rattle.std.specs.List.{cons_option}
 use Rattle.std.proofs.lemmas.List.Elements.{All-cons, All-head, All-nil, All-tail}
@@ -16,6 +16,7 @@ use Rattle.setup_access.specs.declared.outcome.Outcome.{Outcome}
 use Rattle.setup_access.specs.declared.outcome.Outcome.TheVariants as outcomes
 use Rattle.slot.specs.Pair.{Halves}
 use Rattle.slot_table.specs.declared.records.Record.{Record}
+use Rattle.run_verdicts.specs.Watches.{IfVerdict, IsOfWatch, is_verdict}
 use Rattle.run_histories.specs.Origins.{IfUnknown, NamesChange}
 use Rattle.run_histories.specs.Reported.{IsOfOutcome, IsTrueReport}
 
@@ -25,8 +26,9 @@ module _ {run : Run} {records : List Record} (list : RunList run records) where
 
   -- an outcome that is a report makes it a true one
   is_true : (came : OutcomeAt) (outcome : Outcome) (report : Report) → IfTwoSided list came outcome → IfUnknown list came outcome
+      → (IsTrue (is_verdict outcome) → IsOfWatch list came)
       → reported came.access outcome ≡ Some report → IsTrueReport list report
-  is_true came (outcomes.Report pair seen) report two one is =
+  is_true came (outcomes.Report pair seen) report two one watched is =
       subst (λ (r : Report). IsTrueReport list r) (same_Some (reports.Two pair.setter pair.finder seen) report is)
       (record {
         setter = came.access;
@@ -38,31 +40,33 @@ module _ {run : Run} {records : List Record} (list : RunList run records) where
         race = two.race;
         unmarked = two.unmarked;
       })
-  is_true came (outcomes.Unknown old new) report two one is =
+  is_true came (outcomes.Unknown old new) report two one watched is =
       subst (λ (r : Report). IsTrueReport list r) (same_Some (reports.Unknown (ticket_number came.access) old new) report is)
-      (record { access = came.access; named = refl; changed = one })
-  is_true came outcomes.Nothing report two one is = absurd (cc)
-  is_true came outcomes.Unencodable report two one is = absurd (cc)
-  is_true came outcomes.Capacity report two one is = absurd (cc)
-  is_true came outcomes.Lost report two one is = absurd (cc)
-  is_true came (outcomes.Told pair) report two one is = absurd (cc)
-  is_true came outcomes.Quiet report two one is = absurd (cc)
-  is_true came (outcomes.Dropped reason) report two one is = absurd (cc)
+      (record { access = came.access; access_is = (watched refl).access_is; named = refl; changed = one })
+  is_true came outcomes.Nothing report two one watched is = absurd (cc)
+  is_true came outcomes.Unencodable report two one watched is = absurd (cc)
+  is_true came outcomes.Capacity report two one watched is = absurd (cc)
+  is_true came outcomes.Lost report two one watched is = absurd (cc)
+  is_true came (outcomes.Told pair) report two one watched is = absurd (cc)
+  is_true came outcomes.Quiet report two one watched is = absurd (cc)
+  is_true came (outcomes.Dropped reason) report two one watched is = absurd (cc)
 
   true_first : (found : Option Report) (others : List Report) → ((report : Report) → found ≡ Some report → IsTrueReport list report)
       → All (IsTrueReport list) others → All (IsTrueReport list) (cons_option found others)
   true_first None others here all = all
   true_first (Some report) others here all = All-cons (IsTrueReport list) report others (here report refl) all
 
-  true_of : (outs : List OutcomeAt) → All (NamesBoth list) outs → All (NamesChange list) outs → All (IsTrueReport list) (filter_map report_of outs)
-  true_of [] two one = All-nil (IsTrueReport list)
-  true_of (came ∷ outs) two one =
+  true_of : (outs : List OutcomeAt) → All (NamesBoth list) outs → All (NamesChange list) outs → All (IfVerdict list) outs → All (IsTrueReport list) (filter_map report_of outs)
+  true_of [] two one watched = All-nil (IsTrueReport list)
+  true_of (came ∷ outs) two one watched =
       true_first (report_of came) (filter_map report_of outs)
-      (λ report is. is_true came came.outcome report (All-head (NamesBoth list) came outs two) (All-head (NamesChange list) came outs one) is)
-      (true_of outs (All-tail (NamesBoth list) came outs two) (All-tail (NamesChange list) came outs one))
+      (λ report is. is_true came came.outcome report (All-head (NamesBoth list) came outs two) (All-head (NamesChange list) came outs one)
+      (All-head (IfVerdict list) came outs watched) is)
+      (true_of outs (All-tail (NamesBoth list) came outs two) (All-tail (NamesChange list) came outs one) (All-tail (IfVerdict list) came outs watched))
 
-  pub all_true : All (NamesBoth list) (outcomes_of list) → All (NamesChange list) (outcomes_of list) → All (IsTrueReport list) (reports_of list)
-  all_true two one = true_of (outcomes_of list) two one
+  pub all_true : All (NamesBoth list) (outcomes_of list) → All (NamesChange list) (outcomes_of list) → All (IfVerdict list) (outcomes_of list)
+      → All (IsTrueReport list) (reports_of list)
+  all_true two one watched = true_of (outcomes_of list) two one watched
 
   -- each report is that of one of these outcomes
   record IsAmong (outs : List OutcomeAt) (report : Report) : Type 0 where

@@ -1,3 +1,4 @@
 pub mod Cells
 pub mod Origins
 pub mod Reported
+pub mod HeldReads

@@ -26,10 +26,11 @@ pub record NamesRace {run : Run} {records : List Record} (list : RunList run rec
   pub race : TrueRace run.rules.plain_writes_atomic (history_of list) setter finder
   pub unmarked : ¬ CountedAsMarked run.rules.plain_writes_atomic (history_of list) setter
 
--- the ticket names an access whose bytes changed so under its watch
+-- the ticket names an access of the program whose bytes changed so under its watch
 pub record NamesOrigin {run : Run} {records : List Record} (list : RunList run records)
     (ticket old new : ℕ) : Type 0 where
   pub access : Access
+  pub access_is : IsOfProgram run access
   pub named : ticket ≡ ticket_number access
   pub changed : ChangedUnderWatch (memory_at_first run.places run.program.variables)
       (history_of list) access old new

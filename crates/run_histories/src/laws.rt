@@ -7,6 +7,7 @@ ghost use Rattle.access_types.specs.Race.{bytes_of};
 ghost use Rattle.access_types.specs.declared.report.Report.{Report};
 ghost use Rattle.litmus_meaning.specs.Layout.{memory_at_first};
 ghost use Rattle.run_histories.specs.Cells.{CellsHold, memory_after, run_cells};
+ghost use Rattle.run_histories.specs.HeldReads.{ReadsHold};
 ghost use Rattle.run_histories.specs.Origins.{NamesChange};
 ghost use Rattle.run_histories.specs.Reported.{IsOfOutcome, IsTrueReport};
 ghost use Rattle.run_lists.specs.Reports.{reported, reports_of};
@@ -38,6 +39,14 @@ pub fn cells_hold_the_content()
     records_tell_their_events();
 }
 
+/// Law: in the history that a run list tells each read holds the content of its bytes just before it.
+pub fn reads_hold_the_content()
+    ensures { (run : Run) (records : List Record) → (list : RunList run records)
+        → ReadsHold (memory_at_first run.places run.program.variables) (history_of list) }
+{
+    records_tell_their_events();
+}
+
 /// Law: each report of unknown origin that a run list tells names bytes that changed under the watch of the access that
 /// was checked. In the history that the list tells their content was the old value after the first load of the watch and
 /// the new one before the second, the access was in progress at both, and no moment between them is of its own task.
@@ -50,8 +59,8 @@ pub fn unknown_origins_changed()
 }
 
 /// Law: the reports of a run list are true. Each of two sides names two accesses of the program by their tickets, the
-/// setter's first, which race in the history that the list tells; each of unknown origin names an access whose bytes
-/// changed under its watch. They are the reports of the list's outcomes, and each outcome that is a report has it.
+/// setter's first, which race in the history that the list tells; each of unknown origin names an access of the
+/// program whose bytes changed under its watch. They are the reports of the list's outcomes, and each outcome that is a report has it.
 pub fn reports_are_true()
     ensures all { (run : Run) (records : List Record) → (list : RunList run records)
         → All (IsTrueReport list) (reports_of list) }
@@ -62,5 +71,6 @@ pub fn reports_are_true()
         → reported came.access came.outcome ≡ Some report → Contains (reports_of list) report }
 {
     reports_name_two_sides();
+    verdicts_are_on_watches();
     unknown_origins_changed();
 }
