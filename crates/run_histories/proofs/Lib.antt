@@ -5,3 +5,6 @@ pub mod Cells
 pub mod Origins
 pub mod Reported
 pub mod HeldReads
+pub mod Alone
+pub mod Locks
+pub mod RunsOfPrograms

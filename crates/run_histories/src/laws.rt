@@ -6,6 +6,7 @@ ghost use Rattle.access_types.specs.History.{content};
 ghost use Rattle.access_types.specs.Race.{bytes_of};
 ghost use Rattle.access_types.specs.declared.report.Report.{Report};
 ghost use Rattle.litmus_meaning.specs.Layout.{memory_at_first};
+ghost use Rattle.litmus_meaning.specs.RunOfProgram.{RunOfProgram};
 ghost use Rattle.run_histories.specs.Cells.{CellsHold, memory_after, run_cells};
 ghost use Rattle.run_histories.specs.HeldReads.{ReadsHold};
 ghost use Rattle.run_histories.specs.Origins.{NamesChange};
@@ -45,6 +46,17 @@ pub fn reads_hold_the_content()
         → ReadsHold (memory_at_first run.places run.program.variables) (history_of list) }
 {
     records_tell_their_events();
+}
+
+/// Law: the history that a run list tells is that of a run of the program. Each task does a beginning of what its text
+/// means, each read holds the content just before it, a lock is taken only when it is free and given up only by its
+/// holder, and while an access is in progress its task has but the access's own moments, scoped assertions aside.
+pub fn run_lists_tell_runs_of_the_program()
+    ensures { (run : Run) (records : List Record) → (list : RunList run records)
+        → RunOfProgram run.program run.places (history_of list) }
+{
+    records_tell_their_events();
+    reads_hold_the_content();
 }
 
 /// Law: each report of unknown origin that a run list tells names bytes that changed under the watch of the access that
