@@ -6,3 +6,4 @@ pub mod Grammar
 pub mod HeaderReader
 pub mod ConditionReader
 pub mod VariableReader
+pub mod Entries

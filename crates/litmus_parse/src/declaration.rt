@@ -1,9 +1,11 @@
 //! The variables of a text: what its items and parameters say of them.
 
-ghost use Rattle.std.specs.Prelude.{◌≡◌, [], false, get_or, position};
+ghost use Rattle.std.specs.Prelude.{◌≡◌, [], false, get_or, is_some, position};
 ghost use Rattle.litmus_cursor.specs.Front.{Answers};
 ghost use Rattle.litmus_cursor.specs.Words.{is_same};
 ghost use Rattle.litmus_expression.specs.NameReader.{index_of};
+ghost use Rattle.litmus_parse.specs.Entries as entries;
+ghost use Rattle.litmus_parse.specs.Entries.{entry_of};
 ghost use Rattle.litmus_parse.specs.VariableReader as reader;
 ghost use Rattle.litmus_parse.specs.VariableReader.{locks_of, names_of};
 
@@ -34,7 +36,8 @@ pub struct Declared<'a> {
 impl<'a> Declared<'a> {
     /// A variable that nothing is known of but its name.
     fn new(name: &'a [u8]) -> Declared<'a>
-        ensures { reader.name_of result ≡ name.now }
+        ensures name { reader.name_of result ≡ name.now }
+        ensures fresh { entry_of result ≡ entries.fresh }
     {
         Declared {
             name,
@@ -48,7 +51,9 @@ impl<'a> Declared<'a> {
     }
 
     /// Whether the two kinds of items contradict each other where no parameter has the type.
-    fn is_at_odds(&self) -> bool {
+    fn is_at_odds(&self) -> bool
+        ensures { result ≡ entries.odd_type self.now.variable_type self.now.is_untyped }
+    {
         match self.variable_type {
             Some(VariableType::Int) | None => false,
             Some(_) => self.is_untyped,
@@ -56,20 +61,30 @@ impl<'a> Declared<'a> {
     }
 
     /// Notes that its items contradict each other from this place on, if they do.
-    fn note_place(&mut self, at: usize) {
+    fn note_place(&mut self, at: usize)
+        ensures stays { self.new.name ≡ self.old.name }
+        ensures notes { entry_of self.new ≡ entries.noted (entry_of self.old) }
+    {
         if self.second_type.is_none() && self.is_at_odds() {
             self.second_type = Some(at);
         }
     }
 
     /// An item without a type names it at this place.
-    pub fn name_untyped(&mut self, at: usize) {
+    pub fn name_untyped(&mut self, at: usize)
+        ensures stays { self.new.name ≡ self.old.name }
+        ensures names { entry_of self.new ≡ entries.named_untyped (entry_of self.old) }
+    {
         self.is_untyped = true;
         self.note_place(at);
     }
 
     /// An item with a type names it at this place. Another type than before offends.
-    pub fn name_typed(&mut self, variable_type: VariableType, at: usize) -> Result<(), Refusal> {
+    #[tactic(auto, unfolding(crate::specs::Entries::named_typed))]
+    pub fn name_typed(&mut self, variable_type: VariableType, at: usize) -> Result<(), Refusal>
+        ensures stays { self.new.name ≡ self.old.name }
+        ensures names { Answers result (λ _. entry_of self.new) (entries.named_typed variable_type (entry_of self.old)) }
+    {
         self.settle_type(variable_type, at)?;
         self.note_place(at);
         Ok(())
@@ -77,11 +92,11 @@ impl<'a> Declared<'a> {
 
     /// A parameter names it at this place. Another type than before offends, and so does a lock's where an
     /// item gave it a value.
-    pub fn name_parameter(
-        &mut self,
-        variable_type: VariableType,
-        at: usize,
-    ) -> Result<(), Refusal> {
+    #[tactic(auto, unfolding(crate::specs::Entries::named_parameter))]
+    pub fn name_parameter(&mut self, variable_type: VariableType, at: usize) -> Result<(), Refusal>
+        ensures stays { self.new.name ≡ self.old.name }
+        ensures names { Answers result (λ _. entry_of self.new) (entries.named_parameter variable_type (entry_of self.old)) }
+    {
         self.settle_type(variable_type, at)?;
         if variable_type == VariableType::Lock && self.is_given {
             return Err(Refusal::Unsupported { at });
@@ -91,16 +106,25 @@ impl<'a> Declared<'a> {
     }
 
     /// It has the type.
-    fn settle_type(&mut self, variable_type: VariableType, at: usize) -> Result<(), Refusal> {
-        if self.variable_type.unwrap_or(variable_type) != variable_type {
-            return Err(Refusal::Unsupported { at });
+    #[tactic(auto, unfolding(crate::specs::Entries::settled))]
+    fn settle_type(&mut self, variable_type: VariableType, at: usize) -> Result<(), Refusal>
+        ensures stays { self.new.name ≡ self.old.name }
+        ensures settles { Answers result (λ _. entry_of self.new) (entries.settled variable_type (entry_of self.old)) }
+    {
+        if let Some(given) = self.variable_type {
+            if given != variable_type {
+                return Err(Refusal::Unsupported { at });
+            }
         }
         self.variable_type = Some(variable_type);
         Ok(())
     }
 
     /// An item gives it an initial value.
-    pub fn give(&mut self, value: u64, is_typed: bool) {
+    pub fn give(&mut self, value: u64, is_typed: bool)
+        ensures stays { self.new.name ≡ self.old.name }
+        ensures gives { entry_of self.new ≡ entries.given value is_typed (entry_of self.old) }
+    {
         self.value = Some(value);
         if !is_typed {
             self.is_given = true;
@@ -108,7 +132,9 @@ impl<'a> Declared<'a> {
     }
 
     /// Where it has a second type, if it does now that all parameters are known.
-    pub fn contradiction(&self) -> Option<usize> {
+    pub fn contradiction(&self) -> Option<usize>
+        ensures { is_some result ≡ entries.has_two_types (entry_of self.now) }
+    {
         if self.is_parameter {
             None
         } else {
