@@ -1,5 +1,6 @@
 -- What a task's machine tells of its next step.
-use Rattle.std.proofs.Common.{◌≡◌, ◌↔◌, ℕ, Bool, IsFalse, IsTrue, List, [], ◌∷◌, None, Option, false, not, refl, subst, sym, true}
+use Rattle.std.specs.Option.{is_some}
+use Rattle.std.proofs.Common.{◌≡◌, ◌↔◌, ◌∙◌, ℕ, Bool, IsFalse, IsTrue, List, [], ◌∷◌, None, Option, ap, false, not, refl, subst, sym, true}
 use Rattle.access_types.specs.Access as access
 use Rattle.memory_operation.specs.declared.operation.Operation.{Operation}
 use Rattle.setup_access.specs.declared.begun.Begun.{Begun}
@@ -62,3 +63,18 @@ keeping s registers body records run news leads = record {
 pub not_heard : (enabled : Bool) → IsTrue (not enabled) ↔ IsFalse enabled
 not_heard true = (λ h. sym h, λ h. sym h)
 not_heard false = (λ h. refl, λ h. refl)
+
+-- what begins next is one thing
+pub begins_alike : (s : Setting) (part : Part) (before : Standing) (mine : List Record) (one other : Option Begun) → BeginsNext s part before mine one
+    → BeginsNext s part before mine other → is_some one ≡ is_some other
+begins_alike s (makes a operation follow) before [] one other first second =
+    ap (λ (o : Option Begun). is_some o) first.1 ∙ sym (ap (λ (o : Option Begun). is_some o) second.1)
+begins_alike s (opens a) before [] one other first second =
+    ap (λ (o : Option Begun). is_some o) first.1 ∙ sym (ap (λ (o : Option Begun). is_some o) second.1)
+begins_alike s (makes a operation follow) before (made ∷ later) one other first second = ap (λ (o : Option Begun). is_some o) (first ∙ sym second)
+begins_alike s (opens a) before (made ∷ later) one other first second = ap (λ (o : Option Begun). is_some o) (first ∙ sym second)
+begins_alike s over before mine one other first second = ap (λ (o : Option Begun). is_some o) (first ∙ sym second)
+begins_alike s (stops due) before mine one other first second = ap (λ (o : Option Begun). is_some o) (first ∙ sym second)
+begins_alike s closes before mine one other first second = ap (λ (o : Option Begun). is_some o) (first ∙ sym second)
+begins_alike s (locks variable) before mine one other first second = ap (λ (o : Option Begun). is_some o) (first ∙ sym second)
+begins_alike s (unlocks variable) before mine one other first second = ap (λ (o : Option Begun). is_some o) (first ∙ sym second)

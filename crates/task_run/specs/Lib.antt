@@ -9,3 +9,4 @@ pub mod Due
 pub mod Says
 pub mod Leads
 pub mod Fell
+pub mod Points

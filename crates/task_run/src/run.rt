@@ -1,6 +1,6 @@
 //! A task of a program, under way.
 
-ghost use Rattle.std.specs.Prelude.{◌≡◌, ◌↔◌, ◌++◌, ◌<◌, ◌≤◌, ◌⊎◌, ◌∷◌, [], ℕ, List, IfOk, IfSome, IsErrOf, IsNone, IsTrue, None, Some, length, reverse, slice_get};
+ghost use Rattle.std.specs.Prelude.{◌≡◌, ◌↔◌, ◌++◌, ◌<◌, ◌≤◌, ◌⊎◌, ◌∷◌, [], ℕ, List, IfOk, IfSome, IsErrOf, IsNone, IsTrue, None, Option, Some, length, reverse, slice_get};
 
 use crate::machine::Machine;
 use crate::points::{After, Before, Latest, News};
@@ -94,6 +94,9 @@ impl<'a> TaskRun<'a> {
     ghost use Rattle.access_run.specs.Leads.{AccessSays};
     ghost use Rattle.task_run.specs.Says.{IsStopped, Says};
     ghost use Rattle.task_run.specs.Fell.{FellAt, fell_of};
+    ghost use Rattle.std.specs.Option.{is_some};
+    ghost use Rattle.setup_access.specs.declared.begun.Begun.{Begun};
+    ghost use Rattle.task_run.specs.Points.{HasMade, Stepped, kept_by, last_was, next_is};
     ghost use Rattle.written_order.specs.Waits.{OnlyStep, WithinTurns};
     ghost use Rattle.setup_access.specs.Parts.{made};
     ghost use Rattle.slot_table.specs.declared.step.Answer.{Answer};
@@ -127,6 +130,7 @@ impl<'a> TaskRun<'a> {
           sites = sites;
         }) (length task.now.registers) (block_of task.now.body.items) [] run) }
         ensures fell { IfOk result (λ run. fell_of run ≡ None) }
+        ensures points { IfOk result (λ run. HasMade [] run) }
         ensures bad_slots { IsErrOf result BadSlots → (rules.now.slots < 3 ⊎ 1024 < rules.now.slots) }
         ensures slots { IfOk result (λ run. (3 ≤ rules.now.slots) × (rules.now.slots ≤ 1024)) }
         ensures bad_place { IsErrOf result BadPlace ↔ (AreFit program.now.variables places.now → ⊥) }
@@ -165,6 +169,8 @@ impl<'a> TaskRun<'a> {
             → (IsNone result ↔ (SpellsAll s registers body records ⊎ (IsStuck leads ⊎ IsStopped self.now))) }
         ensures over { (s : Setting) (registers : ℕ) (body : Block) (records : List Record) → Leads s registers body records self.now → WrittenOrder s registers body records
             → (IsNone result ↔ (SpellsAll s registers body records ⊎ (waits.IsStuck s registers body records ⊎ IsStopped self.now))) }
+        ensures stops { (s : Setting) (registers : ℕ) (body : Block) (records : List Record) → (leads : Leads s registers body records self.now) → (step : Step) → Says self.now step
+            → IsNone result → IsStuck leads }
         ensures within { (s : Setting) (registers : ℕ) (body : Block) (records : List Record) → Leads s registers body records self.now
             → WithinTurns s.rules.turns (reverse records)
             → IfSome result (λ step. (answer : Answer) → WithinTurns s.rules.turns (reverse (records ++ made s.text.task step answer ∷ []))) }
@@ -219,8 +225,12 @@ impl<'a> TaskRun<'a> {
         requires { (step : Step) × Says self.old step × Answers step answer }
         ensures leads { LeadsOn self.old self.new answer }
         ensures fell { FellAt self.old (fell_of self.new) answer }
+        ensures points { (s : Setting) (registers : ℕ) (body : Block) (records : List Record) → (leads : Leads s registers body records self.old)
+            → (step : Step) (begins : Option Begun) (steps : List Stepped) → Says self.old step → (¬ IsStuck leads)
+            → BeginsNext s leads.part (stands_at leads []) leads.mine begins → HasMade steps self.old
+            → HasMade (record { step = step; begins = is_some begins } ∷ steps) self.new }
     {
-        let latest = self.news.latest.and(self.next(), self.begins().is_some());
+        let latest = self.latest();
         match self.stage {
             Stage::Over | Stage::Stopped => unreachable!(),
             Stage::Making(run, after) => {
@@ -254,15 +264,35 @@ impl<'a> TaskRun<'a> {
     }
 
     /// What the next step is.
-    pub fn before(&self) -> Before {
-        self.news
-            .latest
-            .before(self.next(), self.begins().is_some())
+    pub fn before(&self) -> Before
+        ensures { (s : Setting) (registers : ℕ) (body : Block) (records : List Record) → (leads : Leads s registers body records self.now)
+            → (step : Step) (begins : Option Begun) (steps : List Stepped) → Says self.now step → (¬ IsStuck leads)
+            → BeginsNext s leads.part (stands_at leads []) leads.mine begins → HasMade steps self.now → result ≡ next_is steps step (is_some begins) }
+    {
+        match self.next() {
+            Some(step) => self.news.latest.with_next(step, self.begins().is_some()),
+            None => Before::Other,
+        }
     }
 
     /// What the last step was.
-    pub fn after(&self) -> After {
+    pub fn after(&self) -> After
+        ensures { (steps : List Stepped) → HasMade steps self.now → result ≡ last_was steps }
+    {
         self.news.latest.after()
+    }
+
+    /// What is to be kept of the last steps once the next is made.
+    fn latest(&self) -> Latest
+        ensures { (s : Setting) (registers : ℕ) (body : Block) (records : List Record) → (leads : Leads s registers body records self.now)
+            → (step : Step) (begins : Option Begun) (steps : List Stepped) → Says self.now step → (¬ IsStuck leads)
+            → BeginsNext s leads.part (stands_at leads []) leads.mine begins → HasMade steps self.now
+            → result ≡ kept_by (record { step = step; begins = is_some begins } ∷ steps) }
+    {
+        match self.next() {
+            Some(step) => self.news.latest.and(step, self.begins().is_some()),
+            None => Latest::Other,
+        }
     }
 
     /// An access takes the answer, and what fell is told. Once it is over, what follows on it is done.

@@ -194,3 +194,35 @@ returns-in-Unlocking-clause-over c = λ s registers body records leads.
     (λ h. absurd (let no : true ≡ false = h in cc))
     (λ stuck. absurd (unlocking_stuck s registers body records c.args.self.now leads c.in-Unlocking.variable c.in-Unlocking.is stuck))
     (λ stopped. let no : stages.Unlocking c.in-Unlocking.variable ≡ stages.Stopped = sym c.in-Unlocking.is ∙ stopped in cc))
+
+pub returns-in-Over-clause-stops : goal.returns-in-Over-clause-stops
+returns-in-Over-clause-stops c = λ s registers body records leads step says none.
+    absurd (subst (λ stage. StageSays stage c.args.self.now step) c.in-Over.is says)
+
+pub returns-in-Stopped-clause-stops : goal.returns-in-Stopped-clause-stops
+returns-in-Stopped-clause-stops c = λ s registers body records leads step says none.
+    absurd (subst (λ stage. StageSays stage c.args.self.now step) c.in-Stopped.is says)
+
+pub returns-in-Unlocking-clause-stops : goal.returns-in-Unlocking-clause-stops
+returns-in-Unlocking-clause-stops c = λ s registers body records leads step says none.
+    absurd (let no : true ≡ false = none in cc)
+
+pub returns-in-Making-clause-stops : goal.returns-in-Making-clause-stops
+returns-in-Making-clause-stops c = λ s registers body records leads step says none.
+    (making_none s registers body records c.args.self.now leads c.in-Making.run' c.in-Making.field-1 c.in-Making.is (IsNone c.next.result)
+    (λ scopes begun asked operation so_far own. c.next.ensures.none (checks_of s) scopes begun asked operation so_far own)).0 none
+
+pub returns-in-Opening-clause-stops : goal.returns-in-Opening-clause-stops
+returns-in-Opening-clause-stops c = λ s registers body records leads step says none.
+    (opening_none s registers body records c.args.self.now leads c.in-Opening.is (IsNone c.next-in-Opening.result)
+    (λ scopes doing asked so_far own. c.next-in-Opening.ensures.none (checks_of s) scopes doing asked so_far own)).0 none
+
+pub returns-in-Closing-clause-stops : goal.returns-in-Closing-clause-stops
+returns-in-Closing-clause-stops c = λ s registers body records leads step says none.
+    (closing_none s registers body records c.args.self.now leads c.in-Closing.is (IsNone c.next-in-Closing.result)
+    (λ scopes doing asked so_far own. c.next-in-Closing.ensures.none (checks_of s) scopes doing asked so_far own)).0 none
+
+pub returns-in-Locking-clause-stops : goal.returns-in-Locking-clause-stops
+returns-in-Locking-clause-stops c = λ s registers body records leads step says none.
+    (locking_none s registers body records c.args.self.now leads c.in-Locking.wait c.in-Locking.field-1 c.in-Locking.is (IsNone c.next-in-Locking.result)
+    (λ lock so_far own. c.next-in-Locking.ensures.none s.text.task lock so_far own)).0 none
