@@ -162,3 +162,15 @@ module _ (s : Setting) (before : List Happening) (step : Step) (answer : Answer)
         let first : begun_in next ≡ one.0 ∷ begun_in does.marks = ap begun_in all in
         first ∙ (ap (λ (l : List Access). one.0 ∷ l) none ∙ ap (λ (x : Access). x ∷ []) same)
   ]
+
+  pub begins_first : (a : Access) → begun_in next ≡ a ∷ [] → (more : List Happening) × (next ≡ happenings.Begin a ∷ more)
+  begins_first a one = elim (one_at_most s before step answer does.event does.is_event) [
+    | inl all ↦
+        let none : begun_in next ≡ [] = none_begun next (subst NoneBegins (sym does.all) (none_both does.event does.marks all rest_none)) in
+        absurd (let no : [] ≡ a ∷ [] = sym none ∙ one in cc)
+    | inr it ↦
+        let all : next ≡ happenings.Begin it.0 ∷ does.marks = does.all ∙ ap (λ (e : List Happening). e ++ does.marks) it.1 in
+        let both : it.0 ∷ begun_in does.marks ≡ a ∷ [] = sym (ap begun_in all) ∙ one in
+        let same : it.0 ≡ a = cc in
+        (does.marks, all ∙ ap (λ (x : Access). happenings.Begin x ∷ does.marks) same)
+  ]

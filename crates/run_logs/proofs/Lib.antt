@@ -13,3 +13,4 @@ pub mod Reporting
 pub mod Rooms
 pub mod Hands
 pub mod Removals
+pub mod Deciding

@@ -1,3 +1,4 @@
 pub mod Noted
 pub mod Totals
 pub mod Removed
+pub mod Decided

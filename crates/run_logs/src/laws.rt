@@ -1,6 +1,6 @@
 //! What is true of what a run list notes.
 
-ghost use Rattle.std.specs.Prelude.{◌+◌, ◌++◌, ◌≡◌, ◌≢◌, ◌≤◌, ◌∷◌, ℕ, [], List, Option, length, map, reverse};
+ghost use Rattle.std.specs.Prelude.{◌+◌, ◌++◌, ◌≡◌, ◌≢◌, ◌≤◌, ◌∷◌, ℕ, [], All, List, Option, length, map, reverse};
 ghost use Rattle.litmus_syntax.specs.Limits.{BodyKeepsLimits, block_repeats};
 ghost use Rattle.litmus_syntax.specs.Tree.{Block};
 ghost use Rattle.std.specs.Option.{option_to_list};
@@ -8,6 +8,7 @@ ghost use Rattle.run_lists.specs.Reports.{reports_of};
 ghost use Rattle.run_lists.specs.Run.{Run, task_of, task_setting};
 ghost use Rattle.run_lists.specs.RunList.{RunList};
 ghost use Rattle.run_lists.specs.Told.{made_by};
+ghost use Rattle.run_logs.specs.Decided.{IsStampedSo};
 ghost use Rattle.run_logs.specs.Noted.{AreNoted, IsNoted, Notes};
 ghost use Rattle.run_logs.specs.Removed.{as_removed, removed_by};
 ghost use Rattle.run_logs.specs.Totals.{AddUp, CountsList, CountsTasks};
@@ -18,7 +19,7 @@ ghost use Rattle.slot_table.specs.declared.records.Record.{Record};
 ghost use Rattle.task_log.specs.Arms.{arms_of};
 ghost use Rattle.task_log.specs.Counters.{Count};
 ghost use Rattle.task_log.specs.Reports.{reported};
-ghost use Rattle.task_log.specs.Touches.{touches_of};
+ghost use Rattle.task_log.specs.Touches.{accesses_of, touches_of};
 ghost use Rattle.task_log.specs.declared.counters.Counters.{Counters};
 ghost use Rattle.task_log.specs.declared.noted.Noted.{Noted};
 ghost use Rattle.task_run.specs.Fell.{FellAt};
@@ -112,4 +113,13 @@ pub fn a_log_keeps_the_armings_that_are_over()
         → Notes list task noted → map (as_removed task) (arms_of noted) ≡ removed_by task records }
 {
     run_lists_keep_the_discipline();
+}
+
+/// Law: of the accesses that have ended, a log of a task says that they are marked exactly where they count as marked
+/// in the history that the list tells, and silenced exactly where they are silenced there.
+pub fn a_log_says_of_accesses_what_the_history_decides()
+    ensures { (run : Run) (records : List Record) (list : RunList run records) (task : ℕ) (noted : List Noted)
+        → Notes list task noted → All (IsStampedSo list) (accesses_of noted) }
+{
+    records_tell_their_events();
 }
