@@ -14,3 +14,5 @@ pub mod Rooms
 pub mod Hands
 pub mod Removals
 pub mod Deciding
+pub mod Balance
+pub mod Spanning

@@ -2,3 +2,4 @@ pub mod Noted
 pub mod Totals
 pub mod Removed
 pub mod Decided
+pub mod Spans

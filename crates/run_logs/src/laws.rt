@@ -1,6 +1,6 @@
 //! What is true of what a run list notes.
 
-ghost use Rattle.std.specs.Prelude.{◌+◌, ◌++◌, ◌≡◌, ◌≢◌, ◌≤◌, ◌∷◌, ℕ, [], All, List, Option, length, map, reverse};
+ghost use Rattle.std.specs.Prelude.{◌+◌, ◌++◌, ◌≡◌, ◌≢◌, ◌≤◌, ◌∷◌, ℕ, [], All, List, Option, count_by, length, map, reverse};
 ghost use Rattle.litmus_syntax.specs.Limits.{BodyKeepsLimits, block_repeats};
 ghost use Rattle.litmus_syntax.specs.Tree.{Block};
 ghost use Rattle.std.specs.Option.{option_to_list};
@@ -11,6 +11,7 @@ ghost use Rattle.run_lists.specs.Told.{made_by};
 ghost use Rattle.run_logs.specs.Decided.{IsStampedSo};
 ghost use Rattle.run_logs.specs.Noted.{AreNoted, IsNoted, Notes};
 ghost use Rattle.run_logs.specs.Removed.{as_removed, removed_by};
+ghost use Rattle.run_logs.specs.Spans.{IsSpan, is_end};
 ghost use Rattle.run_logs.specs.Totals.{AddUp, CountsList, CountsTasks};
 ghost use Rattle.setup_access.specs.declared.begun.Begun.{Begun};
 ghost use Rattle.setup_access.specs.declared.outcome.Outcome.{Outcome};
@@ -27,6 +28,7 @@ ghost use Rattle.task_run.specs.Leads.{BeginsNext, Leads, stands_at};
 ghost use Rattle.task_run.specs.Says.{Says};
 ghost use Rattle.task_run.specs.declared.run.TaskRun.{TaskRun};
 ghost use Rattle.written_order.specs.Standing.{Setting};
+ghost use Rattle.written_order.specs.Told.{did_by};
 ghost use Rattle.written_order.specs.WrittenOrder.{WrittenOrder};
 
 use run_lists::laws::run_lists_keep_the_discipline;
@@ -120,6 +122,17 @@ pub fn a_log_keeps_the_armings_that_are_over()
 pub fn a_log_says_of_accesses_what_the_history_decides()
     ensures { (run : Run) (records : List Record) (list : RunList run records) (task : ℕ) (noted : List Noted)
         → Notes list task noted → All (IsStampedSo list) (accesses_of noted) }
+{
+    records_tell_their_events();
+}
+
+/// Law: the accesses that a log of a task keeps are as many as have ended in the list, and each of them began and ended
+/// there at its stamps: with that access the task did so at a step of the clock which was answered this.
+pub fn a_log_keeps_the_accesses_that_have_ended()
+    ensures spans { (run : Run) (records : List Record) (list : RunList run records) (task : ℕ) (noted : List Noted)
+        → Notes list task noted → All (IsSpan list task) (accesses_of noted) }
+    ensures many { (run : Run) (records : List Record) (list : RunList run records) (task : ℕ) (noted : List Noted)
+        → Notes list task noted → length (accesses_of noted) ≡ count_by is_end (did_by (list.tasks task) (made_by task records)) }
 {
     records_tell_their_events();
 }
