@@ -1,0 +1,214 @@
+//! The world: all tasks of a program over one board.
+
+ghost use Rattle.std.specs.Prelude.{◌≡◌, ◌≢◌, ◌<◌, ◌≤◌, ◌+◌, ◌↔◌, ◌⊎◌, [], ℕ, List, IfErr, IfOk, IsErrOf, slice_get};
+ghost use Rattle.litmus_syntax.specs.Limits.{KeepsLimits};
+ghost use Rattle.litmus_syntax.specs.Views.{program_of};
+ghost use Rattle.program_layout.specs.Places.{AreFit};
+ghost use Rattle.run_lists.specs.Run.{Run};
+ghost use Rattle.slot_table.specs.declared.records.Record.{Record};
+ghost use Rattle.stepped_world.specs.Leads.{IsLedTo, MakesNextIn};
+ghost use Rattle.stepped_world.specs.Runs.{run_of};
+ghost use Rattle.stepped_world.specs.declared.error.WorldError.TheVariants.{BadPlace, BadSlots, OutOfMemory};
+ghost use Rattle.task_plan.specs.Counts.{up_to_last};
+ghost use Rattle.task_run.specs.declared.run.TaskRun.{TaskRun};
+
+use crate::error::WorldError;
+use crate::first::{WATCHES, first_board, first_logs, first_tasks};
+use crate::laws::{runs_begin, steps_lead_on};
+use crate::settings::Settings;
+use access_types::{Report, Sites};
+use litmus_syntax::Program;
+use program_sites::sites_of;
+use slot_table::{Board, PlainBoard, Step};
+use std::alloc::Global;
+use task_log::{Counters, Noted, TaskLog};
+use task_run::TaskRun;
+
+/// What a task is after it was asked for a step.
+#[derive(Clone, Copy, Debug, PartialEq, Eq)]
+pub enum Stepped {
+    /// It goes on.
+    Moved,
+    /// It has made the steps of its whole text.
+    Ended,
+    /// A wait of it had as many vain tries as are allowed.
+    Stuck,
+}
+
+/// All tasks of a program, the words that they share, and what is kept of their steps.
+#[derive(Drop)]
+pub struct World<'a> {
+    pub(crate) alloc: Global,
+    pub(crate) board: PlainBoard,
+    pub(crate) tasks: Vec<TaskRun<'a>>,
+    pub(crate) logs: Vec<TaskLog>,
+    pub(crate) reports: Vec<Report>,
+    /// Of all tasks.
+    pub(crate) counters: Counters,
+    pub(crate) sites: Sites,
+    pub(crate) steps: u64,
+    ghost led: { ∥ IsLedTo board tasks.items steps ∥₁ },
+}
+
+impl<'a> World<'a> {
+    ghost use Rattle.stepped_world.specs.Steps.{IsAtEnd, IsMachine, IsStuck, LeadsTo, MovesOn, StepsOn, Tells, tasks_in};
+
+    /// A program before its first step. It takes all its room, and `step` and `run` take no memory.
+    ///
+    /// `BadSlots`: there are fewer than 3 page slots, or more than 1,024. `BadPlace`: a place is no
+    /// multiple of its variable's size or is above 2^62, its name is unknown, a lock's, or placed twice.
+    pub fn new(
+        alloc: Global,
+        program: &'a Program,
+        settings: &Settings,
+    ) -> Result<World<'a>, WorldError>
+        requires { KeepsLimits (program_of program.now) }
+        ensures leads { IfOk result (λ world. LeadsTo (run_of program.now settings.now world.sites) [] world) }
+        ensures bad_slots { IsErrOf result BadSlots → (settings.now.slots < 3 ⊎ 1024 < settings.now.slots) }
+        ensures slots { IfOk result (λ _. (3 ≤ settings.now.slots) × (settings.now.slots ≤ 1024)) }
+        ensures bad_place { IsErrOf result BadPlace ↔ (AreFit program.now.variables settings.now.places.items → ⊥) }
+        ensures errors { IfErr result (λ error. (error ≡ BadSlots) ⊎ ((error ≡ BadPlace) ⊎ (error ≡ OutOfMemory))) }
+    {
+        runs_begin();
+        let board = first_board(alloc, program, settings)?;
+        let tasks = first_tasks(alloc, program, settings)?;
+        let count = program.tasks.as_slice().len();
+        let logs = first_logs(alloc, count)?;
+        let reports = Vec::with_capacity(alloc, count * WATCHES)?;
+        let sites = sites_of(alloc, program, settings.places.as_slice())?;
+        Ok(World {
+            alloc,
+            board,
+            tasks,
+            logs,
+            reports,
+            counters: Counters::new(),
+            sites,
+            steps: 0,
+        })
+    }
+
+    /// A task makes its next step. One that has ended or is stuck makes none.
+    pub fn step(&mut self, task: usize) -> Stepped
+        requires { task < tasks_in self.old }
+        ensures steps { (run : Run) (records : List Record) → LeadsTo run records self.old → StepsOn run records task self.old self.new }
+        ensures ended { (run : Run) (records : List Record) → LeadsTo run records self.new
+            → (result ≡ Stepped.Ended ↔ ((¬ IsStuck run records self.new task) × IsAtEnd run records self.new task)) }
+        ensures stuck { (run : Run) (records : List Record) → LeadsTo run records self.new
+            → (result ≡ Stepped.Stuck ↔ IsStuck run records self.new task) }
+        ensures tells { (machine : TaskRun) → IsMachine self.new task machine → Tells result machine }
+        ensures others { (other : ℕ) → task ≢ other → slice_get self.new.tasks.items other ≡ slice_get self.old.tasks.items other }
+        ensures tasks { tasks_in self.new ≡ tasks_in self.old }
+        ensures sites { self.new.sites ≡ self.old.sites }
+        ensures counted { self.old.steps ≤ self.new.steps }
+        ensures moved { result ≡ Stepped.Moved → self.new.steps ≡ up_to_last (self.old.steps + 1) }
+    {
+        let Some(step) = self.tasks[task].next() else {
+            return self.state(task);
+        };
+        self.make(task, step);
+        self.state(task)
+    }
+
+    /// A task makes this step, which is its next.
+    fn make(&mut self, task: usize, step: Step)
+        requires there { task < tasks_in self.old }
+        requires next { MakesNextIn self.old.tasks.items task step }
+        ensures moves { (run : Run) (records : List Record) → LeadsTo run records self.old → MovesOn run records task self.new }
+        ensures others { (other : ℕ) → task ≢ other → slice_get self.new.tasks.items other ≡ slice_get self.old.tasks.items other }
+        ensures tasks { tasks_in self.new ≡ tasks_in self.old }
+        ensures sites { self.new.sites ≡ self.old.sites }
+        ensures counted { self.new.steps ≡ up_to_last (self.old.steps + 1) }
+    {
+        steps_lead_on();
+        let begins = self.tasks[task].begins();
+        let answer = self.board.step(step);
+        self.tasks[task].answer(answer);
+        let outcome = self.tasks[task].fell();
+        self.steps = self.steps.saturating_add(1);
+        self.note(
+            task,
+            &Noted {
+                step,
+                answer,
+                begins,
+                outcome,
+            },
+        );
+    }
+
+    /// A step of a task is noted, and a report at it is kept.
+    fn note(&mut self, task: usize, noted: &Noted)
+        ensures board { self.new.board ≡ self.old.board }
+        ensures machines { self.new.tasks.items ≡ self.old.tasks.items }
+        ensures tasks { tasks_in self.new ≡ tasks_in self.old }
+        ensures steps { self.new.steps ≡ self.old.steps }
+        ensures sites { self.new.sites ≡ self.old.sites }
+    {
+        self.counters.note(noted);
+        if task < self.logs.len() {
+            let report = self.logs[task].note(noted);
+            if let Some(report) = report {
+                if self.reports.len() < self.reports.capacity() {
+                    self.reports.push_reserved(report);
+                }
+            }
+        }
+    }
+
+    /// What a task is now.
+    fn state(&self, task: usize) -> Stepped
+        requires { task < tasks_in self.now }
+        ensures { (machine : TaskRun) → IsMachine self.now task machine → Tells result machine }
+    {
+        if self.tasks[task].stuck() {
+            return Stepped::Stuck;
+        }
+        match self.tasks[task].next() {
+            Some(_) => Stepped::Moved,
+            None => Stepped::Ended,
+        }
+    }
+
+    /// How many tasks there are.
+    pub fn tasks(&self) -> usize
+        ensures { result ≡ tasks_in self.now }
+    {
+        self.tasks.len()
+    }
+
+    /// How many steps were made, up to the largest number that there is.
+    pub fn steps(&self) -> u64
+        ensures { result ≡ self.now.steps }
+    {
+        self.steps
+    }
+
+    /// What was reported so far, in order.
+    pub fn reports(&self) -> &[Report]
+        ensures { result.now ≡ self.now.reports.items }
+    {
+        self.reports.as_slice()
+    }
+
+    /// How often each thing came of the checks of all tasks.
+    pub fn counters(&self) -> Counters
+        ensures { result ≡ self.now.counters }
+    {
+        self.counters
+    }
+
+    /// What the cells of memory hold.
+    pub fn memory(&self) -> &[u64]
+        ensures { result.now ≡ self.now.board.cells }
+    {
+        self.board.cells()
+    }
+
+    /// The accesses that the program can make, by ticket.
+    pub fn sites(&self) -> &Sites
+        ensures { result.now ≡ self.now.sites }
+    {
+        &self.sites
+    }
+}
