@@ -1,5 +1,5 @@
 -- A wait that has had so many vain tries goes on with a step that comes after as many, by the records alone.
-use Rattle.std.proofs.Common.{◌≡◌, ◌<◌, ◌≤◌, ◌+◌, ◌==◌, ◌∙◌, ◌++◌, ◌∷◌, [], ℕ, zero, suc, Bool, true, false, IsSomeAnd, List, MatchBool, None, Option, Some, ap, arith, eq-eqb, le_refl, refl, subst, sym, if◌then◌else◌}
+use Rattle.std.proofs.Common.{◌≡◌, ◌<◌, ◌≤◌, ◌+◌, ◌∙◌, ◌++◌, ◌∷◌, [], ℕ, zero, suc, Bool, true, false, IsSomeAnd, List, MatchBool, None, Option, Some, ap, arith, eq-eqb, le_refl, refl, subst, sym, if◌then◌else◌}
 use Rattle.access_types.specs.Access.{Access}
 use Rattle.memory_operation.proofs.LeadsLemmas.{over_is_whole}
 use Rattle.memory_operation.specs.LockLeads.{LockLeads, LockLeft}
@@ -42,7 +42,6 @@ use Rattle.slot_table.specs.declared.step.Answer.TheVariants as answers
 use Rattle.slot_table.specs.declared.step.Step.{Step}
 use Rattle.slot_table.specs.declared.step.Step.TheVariants.{CellExchange, CellLoad, Clear, Clock, Consume, Insert, Load, LockStore, LockTry, Name, PairLoad, Remove, Tell, TryConsume}
 use Rattle.task_run.proofs.PairLemmas.{AreOfOne, GoesOnAt, IsOfIndex, StartsAt}
-use Rattle.task_run.proofs.SaysLemmas.{one_some}
 use Rattle.task_run.proofs.TriesLemmas.{exchange_ends, onto}
 use Rattle.written_order.specs.Waits.{IsTooMuch, vain_tries, was_vain}
 

@@ -3,12 +3,12 @@ use Rattle.std.proofs.Common.{◌≡◌, ◌||◌, ◌∷◌, [], ℕ, Bool, tru
 use Rattle.access_types.specs.Access.{Access}
 use Rattle.access_types.specs.Ticket.{ticket_number}
 use Rattle.setup_access.proofs.DisciplineLemmas.{on_flag, on_halves, on_word}
-use Rattle.setup_access.specs.Check.{Check, Close, ChecksOnce, Ends, Fallen, GoesOn, NoneFound, Pass, Passes, Rechecks, counts_as_marked, left_to_check, skipped, unencodable, watched}
+use Rattle.setup_access.specs.Check.{Check, Close, ChecksOnce, Ends, GoesOn, NoneFound, Pass, Passes, Rechecks, counts_as_marked, left_to_check, skipped, unencodable, watched}
 use Rattle.setup_access.specs.Find.{LooksUp}
-use Rattle.setup_access.specs.Found.{FoundWatchpoint, Hears, Takes, Tells, TellsTo}
+use Rattle.setup_access.specs.Found.{Hears, Takes}
 use Rattle.setup_access.specs.Records.{MakesDone, MakesFlag, MakesWord}
 use Rattle.setup_access.specs.Setting.{Setting, look_order, slot_of, try_order}
-use Rattle.setup_access.specs.Setup.{Arms, Frees, Judged, Judges, SetsUp, TriesInsert, Watches, WatchesAt}
+use Rattle.setup_access.specs.Setup.{Arms, Judged, Judges, TriesInsert, WatchesAt}
 use Rattle.setup_access.specs.Values.{LoadsFrom, both_values, source_of}
 use Rattle.setup_access.specs.declared.begun.Begun.{Begun}
 use Rattle.setup_access.specs.declared.outcome.Outcome.{Outcome}

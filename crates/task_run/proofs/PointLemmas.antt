@@ -3,12 +3,7 @@ use Rattle.std.proofs.Common.{◌≡◌, ℕ, Bool, true, false, List, [], ◌�
 use Rattle.slot_table.specs.declared.step.Step.{Step}
 use Rattle.slot_table.specs.declared.step.Step.TheVariants.{CellExchange, CellLoad, Clear, Clock, Consume, Insert, Load, LockStore, LockTry, Name, PairLoad, Remove, Tell, TryConsume}
 use Rattle.task_run.specs.Points.{Stepped, after_of, kept_by, kept_of, last_was, name_in, name_of, named_at, read_at, read_in, read_of, read_then, step_was}
-use Rattle.task_run.specs.declared.points.After.{After}
 use Rattle.task_run.specs.declared.points.After.TheVariants as afters
-use Rattle.task_run.specs.declared.points.Before.{Before}
-use Rattle.task_run.specs.declared.points.Before.TheVariants as befores
-use Rattle.task_run.specs.declared.points.Latest.{Latest}
-use Rattle.task_run.specs.declared.points.Latest.TheVariants as latest
 
 read_after : (named : Option ℕ) → after_of (read_then named) ≡ afters.Other
 read_after None = refl

@@ -1,5 +1,5 @@
 -- A machine is before one step at most.
-use Rattle.std.proofs.Common.{◌≡◌, ◌∙◌, [], Option, None, Some, sym}
+use Rattle.std.proofs.Common.{◌≡◌, ◌∙◌, [], Some, sym}
 use Rattle.access_run.specs.Leads as accesses
 use Rattle.access_run.specs.declared.stage.Stage as access_stages
 use Rattle.access_run.specs.declared.stage.Stage.TheVariants.{Check, End, Operate, Over}

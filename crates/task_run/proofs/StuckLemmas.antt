@@ -1,9 +1,9 @@
 -- A part that waits too long is stuck by the records: the only step that they go on with is a try too much.
-use Rattle.std.proofs.Common.{◌≡◌, ◌↔◌, ◌<◌, ◌≤◌, ◌⊎◌, ◌∙◌, ◌++◌, ◌∷◌, [], ℕ, Bool, true, false, IfSome, IsNone, List, None, Option, Some, ap, inl, inr, refl, reverse, subst, sym}
+use Rattle.std.proofs.Common.{◌≡◌, ◌↔◌, ◌⊎◌, ◌∙◌, ◌++◌, ◌∷◌, [], ℕ, Bool, true, false, IfSome, IsNone, List, None, Option, Some, ap, inl, inr, refl, reverse, subst, sym}
 use Rattle.access_run.proofs.CheckFronts.{check, close, framed_checks}
-use Rattle.access_run.proofs.LeadsLemmas.{check_only, check_stuck, end_not_stuck, operate_going, operate_only, operate_stuck}
+use Rattle.access_run.proofs.LeadsLemmas.{check_only, check_stuck, end_not_stuck, operate_only, operate_stuck}
 use Rattle.access_run.proofs.WholeLemmas.{split}
-use Rattle.access_run.specs.Leads.{AccessIsComplete, AccessIsStuck, AccessLeads, IsStuckIn, Runs, StageLeads}
+use Rattle.access_run.specs.Leads.{AccessIsComplete, AccessLeads, IsStuckIn, Runs, StageLeads}
 use Rattle.access_run.specs.Moved.{FramedChecks}
 use Rattle.access_run.specs.Whole.{NoneWhole}
 use Rattle.access_run.specs.declared.access.AccessRun.{AccessRun}
@@ -13,7 +13,7 @@ use Rattle.access_types.specs.Access as access
 use Rattle.litmus_syntax.specs.Tree.{Block}
 use Rattle.memory_operation.proofs.LeadsLemmas as operations_lemmas
 use Rattle.memory_operation.proofs.LockLemmas.{only_try, taken_whole}
-use Rattle.memory_operation.specs.LockLeads.{LockLeads, LockSays}
+use Rattle.memory_operation.specs.LockLeads.{LockLeads}
 use Rattle.memory_operation.specs.Leads as operations
 use Rattle.memory_operation.specs.Locks.{TakesLock}
 use Rattle.memory_operation.specs.declared.lock.LockWait.{LockWait}
@@ -34,11 +34,10 @@ use Rattle.task_plan.specs.Views.{follow_of}
 use Rattle.task_plan.specs.declared.follow.Then.{Then}
 use Rattle.task_run.proofs.EndLemmas.{begins_one, one_answer}
 use Rattle.task_run.proofs.LeadsLemmas.{agrees_in}
-use Rattle.task_run.proofs.LongLemmas.{CheckWaits, LoadsNext, check_long, lock_long, operation_long}
+use Rattle.task_run.proofs.LongLemmas.{LoadsNext, check_long, lock_long, operation_long}
 use Rattle.task_run.proofs.NextLemmas.{closing_is, closing_only, closing_part, locking_leads, locking_part, locking_only, making_agrees, making_is, making_leads, making_only, making_part, opening_is, opening_only, opening_part, over_stuck, stopped_stuck, too_much_stuck, unlocking_stuck}
 use Rattle.task_run.proofs.PairLemmas.{AreOfOne, check_of_one, close_of_one}
 use Rattle.task_run.proofs.TriesLemmas.{all_onto, onto, onto_both}
-use Rattle.task_run.specs.Agrees.{Agrees}
 use Rattle.task_run.specs.Leads.{IsStuck, Leads, WaitsTooLong}
 use Rattle.task_run.specs.Part.{Part, PartLeft, closes, locks, makes, opens}
 use Rattle.task_run.specs.Says.{IsStopped, Says}

@@ -1,5 +1,5 @@
 -- Where a task stands is told by its way after what it computes, and after each part of its text.
-use Rattle.std.proofs.Common.{◌≡◌, ◌≤◌, ◌∙◌, ◌+◌, ◌++◌, ◌∷◌, [], ℕ, Bool, true, false, List, None, Option, Some, ap, arith, drop, le_refl, length, refl, sym}
+use Rattle.std.proofs.Common.{◌≡◌, ◌≤◌, ◌++◌, ◌∷◌, [], ℕ, Bool, true, false, List, None, Option, Some, ap, arith, drop, le_refl, length, refl, sym}
 use Rattle.std.proofs.lemmas.List.{append-nil, length-append}
 use Rattle.access_types.specs.Access as access
 use Rattle.access_types.specs.declared.history.Happening.{Happening}

@@ -1,5 +1,5 @@
 -- A step that is a try too much is not made: the part that it is of is stuck.
-use Rattle.std.proofs.Common.{◌≡◌, ◌<◌, ◌≤◌, ◌+◌, ◌-◌, ◌^◌, ◌==◌, ◌&&◌, ◌∙◌, ◌++◌, ◌∷◌, [], ℕ, zero, suc, Bool, true, false, not, IsSomeAnd, List, MatchBool, None, Option, Some, ap, append_assoc, arith, le_refl, min, refl, reverse, subst, sym, if◌then◌else◌}
+use Rattle.std.proofs.Common.{◌≡◌, ◌<◌, ◌≤◌, ◌+◌, ◌==◌, ◌∙◌, ◌++◌, ◌∷◌, [], ℕ, zero, suc, Bool, true, false, IsSomeAnd, List, None, Option, Some, ap, append_assoc, arith, le_refl, refl, reverse, subst, sym, if◌then◌else◌}
 use Rattle.task_run.proofs.SaysLemmas.{one_some}
 use Rattle.std.proofs.lemmas.List.{append-nil, reverse-append}
 use Rattle.access_run.specs.Leads.{AccessIsDone, AccessIsStuck, AccessLeads, Runs, StageLeads, in_check, in_operation}
@@ -9,7 +9,7 @@ use Rattle.access_run.specs.declared.stage.Stage as access_stages
 use Rattle.access_run.specs.declared.stage.Stage.TheVariants.{Check, End, Operate, Over}
 use Rattle.access_types.specs.Access.{Access}
 use Rattle.access_types.specs.Sites.{map_of}
-use Rattle.memory_operation.specs.LockLeads.{IsStuckAtLock, LockLeads, LockSays}
+use Rattle.memory_operation.specs.LockLeads.{IsStuckAtLock, LockSays}
 use Rattle.memory_operation.specs.Leads as operations
 use Rattle.memory_operation.specs.Locks.{TakesLock}
 use Rattle.memory_operation.specs.Operations.{Exchanges, Operates, OperatesIn}
@@ -25,7 +25,6 @@ use Rattle.memory_operation.specs.declared.operation.Operation.TheVariants as ki
 use Rattle.memory_operation.specs.declared.run.OperationRun.{OperationRun}
 use Rattle.memory_operation.specs.declared.stage.Stage as operating
 use Rattle.memory_operation.specs.declared.stage.Stage.TheVariants as operating_stages
-use Rattle.setup_access.proofs.DisciplineLemmas.{on_flag}
 use Rattle.setup_access.specs.Checker.{Doing}
 use Rattle.setup_access.specs.Kept.{setting_with}
 use Rattle.setup_access.specs.Leads as checks
@@ -34,7 +33,7 @@ use Rattle.setup_access.specs.PassLeft.{pass_step}
 use Rattle.setup_access.specs.Setting as settings
 use Rattle.setup_access.specs.Values.{value_in}
 use Rattle.setup_access.specs.Waiting.{capped, pass_wait, stage_wait}
-use Rattle.setup_access.specs.Waits.{IsStuckBy, Wait, after_half, after_load, wait_after, wait_from, wait_on}
+use Rattle.setup_access.specs.Waits.{Wait, after_half, after_load, wait_after, wait_from, wait_on}
 use Rattle.setup_access.specs.declared.begun.Begun.{Begun}
 use Rattle.setup_access.specs.declared.checker.Checker.{Checker}
 use Rattle.setup_access.specs.declared.found.Found.TheVariants as founds
@@ -49,8 +48,8 @@ use Rattle.slot_table.specs.declared.step.Answer.{Answer}
 use Rattle.slot_table.specs.declared.step.Answer.TheVariants as answers
 use Rattle.slot_table.specs.declared.step.Step.{Step}
 use Rattle.slot_table.specs.declared.step.Step.TheVariants.{CellExchange, CellLoad, Clear, Clock, Consume, Insert, Load, LockStore, LockTry, Name, PairLoad, Remove, Tell, TryConsume}
-use Rattle.task_run.proofs.WaitLemmas.{IsOfCheck, check_says}
-use Rattle.written_order.specs.Waits.{IsTooMuch, IsTry, exchanges_in, is_no, is_refused, loads_pair, tries_lock, vain_tries, was_vain}
+use Rattle.task_run.proofs.WaitLemmas.{check_says}
+use Rattle.written_order.specs.Waits.{IsTooMuch, vain_tries, was_vain}
 
 -- records, the oldest first, before others, which stand with the latest first
 abbrev pub onto : List Record → List Record → List Record

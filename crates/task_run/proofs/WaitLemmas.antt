@@ -1,5 +1,5 @@
 -- What ends a part of a text is no vain try of a lock.
-use Rattle.std.proofs.Common.{◌≡◌, ◌&&◌, ◌++◌, ◌∷◌, [], ℕ, suc, Bool, true, false, List, MatchBool, None, Option, Some, ap, refl, reverse, subst, sym, if◌then◌else◌}
+use Rattle.std.proofs.Common.{◌≡◌, ◌&&◌, ◌++◌, ◌∷◌, [], ℕ, suc, Bool, true, false, List, MatchBool, None, Some, ap, refl, reverse, subst, sym, if◌then◌else◌}
 use Rattle.task_run.proofs.SaysLemmas.{one_some}
 use Rattle.std.proofs.lemmas.List.{reverse-append}
 use Rattle.access_run.specs.Leads as accesses
@@ -7,7 +7,6 @@ use Rattle.access_run.specs.declared.stage.Stage as access_stages
 use Rattle.access_run.specs.declared.stage.Stage.TheVariants.{Check, End, Operate, Over}
 use Rattle.access_types.specs.Sites.{map_of}
 use Rattle.memory_operation.specs.Locks.{TakesLock}
-use Rattle.memory_operation.specs.Leads as operations
 use Rattle.memory_operation.specs.Stages as operation_stages
 use Rattle.memory_operation.specs.declared.run.OperationRun.{OperationRun}
 use Rattle.memory_operation.specs.declared.stage.Stage as operating

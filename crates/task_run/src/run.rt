@@ -167,10 +167,11 @@ impl<'a> TaskRun<'a> {
             → IfSome result (OnlyStep s registers body records) }
         ensures none { (s : Setting) (registers : ℕ) (body : Block) (records : List Record) → (leads : Leads s registers body records self.now)
             → (IsNone result ↔ (SpellsAll s registers body records ⊎ (IsStuck leads ⊎ IsStopped self.now))) }
-        ensures over { (s : Setting) (registers : ℕ) (body : Block) (records : List Record) → Leads s registers body records self.now → WrittenOrder s registers body records
+        ensures over { (s : Setting) (registers : ℕ) (body : Block) (records : List Record) → Leads s registers body records self.now
+            → WrittenOrder s registers body records
             → (IsNone result ↔ (SpellsAll s registers body records ⊎ (waits.IsStuck s registers body records ⊎ IsStopped self.now))) }
-        ensures stops { (s : Setting) (registers : ℕ) (body : Block) (records : List Record) → (leads : Leads s registers body records self.now) → (step : Step) → Says self.now step
-            → IsNone result → IsStuck leads }
+        ensures stops { (s : Setting) (registers : ℕ) (body : Block) (records : List Record) → (leads : Leads s registers body records self.now)
+            → (step : Step) → Says self.now step → IsNone result → IsStuck leads }
         ensures within { (s : Setting) (registers : ℕ) (body : Block) (records : List Record) → Leads s registers body records self.now
             → WithinTurns s.rules.turns (reverse records)
             → IfSome result (λ step. (answer : Answer) → WithinTurns s.rules.turns (reverse (records ++ made s.text.task step answer ∷ []))) }

@@ -1,5 +1,5 @@
 -- The step is the one that is said, and what begins with it is told.
-use Rattle.std.proofs.Common.{◌≡◌, ◌∙◌, [], Bool, IfSome, None, ap, refl, subst, sym}
+use Rattle.std.proofs.Common.{◌≡◌, ◌∙◌, [], Bool, IfSome, ap, refl, subst}
 use Rattle.slot_table.specs.declared.step.Step.{Step}
 use Rattle.task_run.proofs.SaysLemmas.{one_says}
 use Rattle.task_run.proofs.TellLemmas.{begins_alike}
