@@ -8,3 +8,4 @@ pub mod HeldReads
 pub mod Alone
 pub mod Locks
 pub mod RunsOfPrograms
+pub mod Ended

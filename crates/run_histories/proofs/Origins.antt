@@ -341,7 +341,7 @@ module _ (run : Run) (records : List Record) (list : RunList run records) where
       let it = told_more later earlier in
       (it.0 ++ its, ap (λ (h : History). h ++ its) it.1 ∙ append_assoc (history_by list earlier) it.0 its)
 
-  told_front : (later earlier : List Record) → records ≡ later ++ earlier → take (length (history_by list earlier)) (history_of list) ≡ history_by list earlier
+  pub told_front : (later earlier : List Record) → records ≡ later ++ earlier → take (length (history_by list earlier)) (history_of list) ≡ history_by list earlier
   told_front later earlier is =
       let it = told_more later earlier in
       ap (λ (r : List Record). take (length (history_by list earlier)) (history_by list r)) is

@@ -2,3 +2,4 @@ pub mod Cells
 pub mod Origins
 pub mod Reported
 pub mod HeldReads
+pub mod Ended

@@ -8,6 +8,7 @@ ghost use Rattle.access_types.specs.declared.report.Report.{Report};
 ghost use Rattle.litmus_meaning.specs.Layout.{memory_at_first};
 ghost use Rattle.litmus_meaning.specs.RunOfProgram.{RunOfProgram};
 ghost use Rattle.run_histories.specs.Cells.{CellsHold, memory_after, run_cells};
+ghost use Rattle.run_histories.specs.Ended.{HasEndedSince};
 ghost use Rattle.run_histories.specs.HeldReads.{ReadsHold};
 ghost use Rattle.run_histories.specs.Origins.{NamesChange};
 ghost use Rattle.run_histories.specs.Reported.{IsOfOutcome, IsTrueReport};
@@ -17,13 +18,17 @@ ghost use Rattle.run_lists.specs.RunList.{RunList};
 ghost use Rattle.run_lists.specs.Told.{OutcomeAt, history_by, history_of, outcomes_of};
 ghost use Rattle.setup_access.specs.Values.{source_of, value_in};
 ghost use Rattle.setup_access.specs.declared.source.Source.{Source};
+ghost use Rattle.run_verdicts.specs.Takings.{HasOneAnswer};
+ghost use Rattle.slot_table.specs.Hearings.{IsArming, IsTaking};
 ghost use Rattle.slot_table.specs.Records.{words_after};
 ghost use Rattle.slot_table.specs.declared.records.Record.{Record};
 ghost use Rattle.std.specs.Prelude.{ℕ, slice_index};
 ghost use Rattle.written_order.specs.Standing.{checks_of};
 
-use run_lists::laws::reports_name_two_sides;
-use run_verdicts::laws::{records_tell_their_events, verdicts_are_on_watches};
+use run_lists::laws::{reports_name_two_sides, roles_of_run_lists, run_lists_keep_the_discipline};
+use run_verdicts::laws::{
+    each_taking_has_one_answer, records_tell_their_events, verdicts_are_on_watches,
+};
 
 /// Law: at each point of a run list the cells hold the content of memory, byte by byte: what the writes of the history
 /// that is told by then have laid over the initial values. So the bytes of an access that lie in one cell have as their
@@ -85,4 +90,18 @@ pub fn reports_are_true()
     reports_name_two_sides();
     verdicts_are_on_watches();
     unknown_origins_changed();
+}
+
+/// Law: each taking has one answer once its two accesses have ended: an access of the setter's task that was in progress
+/// as it armed, as the one is that it armed for, and one of the finder's task that was as it took. The answer is one
+/// report of two sides or one named discard, and there is no other.
+pub fn takings_of_ended_accesses_have_one_answer()
+    ensures { (run : Run) (records : List Record) → (list : RunList run records)
+        → (index number setter word finder taken_word : ℕ) → HasEndedSince list (IsArming index number setter word)
+        → HasEndedSince list (IsTaking index number finder taken_word) → HasOneAnswer list index number }
+{
+    records_tell_their_events();
+    run_lists_keep_the_discipline();
+    roles_of_run_lists();
+    each_taking_has_one_answer();
 }
