@@ -1,3 +1,4 @@
 pub mod Values
 pub mod Quantifiers
 pub mod Numbers
+pub mod Table

@@ -1,8 +1,9 @@
 -- What is known of one variable of a text: what items and parameters made of it so far.
-use Rattle.std.specs.Prelude.{◌==◌, ℕ, Option, Some, None, Bool, true, false, is_some, if◌then◌else◌}
+use Rattle.std.specs.Prelude.{◌==◌, ℕ, List, Option, Some, None, Bool, true, false, is_some, map, set, slice_get, if◌then◌else◌}
 use Rattle.litmus_cursor.specs.declared.words.VariableType.{VariableType}
 use Rattle.litmus_cursor.specs.declared.words.VariableType.TheVariants.{Char, Short, Int, Long, Atomic, Lock}
 use Rattle.litmus_cursor.specs.Front.{◌>>=◌}
+use Rattle.litmus_parse.specs.declared.declaration.Declarations.{Declarations}
 use Rattle.litmus_parse.specs.declared.declaration.Declared.{Declared}
 
 pub record Entry : Type 0 where
@@ -85,3 +86,20 @@ given value typed e = record e { value = Some value; is_given = if typed then e.
 -- whether it has two types, now that all parameters are known
 abbrev pub has_two_types : Entry → Bool
 has_two_types e = if e.is_parameter then false else e.is_at_odds
+
+-- an item names it, with a type or without
+abbrev pub named_item : Option VariableType → Entry → Option Entry
+named_item None e = Some (named_untyped e)
+named_item (Some type) e = named_typed type e
+
+-- what is known of all variables, each at its number
+abbrev pub table_of : Declarations → List Entry
+table_of declarations = map entry_of declarations.variables.items
+
+abbrev pub changed_from : (Entry → Option Entry) → List Entry → ℕ → Option Entry → Option (List Entry)
+changed_from change table number None = Some table
+changed_from change table number (Some e) = change e >>= λ f. Some (set table number f)
+
+-- one entry is changed, if the number is there
+unfoldable pub changed : (Entry → Option Entry) → List Entry → ℕ → Option (List Entry)
+changed change table number = changed_from change table number (slice_get table number)

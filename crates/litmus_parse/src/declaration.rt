@@ -5,7 +5,7 @@ ghost use Rattle.litmus_cursor.specs.Front.{Answers};
 ghost use Rattle.litmus_cursor.specs.Words.{is_same};
 ghost use Rattle.litmus_expression.specs.NameReader.{index_of};
 ghost use Rattle.litmus_parse.specs.Entries as entries;
-ghost use Rattle.litmus_parse.specs.Entries.{entry_of};
+ghost use Rattle.litmus_parse.specs.Entries.{entry_of, table_of};
 ghost use Rattle.litmus_parse.specs.VariableReader as reader;
 ghost use Rattle.litmus_parse.specs.VariableReader.{locks_of, names_of};
 
@@ -88,6 +88,24 @@ impl<'a> Declared<'a> {
         self.settle_type(variable_type, at)?;
         self.note_place(at);
         Ok(())
+    }
+
+    /// An item names it at this place, with a type or without.
+    pub fn name_item(
+        &mut self,
+        variable_type: Option<VariableType>,
+        at: usize,
+    ) -> Result<(), Refusal>
+        ensures stays { self.new.name ≡ self.old.name }
+        ensures names { Answers result (λ _. entry_of self.new) (entries.named_item variable_type (entry_of self.old)) }
+    {
+        match variable_type {
+            Some(variable_type) => self.name_typed(variable_type, at),
+            None => {
+                self.name_untyped(at);
+                Ok(())
+            }
+        }
     }
 
     /// A parameter names it at this place. Another type than before offends, and so does a lock's where an
@@ -218,6 +236,26 @@ impl<'a> Declarations<'a> {
         let number = self.variables.len();
         self.variables.push(Declared::new(name))?;
         Ok(number)
+    }
+
+    /// An item names the variable of a number at this place, with a type or without.
+    #[tactic(auto, using(crate::proofs::Table::put, crate::proofs::Table::refused, crate::proofs::Table::absent))]
+    pub fn name_item(
+        &mut self,
+        number: usize,
+        variable_type: Option<VariableType>,
+        at: usize,
+    ) -> Result<(), Refusal>
+        ensures { Answers result (λ _. table_of self.new)
+            (entries.changed (entries.named_item variable_type) (table_of self.old) number) }
+    {
+        let mut declared = match self.variables.get(number) {
+            Some(declared) => *declared,
+            None => return Ok(()),
+        };
+        declared.name_item(variable_type, at)?;
+        self.variables[number] = declared;
+        Ok(())
     }
 
     /// The variable of a number.

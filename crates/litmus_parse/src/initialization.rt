@@ -3,6 +3,7 @@
 ghost use Rattle.std.specs.Prelude.{◌≡◌, ◌≤◌, ◌<◌, IsTrue, OnOk};
 ghost use Rattle.litmus_cursor.specs.Cursor.{count_left};
 ghost use Rattle.litmus_cursor.specs.Front.{Answers, first, symbols_left};
+ghost use Rattle.litmus_parse.specs.Entries.{changed, named_item, table_of};
 ghost use Rattle.litmus_parse.specs.HeaderReader as reader;
 ghost use Rattle.litmus_parse.specs.VariableReader.{names_of, variable_at};
 
@@ -73,19 +74,12 @@ impl<'a> Header<'a> {
         number: usize,
         variable_type: Option<VariableType>,
     ) -> Result<(), Refusal>
-        ensures { self.new.cursor ≡ self.old.cursor }
+        ensures stays { self.new.cursor ≡ self.old.cursor }
+        ensures names { Answers result (λ _. table_of self.new.declarations)
+            (changed (named_item variable_type) (table_of self.old.declarations) number) }
     {
         let at = self.cursor.at();
-        let Some(declared) = self.declarations.get_mut(number) else {
-            return Ok(());
-        };
-        match variable_type {
-            Some(variable_type) => declared.name_typed(variable_type, at),
-            None => {
-                declared.name_untyped(at);
-                Ok(())
-            }
-        }
+        self.declarations.name_item(number, variable_type, at)
     }
 
     /// Takes a type, if one is next.
