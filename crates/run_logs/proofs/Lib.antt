@@ -16,3 +16,5 @@ pub mod Removals
 pub mod Deciding
 pub mod Balance
 pub mod Spanning
+pub mod Once
+pub mod Numbering

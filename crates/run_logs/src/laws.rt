@@ -1,6 +1,7 @@
 //! What is true of what a run list notes.
 
-ghost use Rattle.std.specs.Prelude.{◌+◌, ◌++◌, ◌≡◌, ◌≢◌, ◌≤◌, ◌∷◌, ℕ, [], All, List, Option, count_by, length, map, reverse};
+ghost use Rattle.std.specs.Prelude.{◌+◌, ◌++◌, ◌==◌, ◌≡◌, ◌≢◌, ◌≤◌, ◌∷◌, ℕ, [], All, List, Option, count_by, length, map, reverse};
+ghost use Rattle.access_types.specs.Arms.{Arm};
 ghost use Rattle.litmus_syntax.specs.Limits.{BodyKeepsLimits, block_repeats};
 ghost use Rattle.litmus_syntax.specs.Tree.{Block};
 ghost use Rattle.std.specs.Option.{option_to_list};
@@ -10,14 +11,14 @@ ghost use Rattle.run_lists.specs.RunList.{RunList};
 ghost use Rattle.run_lists.specs.Told.{made_by};
 ghost use Rattle.run_logs.specs.Decided.{IsStampedSo};
 ghost use Rattle.run_logs.specs.Noted.{AreNoted, IsNoted, Notes};
-ghost use Rattle.run_logs.specs.Removed.{as_removed, removed_by};
+ghost use Rattle.run_logs.specs.Removed.{as_removed, as_told, removed_by, told_by};
 ghost use Rattle.run_logs.specs.Spans.{IsSpan, is_end};
 ghost use Rattle.run_logs.specs.Totals.{AddUp, CountsList, CountsTasks};
 ghost use Rattle.setup_access.specs.declared.begun.Begun.{Begun};
 ghost use Rattle.setup_access.specs.declared.outcome.Outcome.{Outcome};
 ghost use Rattle.slot_table.specs.Records.{records_of};
 ghost use Rattle.slot_table.specs.declared.records.Record.{Record};
-ghost use Rattle.task_log.specs.Arms.{arms_of};
+ghost use Rattle.task_log.specs.Arms.{arms_of, takes_of};
 ghost use Rattle.task_log.specs.Counters.{Count};
 ghost use Rattle.task_log.specs.Reports.{reported};
 ghost use Rattle.task_log.specs.Touches.{accesses_of, touches_of};
@@ -109,13 +110,30 @@ pub fn few_accesses_are_noted()
 
 /// Law: the armings that a log of a task keeps are those that the task has removed, in this order, each with its index,
 /// its watch word and the ticket by which its setter had named itself, as the list has them of the last arming at that
-/// index.
+/// index. Each arming's number is how many of its access come before it.
 pub fn a_log_keeps_the_armings_that_are_over()
-    ensures { (run : Run) (records : List Record) (list : RunList run records) (task : ℕ) (noted : List Noted)
+    ensures removed { (run : Run) (records : List Record) (list : RunList run records) (task : ℕ) (noted : List Noted)
         → Notes list task noted → map (as_removed task) (arms_of noted) ≡ removed_by task records }
+    ensures numbers { (noted : List Noted) (earlier later : List Arm) (arm : Arm) → arms_of noted ≡ earlier ++ arm ∷ later
+        → arm.number ≡ count_by (λ (one : Arm). one.setter == arm.setter) earlier }
 {
     run_lists_keep_the_discipline();
 }
+
+/// Law: the takings that a log of a task keeps are those of which the task has told, in this order, each with its index
+/// and the ticket that it told.
+pub fn a_log_keeps_the_takings_that_are_over()
+    ensures { (run : Run) (records : List Record) (list : RunList run records) (task : ℕ) (noted : List Noted)
+        → Notes list task noted → map as_told (takes_of noted) ≡ told_by task records }
+{}
+
+/// Law: a run list notes one list of each task, and no other.
+pub fn one_list_is_noted()
+    ensures own { (s : Setting) (registers : ℕ) (body : Block) (records own : List Record) (one other : List Noted)
+        → (written : WrittenOrder s registers body records) → AreNoted written own one → AreNoted written own other → one ≡ other }
+    ensures list { (run : Run) (records : List Record) (list : RunList run records) (task : ℕ) (one other : List Noted)
+        → Notes list task one → Notes list task other → one ≡ other }
+{}
 
 /// Law: of the accesses that have ended, a log of a task says that they are marked exactly where they count as marked
 /// in the history that the list tells, and silenced exactly where they are silenced there.
