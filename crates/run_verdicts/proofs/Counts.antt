@@ -1,5 +1,6 @@
 -- How often a number stands in what was told or heard, and which outcomes are answers.
-use Rattle.std.proofs.Common.{◌≡◌, ◌≢◌, ◌<◌, ◌≤◌, ◌==◌, ◌&&◌, ◌⊎◌, ◌+◌, ◌∙◌, ◌∷◌, [], inl, inr, ℕ, zero, suc, Bool, true, false, List, Option, None, Some, Contains, ap, arith, cond, length, map, refl, subst, sym}
+use Rattle.std.proofs.Common.{◌≡◌, ◌≢◌, ◌<◌, ◌≤◌, ◌==◌, ◌&&◌, ◌⊎◌, ◌+◌, ◌∙◌, ◌∷◌, [], inl, inr, ℕ, zero, suc, Bool, true, false, List, Option, None}
+use Rattle.std.proofs.Common.{Some, Contains, ap, arith, cond, length, map, refl, subst, sym}
 use Rattle.std.specs.List.{AllPairs, filter}
 use Rattle.std.specs.Option.{option_map}
 use Rattle.std.specs.Prelude.{slice_index_or}

@@ -1,7 +1,5 @@
 -- What each record of a run list does: its event, and marks.
-use Rattle.std.proofs.Common.{◌≡◌, ◌<◌, ◌≤◌, ◌+◌, ◌-◌, ◌∙◌, ◌∷◌, ◌++◌, [], inl, inr, ℕ, suc, List, ap, append_assoc, arith, drop, length, refl, reverse, subst, sym}
-use Rattle.std.proofs.lemmas.Bool.{le-leb}
-use Rattle.std.proofs.lemmas.Bool.Decides.{leb_tells}
+use Rattle.std.proofs.Common.{◌≡◌, ◌+◌, ◌∙◌, ◌∷◌, ◌++◌, [], ℕ, suc, List, ap, append_assoc, arith, drop, length, refl, reverse, subst, sym}
 use Rattle.std.proofs.lemmas.List.{append-nil, length-append, length-reverse, reverse-append}
 use Rattle.access_types.specs.declared.history.Happening.{Happening}
 use Rattle.slot_table.specs.Records.{records_of}

@@ -1,5 +1,6 @@
 -- What a text's records tell, point by point: each record's event, and the marks that come with it.
-use Rattle.std.proofs.Common.{◌≡◌, ◌<◌, ◌≤◌, ◌⊎◌, ◌+◌, ◌%◌, ◌^◌, ◌∙◌, ◌∷◌, ◌++◌, [], inl, inr, ℕ, zero, suc, Bool, true, false, List, IsTrue, MatchBool, Some, ap, append_assoc, arith, drop, length, refl, replicate, subst, sym}
+use Rattle.std.proofs.Common.{◌≡◌, ◌<◌, ◌≤◌, ◌⊎◌, ◌%◌, ◌^◌, ◌∙◌, ◌∷◌, ◌++◌, [], inl, inr, ℕ, zero, suc, Bool, true, false, List, IsTrue, MatchBool}
+use Rattle.std.proofs.Common.{Some, ap, arith, length, refl, replicate, subst, sym}
 use Rattle.std.proofs.lemmas.Bool.{le-leb}
 use Rattle.std.proofs.lemmas.Bool.Decides.{leb_tells}
 use Rattle.access_types.specs.Access as access
@@ -16,7 +17,7 @@ use Rattle.memory_operation.specs.Values.{is_wanted, new_value, sum_of, with_val
 use Rattle.memory_operation.specs.declared.effect.Effect.{Effect}
 use Rattle.memory_operation.specs.declared.operation.Change.{Change}
 use Rattle.memory_operation.specs.declared.operation.Change.TheVariants as changes
-use Rattle.setup_access.specs.Check.{Check, Fallen}
+use Rattle.setup_access.specs.Check.{Fallen}
 use Rattle.setup_access.specs.Own.{IsOwn}
 use Rattle.setup_access.specs.Records.{MakesWord}
 use Rattle.setup_access.specs.Values.{source_of, value_in}
@@ -27,7 +28,7 @@ use Rattle.slot_table.specs.declared.step.Answer.{Answer}
 use Rattle.slot_table.specs.declared.step.Answer.TheVariants as answers
 use Rattle.slot_table.specs.declared.step.Step.{Step}
 use Rattle.slot_table.specs.declared.step.Step.TheVariants.{CellExchange, CellLoad, Clear, Clock, Consume, Insert, Load, LockStore, LockTry, Name, PairLoad, Remove, Tell, TryConsume}
-use Rattle.written_order.specs.Standing.{Point, Setting, Standing, checks_of, coming, counting, point_by}
+use Rattle.written_order.specs.Standing.{Point, Setting, Standing, checks_of, counting, point_by}
 use Rattle.run_verdicts.specs.Events.{AreMarks, IsEvent, Reads, ReadsAtMost, Writes}
 use Rattle.run_lists.proofs.Intervals.{IsOpen}
 use Rattle.run_verdicts.specs.Watches.{IsWatch, is_verdict}

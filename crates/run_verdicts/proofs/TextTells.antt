@@ -1,8 +1,7 @@
 -- What all records of a text tell.
-use Rattle.std.proofs.Common.{◌≡◌, ◌+◌, ◌||◌, ◌∙◌, ◌∷◌, ◌++◌, [], inl, inr, ℕ, Bool, true, false, IsTrue, List, Option, None, Some, MatchBool, ap, append_assoc, drop, length, refl, replicate, subst, sym}
+use Rattle.std.proofs.Common.{◌≡◌, ◌||◌, ◌∙◌, ◌∷◌, ◌++◌, [], inl, inr, ℕ, Bool, true, false, IsTrue, List, Option, None, Some, MatchBool, ap, append_assoc, drop, length, refl, replicate, subst, sym}
 use Rattle.std.proofs.lemmas.List.{append-nil}
 use Rattle.access_types.specs.Access as access
-use Rattle.access_types.specs.Race.{bytes_of}
 use Rattle.access_types.specs.declared.history.Happening.{Happening}
 use Rattle.access_types.specs.declared.history.Happening.TheVariants as happenings
 use Rattle.litmus_meaning.specs.Task as meaning
@@ -11,7 +10,7 @@ use Rattle.litmus_syntax.specs.Tree.{Block}
 use Rattle.memory_operation.specs.Effects.{moments_of, read_moments, write_moments}
 use Rattle.memory_operation.specs.Locks.{TakesLock}
 use Rattle.memory_operation.specs.Operations.{Operates}
-use Rattle.memory_operation.specs.Values.{new_value, sum_of}
+use Rattle.memory_operation.specs.Values.{sum_of}
 use Rattle.memory_operation.specs.declared.effect.Effect.{Effect}
 use Rattle.memory_operation.specs.declared.operation.Change.TheVariants as changes
 use Rattle.memory_operation.specs.declared.operation.Operation.{Operation}

@@ -1,5 +1,5 @@
 -- At which records of a text the outcomes of its checks fall.
-use Rattle.std.proofs.Common.{◌≡◌, ◌+◌, ◌∙◌, ◌∷◌, ◌++◌, [], ℕ, List, Option, None, Some, ap, append_assoc, refl, subst, sym}
+use Rattle.std.proofs.Common.{◌≡◌, ◌∙◌, ◌∷◌, ◌++◌, [], ℕ, List, Option, None, Some, ap, append_assoc, refl, subst, sym}
 use Rattle.std.proofs.lemmas.List.{append-nil}
 use Rattle.access_types.specs.Access as access
 use Rattle.litmus_syntax.specs.Tree.{Block}

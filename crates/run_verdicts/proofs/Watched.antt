@@ -1,5 +1,5 @@
 -- The verdicts of checks fall on watches of accesses in progress.
-use Rattle.std.proofs.Common.{◌≡◌, ◌∙◌, ◌<◌, ◌+◌, ◌||◌, ◌∷◌, ◌++◌, [], inl, inr, ℕ, Bool, true, false, IsTrue, List, Option, None, Some, MatchBool, MatchOption, ap, append_assoc, length, refl, subst, sym}
+use Rattle.std.proofs.Common.{◌≡◌, ◌∙◌, ◌+◌, ◌∷◌, ◌++◌, [], ℕ, Bool, true, false, List, Option, None, Some, MatchBool, MatchOption, ap, refl, subst, sym}
 use Rattle.std.proofs.lemmas.List.{append-nil}
 use Rattle.access_types.specs.Access.{Access}
 use Rattle.access_types.specs.Ticket.{ticket_number}
@@ -10,8 +10,8 @@ use Rattle.setup_access.specs.Check.{Check, ChecksLast, ChecksOnce, Close, Ends,
 use Rattle.setup_access.specs.Found.{Takes, Tells}
 use Rattle.setup_access.specs.Own.{AreOwn, IsOwn}
 use Rattle.setup_access.specs.Records.{MakesDone}
-use Rattle.setup_access.specs.Setting.{look_order, slot_of, try_order}
-use Rattle.setup_access.specs.Setup.{Judged, SetsUp, WatchesAt}
+use Rattle.setup_access.specs.Setting.{look_order, slot_of}
+use Rattle.setup_access.specs.Setup.{Judged, SetsUp}
 use Rattle.setup_access.specs.declared.begun.Begun.{Begun}
 use Rattle.setup_access.specs.declared.outcome.Outcome.{Outcome}
 use Rattle.setup_access.specs.declared.outcome.Outcome.TheVariants as outcomes
@@ -22,7 +22,7 @@ use Rattle.slot_table.specs.declared.step.Step.TheVariants.{Tell}
 use Rattle.watch_word.specs.Word.{word_of}
 use Rattle.written_order.specs.Standing.{Point, Setting, checks_of}
 use Rattle.run_lists.proofs.Intervals.{IsOpen}
-use Rattle.run_verdicts.specs.Watches.{IsWatch, is_verdict}
+use Rattle.run_verdicts.specs.Watches.{is_verdict}
 use Rattle.run_verdicts.proofs.Opens.{AllOpen}
 use Rattle.run_verdicts.proofs.Quiet as quiet
 use Rattle.run_verdicts.proofs.Quiet.{IsOfCheck}

@@ -1,12 +1,12 @@
 -- Each verdict that a run list tells is on a watch of an access in progress.
-use Rattle.std.proofs.Common.{◌≡◌, ◌∙◌, ◌<◌, ◌≤◌, ◌+◌, ◌-◌, ◌==◌, ◌∷◌, ◌++◌, [], inl, inr, ℕ, suc, All, IsTrue, List, Option, Some, ap, append_assoc, arith, get_or, length, map, refl, reverse, slice_get, subst, sym}
+use Rattle.std.proofs.Common.{◌≡◌, ◌∙◌, ◌<◌, ◌≤◌, ◌+◌, ◌-◌, ◌==◌, ◌∷◌, ◌++◌, [], inl, inr, ℕ, suc, All, IsTrue, List, Option, Some, ap, append_assoc}
+use Rattle.std.proofs.Common.{arith, length, map, refl, reverse, slice_get, subst, sym}
 use Rattle.std.specs.List.{filter}
 use Rattle.std.proofs.Math.ListN.{get_or-eq_default}
 use Rattle.std.proofs.lemmas.Bool.Decides.{eqb_tells, leb_tells}
 use Rattle.std.proofs.lemmas.List.{length-append, length-reverse, reverse-append, reverse-reverse}
 use Rattle.std.proofs.lemmas.List.Elements.{All-append, All-cons, All-nil}
 use Rattle.access_types.specs.Access.{Access}
-use Rattle.access_types.specs.History.{InProgress}
 use Rattle.access_types.specs.declared.history.Happening.{Happening}
 use Rattle.access_types.specs.declared.history.Happening.TheVariants as happenings
 use Rattle.litmus_meaning.specs.RunOfProgram.{setting_of}
@@ -20,16 +20,16 @@ use Rattle.setup_access.specs.declared.outcome.Outcome.{Outcome}
 use Rattle.slot_table.specs.Records.{records_of}
 use Rattle.slot_table.specs.declared.records.Record.{Record}
 use Rattle.written_order.specs.Standing.{Point, Setting, checks_of, point_by}
-use Rattle.written_order.specs.Told.{did_by, fell_next, to_come}
+use Rattle.written_order.specs.Told.{did_by, to_come}
 use Rattle.written_order.specs.WrittenOrder.{StepsOfBlock, at_first, first_point}
 use Rattle.written_order.proofs.MeaningLemmas.{whole_means}
 use Rattle.run_lists.specs.Run.{IsOfProgram, Run, idle, task_of, task_setting}
 use Rattle.run_lists.specs.RunList.{RunList}
-use Rattle.run_lists.specs.Told.{Armed, OutcomeAt, armed_by, came_next, history_by, history_of, made_by, outcome_at, outcomes_by, outcomes_of}
+use Rattle.run_lists.specs.Told.{Armed, OutcomeAt, armed_by, came_next, made_by, outcome_at, outcomes_by, outcomes_of}
 use Rattle.run_lists.proofs.Histories.{did_of_all, front_of, in_progress}
 use Rattle.run_lists.proofs.Intervals.{Has, IsOpen, has_first}
 use Rattle.run_lists.proofs.OwnLasts.{own_latest}
-use Rattle.run_verdicts.specs.Watches.{IfVerdict, IsOfWatch, IsWatch, is_verdict}
+use Rattle.run_verdicts.specs.Watches.{IfVerdict, IsWatch, is_verdict}
 use Rattle.run_verdicts.proofs.Does.{told_whole}
 use Rattle.run_verdicts.proofs.Onces.{there}
 use Rattle.run_verdicts.proofs.Opens.{has_split}
