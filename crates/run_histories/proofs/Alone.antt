@@ -1,5 +1,6 @@
 -- While an access is in progress its task has but the access's own moments, scoped assertions aside: by what its text means.
-use Rattle.std.proofs.Common.{◌≡◌, ◌∙◌, ◌<◌, ◌+◌, ◌-◌, ◌*◌, ◌^◌, ◌%◌, ◌==◌, ◌∷◌, ◌++◌, [], inl, inr, ℕ, zero, suc, Bool, true, false, All, Contains, IfSome, IsTrue, List, Option, None, Some, MatchOption, ap, append_assoc, arith, drop, get_or, length, refl, replicate, slice_get, subst, sym, take, if◌then◌else◌}
+use Rattle.std.proofs.Common.{◌≡◌, ◌∙◌, ◌<◌, ◌+◌, ◌==◌, ◌∷◌, ◌++◌, [], inl, inr, ℕ, zero, suc, Bool, true, false, All, IfSome, IsTrue, List, Option}
+use Rattle.std.proofs.Common.{None, Some, MatchOption, ap, append_assoc, drop, length, refl, replicate, slice_get, subst, sym, take, if◌then◌else◌}
 use Rattle.std.proofs.lemmas.Bool.{eq-eqb}
 use Rattle.std.proofs.lemmas.List.{append-nil}
 use Rattle.std.proofs.lemmas.Option.{get_or_from_slice_get, slice_get_within}

@@ -1,9 +1,10 @@
 -- A taking whose two accesses have ended is in nobody's hand any more.
-use Rattle.std.proofs.Common.{◌≡◌, ◌≢◌, ◌∙◌, ◌⊎◌, ◌<◌, ◌≤◌, ◌+◌, ◌==◌, ◌∷◌, ◌++◌, [], inl, inr, ℕ, suc, Bool, true, false, Contains, List, Option, None, Some, ap, append_assoc, arith, length, refl, subst, sym, take}
+use Rattle.std.proofs.Common.{◌≡◌, ◌≢◌, ◌∙◌, ◌⊎◌, ◌<◌, ◌+◌, ◌∷◌, ◌++◌, [], inl, inr, ℕ, suc, Bool, true, false, Contains, List, Option, None, Some}
+use Rattle.std.proofs.Common.{ap, append_assoc, arith, length, refl, subst, sym, take}
 use Rattle.std.specs.Option.{option_map}
 use Rattle.std.proofs.lemmas.Bool.{eq-eqb}
 use Rattle.std.proofs.lemmas.Bool.Decides.{eqb_tells}
-use Rattle.std.proofs.lemmas.List.{append-nil, length-append}
+use Rattle.std.proofs.lemmas.List.{length-append}
 use Rattle.access_types.specs.Access.{Access}
 use Rattle.access_types.specs.History.{History, ending}
 use Rattle.access_types.specs.declared.history.Happening.{Happening}
@@ -31,7 +32,7 @@ use Rattle.written_order.specs.Standing.{Setting}
 use Rattle.written_order.specs.Told.{did_by, did_next}
 use Rattle.run_lists.specs.Run.{Run, task_setting}
 use Rattle.run_lists.specs.RunList.{RunList}
-use Rattle.run_lists.specs.Told.{Armed, armed_by, armed_in, history_by, history_of, made_by, moments_of}
+use Rattle.run_lists.specs.Told.{Armed, armed_in, history_by, history_of, made_by, moments_of}
 use Rattle.run_lists.proofs.Intervals.{Has, contains_has, has_contains, has_either}
 use Rattle.run_lists.proofs.OwnLasts.{last_below, own_latest}
 use Rattle.run_verdicts.specs.Events.{AreMarks, DoesEvent, EachDoesItsEvent, IsEvent, ReadsAtMost, Writes}

@@ -1,17 +1,16 @@
 -- Each read of the history of a run list holds the content just before it.
-use Rattle.std.proofs.Common.{◌≡◌, ◌∙◌, ◌⊎◌, ◌<◌, ◌==◌, ◌∷◌, ◌++◌, [], inl, inr, ℕ, zero, suc, Bool, true, false, IfSome, List, Some, ap, length, refl, slice_get, subst, sym, take, if◌then◌else◌}
+use Rattle.std.proofs.Common.{◌≡◌, ◌∙◌, ◌⊎◌, ◌==◌, ◌∷◌, ◌++◌, [], inl, inr, ℕ, zero, suc, Bool, true, false, IfSome, List, ap, length, refl, slice_get, subst, sym, take, if◌then◌else◌}
 use Rattle.std.specs.Prelude.{slice_index}
 use Rattle.std.proofs.lemmas.Bool.Decides.{eqb_tells}
 use Rattle.access_types.specs.Access.{Access}
 use Rattle.access_types.specs.History.{History, Memory, after_happening, after_moments, value_from}
-use Rattle.access_types.specs.Race.{bytes_of}
 use Rattle.access_types.specs.declared.history.Happening.{Happening}
 use Rattle.access_types.specs.declared.history.Happening.TheVariants as happenings
 use Rattle.access_types.specs.declared.history.Moment.{Moment}
 use Rattle.litmus_meaning.specs.Layout.{memory_at_first}
 use Rattle.setup_access.specs.Values.{value_in}
 use Rattle.setup_access.specs.declared.source.Source.{Source}
-use Rattle.slot_table.specs.Records.{Follows, Legal, words_after}
+use Rattle.slot_table.specs.Records.{Legal, words_after}
 use Rattle.slot_table.specs.StepLine.{step_line}
 use Rattle.slot_table.specs.Words.{Words}
 use Rattle.slot_table.specs.declared.records.Record.{Record}
@@ -24,7 +23,7 @@ use Rattle.written_order.specs.Told.{did_by, did_next}
 use Rattle.run_lists.specs.Run.{Run, first_words, task_setting}
 use Rattle.run_lists.specs.RunList.{RunList}
 use Rattle.run_lists.specs.Told.{first_moments, history_by, history_of, made_by, moments_of}
-use Rattle.run_verdicts.specs.Events.{AreMarks, EachDoesItsEvent, IsEvent, Reads, ReadsAtMost, Writes}
+use Rattle.run_verdicts.specs.Events.{AreMarks, EachDoesItsEvent, IsEvent, ReadsAtMost, Writes}
 use Rattle.run_histories.specs.Cells.{CellsHold, memory_after, run_cells}
 use Rattle.run_histories.specs.HeldReads.{HoldsContent, ReadsHold}
 use Rattle.run_histories.proofs.CellBlocks.{AreBlocks, cells_are_blocks}

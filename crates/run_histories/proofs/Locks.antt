@@ -1,5 +1,6 @@
 -- In the history of a run list a lock is taken only when it is free, and given up only by its holder: its word tells.
-use Rattle.std.proofs.Common.{◌≡◌, ◌≢◌, ◌∙◌, ◌⊎◌, ◌<◌, ◌+◌, ◌==◌, ◌∷◌, ◌++◌, [], inl, inr, ℕ, zero, suc, Bool, true, false, IfSome, IsTrue, List, Option, None, Some, ap, append_assoc, arith, fold, length, refl, replicate, slice_get, subst, sym, take, if◌then◌else◌}
+use Rattle.std.proofs.Common.{◌≡◌, ◌≢◌, ◌∙◌, ◌⊎◌, ◌<◌, ◌+◌, ◌==◌, ◌∷◌, ◌++◌, [], inl, inr, ℕ, zero, suc, Bool, true, false, IfSome, List, Option}
+use Rattle.std.proofs.Common.{None, Some, ap, append_assoc, arith, fold, length, refl, replicate, slice_get, subst, sym, take, if◌then◌else◌}
 use Rattle.std.specs.Prelude.{slice_index, slice_set}
 use Rattle.std.proofs.lemmas.Bool.{eq-eqb, ne_eqb}
 use Rattle.std.proofs.lemmas.Bool.Decides.{eqb_tells}
@@ -9,7 +10,6 @@ use Rattle.access_types.specs.Access.{Access}
 use Rattle.access_types.specs.History.{History, happenings_of}
 use Rattle.access_types.specs.declared.history.Happening.{Happening}
 use Rattle.access_types.specs.declared.history.Happening.TheVariants as happenings
-use Rattle.access_types.specs.declared.history.Moment.{Moment}
 use Rattle.litmus_meaning.specs.RunOfProgram.{holder, holder_after}
 use Rattle.litmus_meaning.specs.Task.{has_after, has_lock}
 use Rattle.slot_table.specs.Records.{Legal, words_after}

@@ -1,23 +1,21 @@
 -- Where a verdict of unknown origin falls, the bytes changed between the two loads of its watch.
-use Rattle.std.proofs.Common.{◌≡◌, ◌≢◌, ◌∙◌, ◌<◌, ◌≤◌, ◌+◌, ◌==◌, ◌∷◌, ◌++◌, [], inl, inr, ℕ, suc, Bool, true, false, All, IsSomeAnd, IsTrue, List, Option, None, Some, MatchBool, ap, append_assoc, arith, drop, length, refl, reverse, subst, sym, take}
+use Rattle.std.proofs.Common.{◌≡◌, ◌≢◌, ◌∙◌, ◌<◌, ◌+◌, ◌==◌, ◌∷◌, ◌++◌, [], inl, inr, ℕ, suc, Bool, true, false, All, IsTrue, List, Option, None}
+use Rattle.std.proofs.Common.{Some, MatchBool, ap, append_assoc, arith, drop, length, refl, reverse, subst, sym, take}
 use Rattle.std.specs.Prelude.{slice_index}
-use Rattle.std.specs.List.{filter}
 use Rattle.std.proofs.lemmas.Bool.Decides.{eqb_tells}
 use Rattle.std.proofs.lemmas.Bool.{cases_lt}
 use Rattle.std.specs.Int.{bit_at}
 use Rattle.std.proofs.lemmas.List.{append-nil, length-append, length-reverse, reverse-append, set-get_or}
-use Rattle.std.proofs.lemmas.List.Elements.{All-append, All-cons, All-nil, filter-append}
+use Rattle.std.proofs.lemmas.List.Elements.{All-append, All-cons, All-nil}
 use Rattle.std.proofs.lemmas.Option.{same_Some}
 use Rattle.access_types.specs.Access.{Access}
 use Rattle.access_types.specs.History.{History, content, value_from}
-use Rattle.access_types.specs.Race.{ChangedUnderWatch, Differ, bytes_of}
-use Rattle.access_types.specs.Ticket.{ticket_number}
+use Rattle.access_types.specs.Race.{ChangedUnderWatch, bytes_of}
 use Rattle.access_types.specs.declared.history.Happening.{Happening}
 use Rattle.access_types.specs.declared.history.Moment.{Moment}
 use Rattle.litmus_meaning.specs.Layout.{memory_at_first}
-use Rattle.setup_access.specs.Records.{MakesFlag}
 use Rattle.setup_access.specs.Setting as checks
-use Rattle.setup_access.specs.Setup.{Arms, Judged, Judges, JudgesHit, SetsUp, TriesInsert, Watches, WatchesAt}
+use Rattle.setup_access.specs.Setup.{Arms, Judged, Judges, JudgesHit, TriesInsert, WatchesAt}
 use Rattle.setup_access.specs.Values.{LoadsFrom, both_values, source_of, value_in}
 use Rattle.setup_access.specs.Verdicts as verdicts
 use Rattle.setup_access.specs.Verdicts.{ChangeOf, HitOutcome, UntouchedOutcome}
@@ -27,10 +25,9 @@ use Rattle.setup_access.specs.declared.source.Source.{Source}
 use Rattle.setup_access.proofs.DisciplineLemmas.{on_flag, on_word}
 use Rattle.slot.specs.Pair.{Halves}
 use Rattle.slot_table.specs.Records.{Follows, Legal, records_of, words_after}
-use Rattle.slot_table.specs.StepLine.{Names, step_line}
+use Rattle.slot_table.specs.StepLine.{step_line}
 use Rattle.slot_table.specs.Words.{Words}
 use Rattle.slot_table.specs.declared.records.Record.{Record}
-use Rattle.slot_table.specs.declared.step.Answer.{Answer}
 use Rattle.slot_table.specs.declared.step.Answer.TheVariants as answers
 use Rattle.slot_table.specs.declared.step.Step.{Step}
 use Rattle.slot_table.specs.declared.step.Step.TheVariants.{CellLoad}
