@@ -178,7 +178,8 @@ module _ (P : List Parameter) (apart : Differ (map name_of P)) where
       ∙ ap (λ (o : Option (Call × State)). o >>= λ z. take_sign Semicolon z.1.symbols >>= λ l. Some (tree.call z.0, with_left z.1 l)) inside
 
   -- an `if` up to its body
-  branch_there : (d k t : ℕ) (f : List Bool) (symbols middle : List Symbol) (names between : Names) (st n m : ℕ) (condition : tree.Expression) (body : tree.Block)
+  branch_there : (d k t : ℕ) (f : List Bool) (symbols middle : List Symbol) (names between : Names) (st n m : ℕ) (condition : tree.Expression)
+      (body : tree.Block)
       (u : State)
       → expression_at t d (placed P st symbols names n) ≡ Some (condition, placed P st (sign CloseParen ∷ middle) between m)
       → body_at (place d k t f) (placed P st middle between m) ≡ Some (body, u)
@@ -198,7 +199,8 @@ module _ (P : List Parameter) (apart : Differ (map name_of P)) where
       → behind_body readers p condition body (placed P st rest names n) ≡ Some (tree.if_block condition body, placed P st rest names n)
   alone_there p condition body rest names st n none =
       let s = placed P st rest names n in
-      ap (λ (b : Bool). cond b (body_at p (after s) >>= λ x. Some (tree.if_else condition body x.0, x.1)) (Some (tree.if_block condition body, s))) (else_none rest none)
+      ap (λ (b : Bool). cond b (body_at p (after s) >>= λ x. Some (tree.if_else condition body x.0, x.1)) (Some (tree.if_block condition body, s)))
+      (else_none rest none)
 
   otherwise_there : (p : Place) (condition : tree.Expression) (body otherwise : tree.Block) (symbols : List Symbol) (names : Names) (st n : ℕ) (u : State)
       → body_at p (placed P st symbols names n) ≡ Some (otherwise, u)
@@ -206,7 +208,8 @@ module _ (P : List Parameter) (apart : Differ (map name_of P)) where
   otherwise_there p condition body otherwise symbols names st n u inside =
       ap (λ (o : Option (tree.Block × State)). o >>= λ x. Some (tree.if_else condition body x.0, x.1)) inside
 
-  loop_there : (d k t : ℕ) (f : List Bool) (name : List ℕ) (register turns : ℕ) (symbols : List Symbol) (names between : Names) (st n : ℕ) (body : tree.Block) (u : State)
+  loop_there : (d k t : ℕ) (f : List Bool) (name : List ℕ) (register turns : ℕ) (symbols : List Symbol) (names between : Names) (st n : ℕ)
+      (body : tree.Block) (u : State)
       → header_at (place d k t f) (placed P st (header_symbols name turns symbols) names n)
       ≡ Some (record { register = register; turns = turns; repeats = t * turns }, placed P st symbols between n)
       → body_at (place d k (t * turns) (set f register true)) (placed P st symbols between n) ≡ Some (body, u)
@@ -233,11 +236,13 @@ module _ (P : List Parameter) (apart : Differ (map name_of P)) where
   unfolding opening_at
   race_opens symbols names st n = refl
 
-  if_opens : (symbols : List Symbol) (names : Names) (st n : ℕ) → opening_at (placed P st (word words.If ∷ symbols) names n) ≡ Some (openings.Counted counteds.If)
+  if_opens : (symbols : List Symbol) (names : Names) (st n : ℕ)
+      → opening_at (placed P st (word words.If ∷ symbols) names n) ≡ Some (openings.Counted counteds.If)
   unfolding opening_at
   if_opens symbols names st n = refl
 
-  for_opens : (symbols : List Symbol) (names : Names) (st n : ℕ) → opening_at (placed P st (word words.For ∷ symbols) names n) ≡ Some (openings.Counted counteds.For)
+  for_opens : (symbols : List Symbol) (names : Names) (st n : ℕ)
+      → opening_at (placed P st (word words.For ∷ symbols) names n) ≡ Some (openings.Counted counteds.For)
   unfolding opening_at
   for_opens symbols names st n = refl
 
@@ -358,7 +363,8 @@ module _ (P : List Parameter) (apart : Differ (map name_of P)) where
         counted (place d k t f) counteds.If (word words.If ∷ sign OpenParen ∷ symbols) names st n (tree.if_block condition body) later_state
         (if_opens (sign OpenParen ∷ symbols) names st n) le
         (branch_there d k t f symbols middle names between (st + 1) n (n + accesses t condition) condition body later_state
-        (expression_read P (st + 1) t apart d names between symbols (sign CloseParen ∷ middle) condition n starts.named.differ tested (follows_close middle) limit)
+        (expression_read P (st + 1) t apart d names between symbols (sign CloseParen ∷ middle) condition n starts.named.differ tested
+        (follows_close middle) limit)
         (body_is_read inside k t f (st + 1) (n + accesses t condition)
         (record { are = starts.are; named = expression_named starts.named tested })
         (record { statements = all; repeats = total; turns = fits.turns; scopes = fits.scopes }))
@@ -378,16 +384,19 @@ module _ (P : List Parameter) (apart : Differ (map name_of P)) where
         let b : ((n + accesses t condition) + block_repeats t body) + block_repeats t otherwise ≡ n + spent t (Some (tree.if_else condition body otherwise)) =
         omega (arith, count) in
         let well = expression_named starts.named tested in
-        let behind_body_state = placed P ((st + 1) + block_count body) (word words.Else ∷ behind_else) last ((n + accesses t condition) + block_repeats t body) in
+        let behind_body_state = placed P ((st + 1) + block_count body) (word words.Else ∷ behind_else) last
+        ((n + accesses t condition) + block_repeats t body) in
         let later_state = placed P (((st + 1) + block_count body) + block_count otherwise) rest later
         (((n + accesses t condition) + block_repeats t body) + block_repeats t otherwise) in
         counted (place d k t f) counteds.If (word words.If ∷ sign OpenParen ∷ symbols) names st n (tree.if_else condition body otherwise) later_state
         (if_opens (sign OpenParen ∷ symbols) names st n) le
         (branch_there d k t f symbols middle names between (st + 1) n (n + accesses t condition) condition body behind_body_state
-        (expression_read P (st + 1) t apart d names between symbols (sign CloseParen ∷ middle) condition n starts.named.differ tested (follows_close middle) limit)
+        (expression_read P (st + 1) t apart d names between symbols (sign CloseParen ∷ middle) condition n starts.named.differ tested
+        (follows_close middle) limit)
         (body_is_read inside k t f (st + 1) (n + accesses t condition) (record { are = starts.are; named = well })
         (record { statements = all_one; repeats = total_one; turns = fits.turns.0; scopes = fits.scopes.0 }))
-        ∙ otherwise_there (place d k t f) condition body otherwise behind_else last ((st + 1) + block_count body) ((n + accesses t condition) + block_repeats t body)
+        ∙ otherwise_there (place d k t f) condition body otherwise behind_else last ((st + 1) + block_count body)
+        ((n + accesses t condition) + block_repeats t body)
         later_state
         (body_is_read outside k t f ((st + 1) + block_count body) ((n + accesses t condition) + block_repeats t body)
         (record { are = starts.are; named = body_named well inside })

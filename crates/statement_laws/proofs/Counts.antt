@@ -97,7 +97,8 @@ scoped_there : (d k t : ℕ) (f : List Bool) (scoped : Bool) → k + cond scoped
 scoped_there d k t f true le = ap (λ (b : Bool). cond b None (Some (place d (k + 1) t f))) (below_eight k le)
 scoped_there d k t f false le = no_more d k t f
 
-call_behind : (d k t : ℕ) (f : List Bool) (c : Call) → k + call_scopes c ≤ 8 → behind (place d k t f) (Some (tree.call c)) ≡ Some (place d (k + call_scopes c) t f)
+call_behind : (d k t : ℕ) (f : List Bool) (c : Call) → k + call_scopes c ≤ 8
+    → behind (place d k t f) (Some (tree.call c)) ≡ Some (place d (k + call_scopes c) t f)
 call_behind d k t f (calls.Barrier b) le = no_more d k t f
 call_behind d k t f (calls.Lock x) le = no_more d k t f
 call_behind d k t f (calls.Unlock x) le = no_more d k t f

@@ -43,7 +43,8 @@ count_there P st symbols names n le = ap (λ (b : Bool). cond b None (Some (plac
 
 pub free_there : (P : List Parameter) (name : List ℕ) → IsFree P name → parameter_named P name ≡ None
 free_there P name free =
-    free_named P name (λ p named there. free p.variable p.type (subst (λ (m : List ℕ). Contains P (record { name = m; variable = p.variable; type = p.type })) named there))
+    free_named P name (λ p named there. free p.variable p.type (subst (λ (m : List ℕ). Contains P
+    (record { name = m; variable = p.variable; type = p.type })) named there))
 
 not_counted : (flags : List Bool) (counters : List ℕ) (register : ℕ) (b : Bool) → is_counter flags register ≡ b → AreCounters flags counters
     → ¬ Contains counters register → b ≡ false
@@ -58,7 +59,8 @@ module _ (P : List Parameter) (apart : Differ (map name_of P)) (f : List Bool) (
   changed_there st name register names later rest n differ is =
       ap (λ (o : Option (ℕ × State)). o >>= λ r. cond (is_counter f r.0) None (Some (r.0, after r.1)))
       (register_back P st apart name register names later rest n differ is.is)
-      ∙ ap (λ (b : Bool). cond b None (Some (register, placed P st rest later n))) (not_counted f counters register (is_counter f register) refl are is.counts_none)
+      ∙ ap (λ (b : Bool). cond b None (Some (register, placed P st rest later n))) (not_counted f counters register
+      (is_counter f register) refl are is.counts_none)
 
   -- ---- declarations
 
@@ -111,17 +113,20 @@ module _ (P : List Parameter) (apart : Differ (map name_of P)) (f : List Bool) (
 
   -- ---- the header of a loop
 
-  again_there : (st : ℕ) (name : List ℕ) (register : ℕ) (names later : Names) (rest : List Symbol) (n : ℕ) → Named names → IsChanged P counters names name register later
+  again_there : (st : ℕ) (name : List ℕ) (register : ℕ) (names later : Names) (rest : List Symbol) (n : ℕ) → Named names
+      → IsChanged P counters names name register later
       → take_again register (placed P st (identifier name ∷ rest) later n) ≡ Some (placed P st rest later n)
   unfolding take_again
   again_there st name register names later rest n named is =
       let well = numbered_named name register names later named is.is.numbered in
-      ap (λ (o : Option Parameter). cond (is_the_register later register (free_name name o)) (Some (placed P st rest later n)) None) (free_there P name is.is.free)
+      ap (λ (o : Option Parameter). cond (is_the_register later register (free_name name o)) (Some (placed P st rest later n)) None)
+      (free_there P name is.is.free)
       ∙ ap (λ (o : Option ℕ). cond (is_number register o) (Some (placed P st rest later n)) None)
       (found_at later name register well.differ (numbered_stands name register names later is.is.numbered))
       ∙ ap (λ (b : Bool). cond b (Some (placed P st rest later n)) None) (eq-eqb register register refl)
 
-  counter_there : (st : ℕ) (name : List ℕ) (register : ℕ) (names later : Names) (rest : List Symbol) (n : ℕ) → Named names → IsChanged P counters names name register later
+  counter_there : (st : ℕ) (name : List ℕ) (register : ℕ) (names later : Names) (rest : List Symbol) (n : ℕ) → Named names
+      → IsChanged P counters names name register later
       → counter_at f (placed P st (sign OpenParen ∷ identifier name ∷ sign Assign ∷ number 0 ∷ sign Semicolon ∷ rest) names n)
       ≡ Some (register, placed P st rest later n)
   unfolding counter_at take_sign
@@ -146,7 +151,8 @@ module _ (P : List Parameter) (apart : Differ (map name_of P)) (f : List Bool) (
       ∙ ap (λ (o : Option ℕ). o >>= λ r. Some (record { register = register; turns = turns; repeats = r }, placed P st rest later n))
       (repeats_there d k t turns one two)
 
-  step_there : (st : ℕ) (name : List ℕ) (register : ℕ) (names later : Names) (rest : List Symbol) (n : ℕ) → Named names → IsChanged P counters names name register later
+  step_there : (st : ℕ) (name : List ℕ) (register : ℕ) (names later : Names) (rest : List Symbol) (n : ℕ) → Named names
+      → IsChanged P counters names name register later
       → step_at register (placed P st (identifier name ∷ sign Increment ∷ sign CloseParen ∷ rest) later n) ≡ Some (placed P st rest later n)
   unfolding step_at take_sign
   step_there st name register names later rest n named is =

@@ -128,7 +128,8 @@ declaration_reads p counters s x stands d e =
     at_last _ (ReadsStatement p counters s) x e
     (let spot = counted_spot r.1 c counted in
     let q = (expression_reads p.turns p.depth (after c) z stands.depth (few spot.names k.within) value).reads in
-    let assigned : r.1.symbols ≡ sign Assign ∷ others r.1.symbols = front r.1.symbols (sign Assign) (is_sign_is Assign (first r.1.symbols) assigns) (λ never. cc) in
+    let assigned : r.1.symbols ≡ sign Assign ∷ others r.1.symbols = front r.1.symbols (sign Assign) (is_sign_is Assign (first r.1.symbols) assigns)
+    (λ never. cc) in
     let whole = begins ∙ ap (λ (j : List Symbol). word (words.Type d.type) ∷ identifier k.name ∷ j) assigned in
     let one = renamed (λ P n. Expression P p.depth n (others c.symbols) z.0 z.1.symbols z.1.names) (spot.parameters ∙ k.parameters) spot.names q.spelled in
     let two = subst (λ (j : List Symbol). Expression s.parameters p.depth r.1.names (others j) z.0 z.1.symbols z.1.names) spot.symbols one in
@@ -246,7 +247,8 @@ counter_reads flags counters s x are within e =
     (zero_taken m z zeroes ∙ ap (λ (j : List Symbol). number 0 ∷ j) (sign_taken Semicolon z n ends)) in
     record {
       name = k.name;
-      next = sign_taken OpenParen s.symbols l opens ∙ ap (λ (j : List Symbol). sign OpenParen ∷ j) (k.next ∙ ap (λ (j : List Symbol). identifier k.name ∷ j) given);
+      next = sign_taken OpenParen s.symbols l opens ∙ ap (λ (j : List Symbol). sign OpenParen ∷ j) (k.next
+          ∙ ap (λ (j : List Symbol). identifier k.name ∷ j) given);
       is = k.is;
       within = k.within;
       parameters = k.parameters;
@@ -276,7 +278,8 @@ bound_reads p register s x within e =
     (λ m ends e.
     at_last _ (ReadsBound register s) x e
     (let a = again_reads register s u within again in
-    let below : u.symbols ≡ sign signs.Less ∷ number n.0 ∷ sign Semicolon ∷ m = sign_taken signs.Less u.symbols l less ∙ ap (λ (j : List Symbol). sign signs.Less ∷ j)
+    let below : u.symbols ≡ sign signs.Less ∷ number n.0 ∷ sign Semicolon ∷ m = sign_taken signs.Less u.symbols l less
+    ∙ ap (λ (j : List Symbol). sign signs.Less ∷ j)
     (number_taken l n bound ∙ ap (λ (j : List Symbol). number n.0 ∷ j) (sign_taken Semicolon n.1 m ends)) in
     record {
       name = a.name;
@@ -348,7 +351,8 @@ header_reads p counters s x are within e =
     let two : t.name ≡ c.name = same_names r.1.names h.1.names r.0 c.name t.name (sym b.names) stands t.stands in
     let last : h.1.symbols ≡ identifier c.name ∷ sign Increment ∷ sign CloseParen ∷ u.symbols = t.next ∙ ap (λ (n : List ℕ).
     identifier n ∷ sign Increment ∷ sign CloseParen ∷ u.symbols) two in
-    let middle : r.1.symbols ≡ identifier c.name ∷ sign signs.Less ∷ number h.0.turns ∷ sign Semicolon ∷ identifier c.name ∷ sign Increment ∷ sign CloseParen ∷ u.symbols =
+    let middle : r.1.symbols ≡ identifier c.name ∷ sign signs.Less ∷ number h.0.turns ∷ sign Semicolon
+    ∷ identifier c.name ∷ sign Increment ∷ sign CloseParen ∷ u.symbols =
     b.next ∙ ap (λ (n : List ℕ). identifier n ∷ sign signs.Less ∷ number h.0.turns ∷ sign Semicolon ∷ h.1.symbols) one
     ∙ ap (λ (j : List Symbol). identifier c.name ∷ sign signs.Less ∷ number h.0.turns ∷ sign Semicolon ∷ j) last in
     let after_all : u.names ≡ r.1.names = t.names ∙ b.names in

@@ -121,7 +121,8 @@ module _ (R : Readers) (h : Sound R) where
   counted_sound p counteds.For counters s x stands begins e = h.repetition p counters s x stands begins e
   counted_sound p counteds.DataRace counters s x stands begins e =
       behind_it (take_sign OpenParen (others s.symbols)) (λ l. simple_at p (with_left s l) >>= λ z. take_sign CloseParen z.1.symbols >>= λ m.
-      take_sign Semicolon m >>= λ n. Some (raced z.0, with_left z.1 n)) (λ (y : tree.Statement × State). ReadsStatement p counters s (Some y.0, y.1)) x e (λ l opens e.
+      take_sign Semicolon m >>= λ n. Some (raced z.0, with_left z.1 n)) (λ (y : tree.Statement × State). ReadsStatement p counters s
+      (Some y.0, y.1)) x e (λ l opens e.
       behind_it (simple_at p (with_left s l)) (λ z. take_sign CloseParen z.1.symbols >>= λ m. take_sign Semicolon m
       >>= λ n. Some (raced z.0, with_left z.1 n)) (λ (y : tree.Statement × State). ReadsStatement p counters s (Some y.0, y.1)) x e (λ z is e.
       behind_it (take_sign CloseParen z.1.symbols) (λ m. take_sign Semicolon m >>= λ n. Some (raced z.0, with_left z.1 n))
@@ -186,7 +187,8 @@ module _ (R : Readers) (h : Sound R) where
       let r = h.body p counters (with_left c.1 m) b (stands_with p counters s (with_left c.1 m) stands q.within) inside in
       let whole : s.symbols ≡ word words.If ∷ sign OpenParen ∷ l = front s.symbols (word words.If) begins (λ never. cc)
       ∙ ap (λ (j : List Symbol). word words.If ∷ j) (sign_taken OpenParen (others s.symbols) l opens) in
-      let tested = subst (λ (j : List Symbol). Expression s.parameters p.depth s.names l c.0 j c.1.names) (sign_taken CloseParen c.1.symbols m closes) q.spelled in
+      let tested = subst (λ (j : List Symbol). Expression s.parameters p.depth s.names l c.0 j c.1.names)
+      (sign_taken CloseParen c.1.symbols m closes) q.spelled in
       let done = subst (λ (P : List Parameter). Body P p.depth counters c.1.names m b.0 b.1.symbols b.1.names) q.parameters r.spelled in
       let parameters : b.1.parameters ≡ s.parameters = r.parameters ∙ q.parameters in
       either_way (is_else (first b.1.symbols)) (R.body p (after b.1) >>= λ z. Some (tree.if_else c.0 b.0 z.0, z.1)) (Some (tree.if_block c.0 b.0, b.1))
@@ -233,7 +235,8 @@ module _ (R : Readers) (h : Sound R) where
       }) inside in
       let whole : s.symbols ≡ word words.For ∷ header_symbols k.name n.0.turns n.1.symbols = front s.symbols (word words.For) begins (λ never. cc)
       ∙ ap (λ (j : List Symbol). word words.For ∷ j) k.next in
-      let done = subst (λ (P : List Parameter). Body P p.depth (n.0.register ∷ counters) n.1.names n.1.symbols b.0 b.1.symbols b.1.names) k.parameters r.spelled in
+      let done = subst (λ (P : List Parameter). Body P p.depth
+      (n.0.register ∷ counters) n.1.names n.1.symbols b.0 b.1.symbols b.1.names) k.parameters r.spelled in
       record {
         spelled = subst (λ (j : List Symbol). Statement s.parameters p.depth counters s.names j (Some (tree.for_turns n.0.register n.0.turns b.0)) b.1.symbols
             b.1.names) (sym whole) (grammar.for_turns k.is done);
@@ -275,12 +278,14 @@ module _ (R : Readers) (h : Sound R) where
       (λ brace e.
       behind_it (deeper p) (λ q. R.more q tree.empty (after s)) (ReadsBlock p counters s) x e (λ q inside e.
       let d = deeper_is p q stands.depth inside in
-      let r = h.more q tree.empty counters (after s) x (stands_deeper p q counters (after s) (stands_with p counters s (after s) stands stands.registers) d) e in
+      let r = h.more q tree.empty counters (after s) x (stands_deeper p q counters (after s) (stands_with p counters s
+      (after s) stands stands.registers) d) e in
       let one = subst (λ (k : ℕ). Statements s.parameters k counters s.names (others s.symbols) r.block x.1.symbols x.1.names) d.depth r.spelled in
       record {
         opens = front s.symbols (sign OpenBrace) (is_sign_is OpenBrace (first s.symbols) brace) (λ never. cc);
         below = d.below;
-        spelled = subst (λ (b : tree.Block). Statements s.parameters (suc p.depth) counters s.names (others s.symbols) b x.1.symbols x.1.names) (sym r.made) one;
+        spelled = subst (λ (b : tree.Block). Statements s.parameters (suc p.depth) counters s.names (others s.symbols) b x.1.symbols x.1.names)
+            (sym r.made) one;
         within = r.within;
         parameters = r.parameters;
       }))

@@ -27,7 +27,11 @@ module _ (P : List Parameter) (apart : Differ (map name_of P)) where
       let two : 0 + block_repeats 1 body ≡ block_repeats 1 body = omega arith in
       let few_none : 0 ≤ 32 = omega arith in
       let few_below : 0 < 16 = omega arith in
-      block_there P apart 0 0 1 (replicate 32 false) middle [] 0 0 (Some (body, placed P (0 + block_count body) rest registers (0 + block_repeats 1 body))) few_below
+      block_there P apart 0 0 1 (replicate 32 false) middle [] 0 0 (Some (
+        body,
+        placed P (0 + block_count body) rest registers
+            (0 + block_repeats 1 body),
+      )) few_below
       (more_is_read P apart spelled 0 1 (replicate 32 false) 0 0 tree.empty
       (record { are = counters_none; named = record { differ = tt; few = few_none } })
       (record { statements = a; repeats = b; turns = keeps.turns; scopes = keeps.scopes }))
