@@ -83,6 +83,9 @@ named_parameter type e =
 abbrev pub given : (value : ℕ) → (typed : Bool) → Entry → Entry
 given value typed e = record e { value = Some value; is_given = if typed then e.is_given else true }
 
+abbrev pub valued : (value : ℕ) → (typed : Bool) → Entry → Option Entry
+valued value typed e = Some (given value typed e)
+
 -- whether it has two types, now that all parameters are known
 abbrev pub has_two_types : Entry → Bool
 has_two_types e = if e.is_parameter then false else e.is_at_odds

@@ -1,6 +1,6 @@
 //! The variables of a text: what its items and parameters say of them.
 
-ghost use Rattle.std.specs.Prelude.{◌≡◌, [], false, get_or, is_some, position};
+ghost use Rattle.std.specs.Prelude.{◌≡◌, [], Some, false, get_or, is_some, position};
 ghost use Rattle.litmus_cursor.specs.Front.{Answers};
 ghost use Rattle.litmus_cursor.specs.Words.{is_same};
 ghost use Rattle.litmus_expression.specs.NameReader.{index_of};
@@ -258,9 +258,35 @@ impl<'a> Declarations<'a> {
         Ok(())
     }
 
-    /// The variable of a number.
-    pub fn get_mut(&mut self, number: usize) -> Option<&mut Declared<'a>> {
-        self.variables.get_mut(number)
+    /// A parameter names the variable of a number at this place.
+    pub fn name_parameter(
+        &mut self,
+        number: usize,
+        variable_type: VariableType,
+        at: usize,
+    ) -> Result<(), Refusal>
+        ensures { Answers result (λ _. table_of self.new)
+            (entries.changed (entries.named_parameter variable_type) (table_of self.old) number) }
+    {
+        let mut declared = match self.variables.get(number) {
+            Some(declared) => *declared,
+            None => return Ok(()),
+        };
+        declared.name_parameter(variable_type, at)?;
+        self.variables[number] = declared;
+        Ok(())
+    }
+
+    /// An item gives the variable of a number an initial value.
+    pub fn give(&mut self, number: usize, value: u64, is_typed: bool)
+        ensures { entries.changed (entries.valued value is_typed) (table_of self.old) number ≡ Some (table_of self.new) }
+    {
+        let mut declared = match self.variables.get(number) {
+            Some(declared) => *declared,
+            None => return,
+        };
+        declared.give(value, is_typed);
+        self.variables[number] = declared;
     }
 
     /// Whether the variable of a number is a lock.

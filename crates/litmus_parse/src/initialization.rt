@@ -62,9 +62,8 @@ impl<'a> Header<'a> {
         }
         self.cursor.advance();
         let value = self.value()?;
-        if let Some(declared) = self.declarations.get_mut(number) {
-            declared.give(value, variable_type.is_some());
-        }
+        self.declarations
+            .give(number, value, variable_type.is_some());
         Ok(())
     }
 
@@ -176,9 +175,8 @@ impl<'a> Header<'a> {
         };
         let variable = self.variable()?;
         let at = self.cursor.at();
-        if let Some(declared) = self.declarations.get_mut(variable) {
-            declared.name_parameter(variable_type, at)?;
-        }
+        self.declarations
+            .name_parameter(variable, variable_type, at)?;
         if before
             .iter()
             .any(|parameter| parameter.variable == variable)
