@@ -1,5 +1,5 @@
 -- What is known of one variable of a text: what items and parameters made of it so far.
-use Rattle.std.specs.Prelude.{◌==◌, ℕ, List, Option, Some, None, Bool, true, false, is_some, map, set, slice_get, if◌then◌else◌}
+use Rattle.std.specs.Prelude.{◌==◌, ◌++◌, ℕ, List, [], ◌∷◌, Option, Some, None, Bool, true, false, is_some, map, set, slice_get, if◌then◌else◌}
 use Rattle.litmus_cursor.specs.declared.words.VariableType.{VariableType}
 use Rattle.litmus_cursor.specs.declared.words.VariableType.TheVariants.{Char, Short, Int, Long, Atomic, Lock}
 use Rattle.litmus_cursor.specs.Front.{◌>>=◌}
@@ -94,6 +94,11 @@ has_two_types e = if e.is_parameter then false else e.is_at_odds
 abbrev pub named_item : Option VariableType → Entry → Option Entry
 named_item None e = Some (named_untyped e)
 named_item (Some type) e = named_typed type e
+
+-- a variable that appears first has an entry behind the others
+abbrev pub grown : List Entry → Option ℕ → List Entry
+grown table None = table ++ fresh ∷ []
+grown table (Some number) = table
 
 -- what is known of all variables, each at its number
 abbrev pub table_of : Declarations → List Entry

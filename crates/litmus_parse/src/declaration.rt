@@ -1,6 +1,6 @@
 //! The variables of a text: what its items and parameters say of them.
 
-ghost use Rattle.std.specs.Prelude.{◌≡◌, [], Some, false, get_or, is_some, position};
+ghost use Rattle.std.specs.Prelude.{◌≡◌, [], OnOk, Some, false, get_or, is_some, position};
 ghost use Rattle.litmus_cursor.specs.Front.{Answers};
 ghost use Rattle.litmus_cursor.specs.Words.{is_same};
 ghost use Rattle.litmus_expression.specs.NameReader.{index_of};
@@ -225,7 +225,9 @@ impl<'a> Declarations<'a> {
     /// The number of a name. Its first appearance gives it the next one.
     #[tactic(auto, unfolding(crate::specs::VariableReader::number_at))]
     pub fn number(&mut self, name: &'a [u8]) -> Result<usize, Refusal>
-        ensures { Answers result (λ number. (number, names_of self.new)) (reader.number_at (names_of self.old) name.now) }
+        ensures reads { Answers result (λ number. (number, names_of self.new)) (reader.number_at (names_of self.old) name.now) }
+        ensures table { OnOk result (table_of self.new
+            ≡ entries.grown (table_of self.old) (index_of (names_of self.old) name.now)) }
     {
         if let Some(number) = self.find(name) {
             return Ok(number);
@@ -246,7 +248,8 @@ impl<'a> Declarations<'a> {
         variable_type: Option<VariableType>,
         at: usize,
     ) -> Result<(), Refusal>
-        ensures { Answers result (λ _. table_of self.new)
+        ensures names { names_of self.new ≡ names_of self.old }
+        ensures table { Answers result (λ _. table_of self.new)
             (entries.changed (entries.named_item variable_type) (table_of self.old) number) }
     {
         let mut declared = match self.variables.get(number) {
@@ -265,7 +268,8 @@ impl<'a> Declarations<'a> {
         variable_type: VariableType,
         at: usize,
     ) -> Result<(), Refusal>
-        ensures { Answers result (λ _. table_of self.new)
+        ensures names { names_of self.new ≡ names_of self.old }
+        ensures table { Answers result (λ _. table_of self.new)
             (entries.changed (entries.named_parameter variable_type) (table_of self.old) number) }
     {
         let mut declared = match self.variables.get(number) {
@@ -279,7 +283,8 @@ impl<'a> Declarations<'a> {
 
     /// An item gives the variable of a number an initial value.
     pub fn give(&mut self, number: usize, value: u64, is_typed: bool)
-        ensures { entries.changed (entries.valued value is_typed) (table_of self.old) number ≡ Some (table_of self.new) }
+        ensures names { names_of self.new ≡ names_of self.old }
+        ensures table { entries.changed (entries.valued value is_typed) (table_of self.old) number ≡ Some (table_of self.new) }
     {
         let mut declared = match self.variables.get(number) {
             Some(declared) => *declared,
