@@ -7,3 +7,4 @@ pub mod HeaderReader
 pub mod ConditionReader
 pub mod VariableReader
 pub mod Entries
+pub mod ItemReader

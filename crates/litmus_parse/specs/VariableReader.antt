@@ -37,14 +37,6 @@ numbered_with names name None =
 unfoldable pub number_at : Names → List ℕ → Option (ℕ × Names)
 number_at names name = numbered_with names name (index_of names name)
 
-abbrev pub variable_named : Names → Option (List ℕ) → Option (ℕ × Names)
-variable_named names None = None
-variable_named names (Some name) = number_at names name
-
--- the number of the name that is next
-unfoldable pub variable_at : Names → List Symbol → Option (ℕ × Names)
-variable_at names symbols = variable_named names (identifier_at (first symbols))
-
 abbrev pub unless_lock : List Bool → List Symbol → Option ℕ → Option (ℕ × List Symbol)
 unless_lock locks symbols None = None
 unless_lock locks symbols (Some number) = if get_or locks number false then None else Some (number, others symbols)

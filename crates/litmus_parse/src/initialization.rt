@@ -3,9 +3,9 @@
 ghost use Rattle.std.specs.Prelude.{◌≡◌, ◌≤◌, ◌<◌, IsTrue, OnOk};
 ghost use Rattle.litmus_cursor.specs.Cursor.{count_left};
 ghost use Rattle.litmus_cursor.specs.Front.{Answers, first, symbols_left};
-ghost use Rattle.litmus_parse.specs.Entries.{changed, named_item, table_of};
 ghost use Rattle.litmus_parse.specs.HeaderReader as reader;
-ghost use Rattle.litmus_parse.specs.VariableReader.{names_of, variable_at};
+ghost use Rattle.litmus_parse.specs.ItemReader as items;
+ghost use Rattle.litmus_parse.specs.ItemReader.{heading_of};
 
 use crate::declaration::Declarations;
 use litmus_cursor::{Cursor, Refusal, VariableType, Word};
@@ -43,17 +43,65 @@ impl<'a> Header<'a> {
     }
 
     /// `[vtype] NAME [= value]`
+    #[tactic(auto, unfolding(crate::specs::ItemReader::item_at))]
     fn item(&mut self) -> Result<(), Refusal>
-        ensures { OnOk result (count_left self.new.cursor < count_left self.old.cursor) }
+        ensures moves { OnOk result (count_left self.new.cursor < count_left self.old.cursor) }
+        ensures reads { Answers result (λ _. heading_of self.new) (items.item_at (heading_of self.old)) }
     {
         let variable_type = self.accept_type();
-        self.cursor.refuse_pointer()?;
-        if self.cursor.is_at_label() {
-            return Err(self.cursor.unsupported());
-        }
-        let number = self.variable()?;
+        let number = self.item_variable()?;
         self.note_item(number, variable_type)?;
         self.cursor.advance();
+        self.item_value(number, variable_type)
+    }
+
+    /// The refusal of the next token where the name of an item may stand. A label is unsupported.
+    fn item_offence(&self) -> Refusal {
+        if self.cursor.is_at_label() {
+            self.cursor.unsupported()
+        } else {
+            self.cursor.offence()
+        }
+    }
+
+    /// The number of the variable of an item. A pointer and a label are unsupported.
+    #[tactic(auto, unfolding(crate::specs::ItemReader::variable_in))]
+    fn item_variable(&mut self) -> Result<usize, Refusal>
+        ensures stays { self.new.cursor ≡ self.old.cursor }
+        ensures some { OnOk result (0 < count_left self.old.cursor) }
+        ensures reads { Answers result (λ number. (number, heading_of self.new)) (items.variable_in (heading_of self.old)) }
+    {
+        let Some(_name) = self.cursor.identifier() else {
+            self.cursor.refuse_pointer()?;
+            return Err(self.item_offence());
+        };
+        self.variable()
+    }
+
+    /// Notes that an item names the variable.
+    #[tactic(auto, unfolding(crate::specs::ItemReader::noted_in))]
+    fn note_item(
+        &mut self,
+        number: usize,
+        variable_type: Option<VariableType>,
+    ) -> Result<(), Refusal>
+        ensures stays { self.new.cursor ≡ self.old.cursor }
+        ensures names { Answers result (λ _. heading_of self.new) (items.noted_in variable_type number (heading_of self.old)) }
+    {
+        let at = self.cursor.at();
+        self.declarations.name_item(number, variable_type, at)
+    }
+
+    /// `= value` of an item, or nothing. A lock has no value.
+    #[tactic(auto, unfolding(crate::specs::ItemReader::given_in))]
+    fn item_value(
+        &mut self,
+        number: usize,
+        variable_type: Option<VariableType>,
+    ) -> Result<(), Refusal>
+        ensures moves { OnOk result (count_left self.new.cursor ≤ count_left self.old.cursor) }
+        ensures reads { Answers result (λ _. heading_of self.new) (items.given_in variable_type number (heading_of self.old)) }
+    {
         if !self.cursor.is_at(Sign::Assign) {
             return Ok(());
         }
@@ -67,23 +115,10 @@ impl<'a> Header<'a> {
         Ok(())
     }
 
-    /// Notes that an item names the variable.
-    fn note_item(
-        &mut self,
-        number: usize,
-        variable_type: Option<VariableType>,
-    ) -> Result<(), Refusal>
-        ensures stays { self.new.cursor ≡ self.old.cursor }
-        ensures names { Answers result (λ _. table_of self.new.declarations)
-            (changed (named_item variable_type) (table_of self.old.declarations) number) }
-    {
-        let at = self.cursor.at();
-        self.declarations.name_item(number, variable_type, at)
-    }
-
     /// Takes a type, if one is next.
     fn accept_type(&mut self) -> Option<VariableType>
         ensures moves { count_left self.new.cursor ≤ count_left self.old.cursor }
+        ensures stays { self.new.declarations ≡ self.old.declarations }
         ensures exact { result ≡ reader.type_at (first (symbols_left self.old.cursor)) }
         ensures symbols { symbols_left self.new.cursor ≡ reader.behind_type result (symbols_left self.old.cursor) }
     {
@@ -97,12 +132,11 @@ impl<'a> Header<'a> {
     }
 
     /// The number of the variable that is next: a name that is no word.
-    #[tactic(auto, unfolding(crate::specs::VariableReader::variable_at))]
+    #[tactic(auto, unfolding(crate::specs::ItemReader::variable_in))]
     fn variable(&mut self) -> Result<usize, Refusal>
         ensures stays { self.new.cursor ≡ self.old.cursor }
         ensures some { OnOk result (0 < count_left self.old.cursor) }
-        ensures reads { Answers result (λ number. (number, names_of self.new.declarations))
-            (variable_at (names_of self.old.declarations) (symbols_left self.old.cursor)) }
+        ensures reads { Answers result (λ number. (number, heading_of self.new)) (items.variable_in (heading_of self.old)) }
     {
         let Some(name) = self.cursor.identifier() else {
             return Err(self.cursor.offence());
@@ -114,6 +148,7 @@ impl<'a> Header<'a> {
     #[tactic(auto, unfolding(crate::specs::HeaderReader::value_at, litmus_cursor::specs::Front::take_signed, litmus_cursor::specs::Front::take_number))]
     fn value(&mut self) -> Result<u64, Refusal>
         ensures moves { OnOk result (count_left self.new.cursor < count_left self.old.cursor) }
+        ensures stays { self.new.declarations ≡ self.old.declarations }
         ensures reads { Answers result (λ value. (value, symbols_left self.new.cursor)) (reader.value_at (symbols_left self.old.cursor)) }
     {
         if is_at_atomic_init(&self.cursor) {
@@ -134,6 +169,7 @@ impl<'a> Header<'a> {
     #[tactic(auto, unfolding(crate::specs::HeaderReader::enclosed_value))]
     fn enclosed_value(&mut self) -> Result<u64, Refusal>
         ensures moves { OnOk result (count_left self.new.cursor < count_left self.old.cursor) }
+        ensures stays { self.new.declarations ≡ self.old.declarations }
         ensures reads { Answers result (λ value. (value, symbols_left self.new.cursor)) (reader.enclosed_value (symbols_left self.old.cursor)) }
     {
         self.cursor.take(Sign::OpenParen)?;
