@@ -38,4 +38,5 @@ returns-clause-names c =
     let read = slice_get_read c.deref.result.now _ c.args.number c.in-Some.declared.now refl c.in-Some.ensures.lookup.3.0
     (c.in-Some.ensures.lookup.3.1 c.in-Some.declared.now) in
     let there = subst (λ (ds : List Declared). slice_get ds c.args.number ≡ Some c.in-Some.declared.now) c.deref.ensures.value read in
-    names_stay c.args.self.now.variables.items c.args.number c.in-Some.declared.now c.name_parameter.new.self there (ap (λ (b : Bor (List ℕ)). b.now) c.name_parameter.ensures.stays)
+    names_stay c.args.self.now.variables.items c.args.number c.in-Some.declared.now c.name_parameter.new.self there
+    (ap (λ (b : Bor (List ℕ)). b.now) c.name_parameter.ensures.stays)
