@@ -83,7 +83,7 @@ module _ (s : Setting) (before : List Happening) where
   begins_by_clock (CellExchange cell expected new) (answers.Word word) event other h = reads_none s cell (answers.Word word) event h
   begins_by_clock (CellExchange cell expected new) (answers.Halves setter finder) event other h = reads_none s cell (answers.Halves setter finder) event h
   begins_by_clock (CellExchange cell expected new) answers.Done event other h = reads_none s cell answers.Done event h
-  begins_by_clock (LockTry lock holder) (answers.Flag true) event other h = subst NoneBegins (sym h.3) (refl, tt)
+  begins_by_clock (LockTry lock holder) (answers.Flag true) event other h = subst NoneBegins (sym h.4) (refl, tt)
   begins_by_clock (LockTry lock holder) (answers.Flag false) event other h = nothing event h
   begins_by_clock (LockTry lock holder) (answers.Word word) event other h = nothing event h
   begins_by_clock (LockTry lock holder) (answers.Halves setter finder) event other h = nothing event h

@@ -189,7 +189,7 @@ module _ (s : tasks.Setting) (before : List Happening) where
   exchanged cell expected new answers.Done event h = reads_plain s cell answers.Done event h
 
   locked : (lock holder : ℕ) (answer : Answer) (event : List Happening) → IsEvent s before (steps.LockTry lock holder) answer event → ArePlain event
-  locked lock holder (answers.Flag true) event h = subst ArePlain (sym h.3) (tt, tt)
+  locked lock holder (answers.Flag true) event h = subst ArePlain (sym h.4) (tt, tt)
   locked lock holder (answers.Flag false) event h = nothing event h
   locked lock holder (answers.Word word) event h = nothing event h
   locked lock holder (answers.Halves setter finder) event h = nothing event h
