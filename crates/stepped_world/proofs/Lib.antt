@@ -5,3 +5,4 @@ pub mod OrderLemmas
 pub mod TurnLemmas
 pub mod MakeLemmas
 pub mod RoundLemmas
+pub mod KeptLemmas

@@ -8,7 +8,7 @@ use Rattle.litmus_syntax.specs.Limits.{TaskKeepsLimits}
 use Rattle.litmus_syntax.specs.Tree.{Task}
 use Rattle.memory_operation.specs.Leads.{GoesOn}
 use Rattle.run_lists.specs.Run.{Run, first_words, idle, task_of, task_setting}
-use Rattle.run_lists.specs.RunList.{InWrittenOrder}
+use Rattle.run_lists.specs.RunList.{InWrittenOrder, RunList}
 use Rattle.setup_access.specs.Parts.{made}
 use Rattle.slot_table.specs.Answer.{Answers}
 use Rattle.slot_table.specs.Records.{records_of, words_after}
@@ -19,7 +19,10 @@ use Rattle.slot_table.specs.declared.step.Answer.{Answer}
 use Rattle.slot_table.specs.declared.step.Step.{Step}
 use Rattle.spelled_texts.specs.Fits.{ArePlaced}
 use Rattle.stepped_world.proofs.NameLemmas.{after_as_many, last_of_all, names_as_many, some_answer}
+use Rattle.access_types.specs.declared.report.Report.{Report}
+use Rattle.stepped_world.specs.Kept.{AreKept}
 use Rattle.stepped_world.specs.Leads.{LeadsTask, LeadsToAll, MakesNextIn}
+use Rattle.task_log.specs.declared.log.TaskLog.{TaskLog}
 use Rattle.stepped_world.specs.Runs.{CanBeMade, tasks_of}
 use Rattle.task_plan.specs.Counts.{up_to_last}
 use Rattle.task_run.specs.Leads as task_run
@@ -73,11 +76,11 @@ set_other (first ∷ later) zero (suc other) x apart = refl
 set_other (first ∷ later) (suc at) zero x apart = refl
 set_other (first ∷ later) (suc at) (suc other) x apart = set_other later at other x (λ same. apart (ap suc same))
 
-same_some : {X : Type 0} (one other : X) → Some one ≡ Some other → one ≡ other
+pub same_some : {X : Type 0} (one other : X) → Some one ≡ Some other → one ≡ other
 same_some one other same = cc
 
 -- what is so of one task and of all others is so of each
-by_task : (P : ℕ → Type 0) (task : ℕ) → P task → ((other : ℕ) → task ≢ other → P other) → (at : ℕ) → P at
+pub by_task : (P : ℕ → Type 0) (task : ℕ) → P task → ((other : ℕ) → task ≢ other → P other) → (at : ℕ) → P at
 by_task P task here others at =
     elim (eqb_tells task at) [ inl same ↦ subst P same.1 here | inr apart ↦ others at apart.1 ]
 
@@ -116,9 +119,9 @@ module _ (leads_on : AnAnswerLeadsOn) (names : StepsNameWords) where
       (last_of_all (λ (r : Record). Names (first_words run) r.step) own (made task step some.0) all)
 
   -- the step of a machine that a list leads to names a word
-  pub names_word : (run : Run) (records : List Record) (words : Words) (machines : List TaskRun) (steps task : ℕ) (step : Step)
-      → LeadsToAll run records words machines steps → MakesNextIn machines task step → Names words step
-  names_word run records words machines steps task step leads next =
+  pub names_word : (run : Run) (records : List Record) (words : Words) (machines : List TaskRun) (steps : ℕ) (logs : List TaskLog) (reports : List Report) (room task : ℕ) (step : Step)
+      → LeadsToAll run records words machines steps logs reports room → MakesNextIn machines task step → Names words step
+  names_word run records words machines steps logs reports room task step leads next =
       let there : task < length machines = slice_get_within machines task next.machine next.stands in
       let below : task < tasks_of run = subst (λ n. task < n) leads.tasks.all there in
       let only = next.makes.only _ _ _ _ (leads.tasks.each task next.machine next.stands) in
@@ -126,13 +129,15 @@ module _ (leads_on : AnAnswerLeadsOn) (names : StepsNameWords) where
       (named run records task step leads.can below (leads.list.tasks task) only)
 
   -- followed by the record of the step and its answer it leads on
-  pub leads_more : (run : Run) (records : List Record) (words : Words) (machines : List TaskRun) (steps task : ℕ)
+  pub leads_more : (run : Run) (records : List Record) (words : Words) (machines : List TaskRun) (steps : ℕ)
+      (logs more_logs : List TaskLog) (reports more_reports : List Report) (room more_room task : ℕ)
       (step : Step) (answer : Answer) (after : TaskRun)
-      → LeadsToAll run records words machines steps → (next : MakesNextIn machines task step) → Answers step answer
+      → LeadsToAll run records words machines steps logs reports room → (next : MakesNextIn machines task step) → Answers step answer
       → answer ≡ (step_line words step).answer → LeadsOn next.machine after answer
+      → ((list : RunList run (made task step answer ∷ records)) → AreKept list more_logs more_reports more_room)
       → LeadsToAll run (made task step answer ∷ records) (step_line words step).after (set machines task after)
-      (up_to_last (steps + 1))
-  leads_more run records words machines steps task step answer after leads next answers is on =
+      (up_to_last (steps + 1)) more_logs more_reports more_room
+  leads_more run records words machines steps logs more_logs reports more_reports room more_room task step answer after leads next answers is on keeps =
       let latest = made task step answer in
       let there : task < length machines = slice_get_within machines task next.machine next.stands in
       let below : task < tasks_of run = subst (λ n. task < n) leads.tasks.all there in
@@ -145,26 +150,27 @@ module _ (leads_on : AnAnswerLeadsOn) (names : StepsNameWords) where
       (next.makes.within _ _ _ _ led
       (subst (WithinTurns run.rules.turns) (sym (reverse-reverse earlier)) (leads.list.within task)) answer) in
       let word = ap (λ (w : Words). (step_line w step).after) leads.leaves in
+      let list : RunList run (latest ∷ records) = record {
+        legal = (
+          leads.list.legal,
+          record {
+            names = named run records task step leads.can below (leads.list.tasks task) only;
+            answer = subst (λ (w : Words). answer ≡ (step_line w step).answer) leads.leaves is;
+          },
+        );
+        tasks = by_task (λ t. InWrittenOrder run t (records_of t (latest ∷ records))) task
+            (subst (WrittenOrder (task_setting run task) (length (task_of run task).registers) (task_of run task).body)
+            (sym (own_reversed task latest records refl))
+            (written run records task step answer leads.can below (leads.list.tasks task) only answers))
+            (λ other apart. subst (InWrittenOrder run other) (sym (others_first other latest records apart)) (leads.list.tasks other));
+        within = by_task (λ t. WithinTurns run.rules.turns (records_of t (latest ∷ records))) task
+            (subst (WithinTurns run.rules.turns) (sym (own_first task latest records refl)) still)
+            (λ other apart. subst (WithinTurns run.rules.turns) (sym (others_first other latest records apart)) (leads.list.within other));
+        sites = leads.list.sites;
+      } in
       record {
         can = leads.can;
-        list = record {
-          legal = (
-            leads.list.legal,
-            record {
-              names = named run records task step leads.can below (leads.list.tasks task) only;
-              answer = subst (λ (w : Words). answer ≡ (step_line w step).answer) leads.leaves is;
-            },
-          );
-          tasks = by_task (λ t. InWrittenOrder run t (records_of t (latest ∷ records))) task
-              (subst (WrittenOrder (task_setting run task) (length (task_of run task).registers) (task_of run task).body)
-              (sym (own_reversed task latest records refl))
-              (written run records task step answer leads.can below (leads.list.tasks task) only answers))
-              (λ other apart. subst (InWrittenOrder run other) (sym (others_first other latest records apart)) (leads.list.tasks other));
-          within = by_task (λ t. WithinTurns run.rules.turns (records_of t (latest ∷ records))) task
-              (subst (WithinTurns run.rules.turns) (sym (own_first task latest records refl)) still)
-              (λ other apart. subst (WithinTurns run.rules.turns) (sym (others_first other latest records apart)) (leads.list.within other));
-          sites = leads.list.sites;
-        };
+        list = list;
         leaves = word;
         tasks = record {
           all = length-set machines task after ∙ leads.tasks.all;
@@ -180,4 +186,5 @@ module _ (leads_on : AnAnswerLeadsOn) (names : StepsNameWords) where
               (leads.tasks.each other machine (sym (set_other machines task other after apart) ∙ stands)));
         };
         counts = counted steps records latest leads.counts;
+        kept = keeps list;
       }

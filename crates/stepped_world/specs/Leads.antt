@@ -1,5 +1,6 @@
 -- Which lists of steps lead to tasks over their words.
 use Rattle.std.specs.Prelude.{◌≡◌, ◌++◌, ◌∷◌, [], ℕ, List, Some, length, reverse, slice_get}
+use Rattle.access_types.specs.declared.report.Report.{Report}
 use Rattle.litmus_syntax.specs.Tree.{Block}
 use Rattle.run_lists.specs.Run.{Run, first_words, task_of, task_setting}
 use Rattle.run_lists.specs.RunList.{RunList}
@@ -9,7 +10,9 @@ use Rattle.slot_table.specs.Words.{Words}
 use Rattle.slot_table.specs.declared.records.Record.{Record}
 use Rattle.slot_table.specs.declared.step.Answer.{Answer}
 use Rattle.slot_table.specs.declared.step.Step.{Step}
+use Rattle.stepped_world.specs.Kept.{AreKept}
 use Rattle.stepped_world.specs.Runs.{CanBeMade, tasks_of}
+use Rattle.task_log.specs.declared.log.TaskLog.{TaskLog}
 use Rattle.task_plan.specs.Counts.{up_to_last}
 use Rattle.task_run.specs.Leads as task_run
 use Rattle.task_run.specs.Says.{Says}
@@ -30,20 +33,23 @@ pub record LeadsTasks (run : Run) (records : List Record) (machines : List TaskR
       → LeadsTask run task records machine
 
 -- The list, the latest record first, is a run list, and leads to these words, to these machines and to
--- this count of steps.
+-- this count of steps. What is kept of its steps is what it says, and what is reported is what it reports, as long
+-- as there is room for it.
 pub record LeadsToAll (run : Run) (records : List Record) (words : Words) (machines : List TaskRun)
-    (steps : ℕ) : Type 0 where
+    (steps : ℕ) (logs : List TaskLog) (reports : List Report) (room : ℕ) : Type 0 where
   pub can : CanBeMade run
   pub list : RunList run records
   pub leaves : words ≡ words_after (first_words run) records
   pub tasks : LeadsTasks run records machines
   pub counts : steps ≡ up_to_last (length records)
+  pub kept : AreKept list logs reports room
 
 -- some run list leads there
-pub record IsLedTo (words : Words) (machines : List TaskRun) (steps : ℕ) : Type 0 where
+pub record IsLedTo (words : Words) (machines : List TaskRun) (steps : ℕ) (logs : List TaskLog) (reports : List Report)
+    (room : ℕ) : Type 0 where
   pub run : Run
   pub records : List Record
-  pub leads : LeadsToAll run records words machines steps
+  pub leads : LeadsToAll run records words machines steps logs reports room
 
 -- Whatever records lead to the machine, this is the only step that they go on with. Where none of them was a try
 -- too much it is none either.

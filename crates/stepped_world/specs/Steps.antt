@@ -1,5 +1,5 @@
 -- Which lists of steps lead to a world, and what a step of a task does to it.
-use Rattle.std.specs.Prelude.{◌≡◌, ◌⊎◌, ◌∷◌, ℕ, List, Some, slice_get, vec_len}
+use Rattle.std.specs.Prelude.{◌≡◌, ◌⊎◌, ◌∷◌, ℕ, List, Some, slice_get, vec_capacity, vec_len}
 use Rattle.litmus_syntax.specs.Tree.{Block}
 use Rattle.run_lists.specs.Run.{Run}
 use Rattle.slot_table.specs.declared.records.Record.{Record}
@@ -16,7 +16,9 @@ use Rattle.written_order.specs.WrittenOrder.{SpellsAll}
 
 -- the list, the latest record first, is a run list and leads to the world
 abbrev pub LeadsTo : Run → List Record → World → Type 0
-LeadsTo run records world = LeadsToAll run records world.board world.tasks.items world.steps
+LeadsTo run records world =
+    LeadsToAll run records world.board world.tasks.items world.steps world.logs.items world.reports.items
+    (vec_capacity world.reports)
 
 -- how many tasks the world has
 abbrev pub tasks_in : World → ℕ

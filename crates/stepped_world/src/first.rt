@@ -1,6 +1,6 @@
 //! The words and the tasks of a program before its first step.
 
-ghost use Rattle.std.specs.Prelude.{◌≡◌, ◌≤◌, ◌<◌, ◌↔◌, ◌⊎◌, [], ℕ, IfErr, IfOk, IsErrOf, Some, slice_get};
+ghost use Rattle.std.specs.Prelude.{◌≡◌, ◌≤◌, ◌<◌, ◌↔◌, ◌⊎◌, [], ℕ, IfErr, IfOk, IsErrOf, Some, length, slice_get};
 ghost use Rattle.access_types.specs.Sites.{AccessMap};
 ghost use Rattle.litmus_meaning.specs.Layout.{cells_of};
 ghost use Rattle.litmus_syntax.specs.Limits.{KeepsLimits};
@@ -8,9 +8,12 @@ ghost use Rattle.litmus_syntax.specs.Views.{program_of};
 ghost use Rattle.program_layout.specs.Places.{AreFit, places_of};
 ghost use Rattle.program_sites.specs.Sites.{AreSitesOf};
 ghost use Rattle.run_lists.specs.Run.{first_words};
+ghost use Rattle.stepped_world.specs.Kept.{accesses_kept, watches_kept};
 ghost use Rattle.stepped_world.specs.Leads.{LeadsTask, LeadsTasks};
 ghost use Rattle.stepped_world.specs.Runs.{run_of};
 ghost use Rattle.stepped_world.specs.declared.error.WorldError.TheVariants.{BadPlace, BadSlots, OutOfMemory};
+ghost use Rattle.task_log.specs.Keeps.{Keeps};
+ghost use Rattle.task_log.specs.declared.log.TaskLog.{TaskLog};
 
 use crate::error::WorldError;
 use crate::settings::Settings;
@@ -118,6 +121,8 @@ pub(crate) fn first_tasks<'a>(
 
 /// What is kept of the steps of so many tasks before their first.
 pub(crate) fn first_logs(alloc: Global, tasks: usize) -> Result<Vec<TaskLog>, WorldError>
+    ensures all { IfOk result (λ logs. length logs.items ≡ tasks) }
+    ensures each { IfOk result (λ logs. (task : ℕ) (log : TaskLog) → slice_get logs.items task ≡ Some log → Keeps accesses_kept watches_kept [] log) }
     ensures bad_slots { IsErrOf result BadSlots → ⊥ }
     ensures bad_place { IsErrOf result BadPlace → ⊥ }
     ensures errors { IfErr result (λ error. (error ≡ BadSlots) ⊎ ((error ≡ BadPlace) ⊎ (error ≡ OutOfMemory))) }

@@ -2,16 +2,31 @@
 
 ghost use Rattle.std.specs.Prelude.{◌<◌, List};
 ghost use Rattle.run_lists.specs.Run.{Run};
+ghost use Rattle.run_logs.specs.Totals.{CountsList};
 ghost use Rattle.slot_table.specs.declared.records.Record.{Record};
 
 use crate::error::WorldError;
+use crate::laws::logs_count_the_list;
 use crate::world::World;
 use access_types::{Arm, Stamped, Take};
+use task_log::Counters;
 use task_run::{After, Before};
 
 impl<'a> World<'a> {
     ghost use Rattle.stepped_world.specs.Readers.{AreRegisters};
     ghost use Rattle.stepped_world.specs.Steps.{LeadsTo, tasks_in};
+
+    /// How often each thing came of the checks of all tasks.
+    pub fn counters(&self) -> Counters
+        ensures { (run : Run) (records : List Record) → (leads : LeadsTo run records self.now) → CountsList leads.list result }
+    {
+        logs_count_the_list();
+        let mut counters = Counters::new();
+        for log in &self.logs {
+            counters.add(&log.counters());
+        }
+        counters
+    }
 
     /// How many calls of all tasks had nothing to end, up to the largest number that there is.
     pub fn unbalanced(&self) -> u64 {

@@ -1,27 +1,31 @@
 //! The world: all tasks of a program over one board.
 
-ghost use Rattle.std.specs.Prelude.{◌≡◌, ◌≢◌, ◌<◌, ◌≤◌, ◌+◌, ◌↔◌, ◌⊎◌, [], ℕ, List, IfErr, IfOk, IsErrOf, slice_get};
+ghost use Rattle.std.specs.Prelude.{◌≡◌, ◌≢◌, ◌<◌, ◌≤◌, ◌+◌, ◌*◌, ◌↔◌, ◌⊎◌, [], ℕ, All, List, Option, Some, IfErr, IfOk, IsErrOf, length, slice_get, slice_set, vec_capacity, vec_len};
 ghost use Rattle.litmus_syntax.specs.Limits.{KeepsLimits};
 ghost use Rattle.litmus_syntax.specs.Views.{program_of};
 ghost use Rattle.program_layout.specs.Places.{AreFit};
+ghost use Rattle.run_lists.specs.Reports.{reports_of};
 ghost use Rattle.run_lists.specs.Run.{Run};
 ghost use Rattle.slot_table.specs.declared.records.Record.{Record};
 ghost use Rattle.stepped_world.specs.Leads.{IsLedTo, MakesNextIn};
-ghost use Rattle.stepped_world.specs.Runs.{run_of};
+ghost use Rattle.run_histories.specs.Reported.{IsTrueReport};
+ghost use Rattle.stepped_world.specs.Kept.{Added, IsNotedIn, watches_kept};
+ghost use Rattle.stepped_world.specs.Runs.{run_of, tasks_of};
 ghost use Rattle.stepped_world.specs.declared.error.WorldError.TheVariants.{BadPlace, BadSlots, OutOfMemory};
 ghost use Rattle.task_plan.specs.Counts.{up_to_last};
 ghost use Rattle.task_run.specs.declared.run.TaskRun.{TaskRun};
 
 use crate::error::WorldError;
 use crate::first::{WATCHES, first_board, first_logs, first_tasks};
-use crate::laws::{runs_begin, steps_lead_on};
+use crate::laws::{runs_begin, steps_are_kept, steps_lead_on};
 use crate::settings::Settings;
 use access_types::{Report, Sites};
 use litmus_syntax::Program;
 use program_sites::sites_of;
+use run_histories::laws::reports_are_true;
 use slot_table::{Board, PlainBoard, Step};
 use std::alloc::Global;
-use task_log::{Counters, Noted, TaskLog};
+use task_log::{Noted, TaskLog};
 use task_run::TaskRun;
 
 /// What a task is after it was asked for a step.
@@ -43,11 +47,35 @@ pub struct World<'a> {
     pub(crate) tasks: Vec<TaskRun<'a>>,
     pub(crate) logs: Vec<TaskLog>,
     pub(crate) reports: Vec<Report>,
-    /// Of all tasks.
-    pub(crate) counters: Counters,
     pub(crate) sites: Sites,
     pub(crate) steps: u64,
-    ghost led: { ∥ IsLedTo board tasks.items steps ∥₁ },
+    ghost led: { ∥ IsLedTo board tasks.items steps logs.items reports.items (vec_capacity reports) ∥₁ },
+}
+
+/// A report, if there is one, is kept where there is room for it.
+fn add(reports: &mut Vec<Report>, report: Option<Report>)
+    ensures added { Added report (vec_capacity reports.old) reports.old.items reports.new.items }
+    ensures room { vec_capacity reports.new ≡ vec_capacity reports.old }
+{
+    let Some(report) = report else {
+        return;
+    };
+    if reports.len() < reports.capacity() {
+        reports.push_reserved(report);
+    }
+}
+
+/// A step of a task is noted, and what is reported at it is kept.
+fn note(logs: &mut Vec<TaskLog>, reports: &mut Vec<Report>, task: usize, noted: &Noted)
+    requires { task < vec_len logs.old }
+    ensures noted { (log : TaskLog) → slice_get logs.old.items task ≡ Some log
+        → (after : TaskLog) × (report : Option Report) × IsNotedIn log noted.now after report
+        × (logs.new.items ≡ slice_set logs.old.items task after)
+        × Added report (vec_capacity reports.old) reports.old.items reports.new.items }
+    ensures room { vec_capacity reports.new ≡ vec_capacity reports.old }
+{
+    let report = logs[task].note(noted);
+    add(reports, report);
 }
 
 impl<'a> World<'a> {
@@ -70,6 +98,7 @@ impl<'a> World<'a> {
         ensures errors { IfErr result (λ error. (error ≡ BadSlots) ⊎ ((error ≡ BadPlace) ⊎ (error ≡ OutOfMemory))) }
     {
         runs_begin();
+        steps_are_kept();
         let board = first_board(alloc, program, settings)?;
         let tasks = first_tasks(alloc, program, settings)?;
         let count = program.tasks.as_slice().len();
@@ -82,7 +111,6 @@ impl<'a> World<'a> {
             tasks,
             logs,
             reports,
-            counters: Counters::new(),
             sites,
             steps: 0,
         })
@@ -121,39 +149,19 @@ impl<'a> World<'a> {
         ensures counted { self.new.steps ≡ up_to_last (self.old.steps + 1) }
     {
         steps_lead_on();
+        steps_are_kept();
         let begins = self.tasks[task].begins();
         let answer = self.board.step(step);
         self.tasks[task].answer(answer);
         let outcome = self.tasks[task].fell();
         self.steps = self.steps.saturating_add(1);
-        self.note(
-            task,
-            &Noted {
-                step,
-                answer,
-                begins,
-                outcome,
-            },
-        );
-    }
-
-    /// A step of a task is noted, and a report at it is kept.
-    fn note(&mut self, task: usize, noted: &Noted)
-        ensures board { self.new.board ≡ self.old.board }
-        ensures machines { self.new.tasks.items ≡ self.old.tasks.items }
-        ensures tasks { tasks_in self.new ≡ tasks_in self.old }
-        ensures steps { self.new.steps ≡ self.old.steps }
-        ensures sites { self.new.sites ≡ self.old.sites }
-    {
-        self.counters.note(noted);
-        if task < self.logs.len() {
-            let report = self.logs[task].note(noted);
-            if let Some(report) = report {
-                if self.reports.len() < self.reports.capacity() {
-                    self.reports.push_reserved(report);
-                }
-            }
-        }
+        let noted = Noted {
+            step,
+            answer,
+            begins,
+            outcome,
+        };
+        note(&mut self.logs, &mut self.reports, task, &noted);
     }
 
     /// What a task is now.
@@ -186,16 +194,14 @@ impl<'a> World<'a> {
 
     /// What was reported so far, in order.
     pub fn reports(&self) -> &[Report]
-        ensures { result.now ≡ self.now.reports.items }
+        ensures items { result.now ≡ self.now.reports.items }
+        ensures told { (run : Run) (records : List Record) → (leads : LeadsTo run records self.now)
+            → length (reports_of leads.list) ≤ tasks_of run * watches_kept → result.now ≡ reports_of leads.list }
+        ensures true_reports { (run : Run) (records : List Record) → (leads : LeadsTo run records self.now)
+            → All (IsTrueReport leads.list) result.now }
     {
+        reports_are_true();
         self.reports.as_slice()
-    }
-
-    /// How often each thing came of the checks of all tasks.
-    pub fn counters(&self) -> Counters
-        ensures { result ≡ self.now.counters }
-    {
-        self.counters
     }
 
     /// What the cells of memory hold.

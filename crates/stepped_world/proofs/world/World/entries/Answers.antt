@@ -1,5 +1,6 @@
 -- One entry more is made.
-use Rattle.std.proofs.Common.{◌∙◌, ◌++◌, ◌+◌, ℕ, List, ap, drop, refl, subst, sym, take}
+use Rattle.std.proofs.Common.{◌∙◌, ◌++◌, ◌≤◌, ◌+◌, ℕ, List, ap, arith, drop, length, refl, subst, sym, take}
+use Rattle.std.proofs.lemmas.List.{take_all}
 use Rattle.std.proofs.lemmas.Result.{err_from_is_err_and}
 use Rattle.step_schedule.specs.Order.{asked_by}
 use Rattle.step_schedule.specs.declared.schedule.Entry.{Entry}
@@ -40,3 +41,14 @@ loop-entry-preserved c =
       tasks = c.steps_of.ensures.tasks ∙ c.loop-entry.invariant.tasks;
       sites = c.steps_of.ensures.sites ∙ c.loop-entry.invariant.sites;
     }
+
+pub returns-clause-asked : goal.returns-clause-asked
+returns-clause-asked c =
+    let entries = c.entries-entry-items.result.now in
+    let so_far = subst (λ (es : List Entry). Asked c.args.self.now (asked_by (take c.loop-entry.entry-index es)) c.loop-entry.self)
+    (sym c.entries-entry-items.ensures) c.loop-entry.invariant.asked in
+    let over : length entries ≤ c.loop-entry.entry-index = omega (arith, c.loop-entry-test.false) in (
+      subst (λ (es : List Entry). Asked c.args.self.now (asked_by es) c.loop-entry.self) c.entries-entry-items.ensures
+          (asked_along c.args.self.now c.loop-entry.self _ (asked_by entries) (ap asked_by (take_all c.loop-entry.entry-index entries over)) so_far),
+      c.loop-entry.invariant.nobody,
+    )

@@ -1,5 +1,5 @@
 -- Each task is asked once more, and where none goes on all have ended.
-use Rattle.std.proofs.Common.{◌≡◌, ◌∙◌, ◌<◌, ◌≤◌, ◌+◌, arith, false, inl, inr, refl, subst, sym, true}
+use Rattle.std.proofs.Common.{◌≡◌, ◌∙◌, ◌<◌, ◌≤◌, ◌+◌, ap, arith, false, inl, inr, refl, subst, sym, true}
 use Rattle.std.proofs.lemmas.Bool.Decides.{eqb_tells}
 use Rattle.std.specs.List.{range_with_len}
 use Rattle.stepped_world.proofs.RoundLemmas.{asked_along, nobody_after, range_more, round_spelled}
@@ -34,6 +34,15 @@ returns-in-Stuck-clause-stops c =
       asked = asked_more c.args.self.now c.loop-task.self c.step.new.self (range_with_len 0 c.loop-task.task) c.loop-task.task
           c.loop-task.invariant.asked c.loop-task.invariant.nobody c.step.ensures.steps;
     }
+
+pub returns-clause-asked : goal.returns-clause-asked
+returns-clause-asked c =
+    let all : c.loop-task.task ≡ tasks_in c.args.self.now =
+    omega (arith, c.loop-task-test.false, c.tasks-task-end.ensures, c.loop-task.auto.task-end) in (
+      asked_along c.args.self.now c.loop-task.self (range_with_len 0 c.loop-task.task) (range_with_len 0 (tasks_in c.args.self.now))
+          (ap (λ n. range_with_len 0 n) all) c.loop-task.invariant.asked,
+      c.loop-task.invariant.nobody,
+    )
 
 pub loop-task-preserved : goal.loop-task-preserved
 loop-task-preserved c =

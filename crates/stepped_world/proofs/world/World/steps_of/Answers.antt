@@ -1,5 +1,5 @@
 -- The task is asked once more, or ends and is asked in vain.
-use Rattle.std.proofs.Common.{◌≡◌, ◌∙◌, ◌+◌, ◌-◌, arith, refl, replicate}
+use Rattle.std.proofs.Common.{◌≡◌, ◌∙◌, ◌+◌, ◌-◌, ap, arith, refl, replicate}
 use Rattle.stepped_world.proofs.OrderLemmas.{one_more}
 use Rattle.stepped_world.proofs.RoundLemmas.{asked_along, nobody_after, times_spelled}
 use Rattle.stepped_world.proofs.TurnLemmas.{asked_in_vain, asked_more, asked_nothing}
@@ -34,6 +34,14 @@ returns-in-Stuck-clause-stops c = record {
   asked = asked_more c.args.self.now c.loop-made.self c.step.new.self (replicate c.loop-made._made c.args.task) c.args.task
       c.loop-made.invariant.asked c.loop-made.invariant.nobody c.step.ensures.steps;
 }
+
+pub returns-clause-asked : goal.returns-clause-asked
+returns-clause-asked c =
+    let all : c.loop-made._made ≡ c.args.count = omega (arith, c.loop-made-test.false, c.loop-made.auto._made-end) in (
+      asked_along c.args.self.now c.loop-made.self (replicate c.loop-made._made c.args.task) (replicate c.args.count c.args.task)
+          (ap (λ n. replicate n c.args.task) all) c.loop-made.invariant.asked,
+      c.loop-made.invariant.nobody,
+    )
 
 pub loop-made-preserved : goal.loop-made-preserved
 loop-made-preserved c = record {
