@@ -32,7 +32,25 @@ pub const AFTER_STEP: &str = "\
     \n\
     Status: 0 no report; 2 a report; 64 the words make no sense; 65 the file is refused;\n\
     66 it can't be read; 70 a task is stuck; 71 out of memory; 74 output can't be\n\
-    written. From 64 on, standard error says why.";
+    written. From 64 on, standard error says why, and standard output is empty, but for\n\
+    what it took before it failed.";
+
+/// What `replay` does.
+pub const REPLAY: &str = "Checks a trace, and says of what it is a true one";
+
+/// What follows the words of `replay`.
+pub const AFTER_REPLAY: &str = "\
+    Each race in an accepted trace is one of the accesses that stand in it: of two tasks,\n\
+    with a byte in common, in progress at one moment, not both marked. For example\n\
+    \n\
+    \x20\x20\x20\x20kcsan_litmus step race.litmus --schedule 0x7,1x9 --trace race.trace\n\
+    \x20\x20\x20\x20kcsan_litmus replay race.trace\n\
+    \n\
+    Status: 0 the trace is accepted; 65 it is refused, and standard error names the first\n\
+    line that fails; 66 it can't be read; 71 out of memory; 74 output can't be written.";
+
+/// What `TRACE` is.
+pub const REPLAYED: &str = "The file with the trace";
 
 /// What `FILE` is.
 pub const FILE: &str = "The litmus file";

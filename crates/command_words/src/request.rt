@@ -1,7 +1,7 @@
 //! What the words ask for.
 
 ghost use Rattle.std.specs.Prelude.{◌≤◌, ◌<◌, ℕ, IfOk, IfSome};
-ghost use Rattle.command_words.specs.Bounds.{KeepsBounds};
+ghost use Rattle.command_words.specs.Bounds.{KeepsBounds, MayBeAsked};
 
 use crate::help;
 use clap::builder::ValueParser;
@@ -19,6 +19,22 @@ const SKIP: (u64, u64) = (0, 1_000_000);
 
 /// The fewest and the most vain tries of a wait.
 const TURNS: (u64, u64) = (1, 1_000_000_000);
+
+/// What the program is asked to do.
+#[derive(Clone, Copy, Debug, PartialEq, Eq)]
+pub enum Request<'a> {
+    /// To step the program of a litmus file.
+    Step(StepRequest<'a>),
+    /// To check a trace.
+    Replay(ReplayRequest<'a>),
+}
+
+/// What `replay` is asked to do.
+#[derive(Clone, Copy, Debug, PartialEq, Eq)]
+pub struct ReplayRequest<'a> {
+    /// The name of the file that has the trace.
+    pub trace: &'a str,
+}
 
 /// What `step` is asked to do.
 #[derive(Clone, Copy, Debug, PartialEq, Eq)]
@@ -48,16 +64,27 @@ pub struct StepRequest<'a> {
 }
 
 /// What the words ask for; the first of them is the program's name. An error is a mistake in them, or asks for help.
-pub fn asked<'a, S: AsStr>(alloc: Global, words: &'a [S]) -> Result<StepRequest<'a>, clap::Error>
-    ensures { IfOk result KeepsBounds }
+pub fn asked<'a, S: AsStr>(alloc: Global, words: &'a [S]) -> Result<Request<'a>, clap::Error>
+    ensures { IfOk result MayBeAsked }
 {
     let matches = program(alloc)?.try_get_matches_from(words)?;
-    if let Some(("step", step)) = matches.subcommand() {
-        if let Some(request) = step_request(step) {
-            return Ok(request);
-        }
+    if let Some(request) = request_of(&matches) {
+        return Ok(request);
     }
     Err(program(alloc)?.error(ErrorKind::MissingSubcommand, "a subcommand is missing")?)
+}
+
+/// What is asked, by the values of the words.
+fn request_of<'a>(matches: &ArgMatches<'a>) -> Option<Request<'a>>
+    ensures { IfSome result MayBeAsked }
+{
+    match matches.subcommand()? {
+        ("step", step) => Some(Request::Step(step_request(step)?)),
+        ("replay", replay) => Some(Request::Replay(ReplayRequest {
+            trace: replay.get_str("TRACE")?,
+        })),
+        _ => None,
+    }
 }
 
 /// What `step` is asked to do, by the values of its options.
@@ -100,7 +127,24 @@ fn program<'a>(alloc: Global) -> Result<Command<'a>, AllocError> {
     Command::new(alloc, "kcsan_litmus")
         .about(help::PROGRAM)
         .subcommand_required(true)
-        .subcommand(step_command(alloc)?)
+        .subcommand(step_command(alloc)?)?
+        .subcommand(replay_command(alloc)?)
+}
+
+/// `replay`, with its file.
+fn replay_command<'a>(alloc: Global) -> Result<Command<'a>, AllocError> {
+    Command::new(alloc, "replay")
+        .about(help::REPLAY)
+        .after_help(help::AFTER_REPLAY)
+        .arg(file(alloc, "TRACE", help::REPLAYED))
+}
+
+/// The file that a command is about.
+fn file<'a>(alloc: Global, name: &'a str, help: &'a str) -> Arg<'a> {
+    Arg::new(alloc, name)
+        .help(help)
+        .required(true)
+        .action(ArgAction::Set)
 }
 
 /// `step`, with its file and its options.
@@ -108,12 +152,7 @@ fn step_command<'a>(alloc: Global) -> Result<Command<'a>, AllocError> {
     let command = Command::new(alloc, "step")
         .about(help::STEP)
         .after_help(help::AFTER_STEP)
-        .arg(
-            Arg::new(alloc, "FILE")
-                .help(help::FILE)
-                .required(true)
-                .action(ArgAction::Set),
-        )?
+        .arg(file(alloc, "FILE", help::FILE))?
         .arg(text_option(alloc, "schedule", "S", help::SCHEDULE).default_value(""))?
         .arg(text_option(alloc, "place", "LIST", help::PLACE).default_value(""))?
         .arg(text_option(alloc, "trace", "PATH", help::TRACE))?;

@@ -1,6 +1,6 @@
 //! What words ask for, and which make no sense.
 
-use crate::request::{StepRequest, asked};
+use crate::request::{ReplayRequest, Request, StepRequest, asked};
 use clap::error::ErrorKind;
 use std::alloc::Global;
 use std::process::Abort;
@@ -30,7 +30,7 @@ fn ask(
     wanted: StepRequest<'_>,
 ) -> Result<(), Fail> {
     let request = asked(alloc, words)?;
-    assert_eq!(rt; request, wanted);
+    assert_eq!(rt; request, Request::Step(wanted));
     Ok(())
 }
 
@@ -135,6 +135,13 @@ fn options_are_read(rt: HostRuntime) -> Result<(), Fail> {
     )
 }
 
+#[test]
+fn a_trace_is_asked_for(rt: HostRuntime) -> Result<(), Fail> {
+    let request = asked(rt.alloc(), &["k", "replay", "r"])?;
+    assert_eq!(rt; request, Request::Replay(ReplayRequest { trace: "r" }));
+    Ok(())
+}
+
 /// These words are answered by an error of this kind.
 fn refuse(rt: &impl Abort, alloc: Global, words: &[&str], wanted: ErrorKind) {
     match asked(alloc, words) {
@@ -193,6 +200,18 @@ fn other_words_make_no_sense(rt: HostRuntime) {
         rt.alloc(),
         &["k", "step", "t", "--word", "16"],
         ErrorKind::InvalidValue,
+    );
+    refuse(
+        &rt,
+        rt.alloc(),
+        &["k", "replay"],
+        ErrorKind::MissingRequiredArgument,
+    );
+    refuse(
+        &rt,
+        rt.alloc(),
+        &["k", "replay", "r", "--strict"],
+        ErrorKind::UnknownArgument,
     );
     refuse(&rt, rt.alloc(), &["k", "--help"], ErrorKind::DisplayHelp);
     refuse(
