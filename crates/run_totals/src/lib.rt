@@ -1,0 +1,4 @@
+//! The totals of what comes of the checks in a run list.
+#![tactic(auto)]
+
+pub mod laws;
