@@ -2,11 +2,15 @@
 //! and prints those of which something else comes.
 #![tactic(auto)]
 
+mod cuts;
 mod desk;
 mod row;
 mod texts;
+mod wanted;
 
+use cuts::Cuts;
 use row::Row;
+use std::alloc::{AllocError, Global};
 use std::io;
 use std::process::ExitCode;
 use texts::Texts;
@@ -40,15 +44,11 @@ fn try_rows(rt: &HostRuntime) -> io::Result<u64> {
     let mut others = 0u64;
     for line in rt.lines(rt.alloc()) {
         let line = line?;
-        if line.is_empty() || line.starts_with('#') {
-            continue;
-        }
-        if let Some(text) = line.strip_prefix("text ") {
-            texts.keep(text)?;
+        if line.is_empty() || line.starts_with('#') || is_text(&mut texts, &line)? {
             continue;
         }
         rows = rows.saturating_add(1);
-        if !comes_as_said(rt, &texts, &line)? {
+        if !comes_as_said(rt.alloc(), &texts, &line)? {
             others = others.saturating_add(1);
             println!(rt; "otherwise: {line}")?;
         }
@@ -57,22 +57,44 @@ fn try_rows(rt: &HostRuntime) -> io::Result<u64> {
     Ok(others)
 }
 
-/// Tries the row of a line. One that begins with `writes` is also tried with each write failing, for writes of several sizes.
-fn comes_as_said(rt: &HostRuntime, texts: &Texts, line: &str) -> io::Result<bool> {
-    let alloc = rt.alloc();
+/// Whether the line is a text, which is kept, or goes on with one.
+fn is_text(texts: &mut Texts, line: &str) -> Result<bool, AllocError> {
+    if let Some(text) = line.strip_prefix("text ") {
+        texts.keep(text)?;
+        return Ok(true);
+    }
+    if let Some(text) = line.strip_prefix('|') {
+        texts.go_on(text)?;
+        return Ok(true);
+    }
+    Ok(false)
+}
+
+/// Tries what a line says: a row, one of which each write is also tried failing, for writes of several sizes, or the beginnings
+/// of a file.
+fn comes_as_said(alloc: Global, texts: &Texts, line: &str) -> Result<bool, AllocError> {
     let (kind, rest) = line.split_once(' ').unwrap_or((line, ""));
-    let Some(row) = Row::read(alloc, texts, rest)? else {
-        return Ok(false);
-    };
-    let comes = row.comes_as_said(alloc);
     match kind {
-        "row" => Ok(comes),
-        "writes" => Ok(
-            comes
-                && [0, 1, 7, usize::MAX]
-                    .iter()
-                    .all(|room| row.fails_as_said(alloc, *room)),
-        ),
+        "row" => row_comes_as_said(alloc, texts, rest, &[]),
+        "writes" => row_comes_as_said(alloc, texts, rest, &[0, 1, 7, usize::MAX]),
+        "cuts" => match Cuts::read(alloc, texts, rest)? {
+            Some(cuts) => cuts.come_as_said(alloc),
+            None => Ok(false),
+        },
         _ => Ok(false),
+    }
+}
+
+/// Tries a row, also with each write failing, for writes of these sizes.
+fn row_comes_as_said(
+    alloc: Global,
+    texts: &Texts,
+    line: &str,
+    rooms: &[usize],
+) -> Result<bool, AllocError> {
+    match Row::read(alloc, texts, line)? {
+        Some(row) => Ok(row.comes_as_said(alloc)
+            && rooms.iter().all(|room| row.fails_as_said(alloc, *room))),
+        None => Ok(false),
     }
 }

@@ -1,7 +1,8 @@
 //! Rows: the words that the program is started with, and what comes of them.
 
-use crate::desk::Table;
+use crate::desk::{Given, Table};
 use crate::texts::Texts;
+use crate::wanted::{Trace, Wanted};
 use escaped_text::unescaped;
 use litmus_command::command::command;
 use std::alloc::{AllocError, Global};
@@ -12,46 +13,20 @@ const UNWRITABLE: u8 = 74;
 /// What standard error says then.
 const CANNOT_WRITE: &[u8] = b"kcsan_litmus: cannot write\n";
 
-/// What a stream has to hold.
-#[derive(Clone, Copy)]
-enum Wanted<'t> {
-    Is(&'t str),
-    /// Words of the command line's reader.
-    Something,
-}
-
-impl<'t> Wanted<'t> {
-    /// What a word calls for: `-` nothing, `*` something, a name the text of that name.
-    fn read(texts: &'t Texts, word: &str) -> Option<Wanted<'t>> {
-        match word {
-            "-" => Some(Wanted::Is("")),
-            "*" => Some(Wanted::Something),
-            name => Some(Wanted::Is(texts.get(name)?)),
-        }
-    }
-
-    /// The stream holds it.
-    fn is_in(self, stream: &[u8]) -> bool {
-        match self {
-            Wanted::Is(text) => stream == text.as_bytes(),
-            Wanted::Something => !stream.is_empty(),
-        }
-    }
-}
-
 /// The words, the program's name first, the file, where there is one, and what is to come of them.
 #[derive(Drop)]
 pub struct Row<'t> {
     words: Vec<String>,
     file: Option<&'t [u8]>,
     status: u8,
-    output: Wanted<'t>,
-    errors: Wanted<'t>,
+    output: Wanted,
+    errors: Wanted,
+    trace: Trace,
 }
 
 impl<'t> Row<'t> {
-    /// The row of a line: `WORDS | FILE => STATUS OUTPUT ERRORS`, where a file is called by its name, or is `-`, which
-    /// can't be read.
+    /// The row of a line: `WORDS | FILE => STATUS OUTPUT ERRORS`, and what becomes of the trace's file behind that, where that
+    /// is touched. A file is called by its name, or is `-`, which can't be read.
     pub fn read(
         alloc: Global,
         texts: &'t Texts,
@@ -60,75 +35,114 @@ impl<'t> Row<'t> {
         let Some((start, end)) = line.split_once(" => ") else {
             return Ok(None);
         };
-        let (Some((words, file)), Some((status, streams))) = (
-            start.split_once("| "),
-            end.split_once(' '),
-        ) else {
+        let Some((words, file)) = start.split_once("| ") else {
             return Ok(None);
         };
-        let words = words_of(alloc, words)?;
-        Ok(Row::of(texts, words, file, status, streams))
-    }
-
-    /// The row of its parts.
-    fn of(
-        texts: &'t Texts,
-        words: Vec<String>,
-        file: &str,
-        status: &str,
-        streams: &str,
-    ) -> Option<Row<'t>> {
-        let (output, errors) = streams.split_once(' ')?;
         let file = match file {
             "-" => None,
-            name => Some(texts.get(name)?.as_bytes()),
+            name => match texts.get(name) {
+                Some(text) => Some(text.as_bytes()),
+                None => return Ok(None),
+            },
         };
-        Some(Row {
-            words,
-            file,
-            status: status.parse().ok()?,
-            output: Wanted::read(texts, output)?,
-            errors: Wanted::read(texts, errors)?,
-        })
+        Row::of(texts, words_of(alloc, words)?, file, end)
     }
 
-    /// The program over its desk comes to what the row says.
+    /// The row of its words and its file, and of what is to come of them.
+    fn of(
+        texts: &Texts,
+        words: Vec<String>,
+        file: Option<&'t [u8]>,
+        comes: &str,
+    ) -> Result<Option<Row<'t>>, AllocError> {
+        let mut parts = comes.split(' ');
+        let (Some(status), Some(output), Some(errors)) = (parts.next(), parts.next(), parts.next())
+        else {
+            return Ok(None);
+        };
+        let trace = Trace::read(texts, parts.next())?;
+        let (output, errors) = (Wanted::read(texts, output)?, Wanted::read(texts, errors)?);
+        match (status.parse(), output, errors, trace) {
+            (Ok(status), Some(output), Some(errors), Some(trace)) => Ok(Some(Row {
+                words,
+                file,
+                status,
+                output,
+                errors,
+                trace,
+            })),
+            _ => Ok(None),
+        }
+    }
+
+    /// What the desk of the row has.
+    fn given(&self) -> Given<'t> {
+        Given {
+            takes_trace: self.trace.may_be_written(),
+            ..Given::of(self.file)
+        }
+    }
+
+    /// The program over its desk comes to what the row says, and a trace that it writes is accepted.
     pub fn comes_as_said(&self, alloc: Global) -> bool {
-        let mut table = Table::new(alloc, self.file);
+        let mut table = Table::new(alloc, self.given());
         let status = command(alloc, &self.words, &mut table);
         status == self.status
             && self.output.is_in(table.output())
             && self.errors.is_in(table.errors())
+            && self.trace.is_in(table.trace())
+            && is_accepted(alloc, table.trace())
     }
 
     /// The same, and with room for so many bytes a write, whichever write is the first that fails.
     pub fn fails_as_said(&self, alloc: Global, room: usize) -> bool {
-        let Wanted::Is(whole) = self.output else {
-            return false;
-        };
+        let mut table = Table::new(alloc, self.given());
+        let _ = command(alloc, &self.words, &mut table);
+        let whole = table.output();
         let writes = if room == 0 {
             1
         } else {
             whole.len().div_ceil(room)
         };
-        for writes_left in 0..writes {
-            let mut table = Table::narrow(alloc, self.file, room, writes_left as u64);
-            let status = command(alloc, &self.words, &mut table);
-            let written = room.saturating_mul(writes_left);
-            if status != UNWRITABLE
-                || table.errors() != CANNOT_WRITE
-                || table.output().len() != written
-                || !whole.as_bytes().starts_with(table.output())
-            {
+        for left in 0..writes {
+            if !self.fails_after(alloc, room, left, whole) {
                 return false;
             }
         }
         true
     }
+
+    /// With room for so many bytes a write, of which so many succeed, the program ends as it has to where standard output can't
+    /// be written, and has written a beginning of the whole.
+    fn fails_after(&self, alloc: Global, room: usize, writes: usize, whole: &[u8]) -> bool {
+        let given = Given {
+            room,
+            writes: writes as u64,
+            ..self.given()
+        };
+        let mut table = Table::new(alloc, given);
+        command(alloc, &self.words, &mut table) == UNWRITABLE
+            && table.errors() == CANNOT_WRITE
+            && table.output().len() == room.saturating_mul(writes)
+            && whole.starts_with(table.output())
+            && self.trace.is_in(table.trace())
+    }
+}
+
+/// A trace that was written is accepted.
+fn is_accepted(alloc: Global, trace: Option<&[u8]>) -> bool {
+    match trace {
+        Some(_) => command(
+            alloc,
+            &["kcsan_litmus", "replay", "t"],
+            &mut Table::new(alloc, Given::of(trace)),
+        ) == 0,
+        None => true,
+    }
 }
 
 /// The program's name, and the words after it, with their escapes.
-fn words_of(alloc: Global, text: &str) -> Result<Vec<String>, AllocError> {
+pub fn words_of(alloc: Global, text: &str) -> Result<Vec<String>, AllocError> {
     let mut words = Vec::new(alloc);
     words.push(String::from_str(alloc, "kcsan_litmus")?)?;
     for word in text.split_whitespace() {

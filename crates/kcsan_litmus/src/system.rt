@@ -1,13 +1,14 @@
 //! The desk of the system: the process's standard output and standard error, and its files.
 
 ghost use Rattle.std.specs.Prelude.{None};
-ghost use Rattle.litmus_command.specs.Sink.{CountsFailure};
+ghost use Rattle.report_text.specs.Sink.{CountsFailure};
 
-use litmus_command::command::{Desk, ReadFault};
-use litmus_command::sink::{Sink, SinkFault};
+use litmus_command::desk::{Desk, ReadFault};
 use litmus_lex::{ReadError, Source, SourceFault, read_all};
+use report_text::{Sink, SinkFault, WriteError, write_all};
 use std::alloc::Global;
 use std::fmt;
+use std::fs;
 use std::fs::File;
 use std::io::Read;
 
@@ -34,19 +35,14 @@ impl Source for OpenFile {
     }
 }
 
-/// The process's streams and files. What it wrote is not kept.
+/// The process's standard output. What it took is not kept.
 #[derive(Drop)]
-pub struct System {
+struct Output {
     rt: HostRuntime,
     failures: u64,
 }
 
-impl System {
-    /// The desk of a process that has written nothing.
-    pub fn new(rt: HostRuntime) -> System {
-        System { rt, failures: 0 }
-    }
-
+impl Output {
     /// Counts a failure, short of 2^64.
     fn fail(&mut self) -> SinkFault
         ensures { CountsFailure self.old.failures self.new.failures }
@@ -56,10 +52,10 @@ impl System {
     }
 }
 
-impl Sink for System {
+impl Sink for Output {
     ghost written = { λ _. None };
 
-    ghost failures = { λ system. system.failures };
+    ghost failures = { λ output. output.failures };
 
     fn write(&mut self, text: &[u8]) -> Result<usize, SinkFault> {
         match self.rt.write_some(text) {
@@ -70,9 +66,34 @@ impl Sink for System {
     }
 }
 
+/// The process's streams and files. What was written is not kept.
+#[derive(Drop)]
+pub struct System {
+    output: Output,
+}
+
+impl System {
+    /// The desk of a process that has written nothing.
+    pub fn new(rt: HostRuntime) -> System {
+        System {
+            output: Output { rt, failures: 0 },
+        }
+    }
+}
+
 impl Desk for System {
+    ghost written = { λ _. None };
+
+    ghost failures = { λ system. system.output.failures };
+
+    ghost files = { λ _. None };
+
+    fn print(&mut self, text: &[u8]) -> Result<(), WriteError> {
+        write_all(&mut self.output, text)
+    }
+
     fn read_file(&mut self, alloc: Global, path: &str, limit: usize) -> Result<Vec<u8>, ReadFault> {
-        let Ok(file) = File::open(&self.rt, path) else {
+        let Ok(file) = File::open(&self.output.rt, path) else {
             return Err(ReadFault::CannotRead);
         };
         match read_all(alloc, &mut OpenFile { file, failures: 0 }, limit) {
@@ -82,7 +103,15 @@ impl Desk for System {
         }
     }
 
+    fn write_file(&mut self, path: &str, bytes: &[u8]) -> Result<(), WriteError> {
+        if fs::write(&self.output.rt, path, bytes).is_err() {
+            self.output.fail();
+            return Err(WriteError::SinkFailed);
+        }
+        Ok(())
+    }
+
     fn complain<T: fmt::Display + Drop>(&mut self, text: T) {
-        let _ = self.rt.eprint(text);
+        let _ = self.output.rt.eprint(text);
     }
 }

@@ -1,4 +1,5 @@
-pub mod Transcript
-pub mod Sink
+pub mod Finals
 pub mod Engine
+pub mod Files
+pub mod Replay
 pub mod Command

@@ -1,21 +1,28 @@
-//! The command line: what the words ask for, and the status that the program ends with.
+//! The command line: what the words ask for is done, and the status that the program ends with.
 
-ghost use Rattle.std.specs.Prelude.{◌≡◌, ◌≢◌, ◌≤◌, IfOk, IfErr, true, false};
-ghost use Rattle.litmus_command.specs.Command.{engine_status_of, read_failure, status_of, EndsAs, IsSinkAsBefore};
-ghost use Rattle.litmus_command.specs.Engine.{HoldsSomeOutput};
-ghost use Rattle.litmus_command.specs.declared.command.Failure.TheVariants.{Engine, OutOfMemory};
-ghost use Rattle.litmus_command.specs.Sink.{CountsFailure};
+ghost use Rattle.std.specs.Prelude.{◌≡◌, ◌≢◌, ◌⊎◌, IfErr, IfOk, OnOk, true, false};
+ghost use Rattle.command_words.specs.Bounds.{KeepsBounds, MayBeAsked};
+ghost use Rattle.command_words.specs.declared.request.Request.{Request};
+ghost use Rattle.litmus_command.specs.Command.{AsksFor, EndsAs, HelpIsGiven, IsDone, NothingIsWritten, ReplayIsDone, StepIsDone, engine_status_of, read_failure, settings_of, state_of, status_of, trace_status_of, with_trace};
+ghost use Rattle.litmus_command.specs.declared.command.Failure.TheVariants.{Engine, OutOfMemory, Trace};
+ghost use Rattle.report_text.specs.Sink.{CountsFailure};
+ghost use Rattle.std.specs.Option.{option_map};
+ghost use Rattle.step_schedule.specs.Schedule.{entries_of};
 
-use crate::engine::{EngineError, step_file};
-use crate::sink::{Sink, write_all};
+use crate::desk::{Desk, ReadFault};
+use crate::engine::{EngineError, run_text};
+use crate::replay::replayed;
 use clap::error::ErrorKind;
-use clap::{Arg, ArgAction, Command};
+use command_words::{ReplayRequest, Request, StepRequest, asked};
 use litmus_parse::FILE_BYTES;
-use litmus_step::Schedule;
+use place_list::parse_places;
+use program_layout::Place;
 use std::alloc::{AllocError, Global};
 use std::convert::AsStr;
-use std::fmt;
+use step_schedule::Schedule;
+use stepped_world::Settings;
 use thiserror::Error;
+use trace_replay::{SIZE_LIMIT, TraceError};
 
 /// The program ran, and there was no report.
 const NO_REPORT: u8 = 0;
@@ -41,31 +48,13 @@ pub const OUT_OF_MEMORY: u8 = 71;
 /// Output can't be written.
 const UNWRITABLE: u8 = 74;
 
-/// Why a file gives no bytes.
-#[derive(Clone, Copy, Debug, PartialEq, Eq)]
-pub enum ReadFault {
-    OutOfMemory,
-    CannotRead,
-}
-
-/// What a program stands on: standard output, which is the sink, named files, and standard error.
-pub trait Desk: Sink {
-    /// The bytes of a named file, or `limit` + 1 of them, which say that it has more than `limit`.
-    fn read_file(&mut self, alloc: Global, path: &str, limit: usize) -> Result<Vec<u8>, ReadFault>
-        ensures sink_stays { IsSinkAsBefore (Self.written self.old) (Self.written self.new)
-            (Self.failures self.old) (Self.failures self.new) };
-
-    /// Takes a text for standard error.
-    fn complain<T: fmt::Display + Drop>(&mut self, text: T)
-        ensures sink_stays { IsSinkAsBefore (Self.written self.old) (Self.written self.new)
-            (Self.failures self.old) (Self.failures self.new) };
-}
-
 /// Why the program does not end well. Its text goes to standard error.
 #[derive(Clone, Copy, Debug, PartialEq, Eq, Error)]
 enum Failure {
     #[error("bad schedule")]
     BadSchedule,
+    #[error("bad place")]
+    BadPlace,
     #[error("cannot read")]
     CannotRead,
     #[error("cannot write")]
@@ -74,6 +63,8 @@ enum Failure {
     OutOfMemory,
     #[error("{0}")]
     Engine(EngineError),
+    #[error("{0}")]
+    Trace(TraceError),
 }
 
 impl From<AllocError> for Failure {
@@ -103,17 +94,26 @@ impl From<EngineError> for Failure {
     }
 }
 
+impl From<TraceError> for Failure {
+    ghost from_gives = { λ error failure. failure ≡ Trace error };
+
+    fn from(error: TraceError) -> Failure {
+        Failure::Trace(error)
+    }
+}
+
 impl Failure {
     /// The status that the program ends with.
     fn status(self) -> u8
         ensures { result ≡ status_of self }
     {
         match self {
-            Failure::BadSchedule => USAGE,
+            Failure::BadSchedule | Failure::BadPlace => USAGE,
             Failure::CannotRead => UNREADABLE,
             Failure::CannotWrite => UNWRITABLE,
             Failure::OutOfMemory => OUT_OF_MEMORY,
             Failure::Engine(error) => engine_status(error),
+            Failure::Trace(error) => trace_status(error),
         }
     }
 }
@@ -127,45 +127,61 @@ fn engine_status(error: EngineError) -> u8
         EngineError::Syntax { .. }
         | EngineError::Unsupported { .. }
         | EngineError::Limit(_)
-        | EngineError::NotAscii
-        | EngineError::NotStepped => REFUSED,
+        | EngineError::NotAscii => REFUSED,
         EngineError::Stuck { .. } => STUCK,
-        EngineError::BadSchedule => USAGE,
+        EngineError::BadSlots | EngineError::BadPlace | EngineError::BadSchedule => USAGE,
         EngineError::SinkFailed => UNWRITABLE,
     }
 }
 
-/// What `step` is asked: a litmus file, and the schedule's text.
-#[derive(Clone, Copy, Debug)]
-struct Request<'a> {
-    file: &'a str,
-    schedule: &'a str,
+/// The status for a trace that is not accepted.
+fn trace_status(error: TraceError) -> u8
+    ensures { result ≡ trace_status_of error }
+{
+    match error {
+        TraceError::OutOfMemory => OUT_OF_MEMORY,
+        TraceError::BadTrace { .. } | TraceError::FalseReport { .. } => REFUSED,
+    }
 }
 
 /// The whole program: does what the words ask for, and answers the status that the program ends
 /// with. The first word is the program's name.
 ///
-/// 0: no report, or help. 2: a report. 64: usage, or a schedule that doesn't read or names a task
-/// that isn't there. 65: the file is refused. 66: it can't be read. 70: a task is stuck. 71: out of
-/// memory. 74: output can't be written. At 64 to 71 nothing goes to standard output.
+/// 0: no report, a trace that is accepted, or help. 2: a report. 64: usage, a schedule that doesn't read or names a task
+/// that isn't there, or a place that doesn't read or doesn't suit. 65: the file is refused. 66: it can't be read. 70: a task
+/// is stuck. 71: out of memory. 74: output can't be written. At 64 to 71 nothing goes to standard output, and no trace is
+/// written.
 pub fn command<S: AsStr, D: Desk>(alloc: Global, words: &[S], desk: &mut D) -> u8
-    ensures { EndsAs result (D.written desk.old) (D.written desk.new)
-        (D.failures desk.old) (D.failures desk.new) }
+    ensures reported { result ≡ 2 → (request : Request) × MayBeAsked request
+        × IsDone request true (state_of D.written D.failures D.files desk.old) (state_of D.written D.failures D.files desk.new) }
+    ensures unreported { result ≡ 0
+        → ((request : Request) × MayBeAsked request
+        × IsDone request false (state_of D.written D.failures D.files desk.old) (state_of D.written D.failures D.files desk.new))
+        ⊎ HelpIsGiven (state_of D.written D.failures D.files desk.old) (state_of D.written D.failures D.files desk.new) }
+    ensures ends { EndsAs result (state_of D.written D.failures D.files desk.old)
+        (state_of D.written D.failures D.files desk.new) }
 {
     match asked(alloc, words) {
-        Ok(request) => carry_out(alloc, request, desk),
+        Ok(request) => carry_out(alloc, &request, desk),
         Err(error) => explain(alloc, error, desk),
     }
 }
 
 /// Does what is asked, and answers the status that the program ends with.
-fn carry_out<D: Desk>(alloc: Global, request: Request<'_>, desk: &mut D) -> u8
-    ensures ends { EndsAs result (D.written desk.old) (D.written desk.new)
-        (D.failures desk.old) (D.failures desk.new) }
-    ensures unreported { result ≡ 0 →
-        HoldsSomeOutput false (D.written desk.old) (D.written desk.new) }
+pub fn carry_out<D: Desk>(alloc: Global, request: &Request<'_>, desk: &mut D) -> u8
+    requires { MayBeAsked request.now }
+    ensures reported { result ≡ 2 → IsDone request.now true (state_of D.written D.failures D.files desk.old)
+        (state_of D.written D.failures D.files desk.new) }
+    ensures unreported { result ≡ 0 → IsDone request.now false (state_of D.written D.failures D.files desk.old)
+        (state_of D.written D.failures D.files desk.new) }
+    ensures ends { EndsAs result (state_of D.written D.failures D.files desk.old)
+        (state_of D.written D.failures D.files desk.new) }
 {
-    match step(alloc, request, desk) {
+    let done = match request {
+        Request::Step(request) => step(alloc, request, desk),
+        Request::Replay(request) => replay(alloc, request, desk).map(|()| false),
+    };
+    match done {
         Ok(true) => REPORTED,
         Ok(false) => NO_REPORT,
         Err(failure) => fail(failure, desk),
@@ -175,66 +191,117 @@ fn carry_out<D: Desk>(alloc: Global, request: Request<'_>, desk: &mut D) -> u8
 /// Says on standard error why the program ends, and answers its status.
 fn fail<D: Desk>(failure: Failure, desk: &mut D) -> u8
     ensures status { result ≡ status_of failure }
-    ensures sink_stays { IsSinkAsBefore (D.written desk.old) (D.written desk.new)
-        (D.failures desk.old) (D.failures desk.new) }
+    ensures stays { state_of D.written D.failures D.files desk.new ≡ state_of D.written D.failures D.files desk.old }
 {
     desk.complain(format_args!("kcsan_litmus: {failure}\n"));
     failure.status()
 }
 
-/// Steps a file, and writes what is found. Whether there was a report.
-fn step<D: Desk>(alloc: Global, request: Request<'_>, desk: &mut D) -> Result<bool, Failure>
-    ensures written { IfOk result (λ raced.
-        HoldsSomeOutput raced (D.written desk.old) (D.written desk.new)) }
-    ensures silent { IfErr result (λ failure.
-        status_of failure ≢ 74 → D.written desk.new ≡ D.written desk.old) }
-    ensures failed { IfErr result (λ failure.
-        status_of failure ≡ 74 → CountsFailure (D.failures desk.old) (D.failures desk.new)) }
+/// What a run goes by, as it is asked for.
+fn settings(request: &StepRequest<'_>, places: Vec<Place>) -> Settings
+    ensures { result ≡ settings_of request.now places }
+{
+    Settings {
+        slots: request.slots,
+        skip: request.skip,
+        randomize: request.randomize,
+        seed: request.seed,
+        value_change_only: !request.strict,
+        plain_writes_atomic: !request.strict,
+        layout: request.layout,
+        turns: request.turns,
+        places,
+    }
+}
+
+/// The settings and the schedule that are asked for, as the request's texts spell them.
+fn asked_for(alloc: Global, request: &StepRequest<'_>) -> Result<(Settings, Schedule), Failure>
+    requires { KeepsBounds request.now }
+    ensures asks { IfOk result (λ run. AsksFor request.now run.0 (entries_of run.1)) }
+    ensures early { IfErr result (λ failure. status_of failure ≢ 74) }
 {
     let Some(schedule) = Schedule::parse(alloc, request.schedule)? else {
         return Err(Failure::BadSchedule);
     };
-    let text = desk.read_file(alloc, request.file, FILE_BYTES)?;
-    Ok(step_file(alloc, &text, &schedule, desk)?)
+    let Some(places) = parse_places(alloc, request.places)? else {
+        return Err(Failure::BadPlace);
+    };
+    Ok((settings(request, places), schedule))
 }
 
-/// What the words ask for. An error is a mistake in them, or asks for help.
-fn asked<'a, S: AsStr>(alloc: Global, words: &'a [S]) -> Result<Request<'a>, clap::Error> {
-    let matches = program(alloc)?.try_get_matches_from(words)?;
-    if let Some(("step", step)) = matches.subcommand() {
-        if let Some(file) = step.get_str("FILE") {
-            let schedule = step.get_str("schedule").unwrap_or("");
-            return Ok(Request { file, schedule });
-        }
+/// Writes a trace, if one is asked for and there is one.
+fn keep_trace<D: Desk>(path: Option<&str>, trace: &Option<Vec<u8>>, desk: &mut D) -> Result<(), Failure>
+    ensures files { OnOk result (D.files desk.new ≡ with_trace (D.files desk.old) (option_map (λ path. path.now) path.entry)
+        (option_map (λ bytes. bytes.items) trace.now)) }
+    ensures written { D.written desk.new ≡ D.written desk.old }
+    ensures failed { IfErr result (λ failure.
+        (status_of failure ≡ 74) × CountsFailure (D.failures desk.old) (D.failures desk.new)) }
+    ensures works { OnOk result (D.failures desk.new ≡ D.failures desk.old) }
+{
+    match path {
+        None => Ok(()),
+        Some(path) => match trace {
+            None => Ok(()),
+            Some(bytes) => match desk.write_file(path, bytes.as_slice()) {
+                Ok(()) => Ok(()),
+                Err(_) => Err(Failure::CannotWrite),
+            },
+        },
     }
-    Err(program(alloc)?.error(ErrorKind::MissingSubcommand, "a subcommand is missing")?)
 }
 
-/// The words that the program knows.
-fn program<'a>(alloc: Global) -> Result<Command<'a>, AllocError> {
-    let file = Arg::new(alloc, "FILE")
-        .help("The litmus file")
-        .required(true)
-        .action(ArgAction::Set);
-    let schedule = Arg::new(alloc, "schedule")
-        .long("schedule")
-        .value_name("S")
-        .help("Which task makes how many steps, as 0x7,1x9; then all take turns")
-        .action(ArgAction::Set);
-    let step = Command::new(alloc, "step")
-        .about("Steps the program of a litmus file under a schedule")
-        .arg(file)?
-        .arg(schedule)?;
-    Command::new(alloc, "kcsan_litmus")
-        .about("The runtime of KCSAN over C litmus programs")
-        .subcommand_required(true)
-        .subcommand(step)
+/// Steps a file, and writes the trace, if it is asked for, and then what is found. Whether there was a report.
+fn step<D: Desk>(
+    alloc: Global,
+    request: &StepRequest<'_>,
+    desk: &mut D,
+) -> Result<bool, Failure>
+    requires { KeepsBounds request.now }
+    ensures done { IfOk result (λ raced. StepIsDone request.now raced (state_of D.written D.failures D.files desk.old)
+        (state_of D.written D.failures D.files desk.new)) }
+    ensures silent { IfErr result (λ failure. status_of failure ≢ 74
+        → NothingIsWritten (state_of D.written D.failures D.files desk.old) (state_of D.written D.failures D.files desk.new)) }
+    ensures failed { IfErr result (λ failure.
+        status_of failure ≡ 74 → CountsFailure (D.failures desk.old) (D.failures desk.new)) }
+{
+    let (settings, schedule) = asked_for(alloc, request)?;
+    let text = desk.read_file(alloc, request.file, FILE_BYTES)?;
+    let written = run_text(alloc, &text, &settings, &schedule, request.trace.is_some())?;
+    keep_trace(request.trace, &written.trace, desk)?;
+    match desk.print(written.output.as_slice()) {
+        Ok(()) => Ok(written.raced),
+        Err(_) => Err(Failure::CannotWrite),
+    }
+}
+
+/// Checks a trace, and writes what is said of one that is accepted. No report is told of.
+fn replay<D: Desk>(
+    alloc: Global,
+    request: &ReplayRequest<'_>,
+    desk: &mut D,
+) -> Result<(), Failure>
+    ensures done { OnOk result (ReplayIsDone request.now (state_of D.written D.failures D.files desk.old)
+        (state_of D.written D.failures D.files desk.new)) }
+    ensures silent { IfErr result (λ failure. status_of failure ≢ 74
+        → NothingIsWritten (state_of D.written D.failures D.files desk.old) (state_of D.written D.failures D.files desk.new)) }
+    ensures failed { IfErr result (λ failure.
+        status_of failure ≡ 74 → CountsFailure (D.failures desk.old) (D.failures desk.new)) }
+{
+    let bytes = desk.read_file(alloc, request.trace, SIZE_LIMIT)?;
+    let line = replayed(alloc, &bytes)?;
+    match desk.print(&line) {
+        Ok(()) => Ok(()),
+        Err(_) => Err(Failure::CannotWrite),
+    }
 }
 
 /// Help goes to standard output, and what is wrong with the words to standard error.
 fn explain<D: Desk>(alloc: Global, error: clap::Error, desk: &mut D) -> u8
-    ensures { EndsAs result (D.written desk.old) (D.written desk.new)
-        (D.failures desk.old) (D.failures desk.new) }
+    ensures help { result ≡ 0 → HelpIsGiven (state_of D.written D.failures D.files desk.old)
+        (state_of D.written D.failures D.files desk.new) }
+    ensures unreported { result ≢ 2 }
+    ensures ends { EndsAs result (state_of D.written D.failures D.files desk.old)
+        (state_of D.written D.failures D.files desk.new) }
 {
     if error.kind() == ErrorKind::OutOfMemory {
         return fail(Failure::OutOfMemory, desk);
@@ -246,7 +313,7 @@ fn explain<D: Desk>(alloc: Global, error: clap::Error, desk: &mut D) -> u8
     let Ok(help) = error.to_string(alloc) else {
         return fail(Failure::OutOfMemory, desk);
     };
-    match write_all(desk, help.as_bytes()) {
+    match desk.print(help.as_bytes()) {
         Ok(()) => NO_REPORT,
         Err(_) => fail(Failure::CannotWrite, desk),
     }

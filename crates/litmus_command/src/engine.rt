@@ -1,24 +1,36 @@
 //! The engine: a litmus text, stepped under a schedule, and what is found written to a sink.
 
-ghost use Rattle.std.specs.Prelude.{◌≡◌, ◌≤◌, ◌<◌, ◌↔◌, Any, IfOk, IsErrOf, IsErr, IsTrue, length};
-ghost use Rattle.std.specs.String.{string_bytes};
-ghost use Rattle.litmus_parse.specs.Text.{IsTextByte, file_bytes};
-ghost use Rattle.litmus_step.specs.Schedule.{entries_of, names_stranger};
-ghost use Rattle.litmus_command.specs.Engine.{IsOutput, parse_fault, world_fault, HoldsOutput, HoldsBeginningOfOutput};
-ghost use Rattle.litmus_command.specs.Sink.{CountsFailure};
+ghost use Rattle.std.specs.Prelude.{◌≡◌, ◌≤◌, ◌<◌, ◌==◌, ◌↔◌, List, Any, IfErr, IfOk, IfSome, IsErr, IsErrOf, is_some, length, not};
+ghost use Rattle.std.specs.Option.{option_map};
+ghost use Rattle.litmus_command.specs.Engine.{HoldsBeginningOfOutput, HoldsOutput, IsOutput, IsRefused, IsTrace, Leaves, Stops, TextLeaves, parse_fault};
 ghost use Rattle.litmus_command.specs.declared.engine.EngineError.TheVariants.{OutOfMemory};
+ghost use Rattle.litmus_parse.specs.Text.{IsTextByte, file_bytes};
+ghost use Rattle.litmus_syntax.specs.Limits.{KeepsLimits};
+ghost use Rattle.litmus_syntax.specs.Views.{program_of};
+ghost use Rattle.program_layout.specs.Places.{places_of};
+ghost use Rattle.report_text.specs.Sink.{CountsFailure};
+ghost use Rattle.run_lists.specs.Run.{Run};
+ghost use Rattle.slot_table.specs.declared.records.Record.{Record};
+ghost use Rattle.step_schedule.specs.Schedule.{entries_of};
+ghost use Rattle.stepped_world.specs.Steps.{LeadsTo};
 
-use crate::report::transcript;
-use crate::sink::{Sink, write_all};
-use litmus_parse::{Limit, ParseError, parse};
-use litmus_step::{Schedule, World, WorldError};
+use crate::finals::finals_of;
+use final_condition::holds;
+use litmus_parse::{Limit, ParseError, Program, parse};
+use program_layout::{LayoutError, Place};
+use report_text::{MemorySink, Sink, write_all, write_trace};
+use run_output::{Found, write_output};
 use std::alloc::{AllocError, Global};
+use step_schedule::Schedule;
+use stepped_world::{Settings, World, WorldError};
 use thiserror::Error;
-use two_task_program::{Program, TaskNumber, two_task_program};
 
 /// Why a stepped run has no whole output.
 #[derive(Clone, Copy, Debug, PartialEq, Eq, Error)]
 pub enum EngineError {
+    /// There are fewer than 3 page slots, or more than 1,024.
+    #[error("there are 3 to 1024 slots")]
+    BadSlots,
     #[error("out of memory")]
     OutOfMemory,
     /// The litmus format doesn't have what the text has on this line.
@@ -33,12 +45,12 @@ pub enum EngineError {
     /// The text has a byte that is no tab, LF, CR or 0x20..0x7E.
     #[error("not ascii")]
     NotAscii,
-    /// The text spells a program, and the stepper doesn't have what is in it.
-    #[error("not stepped: the stepper takes two tasks of plain and ONCE accesses to ints, and exists of one atom")]
-    NotStepped,
+    /// A place is no multiple of its variable's size or is above 2^62, its name is unknown, a lock's, or placed twice.
+    #[error("bad place")]
+    BadPlace,
     /// A task waited in vain too often.
-    #[error("task {} is stuck", .task.get())]
-    Stuck { task: TaskNumber },
+    #[error("task {task} is stuck")]
+    Stuck { task: usize },
     /// The schedule names a task that isn't there.
     #[error("bad schedule")]
     BadSchedule,
@@ -69,23 +81,12 @@ impl From<ParseError> for EngineError {
     }
 }
 
-impl From<WorldError> for EngineError {
-    ghost from_gives = { λ fault e. e ≡ world_fault fault };
-
-    fn from(fault: WorldError) -> EngineError {
-        match fault {
-            WorldError::OutOfMemory => EngineError::OutOfMemory,
-            WorldError::Stuck { task } => EngineError::Stuck { task },
-            WorldError::BadSchedule => EngineError::BadSchedule,
-        }
-    }
-}
-
-/// The output of a stepped run, and whether it has a report.
+/// What is written of a run: its output, and its trace, if that is wanted; and whether there was a report.
 #[derive(Drop)]
-struct Output {
-    text: String,
-    raced: bool,
+pub struct Written {
+    pub output: Vec<u8>,
+    pub trace: Option<Vec<u8>>,
+    pub raced: bool,
 }
 
 /// Steps the program of a litmus text under a schedule, and writes the reports in order, the line
@@ -95,71 +96,168 @@ struct Output {
 pub fn step_file<K: Sink>(
     alloc: Global,
     text: &[u8],
+    settings: &Settings,
     schedule: &Schedule,
     sink: &mut K,
 ) -> Result<bool, EngineError>
     ensures written { IfOk result (λ raced.
-        HoldsOutput (entries_of schedule.now) raced (K.written sink.old) (K.written sink.new)) }
+        HoldsOutput text.now settings.now (entries_of schedule.now) raced (K.written sink.old) (K.written sink.new)) }
 
     // The sink's count of failures rose in this call, or stood at its last value.
     ensures failed { IsErrOf result EngineError.SinkFailed →
         CountsFailure (K.failures sink.old) (K.failures sink.new) }
     ensures beginning { IsErrOf result EngineError.SinkFailed →
-        HoldsBeginningOfOutput (entries_of schedule.now) (K.written sink.old) (K.written sink.new) }
+        HoldsBeginningOfOutput text.now settings.now (entries_of schedule.now) (K.written sink.old) (K.written sink.new) }
 
-    // Every other refusal comes before anything is written.
-    ensures unwritten { IsErr result → (IsErrOf result EngineError.SinkFailed → ⊥) →
-        sink.new ≡ sink.old }
-    ensures bad_schedule { IsErrOf result EngineError.BadSchedule →
-        IsTrue (names_stranger (entries_of schedule.now)) }
-    ensures all_there { IfOk result (λ _. ¬ IsTrue (names_stranger (entries_of schedule.now))) }
-    ensures file_limit { IsErrOf result (EngineError.Limit Limit.File) ↔
-        (file_bytes < length text.now) }
+    // Every other refusal comes before anything is written, and only where its reason stands.
+    ensures unwritten { IsErr result → (IsErrOf result EngineError.SinkFailed → ⊥) → sink.new ≡ sink.old }
+    ensures refused { (IsErrOf result EngineError.SinkFailed → ⊥)
+        → IfErr result (IsRefused text.now settings.now (entries_of schedule.now)) }
+    ensures file_limit { IsErrOf result (EngineError.Limit Limit.File) ↔ (file_bytes < length text.now) }
     ensures not_ascii { IsErrOf result EngineError.NotAscii ↔
         ((length text.now ≤ file_bytes) × Any (λ byte. ¬ IsTextByte byte) text.now) }
 {
-    let output = run_file(alloc, text, schedule)?;
-    if write_all(sink, output.text.as_bytes()).is_err() {
-        return Err(EngineError::SinkFailed);
+    let written = run_text(alloc, text, settings, schedule, false)?;
+    match write_all(sink, written.output.as_slice()) {
+        Ok(()) => Ok(written.raced),
+        Err(_) => Err(EngineError::SinkFailed),
     }
-    Ok(output.raced)
 }
 
-/// The program of a litmus text, if the stepper steps it.
-fn program_of(alloc: Global, text: &[u8]) -> Result<Program, EngineError>
+/// Steps the program of a litmus text under a schedule to its end, and keeps what is written of the run: its trace only where
+/// that is wanted.
+pub fn run_text(
+    alloc: Global,
+    text: &[u8],
+    settings: &Settings,
+    schedule: &Schedule,
+    traced: bool,
+) -> Result<Written, EngineError>
+    ensures leaves { IfOk result (λ written. TextLeaves text.now settings.now (entries_of schedule.now) written.raced
+        written.output.items (option_map (λ trace. trace.items) written.trace)) }
+    ensures traced { IfOk result (λ written. is_some written.trace ≡ traced) }
     ensures unwritten { IsErrOf result EngineError.SinkFailed → ⊥ }
-    ensures bad_schedule { IsErrOf result EngineError.BadSchedule → ⊥ }
-    ensures file_limit { IsErrOf result (EngineError.Limit Limit.File) ↔
-        (file_bytes < length text.now) }
+    ensures refused { IfErr result (IsRefused text.now settings.now (entries_of schedule.now)) }
+    ensures file_limit { IsErrOf result (EngineError.Limit Limit.File) ↔ (file_bytes < length text.now) }
     ensures not_ascii { IsErrOf result EngineError.NotAscii ↔
         ((length text.now ≤ file_bytes) × Any (λ byte. ¬ IsTextByte byte) text.now) }
 {
     let program = parse(alloc, text)?;
-    match two_task_program(alloc, &program)? {
-        Some(program) => Ok(program),
-        None => Err(EngineError::NotStepped),
+    run_program(alloc, &program, settings, schedule, traced)
+}
+
+/// Steps a program under a schedule to its end, and keeps what is written of the run: its trace only where that is wanted.
+fn run_program(
+    alloc: Global,
+    program: &Program,
+    settings: &Settings,
+    schedule: &Schedule,
+    traced: bool,
+) -> Result<Written, EngineError>
+    requires { KeepsLimits (program_of program.now) }
+    ensures leaves { IfOk result (λ written. Leaves program.now settings.now (entries_of schedule.now) written.raced
+        written.output.items (option_map (λ trace. trace.items) written.trace)) }
+    ensures traced { IfOk result (λ written. is_some written.trace ≡ traced) }
+    ensures stops { IfErr result (Stops program.now settings.now (entries_of schedule.now)) }
+{
+    match World::new(alloc, program, settings) {
+        Ok(mut world) => match world.run(schedule) {
+            Ok(()) => left_of(alloc, program, settings, &world, traced),
+            Err(WorldError::Stuck { task }) => Err(EngineError::Stuck { task }),
+            Err(_) => Err(EngineError::BadSchedule),
+        },
+        Err(WorldError::BadSlots) => Err(EngineError::BadSlots),
+        Err(WorldError::BadPlace) => Err(EngineError::BadPlace),
+        Err(_) => Err(EngineError::OutOfMemory),
     }
 }
 
-/// Steps the program of a litmus text under a schedule to its end.
-fn run_file(alloc: Global, text: &[u8], schedule: &Schedule) -> Result<Output, EngineError>
-    ensures output { IfOk result (λ output.
-        IsOutput (entries_of schedule.now) output.raced (string_bytes output.text)) }
-    ensures unwritten { IsErrOf result EngineError.SinkFailed → ⊥ }
-    ensures bad_schedule { IsErrOf result EngineError.BadSchedule →
-        IsTrue (names_stranger (entries_of schedule.now)) }
-    ensures all_there { IfOk result (λ _. ¬ IsTrue (names_stranger (entries_of schedule.now))) }
-    ensures file_limit { IsErrOf result (EngineError.Limit Limit.File) ↔
-        (file_bytes < length text.now) }
-    ensures not_ascii { IsErrOf result EngineError.NotAscii ↔
-        ((length text.now ≤ file_bytes) × Any (λ byte. ¬ IsTextByte byte) text.now) }
+/// What is written of a run of a program that led to this world: its trace only where that is wanted.
+fn left_of(
+    alloc: Global,
+    program: &Program,
+    settings: &Settings,
+    world: &World<'_>,
+    traced: bool,
+) -> Result<Written, EngineError>
+    requires { KeepsLimits (program_of program.now) }
+    ensures output { (run : Run) (records : List Record) → (leads : LeadsTo run records world.now) → IfOk result (λ written.
+        IsOutput program.now (places_of settings.now.places.items) run records world.now leads written.output.items) }
+    ensures trace { IfOk result (λ written. IfSome written.trace (λ trace. IsTrace settings.now world.now trace.items)) }
+    ensures traced { IfOk result (λ written. is_some written.trace ≡ traced) }
+    ensures raced { IfOk result (λ written. written.raced ≡ not (length world.now.reports.items == 0)) }
+    ensures stops { IfErr result (λ error. error ≡ OutOfMemory) }
 {
-    let program = program_of(alloc, text)?;
-    let mut world = World::new(alloc, program);
-    world.run(schedule)?;
-    let findings = world.findings();
-    let raced = !findings.is_empty();
-    let held = world.condition_holds();
-    let text = transcript(alloc, findings, world.counters(), held)?;
-    Ok(Output { text, raced })
+    let Ok(output) = output_of(alloc, program, settings.places.as_slice(), world) else {
+        return Err(EngineError::OutOfMemory);
+    };
+    let trace = trace_if(traced, alloc, settings, world)?;
+    Ok(Written {
+        output,
+        trace,
+        raced: !world.reports().is_empty(),
+    })
+}
+
+/// The output of a program in this world.
+fn output_of(
+    alloc: Global,
+    program: &Program,
+    places: &[Place],
+    world: &World<'_>,
+) -> Result<Vec<u8>, LayoutError>
+    requires { KeepsLimits (program_of program.now) }
+    ensures { (run : Run) (records : List Record) → (leads : LeadsTo run records world.now)
+        → IfOk result (λ output. IsOutput program.now (places_of places.now) run records world.now leads output.items) }
+{
+    let finals = finals_of(alloc, program, places, world)?;
+    let found = Found {
+        counters: world.counters(),
+        unbalanced: world.unbalanced(),
+        held: holds(&program.condition, &finals),
+    };
+    let mut sink = MemorySink::new(alloc);
+    match write_output(world.reports(), world.sites(), &found, &mut sink) {
+        Ok(()) => Ok(sink.into_bytes()),
+        Err(_) => Err(LayoutError::OutOfMemory),
+    }
+}
+
+/// The trace of a run that led to this world.
+fn trace_of(alloc: Global, settings: &Settings, world: &World<'_>) -> Result<Vec<u8>, AllocError>
+    ensures { IfOk result (λ trace. IsTrace settings.now world.now trace.items) }
+{
+    let (Ok(accesses), Ok(arms), Ok(takes)) = (world.accesses(), world.arms(), world.takes()) else {
+        return Err(AllocError);
+    };
+    let mut sink = MemorySink::new(alloc);
+    match write_trace(
+        settings.slots,
+        settings.layout,
+        accesses.as_slice(),
+        arms.as_slice(),
+        takes.as_slice(),
+        world.reports(),
+        &mut sink,
+    ) {
+        Ok(()) => Ok(sink.into_bytes()),
+        Err(_) => Err(AllocError),
+    }
+}
+
+/// The trace of a run that led to this world, if it is wanted.
+fn trace_if(
+    traced: bool,
+    alloc: Global,
+    settings: &Settings,
+    world: &World<'_>,
+) -> Result<Option<Vec<u8>>, AllocError>
+    ensures trace { IfOk result (λ trace. IfSome trace (λ trace. IsTrace settings.now world.now trace.items)) }
+    ensures traced { IfOk result (λ trace. is_some trace ≡ traced) }
+{
+    if traced {
+        Ok(Some(trace_of(alloc, settings, world)?))
+    } else {
+        Ok(None)
+    }
 }

@@ -1,8 +1,9 @@
-//! The command line of `kcsan_litmus` over any desk: what the words ask for, the run of a litmus text, and the texts that it
-//! writes.
+//! The command line of `kcsan_litmus` over any desk: what is asked, the run of a litmus text, the check of a trace, and what is
+//! written of them.
 #![tactic(auto)]
 
 pub mod command;
+pub mod desk;
 pub mod engine;
-pub mod report;
-pub mod sink;
+pub mod finals;
+pub mod replay;

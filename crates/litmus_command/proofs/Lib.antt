@@ -1,0 +1,2 @@
+mod FinalLemmas
+mod ResultLemmas

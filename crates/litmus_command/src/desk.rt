@@ -1,0 +1,55 @@
+//! What the program stands on.
+
+ghost use Rattle.std.specs.Prelude.{◌≡◌, List, Option, ℕ, IfOk, OnErr, OnOk};
+ghost use Rattle.litmus_command.specs.Files.{FileEvent, Gave, Has, noted};
+ghost use Rattle.report_text.specs.Sink.{CountsFailure, Writes};
+
+use report_text::WriteError;
+use std::alloc::Global;
+use std::fmt;
+
+/// Why a file gives no bytes.
+#[derive(Clone, Copy, Debug, PartialEq, Eq)]
+pub enum ReadFault {
+    OutOfMemory,
+    CannotRead,
+}
+
+/// What a program stands on: standard output, standard error and named files.
+pub trait Desk {
+    /// What standard output has taken, or None, which claims nothing, where it can't say.
+    ghost written: { Self → Option (List ℕ) };
+
+    /// How often standard output or the write of a file has failed.
+    ghost failures: { Self → ℕ };
+
+    /// What was done with files, in order, or None, which claims nothing, where it can't say.
+    ghost files: { Self → Option (List FileEvent) };
+
+    /// Writes a text to standard output.
+    ///
+    /// `SinkFailed`: it failed in this call, and has a beginning of the text.
+    fn print(&mut self, text: &[u8]) -> Result<(), WriteError>
+        ensures writes { Writes written failures result text.now self.old self.new }
+        ensures files { files self.new ≡ files self.old };
+
+    /// The bytes of a named file, or `limit` + 1 of them, which say that it has more than `limit`.
+    fn read_file(&mut self, alloc: Global, path: &str, limit: usize) -> Result<Vec<u8>, ReadFault>
+        ensures gave { IfOk result (λ bytes. files self.new ≡ noted (files self.old) (Gave path.now limit bytes.items)) }
+        ensures refused { OnErr result (files self.new ≡ files self.old) }
+        ensures written { written self.new ≡ written self.old }
+        ensures failures { failures self.new ≡ failures self.old };
+
+    /// Writes a named file, which then has these bytes and no others.
+    fn write_file(&mut self, path: &str, bytes: &[u8]) -> Result<(), WriteError>
+        ensures has { OnOk result (files self.new ≡ noted (files self.old) (Has path.now bytes.now)) }
+        ensures works { OnOk result (failures self.new ≡ failures self.old) }
+        ensures failed { OnErr result (CountsFailure (failures self.old) (failures self.new)) }
+        ensures written { written self.new ≡ written self.old };
+
+    /// Takes a text for standard error.
+    fn complain<T: fmt::Display + Drop>(&mut self, text: T)
+        ensures files { files self.new ≡ files self.old }
+        ensures written { written self.new ≡ written self.old }
+        ensures failures { failures self.new ≡ failures self.old };
+}
