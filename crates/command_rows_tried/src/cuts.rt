@@ -26,8 +26,10 @@ impl<'t> Cuts<'t> {
         texts: &'t Texts,
         line: &str,
     ) -> Result<Option<Cuts<'t>>, AllocError> {
-        let (Some((start, end)), Some((words, _))) = (line.split_once(" => "), line.split_once("| "))
-        else {
+        let (Some((start, end)), Some((words, _))) = (
+            line.split_once(" => "),
+            line.split_once("| "),
+        ) else {
             return Ok(None);
         };
         let (Some((_, file)), Some((bytes, fault))) = (start.split_once("| "), end.split_once(' '))

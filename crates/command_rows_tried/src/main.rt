@@ -93,8 +93,9 @@ fn row_comes_as_said(
     rooms: &[usize],
 ) -> Result<bool, AllocError> {
     match Row::read(alloc, texts, line)? {
-        Some(row) => Ok(row.comes_as_said(alloc)
-            && rooms.iter().all(|room| row.fails_as_said(alloc, *room))),
+        Some(row) => Ok(
+            row.comes_as_said(alloc) && rooms.iter().all(|room| row.fails_as_said(alloc, *room)),
+        ),
         None => Ok(false),
     }
 }

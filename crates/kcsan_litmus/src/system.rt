@@ -7,10 +7,9 @@ use litmus_command::desk::{Desk, ReadFault};
 use litmus_lex::{ReadError, Source, SourceFault, read_all};
 use report_text::{Sink, SinkFault, WriteError, write_all};
 use std::alloc::Global;
-use std::fmt;
-use std::fs;
 use std::fs::File;
 use std::io::Read;
+use std::{fmt, fs};
 
 /// An open file, which can't say what it will give.
 #[derive(Drop)]

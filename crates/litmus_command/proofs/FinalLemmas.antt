@@ -41,9 +41,10 @@ alike r o v w er ev (both left right) =
     (λ holds. (first.0 holds.0, second.0 holds.1), λ holds. (first.1 holds.0, second.1 holds.1))
 alike r o v w er ev (either left right) =
     let first = alike r o v w er ev left in
-    let second = alike r o v w er ev right in
-    (λ holds. elim holds [ | inl one ↦ inl (first.0 one) | inr other ↦ inr (second.0 other) ],
-    λ holds. elim holds [ | inl one ↦ inl (first.1 one) | inr other ↦ inr (second.1 other) ])
+    let second = alike r o v w er ev right in (
+      λ holds. elim holds [ inl one ↦ inl (first.0 one) | inr other ↦ inr (second.0 other) ],
+      λ holds. elim holds [ inl one ↦ inl (first.1 one) | inr other ↦ inr (second.1 other) ],
+    )
 
 pub holds_alike : (registers others : ℕ → ℕ → ℕ) (variables values : ℕ → ℕ)
     → ((task number : ℕ) → registers task number ≡ others task number) → ((number : ℕ) → variables number ≡ values number)

@@ -230,7 +230,11 @@ fn asked_for(alloc: Global, request: &StepRequest<'_>) -> Result<(Settings, Sche
 }
 
 /// Writes a trace, if one is asked for and there is one.
-fn keep_trace<D: Desk>(path: Option<&str>, trace: &Option<Vec<u8>>, desk: &mut D) -> Result<(), Failure>
+fn keep_trace<D: Desk>(
+    path: Option<&str>,
+    trace: &Option<Vec<u8>>,
+    desk: &mut D,
+) -> Result<(), Failure>
     ensures files { OnOk result (D.files desk.new ≡ with_trace (D.files desk.old) (option_map (λ path. path.now) path.entry)
         (option_map (λ bytes. bytes.items) trace.now)) }
     ensures written { D.written desk.new ≡ D.written desk.old }
@@ -251,11 +255,7 @@ fn keep_trace<D: Desk>(path: Option<&str>, trace: &Option<Vec<u8>>, desk: &mut D
 }
 
 /// Steps a file, and writes the trace, if it is asked for, and then what is found. Whether there was a report.
-fn step<D: Desk>(
-    alloc: Global,
-    request: &StepRequest<'_>,
-    desk: &mut D,
-) -> Result<bool, Failure>
+fn step<D: Desk>(alloc: Global, request: &StepRequest<'_>, desk: &mut D) -> Result<bool, Failure>
     requires { KeepsBounds request.now }
     ensures done { IfOk result (λ raced. StepIsDone request.now raced (state_of D.written D.failures D.files desk.old)
         (state_of D.written D.failures D.files desk.new)) }
@@ -275,11 +275,7 @@ fn step<D: Desk>(
 }
 
 /// Checks a trace, and writes what is said of one that is accepted. No report is told of.
-fn replay<D: Desk>(
-    alloc: Global,
-    request: &ReplayRequest<'_>,
-    desk: &mut D,
-) -> Result<(), Failure>
+fn replay<D: Desk>(alloc: Global, request: &ReplayRequest<'_>, desk: &mut D) -> Result<(), Failure>
     ensures done { OnOk result (ReplayIsDone request.now (state_of D.written D.failures D.files desk.old)
         (state_of D.written D.failures D.files desk.new)) }
     ensures silent { IfErr result (λ failure. status_of failure ≢ 74

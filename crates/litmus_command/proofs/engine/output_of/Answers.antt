@@ -17,7 +17,9 @@ returns-in-Ok c = λ run records leads.
       reports_are = λ room. sym c.reports.ensures.items ∙ c.reports.ensures.told run records leads room;
       unbalanced = c.unbalanced.result;
       held = c.holds.result;
-      held_is = (λ held. holds_alike _ _ _ _ (registers_same finals) c.in_ok-finals.ensures.variables p (c.holds.ensures.0 held),
-          λ holds. c.holds.ensures.1 (holds_back _ _ _ _ (registers_same finals) c.in_ok-finals.ensures.variables p holds));
+      held_is = (
+        λ held. holds_alike _ _ _ _ (registers_same finals) c.in_ok-finals.ensures.variables p (c.holds.ensures.0 held),
+        λ holds. c.holds.ensures.1 (holds_back _ _ _ _ (registers_same finals) c.in_ok-finals.ensures.variables p holds),
+      );
       spelled = search rules;
     }
