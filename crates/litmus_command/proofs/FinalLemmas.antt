@@ -10,8 +10,8 @@ use Rattle.litmus_command.specs.Finals.{AreRegistersFrom, register_value, value_
 use Rattle.litmus_syntax.specs.Tree.{Proposition, always, both, either, negation, never, register_is, variable_is}
 use Rattle.run_lists.specs.Run.{Run}
 use Rattle.slot_table.specs.declared.records.Record.{Record}
-use Rattle.stepped_world.specs.Readers.{AreRegisters}
-use Rattle.stepped_world.specs.declared.world.World.{World}
+use Rattle.litmus_step.specs.Readers.{AreRegisters}
+use Rattle.litmus_step.specs.declared.world.World.{World}
 
 -- the registers of one task more
 pub registers_go_on : (run : Run) (records : List Record) (world : World) (from number : ℕ) (all : List (List ℕ)) (values : List ℕ)

@@ -2,8 +2,8 @@
 use Rattle.std.proofs.Common.{◌≡◌, ◌∙◌, ℕ, List, Option, None, Some, Result, Ok, Err, IfOk, IfErr, IfSome, MatchResult, is_some, refl, subst, sym, Vec}
 use Rattle.std.specs.Global.{Global}
 use Rattle.std.specs.Option.{option_map}
-use Rattle.stepped_world.specs.declared.error.WorldError.{WorldError}
-use Rattle.stepped_world.specs.declared.error.WorldError.TheVariants.{BadPlace, BadSchedule, BadSlots, OutOfMemory, Stuck}
+use Rattle.litmus_step.specs.declared.error.WorldError.{WorldError}
+use Rattle.litmus_step.specs.declared.error.WorldError.TheVariants.{BadPlace, BadSchedule, BadSlots, OutOfMemory, Stuck}
 
 -- three facts of what a call answers are one
 pub all_ok : {X E : Type 0} {P Q R S : X → Type 0} (result : Result X E) → ((x : X) → P x → Q x → R x → S x)

@@ -14,7 +14,7 @@ use Rattle.report_text.specs.Faults.{size_limit}
 use Rattle.report_text.specs.Sink.{CountsFailure, appended}
 use Rattle.step_schedule.specs.Spelling as schedules
 use Rattle.step_schedule.specs.declared.schedule.Entry.{Entry}
-use Rattle.stepped_world.specs.declared.settings.Settings.{Settings}
+use Rattle.litmus_step.specs.declared.settings.Settings.{Settings}
 use Rattle.trace_replay.specs.declared.accepted.TraceError.{TraceError}
 use Rattle.trace_replay.specs.declared.accepted.TraceError.TheVariants as trace
 use Rattle.litmus_command.specs.Engine.{TextLeaves}

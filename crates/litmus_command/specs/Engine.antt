@@ -21,12 +21,12 @@ use Rattle.slot_table.specs.declared.records.Record.{Record}
 use Rattle.step_schedule.specs.Order.{AreAsked, IsOrder}
 use Rattle.step_schedule.specs.Schedule.{names_stranger}
 use Rattle.step_schedule.specs.declared.schedule.Entry.{Entry}
-use Rattle.stepped_world.specs.Kept.{watches_kept}
-use Rattle.stepped_world.specs.Runs.{run_of, tasks_of}
-use Rattle.stepped_world.specs.Steps.{IsStuck, LeadsTo, tasks_in}
-use Rattle.stepped_world.specs.Turns.{AllHaveEnded, known_of, point}
-use Rattle.stepped_world.specs.declared.settings.Settings.{Settings}
-use Rattle.stepped_world.specs.declared.world.World.{World}
+use Rattle.litmus_step.specs.Kept.{watches_kept}
+use Rattle.litmus_step.specs.Runs.{run_of, tasks_of}
+use Rattle.litmus_step.specs.Steps.{IsStuck, LeadsTo, tasks_in}
+use Rattle.litmus_step.specs.Turns.{AllHaveEnded, known_of, point}
+use Rattle.litmus_step.specs.declared.settings.Settings.{Settings}
+use Rattle.litmus_step.specs.declared.world.World.{World}
 use Rattle.task_log.specs.declared.counters.Counters.{Counters}
 use Rattle.litmus_command.specs.Finals.{AreAllRegisters, HoldsWith}
 use Rattle.litmus_command.specs.declared.engine.EngineError.{EngineError}

@@ -9,9 +9,9 @@ use Rattle.litmus_syntax.specs.declared.program.Program.{Program}
 use Rattle.litmus_syntax.specs.declared.program.Variable.{Variable}
 use Rattle.run_lists.specs.Run.{Run}
 use Rattle.slot_table.specs.declared.records.Record.{Record}
-use Rattle.stepped_world.specs.Readers.{AreRegisters}
-use Rattle.stepped_world.specs.Steps.{tasks_in}
-use Rattle.stepped_world.specs.declared.world.World.{World}
+use Rattle.litmus_step.specs.Readers.{AreRegisters}
+use Rattle.litmus_step.specs.Steps.{tasks_in}
+use Rattle.litmus_step.specs.declared.world.World.{World}
 
 -- the word of the cell at an address, where the cells at these addresses hold these words; 0 where there is none
 abbrev pub word_at : (cells words : List ℕ) → ℕ → ℕ

@@ -15,12 +15,12 @@ use crate::replay::replayed;
 use clap::error::ErrorKind;
 use command_words::{ReplayRequest, Request, StepRequest, asked};
 use litmus_parse::FILE_BYTES;
+use litmus_step::Settings;
 use place_list::parse_places;
 use program_layout::Place;
 use std::alloc::{AllocError, Global};
 use std::convert::AsStr;
 use step_schedule::Schedule;
-use stepped_world::Settings;
 use thiserror::Error;
 use trace_replay::{SIZE_LIMIT, TraceError};
 

@@ -12,17 +12,17 @@ ghost use Rattle.report_text.specs.Sink.{CountsFailure};
 ghost use Rattle.run_lists.specs.Run.{Run};
 ghost use Rattle.slot_table.specs.declared.records.Record.{Record};
 ghost use Rattle.step_schedule.specs.Schedule.{entries_of};
-ghost use Rattle.stepped_world.specs.Steps.{LeadsTo};
+ghost use Rattle.litmus_step.specs.Steps.{LeadsTo};
 
 use crate::finals::finals_of;
 use final_condition::holds;
 use litmus_parse::{Limit, ParseError, Program, parse};
+use litmus_step::{Settings, World, WorldError};
 use program_layout::{LayoutError, Place};
 use report_text::{MemorySink, Sink, write_all, write_trace};
 use run_output::{Found, write_output};
 use std::alloc::{AllocError, Global};
 use step_schedule::Schedule;
-use stepped_world::{Settings, World, WorldError};
 use thiserror::Error;
 
 /// Why a stepped run has no whole output.

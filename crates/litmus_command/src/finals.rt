@@ -12,15 +12,15 @@ ghost use Rattle.program_layout.specs.Lays.{Lays};
 ghost use Rattle.program_layout.specs.Places.{AreFit, places_of};
 ghost use Rattle.run_lists.specs.Run.{Run};
 ghost use Rattle.slot_table.specs.declared.records.Record.{Record};
-ghost use Rattle.stepped_world.specs.Steps.{LeadsTo};
+ghost use Rattle.litmus_step.specs.Steps.{LeadsTo};
 
 use access_types::Bytes;
 use final_condition::Finals;
 use litmus_meaning::sign_extended;
+use litmus_step::World;
 use litmus_syntax::Program;
 use program_layout::{Layout, LayoutError, Place};
 use std::alloc::{AllocError, Global};
-use stepped_world::World;
 
 /// The registers of all tasks of a world.
 fn registers_of(alloc: Global, world: &World<'_>) -> Result<Vec<Vec<u64>>, AllocError>

@@ -3,7 +3,7 @@ use Rattle.std.proofs.Common.{◌∙◌, [], Err, ap, rules, subst, sym}
 use Rattle.litmus_command.proofs.ResultLemmas.{all_ok, items_if_some, map_err, no_error, stuck_is_other}
 use Rattle.litmus_command.specs.Engine.{GetsStuck, Stops}
 use Rattle.step_schedule.specs.Schedule.{entries_of}
-use Rattle.stepped_world.specs.Runs.{run_of}
+use Rattle.litmus_step.specs.Runs.{run_of}
 use Rattle.litmus_command.proofs.engine.run_program.Goals as goal
 
 pub returns-in-Ok-run-clause-leaves : goal.returns-in-Ok-run-clause-leaves

@@ -3,7 +3,7 @@ use Rattle.std.proofs.Common.{◌≡◌, List, length, map}
 use Rattle.litmus_command.specs.Finals.{AreRegistersFrom}
 use Rattle.run_lists.specs.Run.{Run}
 use Rattle.slot_table.specs.declared.records.Record.{Record}
-use Rattle.stepped_world.specs.Steps.{LeadsTo}
+use Rattle.litmus_step.specs.Steps.{LeadsTo}
 use Rattle.litmus_command.proofs.finals.registers_of.Given as goal
 
 abbrev pub invariant-loop-task : goal.invariant-loop-task

@@ -1,0 +1,16 @@
+-- By what a machine says and what logs report.
+use Rattle.setup_access.specs.Parts.{made}
+use Rattle.litmus_step.proofs.KeptLemmas.{kept_more}
+use Rattle.litmus_step.proofs.laws.steps_are_kept.Goals as goal
+
+pub returns-clause-none : goal.returns-clause-none
+returns-clause-none c = c.one_more_is_noted.ensures.none
+
+pub returns-clause-more : goal.returns-clause-more
+returns-clause-more c = λ run records task old step answer begins fell logs reports more_reports room log after report one other leads says begun fallen
+    kept stands there in_log added.
+    let latest = made task step answer in
+    kept_more c.one_more_is_noted.ensures.list c.one_more_is_noted.ensures.others c.a_log_reports_what_the_list_does.ensures
+    run latest records one other logs reports more_reports room log after
+    (record { step = step; answer = answer; begins = begins; outcome = fell }) report kept stands there
+    (c.a_machine_says_what_is_noted.ensures run latest records old begins fell other leads says begun fallen) in_log added

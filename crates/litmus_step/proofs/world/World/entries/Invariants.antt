@@ -1,0 +1,15 @@
+-- So far the tasks were asked as the entries before this one say, and nobody is stuck.
+use Rattle.std.proofs.Common.{◌≡◌, take}
+use Rattle.step_schedule.specs.Order.{asked_by}
+use Rattle.step_schedule.specs.Schedule.{entries_of}
+use Rattle.litmus_step.proofs.world.World.entries.Given as goal
+use Rattle.litmus_step.specs.Steps.{tasks_in}
+use Rattle.litmus_step.specs.Turns.{Asked, NobodyIsStuck}
+
+abbrev pub invariant-loop-entry : goal.invariant-loop-entry
+invariant-loop-entry l = record {
+  asked : Asked l.fn.self (asked_by (take l.entry-index (entries_of l.schedule))) l.self;
+  nobody : NobodyIsStuck l.self;
+  tasks : tasks_in l.self ≡ tasks_in l.fn.self;
+  sites : l.self.sites ≡ l.fn.self.sites;
+}

@@ -1,0 +1,86 @@
+-- One record more leads on.
+use Rattle.std.proofs.Common.{arith, vec_capacity, ◌∷◌, refl, subst, sym}
+use Rattle.std.proofs.Math.Logic.{∥∥₁_map}
+use Rattle.std.proofs.Props.{props}
+use mathlib.Core.Logic.{∥∥₁_elim}
+use Rattle.setup_access.specs.Parts.{made}
+use Rattle.std.proofs.lemmas.Option.{slice_get_within}
+use Rattle.litmus_step.proofs.MakeLemmas.{SaysBegin, fell_in, noted_more, world_leads}
+use Rattle.litmus_step.proofs.NameLemmas.{names_prop}
+use Rattle.litmus_step.proofs.StepLemmas.{set_other}
+use Rattle.litmus_step.proofs.TurnLemmas.{same_machine}
+use Rattle.litmus_step.proofs.world.World.make.Goals as goal
+use Rattle.task_run.specs.Says.{Says}
+use Rattle.task_run.specs.declared.run.TaskRun.{TaskRun}
+
+pub step-answer-requires : goal.step-answer-requires
+step-answer-requires c =
+    ∥∥₁_elim c.args.self.now.led (names_prop c.args.self.now.board c.args.step)
+    (λ is. c.steps_lead_on.ensures.names is.run is.records c.args.self.now.board c.args.self.now.tasks.items c.args.self.now.steps
+    c.args.self.now.logs.items c.args.self.now.reports.items (vec_capacity c.args.self.now.reports)
+    c.args.task c.args.step is.leads c.requires.next)
+
+pub answer-requires : goal.answer-requires
+answer-requires c =
+    let same = same_machine c.args.self.now c.args.task c.index_mut.result.now c.requires.next.machine c.requires.there c.index_mut.ensures.value
+    c.requires.next.stands in
+    (c.args.step, subst (λ (machine : TaskRun). Says machine c.args.step) (sym same) c.requires.next.makes.says, c.step-answer.ensures.kind)
+
+pub note-requires : goal.note-requires
+note-requires c =
+    ∥∥₁_elim c.args.self.now.led (hlevel props)
+    (λ is.
+    let logs = is.leads.kept.all in
+    let tasks = is.leads.tasks.all in
+    let logs_len = c.args.self.now.logs.ok.0 in
+    let tasks_len = c.args.self.now.tasks.ok.0 in
+    omega (arith, logs, tasks, logs_len, tasks_len, c.requires.there))
+
+pub invariant_of-self : goal.invariant_of-self
+invariant_of-self c =
+    let same = same_machine c.args.self.now c.args.task c.index.result.now c.requires.next.machine c.requires.there c.index.ensures c.requires.next.stands in
+    let same_mut = same_machine c.args.self.now c.args.task c.index_mut.result.now c.requires.next.machine c.requires.there c.index_mut.ensures.value
+    c.requires.next.stands in
+    let there = slice_get_within c.args.self.now.tasks.items c.args.task c.requires.next.machine c.requires.next.stands in
+    record {
+      led = ∥∥₁_map c.args.self.now.led (λ is. record {
+        run = is.run;
+        records = made c.args.task c.args.step c.step-answer.result ∷ is.records;
+        leads = (world_leads c.steps_lead_on.ensures.leads c.args.self.now c.args.task c.args.step c.step-answer.result c.index_mut.result.now
+            c.answer.new.self c.step-answer.new.self c.saturating_add-self.result c.note.new.logs.items c.note.new.reports.items
+            (vec_capacity c.note.new.reports) c.requires.next c.requires.there c.index_mut.ensures.value
+            c.step-answer.ensures.kind c.step-answer.ensures.answer c.step-answer.ensures.after c.saturating_add-self.ensures
+            c.answer.ensures.leads is.run is.records is.leads
+            (noted_more c.steps_are_kept.ensures.more c.args.self.now c.args.task c.args.step c.step-answer.result c.requires.next.machine c.begins-begins.result
+            c.fell-outcome.result c.note.new.logs.items c.note.new.reports.items (vec_capacity c.note.new.reports) c.requires.there c.requires.next.stands
+            c.requires.next.makes.says (subst (λ (machine : TaskRun). SaysBegin machine c.begins-begins.result) same c.begins-begins.ensures)
+            (fell_in c.args.self.now.tasks.items c.args.task c.requires.next.machine c.index_mut.result.now c.answer.new.self c.index-2.result.now
+            c.fell-outcome.result c.step-answer.result there same_mut c.index-2.ensures c.fell-outcome.ensures c.answer.ensures.fell)
+            c.note.ensures.noted c.note.ensures.room is.run is.records is.leads));
+      });
+    }
+
+pub returns-clause-moves : goal.returns-clause-moves
+returns-clause-moves c =
+    let same = same_machine c.args.self.now c.args.task c.index.result.now c.requires.next.machine c.requires.there c.index.ensures c.requires.next.stands in
+    let same_mut = same_machine c.args.self.now c.args.task c.index_mut.result.now c.requires.next.machine c.requires.there c.index_mut.ensures.value
+    c.requires.next.stands in
+    let there = slice_get_within c.args.self.now.tasks.items c.args.task c.requires.next.machine c.requires.next.stands in
+    λ run records leads. record {
+      made = made c.args.task c.args.step c.step-answer.result;
+      own = refl;
+      leads = (world_leads c.steps_lead_on.ensures.leads c.args.self.now c.args.task c.args.step c.step-answer.result c.index_mut.result.now
+          c.answer.new.self c.step-answer.new.self c.saturating_add-self.result c.note.new.logs.items c.note.new.reports.items
+          (vec_capacity c.note.new.reports) c.requires.next c.requires.there c.index_mut.ensures.value
+          c.step-answer.ensures.kind c.step-answer.ensures.answer c.step-answer.ensures.after c.saturating_add-self.ensures
+          c.answer.ensures.leads run records leads
+          (noted_more c.steps_are_kept.ensures.more c.args.self.now c.args.task c.args.step c.step-answer.result c.requires.next.machine c.begins-begins.result
+          c.fell-outcome.result c.note.new.logs.items c.note.new.reports.items (vec_capacity c.note.new.reports) c.requires.there c.requires.next.stands
+          c.requires.next.makes.says (subst (λ (machine : TaskRun). SaysBegin machine c.begins-begins.result) same c.begins-begins.ensures)
+          (fell_in c.args.self.now.tasks.items c.args.task c.requires.next.machine c.index_mut.result.now c.answer.new.self c.index-2.result.now
+          c.fell-outcome.result c.step-answer.result there same_mut c.index-2.ensures c.fell-outcome.ensures c.answer.ensures.fell)
+          c.note.ensures.noted c.note.ensures.room run records leads));
+    }
+
+pub returns-clause-others : goal.returns-clause-others
+returns-clause-others c = λ other apart. set_other c.args.self.now.tasks.items c.args.task other c.answer.new.self apart

@@ -1,0 +1,22 @@
+-- By what the log says of the step.
+use Rattle.std.proofs.Common.{◌≡◌, ◌∙◌, Some, refl, subst, sym}
+use Rattle.std.proofs.lemmas.Option.{slice_get_read}
+use Rattle.litmus_step.proofs.world.note.Goals as goal
+use Rattle.litmus_step.specs.Kept.{IsNotedIn}
+use Rattle.task_log.specs.declared.log.TaskLog.{TaskLog}
+
+same_some : (one other : TaskLog) → Some one ≡ Some other → one ≡ other
+same_some one other same = cc
+
+pub returns-clause-noted : goal.returns-clause-noted
+returns-clause-noted c = λ log stands.
+    let here = slice_get_read c.args.logs.now.items c.args.logs.now.len c.args.task c.index_mut.result.now c.args.logs.now.ok.0 c.requires
+    c.index_mut.ensures.value in
+    let same : c.index_mut.result.now ≡ log = same_some c.index_mut.result.now log (sym here ∙ stands) in (
+      c.note-report.new.self,
+      c.note-report.result,
+      subst (λ (l : TaskLog). IsNotedIn l c.args.noted.now c.note-report.new.self c.note-report.result) same
+          (record { keeps = c.note-report.ensures.keeps; reported = c.note-report.ensures.reported }),
+      refl,
+      c.add.ensures.added,
+    )

@@ -1,0 +1,117 @@
+//! What is true of lists that lead to tasks over their words.
+
+ghost use Rattle.std.specs.Prelude.{◌≡◌, ◌+◌, ◌<◌, ◌≤◌, ◌∷◌, [], ℕ, List, Option, Some, length, slice_get, slice_set};
+ghost use Rattle.access_types.specs.declared.report.Report.{Report};
+ghost use Rattle.litmus_meaning.specs.RunOfProgram.{RunOfProgram};
+ghost use Rattle.litmus_syntax.specs.Limits.{KeepsLimits};
+ghost use Rattle.program_layout.specs.Places.{AreFit, places_of};
+ghost use Rattle.program_layout.specs.declared.place.Place.{Place};
+ghost use Rattle.program_sites.specs.Sites.{AreSitesOf};
+ghost use Rattle.run_lists.specs.Run.{Run, task_setting};
+ghost use Rattle.run_lists.specs.RunList.{RunList};
+ghost use Rattle.run_lists.specs.Told.{history_of};
+ghost use Rattle.run_logs.specs.Noted.{Notes};
+ghost use Rattle.run_logs.specs.Totals.{AddUp, CountsList, CountsTasks};
+ghost use Rattle.setup_access.specs.Parts.{made};
+ghost use Rattle.setup_access.specs.declared.begun.Begun.{Begun};
+ghost use Rattle.setup_access.specs.declared.outcome.Outcome.{Outcome};
+ghost use Rattle.slot_table.specs.Answer.{Answers};
+ghost use Rattle.slot_table.specs.StepLine.{Names, step_line};
+ghost use Rattle.slot_table.specs.Words.{Words};
+ghost use Rattle.slot_table.specs.declared.records.Record.{Record};
+ghost use Rattle.slot_table.specs.declared.step.Answer.{Answer};
+ghost use Rattle.slot_table.specs.declared.step.Step.{Step};
+ghost use Rattle.litmus_step.specs.Kept.{Added, AreKept, IsKept, IsNotedIn};
+ghost use Rattle.litmus_step.specs.Leads.{LeadsTask, LeadsToAll, MakesNextIn};
+ghost use Rattle.litmus_step.specs.Runs.{CanBeMade, tasks_of};
+ghost use Rattle.litmus_step.specs.Steps.{LeadsTo};
+ghost use Rattle.litmus_step.specs.declared.world.World.{World};
+ghost use Rattle.task_log.specs.Counters.{Count};
+ghost use Rattle.task_log.specs.Keeps.{Keeps};
+ghost use Rattle.task_log.specs.declared.counters.Counters.{Counters};
+ghost use Rattle.task_log.specs.declared.log.TaskLog.{TaskLog};
+ghost use Rattle.task_log.specs.declared.noted.Noted.{Noted};
+ghost use Rattle.task_plan.specs.Counts.{up_to_last};
+ghost use Rattle.task_run.specs.Fell.{FellAt};
+ghost use Rattle.task_run.specs.Leads.{BeginsNext, LeadsOn, stands_at};
+ghost use Rattle.task_run.specs.Says.{Says};
+ghost use Rattle.task_run.specs.declared.run.TaskRun.{TaskRun};
+
+use run_histories::laws::run_lists_tell_runs_of_the_program;
+use run_logs::laws::{
+    a_log_reports_what_the_list_does, a_machine_says_what_is_noted, counters_of_tasks_add_up,
+    one_more_is_noted,
+};
+use spelled_texts::laws::{texts_within_limits_are_spelled, variables_of_programs_are_placed};
+use task_laws::laws::an_answer_leads_on;
+use written_tellings::steps_name_words_of_the_run;
+
+/// Law: a program within the limits, with places that fit its variables and at least three page slots, can be made
+/// steps of. The list without a step is a run list of it.
+pub fn runs_begin()
+    ensures can { (run : Run) (places : List Place) → KeepsLimits run.program → run.places ≡ places_of places
+        → AreFit run.program.variables places → 3 ≤ run.rules.slots → CanBeMade run }
+    ensures list { (run : Run) → CanBeMade run → AreSitesOf run.program run.places run.sites → RunList run [] }
+{
+    variables_of_programs_are_placed();
+    texts_within_limits_are_spelled();
+}
+
+/// Law: where a list leads to machines, the step that one of them makes next names a word. Followed by the record of
+/// this step, with the answer that the words give, the list leads on, if what is kept is kept still.
+pub fn steps_lead_on()
+    ensures names { (run : Run) (records : List Record) (words : Words) (machines : List TaskRun) (steps : ℕ) (logs : List TaskLog)
+        (reports : List Report) (room task : ℕ) (step : Step) → LeadsToAll run records words machines steps logs reports room
+        → MakesNextIn machines task step → Names words step }
+    ensures leads { (run : Run) (records : List Record) (words : Words) (machines : List TaskRun) (steps : ℕ) (logs more_logs : List TaskLog)
+        (reports more_reports : List Report) (room more_room task : ℕ) (step : Step)
+        (answer : Answer) (after : TaskRun) → LeadsToAll run records words machines steps logs reports room
+        → (next : MakesNextIn machines task step)
+        → Answers step answer → answer ≡ (step_line words step).answer → LeadsOn next.machine after answer
+        → ((list : RunList run (made task step answer ∷ records)) → AreKept list more_logs more_reports more_room)
+        → LeadsToAll run (made task step answer ∷ records) (step_line words step).after (slice_set machines task after)
+        (up_to_last (steps + 1)) more_logs more_reports more_room }
+{
+    an_answer_leads_on();
+    steps_name_words_of_the_run();
+}
+
+/// Law: before the first step a list notes nothing. Where a task's log notes the step that its machine makes, the access
+/// that begins with it, and the outcome that falls at it, what is kept is what the list says still.
+pub fn steps_are_kept()
+    ensures none { (run : Run) (list : RunList run []) → (task : ℕ) → Notes list task [] }
+    ensures more { (run : Run) (records : List Record) (task : ℕ) (old : TaskRun) (step : Step) (answer : Answer) (begins : Option Begun)
+        (fell : Option Outcome) (logs : List TaskLog) (reports more_reports : List Report) (room : ℕ) (log after : TaskLog) (report : Option Report)
+        → (one : RunList run records) → (other : RunList run (made task step answer ∷ records))
+        → (leads : LeadsTask run task records old) → Says old step
+        → ((later : List Record) → BeginsNext (task_setting run task) leads.part (stands_at leads later) leads.mine begins)
+        → FellAt old fell answer
+        → AreKept one logs reports room → slice_get logs task ≡ Some log → task < length logs
+        → IsNotedIn log (record { step = step; answer = answer; begins = begins; outcome = fell }) after report
+        → Added report room reports more_reports
+        → AreKept other (slice_set logs task after) more_reports room }
+{
+    one_more_is_noted();
+    a_machine_says_what_is_noted();
+    a_log_reports_what_the_list_does();
+}
+
+/// Law: the counters of a world's logs, added one after the other, are those of each list that leads to it.
+pub fn logs_count_the_list()
+    ensures none { (run : Run) (records : List Record) (list : RunList run records) (counters : Counters) → Count [] counters → CountsTasks list 0 counters }
+    ensures more { (run : Run) (records : List Record) (list : RunList run records) (task : ℕ) (log : TaskLog) (some one both : Counters)
+        → IsKept list task log → CountsTasks list task some
+        → ((accesses watches : ℕ) (own : List Noted) → Keeps accesses watches own log → Count own one) → AddUp some one both → CountsTasks list (task + 1) both }
+    ensures all { (run : Run) (records : List Record) (list : RunList run records) (counters : Counters)
+        → CountsTasks list (tasks_of run) counters → CountsList list counters }
+{
+    counters_of_tasks_add_up();
+}
+
+/// Law: the history of each run list that leads to a world is that of a run of the program.
+pub fn worlds_tell_runs_of_the_program()
+    ensures { (run : Run) (records : List Record) (world : World) → (leads : LeadsTo run records world)
+        → RunOfProgram run.program run.places (history_of leads.list) }
+{
+    run_lists_tell_runs_of_the_program();
+}

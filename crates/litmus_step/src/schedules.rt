@@ -1,0 +1,125 @@
+//! Worlds that are run to their end.
+
+ghost use Rattle.std.specs.Prelude.{◌≡◌, ◌≢◌, ◌<◌, ◌≤◌, ◌-◌, ◌+◌, ◌^◌, ◌↔◌, ◌⊎◌, ℕ, IfErr, IfOk, IsErrOf, IsTrue, OnOk, false, replicate, true};
+ghost use Rattle.std.specs.List.{range_with_len};
+ghost use Rattle.step_schedule.specs.Order.{asked_by, in_rounds};
+ghost use Rattle.step_schedule.specs.Schedule.{entries_of, names_stranger};
+ghost use Rattle.task_plan.specs.Counts.{up_to_last};
+
+use crate::error::WorldError;
+use crate::world::{Stepped, World};
+use step_schedule::Schedule;
+
+impl<'a> World<'a> {
+    ghost use Rattle.litmus_step.specs.Steps.{tasks_in};
+    ghost use Rattle.litmus_step.specs.Turns.{AllHaveEnded, Asked, IsStuckAt, NobodyIsStuck, RunsOn, StopsAt};
+
+    /// Makes the steps that the schedule says, and then one step of each task that has not ended, in
+    /// turn, until all have.
+    ///
+    /// `BadSchedule`: it names a task that isn't there, and no step was made. `Stuck`: a wait of the
+    /// task had as many vain tries as are allowed. The world stands where that was first so.
+    pub fn run(&mut self, schedule: &Schedule) -> Result<(), WorldError>
+        ensures bad_schedule { IsErrOf result WorldError.BadSchedule
+            ↔ IsTrue (names_stranger (tasks_in self.old) (entries_of schedule.now)) }
+        ensures unmoved { IsErrOf result WorldError.BadSchedule → self.new ≡ self.old }
+        ensures runs { result ≢ Err WorldError.BadSchedule → RunsOn self.old (entries_of schedule.now) self.new }
+        ensures stuck { (task : ℕ) → result ≡ Err (WorldError.Stuck task) → (task < tasks_in self.new) × IsStuckAt self.new task }
+        ensures over { OnOk result (AllHaveEnded self.new ⊎ (self.new.steps ≡ 2 ^ 64 - 1)) }
+        ensures errors { IfErr result (λ error. (error ≡ WorldError.BadSchedule) ⊎ ((task : ℕ) × (error ≡ WorldError.Stuck task))) }
+        ensures tasks { tasks_in self.new ≡ tasks_in self.old }
+        ensures sites { self.new.sites ≡ self.old.sites }
+    {
+        if schedule.names_stranger(self.tasks.len() as u64) {
+            return Err(WorldError::BadSchedule);
+        }
+        self.nobody_is_stuck()?;
+        self.entries(schedule)?;
+        self.rounds()
+    }
+
+    /// `Stuck`: some task is.
+    fn nobody_is_stuck(&self) -> Result<(), WorldError>
+        ensures free { OnOk result (NobodyIsStuck self.now) }
+        ensures stuck { IfErr result (λ error. (task : ℕ) × (error ≡ WorldError.Stuck task) × (task < tasks_in self.now) × IsStuckAt self.now task) }
+    {
+        for task in 0..self.tasks.len() {
+            if self.tasks[task].stuck() {
+                return Err(WorldError::Stuck { task });
+            }
+        }
+        Ok(())
+    }
+
+    /// The tasks make the steps that the schedule says.
+    fn entries(&mut self, schedule: &Schedule) -> Result<(), WorldError>
+        requires named { names_stranger (tasks_in self.old) (entries_of schedule.now) ≡ false }
+        requires nobody { NobodyIsStuck self.old }
+        ensures asked { OnOk result (Asked self.old (asked_by (entries_of schedule.now)) self.new × NobodyIsStuck self.new) }
+        ensures stops { IfErr result (StopsAt self.old (asked_by (entries_of schedule.now)) self.new) }
+        ensures tasks { tasks_in self.new ≡ tasks_in self.old }
+        ensures sites { self.new.sites ≡ self.old.sites }
+    {
+        for entry in schedule.entries() {
+            self.steps_of(entry.task as usize, entry.steps)?;
+        }
+        Ok(())
+    }
+
+    /// A task makes so many steps, or those that it has left.
+    fn steps_of(&mut self, task: usize, count: u64) -> Result<(), WorldError>
+        requires there { task < tasks_in self.old }
+        requires nobody { NobodyIsStuck self.old }
+        ensures asked { OnOk result (Asked self.old (replicate count task) self.new × NobodyIsStuck self.new) }
+        ensures stops { IfErr result (StopsAt self.old (replicate count task) self.new) }
+        ensures tasks { tasks_in self.new ≡ tasks_in self.old }
+        ensures sites { self.new.sites ≡ self.old.sites }
+    {
+        for _made in 0..count {
+            match self.step(task) {
+                Stepped::Moved => {}
+                Stepped::Ended => return Ok(()),
+                Stepped::Stuck => return Err(WorldError::Stuck { task }),
+            }
+        }
+        Ok(())
+    }
+
+    /// The tasks take turns, until all have ended.
+    fn rounds(&mut self) -> Result<(), WorldError>
+        requires { NobodyIsStuck self.old }
+        ensures asked { OnOk result ((rounds : ℕ) × Asked self.old (in_rounds (tasks_in self.old) rounds) self.new) }
+        ensures over { OnOk result (AllHaveEnded self.new ⊎ (self.new.steps ≡ 2 ^ 64 - 1)) }
+        ensures stops { IfErr result (λ error. (rounds : ℕ) × StopsAt self.old (in_rounds (tasks_in self.old) rounds) self.new error) }
+        ensures tasks { tasks_in self.new ≡ tasks_in self.old }
+        ensures sites { self.new.sites ≡ self.old.sites }
+    {
+        for _round in 0..u64::MAX {
+            if !self.round()? {
+                return Ok(());
+            }
+        }
+        Ok(())
+    }
+
+    /// Each task that has not ended makes one step, from task 0 on. Whether one goes on.
+    fn round(&mut self) -> Result<bool, WorldError>
+        requires { NobodyIsStuck self.old }
+        ensures asked { OnOk result (Asked self.old (range_with_len 0 (tasks_in self.old)) self.new × NobodyIsStuck self.new) }
+        ensures ended { result ≡ Ok false → AllHaveEnded self.new }
+        ensures counted { result ≡ Ok true → up_to_last (self.old.steps + 1) ≤ self.new.steps }
+        ensures stops { IfErr result (StopsAt self.old (range_with_len 0 (tasks_in self.old)) self.new) }
+        ensures tasks { tasks_in self.new ≡ tasks_in self.old }
+        ensures sites { self.new.sites ≡ self.old.sites }
+    {
+        let mut goes_on = false;
+        for task in 0..self.tasks() {
+            match self.step(task) {
+                Stepped::Moved => goes_on = true,
+                Stepped::Ended => {}
+                Stepped::Stuck => return Err(WorldError::Stuck { task }),
+            }
+        }
+        Ok(goes_on)
+    }
+}

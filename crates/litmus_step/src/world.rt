@@ -1,0 +1,220 @@
+//! The world: all tasks of a program over one board.
+
+ghost use Rattle.std.specs.Prelude.{◌≡◌, ◌≢◌, ◌<◌, ◌≤◌, ◌+◌, ◌*◌, ◌↔◌, ◌⊎◌, [], ℕ, All, List, Option, Some, IfErr, IfOk, IsErrOf, length, slice_get, slice_set, vec_capacity, vec_len};
+ghost use Rattle.litmus_syntax.specs.Limits.{KeepsLimits};
+ghost use Rattle.litmus_syntax.specs.Views.{program_of};
+ghost use Rattle.program_layout.specs.Places.{AreFit};
+ghost use Rattle.run_lists.specs.Reports.{reports_of};
+ghost use Rattle.run_lists.specs.Run.{Run};
+ghost use Rattle.slot_table.specs.declared.records.Record.{Record};
+ghost use Rattle.litmus_step.specs.Leads.{IsLedTo, MakesNextIn};
+ghost use Rattle.run_histories.specs.Reported.{IsTrueReport};
+ghost use Rattle.litmus_step.specs.Kept.{Added, IsNotedIn, watches_kept};
+ghost use Rattle.litmus_step.specs.Runs.{run_of, tasks_of};
+ghost use Rattle.litmus_step.specs.declared.error.WorldError.TheVariants.{BadPlace, BadSlots, OutOfMemory};
+ghost use Rattle.task_plan.specs.Counts.{up_to_last};
+ghost use Rattle.task_run.specs.declared.run.TaskRun.{TaskRun};
+
+use crate::error::WorldError;
+use crate::first::{WATCHES, first_board, first_logs, first_tasks};
+use crate::laws::{runs_begin, steps_are_kept, steps_lead_on};
+use crate::settings::Settings;
+use access_types::{Report, Sites};
+use litmus_syntax::Program;
+use program_sites::sites_of;
+use run_histories::laws::reports_are_true;
+use slot_table::{Board, PlainBoard, Step};
+use std::alloc::Global;
+use task_log::{Noted, TaskLog};
+use task_run::TaskRun;
+
+/// What a task is after it was asked for a step.
+#[derive(Clone, Copy, Debug, PartialEq, Eq)]
+pub enum Stepped {
+    /// It goes on.
+    Moved,
+    /// It has made the steps of its whole text.
+    Ended,
+    /// A wait of it had as many vain tries as are allowed.
+    Stuck,
+}
+
+/// All tasks of a program, the words that they share, and what is kept of their steps.
+#[derive(Drop)]
+pub struct World<'a> {
+    pub(crate) alloc: Global,
+    pub(crate) board: PlainBoard,
+    pub(crate) tasks: Vec<TaskRun<'a>>,
+    pub(crate) logs: Vec<TaskLog>,
+    pub(crate) reports: Vec<Report>,
+    pub(crate) sites: Sites,
+    pub(crate) steps: u64,
+    ghost led: { ∥ IsLedTo board tasks.items steps logs.items reports.items (vec_capacity reports) ∥₁ },
+}
+
+/// A report, if there is one, is kept where there is room for it.
+fn add(reports: &mut Vec<Report>, report: Option<Report>)
+    ensures added { Added report (vec_capacity reports.old) reports.old.items reports.new.items }
+    ensures room { vec_capacity reports.new ≡ vec_capacity reports.old }
+{
+    let Some(report) = report else {
+        return;
+    };
+    if reports.len() < reports.capacity() {
+        reports.push_reserved(report);
+    }
+}
+
+/// A step of a task is noted, and what is reported at it is kept.
+fn note(logs: &mut Vec<TaskLog>, reports: &mut Vec<Report>, task: usize, noted: &Noted)
+    requires { task < vec_len logs.old }
+    ensures noted { (log : TaskLog) → slice_get logs.old.items task ≡ Some log
+        → (after : TaskLog) × (report : Option Report) × IsNotedIn log noted.now after report
+        × (logs.new.items ≡ slice_set logs.old.items task after)
+        × Added report (vec_capacity reports.old) reports.old.items reports.new.items }
+    ensures room { vec_capacity reports.new ≡ vec_capacity reports.old }
+{
+    let report = logs[task].note(noted);
+    add(reports, report);
+}
+
+impl<'a> World<'a> {
+    ghost use Rattle.litmus_step.specs.Steps.{IsAtEnd, IsMachine, IsStuck, LeadsTo, MovesOn, StepsOn, Tells, tasks_in};
+
+    /// A program before its first step. It takes all its room, and `step` and `run` take no memory.
+    ///
+    /// `BadSlots`: there are fewer than 3 page slots, or more than 1,024. `BadPlace`: a place is no
+    /// multiple of its variable's size or is above 2^62, its name is unknown, a lock's, or placed twice.
+    pub fn new(
+        alloc: Global,
+        program: &'a Program,
+        settings: &Settings,
+    ) -> Result<World<'a>, WorldError>
+        requires { KeepsLimits (program_of program.now) }
+        ensures leads { IfOk result (λ world. LeadsTo (run_of program.now settings.now world.sites) [] world) }
+        ensures bad_slots { IsErrOf result BadSlots → (settings.now.slots < 3 ⊎ 1024 < settings.now.slots) }
+        ensures slots { IfOk result (λ _. (3 ≤ settings.now.slots) × (settings.now.slots ≤ 1024)) }
+        ensures bad_place { IsErrOf result BadPlace ↔ (AreFit program.now.variables settings.now.places.items → ⊥) }
+        ensures errors { IfErr result (λ error. (error ≡ BadSlots) ⊎ ((error ≡ BadPlace) ⊎ (error ≡ OutOfMemory))) }
+    {
+        runs_begin();
+        steps_are_kept();
+        let board = first_board(alloc, program, settings)?;
+        let tasks = first_tasks(alloc, program, settings)?;
+        let count = program.tasks.as_slice().len();
+        let logs = first_logs(alloc, count)?;
+        let reports = Vec::with_capacity(alloc, count * WATCHES)?;
+        let sites = sites_of(alloc, program, settings.places.as_slice())?;
+        Ok(World {
+            alloc,
+            board,
+            tasks,
+            logs,
+            reports,
+            sites,
+            steps: 0,
+        })
+    }
+
+    /// A task makes its next step. One that has ended or is stuck makes none.
+    pub fn step(&mut self, task: usize) -> Stepped
+        requires { task < tasks_in self.old }
+        ensures steps { (run : Run) (records : List Record) → LeadsTo run records self.old → StepsOn run records task self.old self.new }
+        ensures ended { (run : Run) (records : List Record) → LeadsTo run records self.new
+            → (result ≡ Stepped.Ended ↔ ((¬ IsStuck run records self.new task) × IsAtEnd run records self.new task)) }
+        ensures stuck { (run : Run) (records : List Record) → LeadsTo run records self.new
+            → (result ≡ Stepped.Stuck ↔ IsStuck run records self.new task) }
+        ensures tells { (machine : TaskRun) → IsMachine self.new task machine → Tells result machine }
+        ensures others { (other : ℕ) → task ≢ other → slice_get self.new.tasks.items other ≡ slice_get self.old.tasks.items other }
+        ensures tasks { tasks_in self.new ≡ tasks_in self.old }
+        ensures sites { self.new.sites ≡ self.old.sites }
+        ensures counted { self.old.steps ≤ self.new.steps }
+        ensures moved { result ≡ Stepped.Moved → self.new.steps ≡ up_to_last (self.old.steps + 1) }
+    {
+        let Some(step) = self.tasks[task].next() else {
+            return self.state(task);
+        };
+        self.make(task, step);
+        self.state(task)
+    }
+
+    /// A task makes this step, which is its next.
+    fn make(&mut self, task: usize, step: Step)
+        requires there { task < tasks_in self.old }
+        requires next { MakesNextIn self.old.tasks.items task step }
+        ensures moves { (run : Run) (records : List Record) → LeadsTo run records self.old → MovesOn run records task self.new }
+        ensures others { (other : ℕ) → task ≢ other → slice_get self.new.tasks.items other ≡ slice_get self.old.tasks.items other }
+        ensures tasks { tasks_in self.new ≡ tasks_in self.old }
+        ensures sites { self.new.sites ≡ self.old.sites }
+        ensures counted { self.new.steps ≡ up_to_last (self.old.steps + 1) }
+    {
+        steps_lead_on();
+        steps_are_kept();
+        let begins = self.tasks[task].begins();
+        let answer = self.board.step(step);
+        self.tasks[task].answer(answer);
+        let outcome = self.tasks[task].fell();
+        self.steps = self.steps.saturating_add(1);
+        let noted = Noted {
+            step,
+            answer,
+            begins,
+            outcome,
+        };
+        note(&mut self.logs, &mut self.reports, task, &noted);
+    }
+
+    /// What a task is now.
+    fn state(&self, task: usize) -> Stepped
+        requires { task < tasks_in self.now }
+        ensures { (machine : TaskRun) → IsMachine self.now task machine → Tells result machine }
+    {
+        if self.tasks[task].stuck() {
+            return Stepped::Stuck;
+        }
+        match self.tasks[task].next() {
+            Some(_) => Stepped::Moved,
+            None => Stepped::Ended,
+        }
+    }
+
+    /// How many tasks there are.
+    pub fn tasks(&self) -> usize
+        ensures { result ≡ tasks_in self.now }
+    {
+        self.tasks.len()
+    }
+
+    /// How many steps were made, up to the largest number that there is.
+    pub fn steps(&self) -> u64
+        ensures { result ≡ self.now.steps }
+    {
+        self.steps
+    }
+
+    /// What was reported so far, in order.
+    pub fn reports(&self) -> &[Report]
+        ensures items { result.now ≡ self.now.reports.items }
+        ensures told { (run : Run) (records : List Record) → (leads : LeadsTo run records self.now)
+            → length (reports_of leads.list) ≤ tasks_of run * watches_kept → result.now ≡ reports_of leads.list }
+        ensures true_reports { (run : Run) (records : List Record) → (leads : LeadsTo run records self.now)
+            → All (IsTrueReport leads.list) result.now }
+    {
+        reports_are_true();
+        self.reports.as_slice()
+    }
+
+    /// What the cells of memory hold.
+    pub fn memory(&self) -> &[u64]
+        ensures { result.now ≡ self.now.board.cells }
+    {
+        self.board.cells()
+    }
+
+    /// The accesses that the program can make, by ticket.
+    pub fn sites(&self) -> &Sites
+        ensures { result.now ≡ self.now.sites }
+    {
+        &self.sites
+    }
+}

@@ -1,8 +1,0 @@
--- None of the tasks so far is stuck.
-use Rattle.std.proofs.Common.{ℕ, ◌<◌}
-use Rattle.stepped_world.proofs.world.World.nobody_is_stuck.Given as goal
-use Rattle.stepped_world.specs.Steps.{IsFree, IsMachine}
-use Rattle.task_run.specs.declared.run.TaskRun.{TaskRun}
-
-abbrev pub invariant-loop-task : goal.invariant-loop-task
-invariant-loop-task l = (task : ℕ) (machine : TaskRun) → task < l.task → IsMachine l.self task machine → IsFree machine
