@@ -8,7 +8,7 @@ ghost use Rattle.trace_replay.specs.Answer.{IsRefused};
 use report_text::pieces::{Piece, write_pieces};
 use report_text::{MemorySink, Sink, WriteError};
 use std::alloc::Global;
-use trace_replay::{Accepted, TraceError, replay_trace};
+use trace_replay::{Accepted, TraceError, replay};
 
 /// Writes the line on a trace of version 1.
 ///
@@ -78,7 +78,7 @@ pub fn replayed(alloc: Global, bytes: &[u8]) -> Result<Vec<u8>, TraceError>
     ensures accepted { IfOk result (λ line. IsLineOf bytes.now line.items) }
     ensures refused { IfErr result (IsRefused bytes.now) }
 {
-    let accepted = replay_trace(alloc, bytes)?;
+    let accepted = replay(alloc, bytes)?;
     let mut sink = MemorySink::new(alloc);
     match write_accepted(accepted, &mut sink) {
         Ok(()) => Ok(sink.into_bytes()),

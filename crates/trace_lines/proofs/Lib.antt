@@ -4,6 +4,7 @@ pub mod Hex
 pub mod FieldTexts
 pub mod LineTexts
 pub mod HeadTexts
+pub mod PlainForms
 pub mod PlainTruth
 pub mod Mapped
 pub mod TrueBegins

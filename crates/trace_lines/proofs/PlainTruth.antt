@@ -1,33 +1,31 @@
 -- lines may stand and are true exactly where their plain forms may and are
-use Rattle.std.proofs.Common.{◌≡◌, ◌≢◌, ◌∷◌, ◌++◌, ◌∙◌, ◌↔◌, ◌≤◌, ◌<◌, ◌^◌, ◌==◌, ◌||◌, ℕ, List, [], Bool, false, Option, Some, None, ap, arith, map, refl, subst, sym, unwrap_or}
+use Rattle.std.proofs.Common.{◌≡◌, ◌≢◌, ◌∷◌, ◌++◌, ◌∙◌, ◌≤◌, ◌<◌, ◌^◌, ◌==◌, ◌||◌, ℕ, List, [], Option, Some, None, ap, map, refl, subst, sym, unwrap_or}
 use Rattle.std.specs.Prelude.{All, Contains, IsSome, IsTrue, count_by}
 use Rattle.std.specs.List.{flat_map}
 use Rattle.std.proofs.lemmas.List.{map-append}
 use Rattle.std.proofs.lemmas.List.Elements.{All-map, All-weaker}
-use Rattle.access_types.specs.Access.{Breaks, IsInLimits, proper_mask}
+use Rattle.access_types.specs.Access.{Breaks, proper_mask}
 use Rattle.access_types.specs.Arms.{Arm}
 use Rattle.access_types.specs.Kind.{is_assertion, is_marked, write_flag}
 use Rattle.access_types.specs.Race.{Differ}
 use Rattle.access_types.specs.Stamped.{Stamped}
-use Rattle.access_types.specs.Takes.{Take}
 use Rattle.access_types.specs.Ticket.{ticket_number}
 use Rattle.access_types.specs.declared.arms.ArmOutcome.{ArmOutcome}
 use Rattle.access_types.specs.declared.arms.ArmOutcome.TheVariants.{Quiet, Origin, Hit}
 use Rattle.access_types.specs.declared.arms.HitResult.{HitResult}
 use Rattle.access_types.specs.declared.kind.Kind.{Kind}
 use Rattle.access_types.specs.declared.kind.Kind.TheVariants.{Plain, Marked, Assert, AssertScoped}
-use Rattle.access_types.specs.declared.report.Report.{Report}
 use Rattle.access_types.specs.declared.report.Report.TheVariants.{Two, Unknown}
-use Rattle.watch_word.specs.Word.{WordOf, word_of}
+use Rattle.watch_word.specs.Word.{word_of}
 use Rattle.watch_word.specs.declared.layout.Layout.{Layout}
 use Rattle.watch_word.specs.declared.watch.Watch.{Watch}
 use Rattle.report_text.specs.Faults.{AreTrue}
-use Rattle.report_text.specs.Standing.{AccessStands, ArmStands, ContentStands, FinderStands, HaveOtherStamps, LettersAgree, Names, NamesOne, Stands, TakeStands, accesses_of, arms_of, kind_place, reports_of, takes_of}
+use Rattle.report_text.specs.Standing.{AccessStands, ArmStands, ContentStands, FinderStands, HaveOtherStamps, Names, NamesOne, Stands, accesses_of, arms_of, kind_place, reports_of, takes_of}
 use Rattle.report_text.specs.TraceText.{Head, first, second}
-use Rattle.report_text.specs.Truth.{AreInProgressAtOnce, IsTrueEnd, IsTrueLine, MayHit, MaySee, MayWatch, OutcomeIsTrue, RaceByStamps, ResultAgrees, TellOfTheSame, race_in, unknown_in}
+use Rattle.report_text.specs.Truth.{IsTrueEnd, IsTrueLine, MayHit, MaySee, MayWatch, OutcomeIsTrue, RaceByStamps, ResultAgrees, race_in, unknown_in}
 use Rattle.report_text.specs.declared.line.Line.{Line}
 use Rattle.report_text.specs.declared.line.Line.TheVariants as lines
-use Rattle.trace_lines.specs.Plain.{plain_access, plain_line, plain_report, without_scope}
+use Rattle.trace_lines.specs.Plain.{plain_access, plain_line, without_scope}
 use Rattle.trace_lines.proofs.LineTexts.{mask_kept}
 use Rattle.trace_lines.proofs.Mapped.{all_from, contains_from, contains_to}
 

@@ -1,13 +1,13 @@
 -- the lines with which a trace truly begins keep the limits
-use Rattle.std.proofs.Common.{◌≡◌, ◌∷◌, ◌++◌, ◌+◌, ◌<◌, ◌≤◌, ◌^◌, ℕ, List, [], ap, arith, length, length-append}
-use Rattle.std.specs.Prelude.{All, Contains}
+use Rattle.std.proofs.Common.{◌≡◌, ◌∷◌, ◌++◌, ◌≤◌, ℕ, List, [], ap, arith, length, length-append}
+use Rattle.std.specs.Prelude.{All}
 use Rattle.std.specs.List.{flat_map}
 use Rattle.std.proofs.lemmas.List.Elements.{All-cons, All-contains, All-nil}
 use Rattle.access_types.specs.Access.{IsInLimits}
 use Rattle.access_types.specs.declared.report.Report.TheVariants.{Two, Unknown}
 use Rattle.report_text.specs.Faults.{AreTrue, BeginsTruly, size_limit}
 use Rattle.report_text.specs.Line.{line_text, spell_access, spell_arm, spell_origin, spell_race, spell_take}
-use Rattle.report_text.specs.Standing.{Stands, accesses_of, arms_of}
+use Rattle.report_text.specs.Standing.{accesses_of, arms_of}
 use Rattle.report_text.specs.TraceText.{Head, head_text}
 use Rattle.report_text.specs.declared.line.Line.{Line}
 use Rattle.report_text.specs.declared.line.Line.TheVariants as lines

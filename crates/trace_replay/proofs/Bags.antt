@@ -1,14 +1,14 @@
 -- what counts by key say of takings
-use Rattle.std.proofs.Common.{Ok, Err, Result, ◌≡◌, ◌∷◌, ◌++◌, ◌∙◌, ◌↔◌, ◌+◌, ◌==◌, ℕ, List, [], Bool, ap, append-nil, cond, map, refl, subst, sym}
-use Rattle.std.specs.Prelude.{IsTrue, OnOk, count_by, nat_eq}
+use Rattle.std.proofs.Common.{Ok, Err, Result, ◌≡◌, ◌∷◌, ◌++◌, ◌∙◌, ◌↔◌, ◌+◌, ℕ, List, [], Bool, append-nil, cond, map, subst, sym}
+use Rattle.std.specs.Prelude.{OnOk, count_by, nat_eq}
 use Rattle.std.proofs.lemmas.List.{map-append}
 use Rattle.std.proofs.lemmas.List.Folds.{fold-map}
 use Rattle.access_types.specs.Takes.{Take}
 use Rattle.access_types.specs.declared.arms.ArmOutcome.{ArmOutcome}
 use Rattle.access_types.specs.declared.arms.ArmOutcome.TheVariants.{Hit}
 use Rattle.access_types.specs.declared.arms.HitResult.{HitResult}
-use Rattle.report_text.specs.Truth.{AreOneBag, Pair, hit_in, is_pair, is_take, origin_of, pair_in, reported_pair}
-use Rattle.trace_replay.specs.Counts.{AreCounts, CountAlike, count_at}
+use Rattle.report_text.specs.Truth.{AreOneBag, Pair, hit_in, is_take, origin_of, pair_in, reported_pair}
+use Rattle.trace_replay.specs.Counts.{AreCounts, CountAlike}
 use Rattle.trace_replay.specs.Told.{AreOne, TakeKey, WereTold, is_pair_key, is_take_key, take_key}
 use Rattle.trace_replay.specs.declared.told.Told.{Told}
 use Rattle.trace_replay.specs.declared.counts.Counts.{Counts}

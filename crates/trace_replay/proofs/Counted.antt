@@ -1,5 +1,5 @@
 -- counts by key that agree at each key of either
-use Rattle.std.proofs.Common.{◌≡◌, ◌≢◌, ◌∷◌, ◌∙◌, ◌↔◌, ℕ, List, [], Bool, true, false, cond, Option, Some, None, ap, arith, refl, subst, sym, unwrap_or, true≢false}
+use Rattle.std.proofs.Common.{◌≡◌, ◌∷◌, ◌∙◌, ◌↔◌, ℕ, List, [], Bool, true, false, cond, Option, Some, None, ap, refl, subst, sym, unwrap_or, true≢false}
 use Rattle.std.specs.Prelude.{All, IsTrue}
 use Rattle.std.specs.Cmp.{IsEquivalence}
 use Rattle.std.specs.List.{AllByRecursion, IsDistinct}

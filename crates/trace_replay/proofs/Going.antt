@@ -1,20 +1,19 @@
 -- how far a trace is true, and which line fails first
-use Rattle.std.proofs.Common.{◌≡◌, ◌∷◌, ◌++◌, ◌∙◌, ◌+◌, ◌<◌, ◌≤◌, ◌^◌, ℕ, List, [], Option, Some, None, ap, append_assoc, append-nil, arith, length, length-append, refl, subst, sym}
+use Rattle.std.proofs.Common.{◌≡◌, ◌∷◌, ◌++◌, ◌∙◌, ◌+◌, ◌<◌, ◌≤◌, ◌^◌, ℕ, List, [], Some, None, ap, append_assoc, append-nil, arith, length, length-append, refl, subst, sym}
 use Rattle.std.specs.List.{flat_map}
 use Rattle.std.proofs.lemmas.Grind.{flat_map-append}
-use Rattle.report_text.specs.Faults.{AreTrue, BadTraceAt, BeginsTruly, BeginsWith, BeginsWithLine, FalseReportAt, HeadStands, IsTrueTrace, false_end, false_line, goes_on, head_lines, next_line, no_line, no_shape, no_version, size_limit}
+use Rattle.report_text.specs.Faults.{AreTrue, BadTraceAt, BeginsTruly, BeginsWith, BeginsWithLine, FalseReportAt, HeadStands, false_end, false_line, goes_on, head_lines, next_line, no_line, no_shape, no_version, size_limit}
 use Rattle.report_text.specs.Line.{line_text}
 use Rattle.report_text.specs.Standing.{Stands}
 use Rattle.report_text.specs.TraceText.{Head, end_line, first, head_text, second}
 use Rattle.report_text.specs.Truth.{IsTrueEnd, IsTrueLine}
 use Rattle.report_text.specs.declared.line.Line.{Line}
-use Rattle.report_text.specs.declared.line.Line.TheVariants as lines
 use Rattle.trace_lines.specs.FieldReaders.{past}
 use Rattle.trace_lines.specs.HeadReading as heads
 use Rattle.trace_lines.specs.HeadReading.{HeadFailsAt}
 use Rattle.trace_lines.specs.LineReaders.{line_at}
 use Rattle.trace_lines.specs.Plain.{IsPlainForm, KeepLimits, plain_line}
-use Rattle.trace_lines.specs.Reading.{IsLineAt, IsPlain, Reads}
+use Rattle.trace_lines.specs.Reading.{IsLineAt, Reads}
 use Rattle.trace_lines.proofs.LineTexts.{line_there}
 use Rattle.trace_lines.proofs.TrueBegins.{few_lines, has_bytes, keep_limits}
 use Rattle.trace_lines.proofs.Words.{same_given}

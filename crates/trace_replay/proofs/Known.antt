@@ -1,10 +1,10 @@
 -- accesses by their tickets, and their stamps
-use Rattle.std.proofs.Common.{◌≡◌, ◌≢◌, ◌∷◌, ◌++◌, ◌∙◌, ◌↔◌, ◌<◌, ◌==◌, ◌||◌, ℕ, List, [], Bool, true, false, cond, Option, Some, None, ap, arith, get_or, is_some, map, refl, subst, sym, true≢false}
-use Rattle.std.specs.Prelude.{All, Contains, IsTrue, nat_eq}
+use Rattle.std.proofs.Common.{◌≡◌, ◌≢◌, ◌∷◌, ◌++◌, ◌∙◌, ◌==◌, ◌||◌, ℕ, List, [], Bool, true, false, cond, Option, Some, None, ap, get_or, is_some, map, refl, subst, sym, true≢false}
+use Rattle.std.specs.Prelude.{All, Contains, nat_eq}
 use Rattle.std.specs.List.{list_any}
-use Rattle.std.proofs.lemmas.Bool.{both_ways, eq-eqb, eqb-false, eqb-true, ne_eqb, or_cases}
+use Rattle.std.proofs.lemmas.Bool.{eqb-false, ne_eqb}
 use Rattle.std.proofs.lemmas.List.{map-append}
-use Rattle.std.proofs.lemmas.List.Elements.{All-contains, All-contains_itself, All-push, All-weaker}
+use Rattle.std.proofs.lemmas.List.Elements.{All-contains, All-contains_itself, All-weaker}
 use Rattle.std.proofs.lemmas.List.Folds.{list_any-append, list_any_at, list_any_none}
 use Rattle.std.proofs.lemmas.Map.Views.{exact_unsigned_eq, hash_map_get_iff}
 use Rattle.std.specs.Cmp.{nat_eq_equiv}
@@ -15,7 +15,7 @@ use Rattle.access_types.specs.Stamped.{Stamped}
 use Rattle.access_types.specs.Ticket.{ticket_number}
 use Rattle.report_text.specs.Standing.{HaveOtherStamps}
 use Rattle.trace_lines.proofs.Mapped.{contains_from, contains_to}
-use Rattle.trace_replay.specs.Accesses.{IsNamed, IsNew, has_stamp, with_ticket}
+use Rattle.trace_replay.specs.Accesses.{IsNamed, has_stamp, with_ticket}
 
 -- ---- by ticket
 

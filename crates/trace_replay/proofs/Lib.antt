@@ -4,3 +4,4 @@ pub mod Lines
 pub mod Bags
 pub mod Going
 pub mod Naming
+pub mod OneAnswer

@@ -1,24 +1,22 @@
 -- what one line more adds to what lines say
-use Rattle.std.proofs.Common.{◌≡◌, ◌∷◌, ◌++◌, ◌∙◌, ◌↔◌, ◌+◌, ◌<◌, ◌≤◌, ◌^◌, ◌-◌, ℕ, List, [], Bool, ap, append-nil, arith, cond, length, map, refl, subst, sym}
-use Rattle.std.specs.Prelude.{All, IsTrue, count_by, nat_eq}
+use Rattle.std.proofs.Common.{◌≡◌, ◌∷◌, ◌++◌, ◌∙◌, ◌↔◌, ◌+◌, ◌<◌, ◌≤◌, ◌^◌, ◌-◌, ℕ, List, [], Bool, ap, append-nil, arith, length, map, refl, subst, sym}
+use Rattle.std.specs.Prelude.{All, count_by, nat_eq}
 use Rattle.std.specs.List.{flat_map}
 use Rattle.std.proofs.lemmas.Grind.{flat_map-append}
 use Rattle.std.proofs.lemmas.List.{length-map, map-append}
 use Rattle.std.proofs.lemmas.List.Elements.{All-contains, All-push, All-weaker, Contains-push}
-use Rattle.std.proofs.lemmas.List.Folds.{fold-map}
 use Rattle.std.proofs.lemmas.List.Sums.{count_by-le-length}
 use Rattle.access_types.specs.Arms.{Arm}
 use Rattle.access_types.specs.Stamped.{Stamped}
 use Rattle.access_types.specs.Takes.{Take}
 use Rattle.access_types.specs.declared.arms.ArmOutcome.{ArmOutcome}
 use Rattle.access_types.specs.declared.arms.ArmOutcome.TheVariants.{Quiet, Origin, Hit}
-use Rattle.access_types.specs.declared.arms.HitResult.{HitResult}
 use Rattle.access_types.specs.declared.arms.HitResult.TheVariants as results
 use Rattle.access_types.specs.declared.report.Report.{Report}
 use Rattle.access_types.specs.declared.report.Report.TheVariants.{Two, Unknown}
 use Rattle.report_text.specs.Standing.{Stands, accesses_of, arms_of, kind_place, reports_of, takes_of}
 use Rattle.report_text.specs.TraceText.{Head}
-use Rattle.report_text.specs.Truth.{hit_in, hits_in, is_take, origin_of, origins_in, pair_in, pairs_in, race_in, unknown_in}
+use Rattle.report_text.specs.Truth.{hit_in, hits_in, origin_of, origins_in, pair_in, pairs_in, race_in, unknown_in}
 use Rattle.report_text.specs.declared.line.Line.{Line}
 use Rattle.report_text.specs.declared.line.Line.TheVariants as lines
 use Rattle.report_text.proofs.TrueLines.{accesses-append}
@@ -26,13 +24,10 @@ use Rattle.trace_lines.proofs.TrueBegins.{arms_within}
 use Rattle.trace_replay.specs.Accesses.{AreKept}
 use Rattle.trace_replay.specs.Counts.{AreCounts}
 use Rattle.trace_replay.specs.Story.{CountsLines, Knows, Tells}
-use Rattle.trace_replay.specs.Told.{HaveRoom, TakeKey, WereTold, is_take_key, take_key}
-use Rattle.trace_replay.specs.declared.accesses.Accesses.{Accesses}
-use Rattle.trace_replay.specs.declared.counts.Counts.{Counts}
+use Rattle.trace_replay.specs.Told.{HaveRoom, WereTold}
 use Rattle.trace_replay.specs.declared.story.Story.{Story}
-use Rattle.trace_replay.specs.declared.told.Told.{Told}
 
-arms-append : (xs ys : List Line) → arms_of (xs ++ ys) ≡ arms_of xs ++ arms_of ys
+pub arms-append : (xs ys : List Line) → arms_of (xs ++ ys) ≡ arms_of xs ++ arms_of ys
 arms-append [] ys = refl
 arms-append (lines.Access s ∷ xs) ys = arms-append xs ys
 arms-append (lines.Arm a ∷ xs) ys = ap (λ t. a ∷ t) (arms-append xs ys)

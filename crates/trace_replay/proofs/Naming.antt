@@ -1,17 +1,15 @@
 -- what a look-up by ticket says of accesses among lines
-use Rattle.std.proofs.Common.{◌≡◌, ◌≢◌, ◌∷◌, ◌++◌, ◌∙◌, ◌↔◌, ◌<◌, ◌&&◌, ℕ, List, [], Bool, true, false, Option, Some, None, ap, append-nil, is_some, refl, subst, sym, true≢false}
-use Rattle.std.specs.Prelude.{All, Contains, IsTrue}
+use Rattle.std.proofs.Common.{◌≡◌, ◌↔◌, ◌<◌, ℕ, List, Option, Some, None, is_some, refl, subst, sym, true≢false}
+use Rattle.std.specs.Prelude.{All, IsTrue}
 use Rattle.std.proofs.lemmas.List.Elements.{All-contains}
 use Rattle.access_types.specs.Arms.{Arm}
 use Rattle.access_types.specs.Stamped.{Stamped}
 use Rattle.access_types.specs.declared.arms.ArmOutcome.TheVariants.{Hit}
 use Rattle.access_types.specs.declared.arms.HitResult.{HitResult}
-use Rattle.access_types.specs.declared.report.Report.TheVariants.{Two, Unknown}
-use Rattle.access_types.specs.declared.report.ValueChange.{ValueChange}
 use Rattle.watch_word.specs.Word.{watch_in}
 use Rattle.watch_word.specs.declared.layout.Layout.{Layout}
 use Rattle.report_text.specs.Standing.{Names, NamesOne, accesses_of}
-use Rattle.report_text.specs.Truth.{ArmIsTrue, MayHit, MaySee, MayWatch, OutcomeIsTrue, RaceByStamps, ReportIsTrue}
+use Rattle.report_text.specs.Truth.{ArmIsTrue, MayHit, MaySee, MayWatch, OutcomeIsTrue, RaceByStamps}
 use Rattle.report_text.specs.declared.line.Line.{Line}
 use Rattle.trace_replay.specs.Accesses.{IsNamed}
 

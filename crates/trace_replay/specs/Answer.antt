@@ -1,5 +1,5 @@
 -- What is answered of a trace.
-use Rattle.std.specs.Prelude.{◌≡◌, ◌++◌, ℕ, List, [], ◌∷◌, Result, MatchResult, length}
+use Rattle.std.specs.Prelude.{◌≡◌, ◌++◌, ℕ, List, [], ◌∷◌, Err, MatchResult, Ok, Result, length}
 use Rattle.report_text.specs.Faults.{BadTraceAt, FalseReportAt, IsTrueTrace}
 use Rattle.report_text.specs.Standing.{Stands, accesses_of, arms_of, reports_of, takes_of}
 use Rattle.report_text.specs.TraceText.{Head, first, second}
@@ -30,6 +30,13 @@ abbrev pub IsRefused : List ℕ → TraceError → Type 0
 IsRefused bytes OutOfMemory = Unit {0}
 IsRefused bytes (BadTrace line) = BadTraceAt bytes line
 IsRefused bytes (FalseReport line) = FalseReportAt bytes line
+
+-- what is to be answered of the bytes: that they are a true trace, with its numbers, or its first line that fails
+abbrev pub IsAnswerTo : List ℕ → Result Accepted TraceError → Type 0
+IsAnswerTo bytes (Ok counts) = IsAccepted bytes counts
+IsAnswerTo bytes (Err OutOfMemory) = ⊥
+IsAnswerTo bytes (Err (BadTrace line)) = BadTraceAt bytes line
+IsAnswerTo bytes (Err (FalseReport line)) = FalseReportAt bytes line
 
 -- the line of this number, behind these lines, is refused in this way
 abbrev pub IsRefusedLine : Head → List Line → Line → ℕ → TraceError → Type 0

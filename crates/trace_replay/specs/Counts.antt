@@ -1,5 +1,5 @@
 -- What counts by key say of the keys that were added.
-use Rattle.std.specs.Prelude.{◌≡◌, ◌<◌, ◌^◌, ℕ, List, Bool, count_by, length, unwrap_or}
+use Rattle.std.specs.Prelude.{◌≡◌, ℕ, List, Bool, count_by, unwrap_or}
 use Rattle.indexmap.specs.IndexMap.{get}
 use Rattle.trace_replay.specs.declared.counts.Counts.{Counts}
 

@@ -4,12 +4,13 @@
 mod accepted;
 mod accesses;
 mod counts;
-mod replay;
+pub mod laws;
+mod pass;
 mod story;
 mod told;
 
 pub use accepted::{Accepted, TraceError};
-pub use replay::{SIZE_LIMIT, replay_trace};
+pub use pass::{SIZE_LIMIT, replay};
 
 #[cfg(test)]
 mod tests;

@@ -1,6 +1,6 @@
 //! The worked traces, each fault with its line, and cuts at every byte.
 
-use crate::{Accepted, TraceError, replay_trace};
+use crate::{Accepted, TraceError, replay};
 use std::alloc::Global;
 use std::process::Abort;
 use std::test::Fail;
@@ -68,7 +68,7 @@ fn with(alloc: Global, text: &str, old: &str, new: &str) -> Result<String, Fail>
 }
 
 fn expect(rt: &impl Abort, alloc: Global, text: &str, wanted: Result<Accepted, TraceError>) {
-    let answer = replay_trace(alloc, text.as_bytes());
+    let answer = replay(alloc, text.as_bytes());
     assert_eq!(rt; answer, wanted, "{text}");
 }
 
@@ -93,7 +93,7 @@ fn cut_traces_fail_where_they_end(rt: HostRuntime) -> Result<(), Fail> {
         for end in 0..bytes.len() {
             let cut = &bytes[..end];
             let lines = cut.iter().filter(|byte| **byte == b'\n').count() as u64;
-            assert_eq!(rt; replay_trace(rt.alloc(), cut), bad(lines + 1), "{end}");
+            assert_eq!(rt; replay(rt.alloc(), cut), bad(lines + 1), "{end}");
         }
     }
     Ok(())
@@ -191,7 +191,7 @@ fn faults_of_version_1(rt: HostRuntime) -> Result<(), Fail> {
         ),
     ] {
         let text = with(rt.alloc(), FIRST, old, new)?;
-        let answer = replay_trace(rt.alloc(), text.as_bytes());
+        let answer = replay(rt.alloc(), text.as_bytes());
         assert_eq!(rt; answer, wanted, "{text}");
     }
     Ok(())

@@ -1,5 +1,5 @@
 -- one access more
-use Rattle.std.proofs.Common.{◌≡◌, ◌<◌, ◌∙◌, ℕ, ap, subst, sym, true}
+use Rattle.std.proofs.Common.{◌<◌, ◌∙◌, ap, subst, true}
 use Rattle.std.specs.Prelude.{nat_eq}
 use Rattle.std.proofs.lemmas.List.Elements.{All-push}
 use Rattle.access_types.specs.Stamped.{Stamped}

@@ -1,5 +1,5 @@
 -- what the map has under the ticket
-use Rattle.std.proofs.Common.{◌≡◌, ◌∙◌, sym}
+use Rattle.std.proofs.Common.{◌∙◌, sym}
 use Rattle.trace_replay.proofs.Known.{named_from, named_to}
 use Rattle.trace_replay.proofs.accesses.Accesses.named.Goals as goal
 

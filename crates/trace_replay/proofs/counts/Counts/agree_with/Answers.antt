@@ -1,5 +1,5 @@
 -- each has the other's counts
-use Rattle.std.proofs.Common.{◌≡◌, ◌∙◌, sym, true≢false}
+use Rattle.std.proofs.Common.{◌∙◌, sym, true≢false}
 use Rattle.trace_replay.proofs.Counted.{alike, each_has}
 use Rattle.trace_replay.proofs.counts.Counts.agree_with.Goals as goal
 

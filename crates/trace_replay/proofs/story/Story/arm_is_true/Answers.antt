@@ -1,8 +1,7 @@
 -- by the access that was found
-use Rattle.std.proofs.Common.{◌≡◌, ◌∙◌, sym, subst, true≢false}
+use Rattle.std.proofs.Common.{◌∙◌, sym, subst, true≢false}
 use Rattle.report_text.specs.Standing.{accesses_of}
 use Rattle.report_text.specs.Truth.{MayWatch}
-use Rattle.trace_replay.specs.Accesses.{IsNamed}
 use Rattle.trace_replay.proofs.Naming.{Finds, arm_of, none_named}
 use Rattle.trace_replay.proofs.story.Story.arm_is_true.Goals as goal
 

@@ -1,5 +1,5 @@
 -- the place that the line reached, and what it added
-use Rattle.std.proofs.Common.{◌≡◌, ◌∙◌, refl, subst}
+use Rattle.std.proofs.Common.{◌∙◌, refl, subst}
 use Rattle.report_text.specs.Standing.{Stands, accesses_of}
 use Rattle.report_text.specs.declared.line.Line.TheVariants as lines
 use Rattle.trace_replay.proofs.Bags.{on_ok}

@@ -1,5 +1,5 @@
 -- an arming more, and what it told of
-use Rattle.std.proofs.Common.{◌≡◌, ◌++◌, ◌∷◌, ◌<◌, ◌^◌, ℕ, List, [], arith, length, map, refl, subst}
+use Rattle.std.proofs.Common.{◌++◌, ◌∷◌, ◌<◌, ◌^◌, [], arith, length, map, refl, subst}
 use Rattle.std.specs.Prelude.{nat_eq}
 use Rattle.access_types.specs.Arms.{Arm}
 use Rattle.report_text.specs.Standing.{arms_of}

@@ -1,5 +1,5 @@
 -- a report more
-use Rattle.std.proofs.Common.{◌≡◌, ◌<◌, ◌^◌, ℕ, arith, refl}
+use Rattle.std.proofs.Common.{◌<◌, ◌^◌, arith, refl}
 use Rattle.std.specs.List.{flat_map}
 use Rattle.report_text.specs.Standing.{reports_of, takes_of}
 use Rattle.report_text.specs.Truth.{race_in, unknown_in}

@@ -1,6 +1,5 @@
 -- what armings told of, and what the others did
-use Rattle.std.proofs.Common.{◌≡◌, sym, subst}
-use Rattle.std.specs.Prelude.{IsTrue}
+use Rattle.std.proofs.Common.{sym, subst}
 use Rattle.std.specs.List.{flat_map}
 use Rattle.report_text.specs.Standing.{arms_of, reports_of, takes_of}
 use Rattle.report_text.specs.Truth.{IsTrueEnd, hits_in, origins_in, pairs_in, race_in, unknown_in}

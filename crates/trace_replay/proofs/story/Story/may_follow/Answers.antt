@@ -1,5 +1,5 @@
 -- the place and the content
-use Rattle.std.proofs.Common.{◌≡◌, ◌∙◌, ◌≤◌, arith, sym, subst}
+use Rattle.std.proofs.Common.{◌≤◌, arith, sym, subst}
 use Rattle.std.proofs.lemmas.Bool.{leb-true, le-leb}
 use Rattle.report_text.specs.Standing.{kind_place}
 use Rattle.trace_replay.proofs.story.Story.may_follow.Goals as goal

@@ -2,8 +2,7 @@
 use Rattle.std.proofs.Common.{◌≡◌, ◌∙◌, ap, sym, subst, true≢false}
 use Rattle.watch_word.specs.Word.{IsWatchWord, watch_in}
 use Rattle.report_text.specs.Standing.{accesses_of}
-use Rattle.report_text.specs.Truth.{MayHit}
-use Rattle.trace_replay.proofs.Naming.{Finds, found_has_bytes, hit_of, no_hit}
+use Rattle.trace_replay.proofs.Naming.{found_has_bytes, hit_of, no_hit}
 use Rattle.trace_replay.proofs.story.Story.outcome_is_true.Goals as goal
 
 pub returns-in_default-named : goal.returns-in_default-named

@@ -1,5 +1,5 @@
 -- by the accesses that were found
-use Rattle.std.proofs.Common.{◌≡◌, sym, subst, true≢false}
+use Rattle.std.proofs.Common.{sym, subst, true≢false}
 use Rattle.report_text.specs.Standing.{accesses_of}
 use Rattle.report_text.specs.Truth.{ReportIsTrue}
 use Rattle.trace_replay.proofs.Naming.{change_of, none_named, race_of}

@@ -1,5 +1,5 @@
 -- each agrees
-use Rattle.std.proofs.Common.{◌≡◌, ◌∙◌, sym, true, false, true≢false}
+use Rattle.std.proofs.Common.{◌≡◌, ◌∙◌, sym, true, true≢false}
 use Rattle.trace_replay.proofs.Bags.{told_alike}
 use Rattle.trace_replay.proofs.told.Told.agrees_with.Goals as goal
 use Rattle.trace_replay.proofs.told.Told.agrees_with.Goals.{then-agree_with, else-agree_with}

@@ -1,5 +1,5 @@
 -- a hit is a taking and, where it is reported, a race
-use Rattle.std.proofs.Common.{◌≡◌, ◌++◌, ◌∷◌, [], arith}
+use Rattle.std.proofs.Common.{◌++◌, ◌∷◌, [], arith}
 use Rattle.trace_replay.proofs.Bags.{on_ok, told_hit}
 use Rattle.trace_replay.proofs.told.Told.arm.Goals as goal
 

@@ -1,9 +1,8 @@
 -- one more is counted
-use Rattle.std.proofs.Common.{◌≡◌, ◌++◌, ◌∷◌, [], ap, length, map, refl, subst}
+use Rattle.std.proofs.Common.{◌++◌, ◌∷◌, [], length, map, subst}
 use Rattle.std.proofs.lemmas.List.{length-map}
-use Rattle.access_types.specs.Takes.{Take}
 use Rattle.trace_replay.specs.Counts.{AreCounts}
-use Rattle.trace_replay.specs.Told.{TakeKey, is_take_key, take_key}
+use Rattle.trace_replay.specs.Told.{is_take_key, take_key}
 use Rattle.trace_replay.proofs.Bags.{on_ok, one_take_more}
 use Rattle.trace_replay.proofs.Lines.{count_fits}
 use Rattle.trace_replay.proofs.told.Told.take.Goals as goal

@@ -1,9 +1,9 @@
 -- no last line, a false one, or more behind it
-use Rattle.std.proofs.Common.{◌≡◌, ◌∙◌, ◌<◌, ◌==◌, arith, length, sym, true≢false}
+use Rattle.std.proofs.Common.{◌∙◌, arith, length, sym, true≢false}
 use Rattle.std.proofs.lemmas.Bool.{eqb-false}
 use Rattle.trace_lines.specs.HeadReading.{head_of}
 use Rattle.trace_replay.proofs.Going.{at_false_end, at_no_end, past_end}
-use Rattle.trace_replay.proofs.replay.end.Goals as goal
+use Rattle.trace_replay.proofs.pass.end.Goals as goal
 
 pub returns-in_default-clause-refused : goal.returns-in_default-clause-refused
 returns-in_default-clause-refused c = λ bytes all begins tells is none.

@@ -1,7 +1,7 @@
 -- the line stands, is true and is kept
 use Rattle.report_text.specs.Standing.{Stands}
 use Rattle.trace_lines.specs.HeadReading.{head_of}
-use Rattle.trace_replay.proofs.replay.take_in.Goals as goal
+use Rattle.trace_replay.proofs.pass.take_in.Goals as goal
 
 pub returns : goal.returns
 returns c = λ all tells.

@@ -1,12 +1,11 @@
 -- line by line
-use Rattle.std.proofs.Common.{◌≡◌, ◌++◌, ◌∷◌, ◌≤◌, ◌+◌, [], arith, length, refl}
-use Rattle.report_text.specs.Faults.{head_lines, next_line, size_limit}
+use Rattle.std.proofs.Common.{◌++◌, ◌∷◌, [], arith, refl}
 use Rattle.report_text.specs.TraceText.{head_text}
 use Rattle.trace_lines.specs.HeadReading.{head_of}
 use Rattle.trace_lines.proofs.TrueBegins.{few_lines}
 use Rattle.trace_replay.specs.Answer.{GoesOn}
 use Rattle.trace_replay.proofs.Going.{begun, low_number, next_number, none_begins, one_line_more, refused, shorter}
-use Rattle.trace_replay.proofs.replay.replay_lines.Goals as goal
+use Rattle.trace_replay.proofs.pass.replay_lines.Goals as goal
 
 pub loop-next-init : goal.loop-next-init
 loop-next-init c = ([], begun (head_of c.args.head) c.args.bytes.now c.requires.within c.requires.stands, c.new-story.ensures, c.first_number-number.ensures)

@@ -1,15 +1,17 @@
 //! A trace is read in one pass, and each of its lines is checked.
 
-ghost use Rattle.std.specs.Prelude.{◌≡◌, ◌++◌, ◌<◌, ◌≤◌, ◌^◌, [], ℕ, List, IfErr, IfOk, length};
+ghost use Rattle.std.specs.Prelude.{◌≡◌, ◌≢◌, ◌↔◌, ◌++◌, ◌<◌, ◌≤◌, ◌^◌, [], ℕ, Err, IfErr, IfOk, List, Result, length};
 ghost use Rattle.report_text.specs.Faults.{BeginsTruly, BeginsWithLine, HeadStands, next_line, size_limit};
 ghost use Rattle.report_text.specs.TraceText.{head_text};
 ghost use Rattle.report_text.specs.declared.line.Line.{Line};
 ghost use Rattle.trace_lines.specs.HeadReading.{head_of};
 ghost use Rattle.trace_lines.specs.Reading.{IsPlain};
-ghost use Rattle.trace_replay.specs.Answer.{IsAccepted, IsRefused, IsTakenIn};
+ghost use Rattle.trace_replay.specs.Answer.{IsAccepted, IsAnswerTo, IsRefused, IsTakenIn};
 ghost use Rattle.trace_replay.specs.Story.{Tells};
+ghost use Rattle.trace_replay.specs.declared.accepted.TraceError.TheVariants.{OutOfMemory};
 
 use crate::accepted::{Accepted, TraceError};
+use crate::laws::bytes_have_one_answer;
 use crate::story::Story;
 use report_text::Line;
 use std::alloc::Global;
@@ -19,9 +21,19 @@ use trace_lines::{Head, read_end, read_head, read_line};
 /// A trace has at most so many bytes.
 pub const SIZE_LIMIT: usize = 33_554_432;
 
-/// The numbers of a true trace, or its first line that fails. Of a trace that can't be kept for want
-/// of memory it is said that memory ran out.
-pub fn replay_trace(alloc: Global, bytes: &[u8]) -> Result<Accepted, TraceError>
+/// The one answer to any bytes: that they are a true trace, with its numbers, or their first line that fails. Only of
+/// a trace that can't be kept for want of memory is it said that memory ran out.
+pub fn replay(alloc: Global, bytes: &[u8]) -> Result<Accepted, TraceError>
+    ensures accepted { IfOk result (IsAccepted bytes.now) }
+    ensures refused { IfErr result (IsRefused bytes.now) }
+    ensures exact { result ≢ Err OutOfMemory → (answer : Result Accepted TraceError) → IsAnswerTo bytes.now answer ↔ (answer ≡ result) }
+{
+    bytes_have_one_answer();
+    read_whole(alloc, bytes)
+}
+
+/// Reads a trace from its first line to its last.
+fn read_whole(alloc: Global, bytes: &[u8]) -> Result<Accepted, TraceError>
     ensures accepted { IfOk result (IsAccepted bytes.now) }
     ensures refused { IfErr result (IsRefused bytes.now) }
 {

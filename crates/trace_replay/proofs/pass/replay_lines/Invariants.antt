@@ -1,11 +1,11 @@
 -- the lines so far are true, and the story is of them
-use Rattle.std.proofs.Common.{◌≡◌, ◌++◌, ℕ, List, length}
+use Rattle.std.proofs.Common.{◌≡◌, ◌++◌, List, length}
 use Rattle.report_text.specs.Faults.{BeginsTruly, next_line}
 use Rattle.report_text.specs.TraceText.{head_text}
 use Rattle.report_text.specs.declared.line.Line.{Line}
 use Rattle.trace_lines.specs.HeadReading.{head_of}
 use Rattle.trace_replay.specs.Story.{Tells}
-use Rattle.trace_replay.proofs.replay.replay_lines.Given as goal
+use Rattle.trace_replay.proofs.pass.replay_lines.Given as goal
 
 abbrev pub invariant-loop-next : goal.invariant-loop-next
 invariant-loop-next l = (all : List Line)
