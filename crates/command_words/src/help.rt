@@ -4,50 +4,73 @@
 pub const PROGRAM: &str =
     "Runs KCSAN, the kernel's sanitizer for data races, over small C litmus programs";
 
+/// What follows the commands.
+pub const AFTER_PROGRAM: &str = "\
+    A litmus file has small C functions that run at once, one task each, and a condition\n\
+    on what registers and variables hold where they have ended. This one is race.litmus:\n\
+    \n\
+    \x20\x20\x20\x20C race\n\
+    \x20\x20\x20\x20{}\n\
+    \x20\x20\x20\x20P0(int *x) { int r0; r0 = *x; }\n\
+    \x20\x20\x20\x20P1(int *x) { *x = 1; }\n\
+    \x20\x20\x20\x20exists (0:r0=1)\n\
+    \n\
+    In this run the plain read of P0 sets up a watchpoint, which the plain write of P1 hits\n\
+    while P0 waits. The report of the race is printed:\n\
+    \n\
+    \x20\x20\x20\x20kcsan_litmus step race.litmus --schedule 0x7,1x9\n\
+    \n\
+    After the reports come a line with what became of the checks, and one that says whether\n\
+    the condition held. 'kcsan_litmus step --help' says what a schedule is.";
+
 /// What `step` does.
 pub const STEP: &str =
     "Steps the program of a litmus file under a schedule, and prints what KCSAN would report";
 
 /// What follows the options of `step`.
 pub const AFTER_STEP: &str = "\
-    A schedule says which task makes how many steps: entries TxC joined by commas,\n\
-    where task T makes C steps. A step is one atomic operation on one shared word.\n\
-    Steps of a task that has ended are passed over. After the schedule the tasks take\n\
-    one step each in turn, from task 0, until all have ended. For example\n\
+    A schedule says which task makes how many steps: entries TxC joined by commas, where\n\
+    task T makes C steps. A step is one atomic operation on one shared word: a watchpoint's,\n\
+    8 bytes of memory, a lock or the clock. Steps of a task that has ended are passed over.\n\
+    After the schedule the tasks take one step each in turn, from task 0, until all have\n\
+    ended; without one they do so from the start. For example\n\
     \n\
     \x20\x20\x20\x20kcsan_litmus step race.litmus --schedule 0x7,1x9\n\
     \n\
-    lets P0 make seven steps, up to where its watchpoint waits, then P1 nine, and\n\
-    then both in turn.\n\
+    lets P0 make seven steps, by which the watchpoint of its first access stands, then P1\n\
+    nine, and then both in turn.\n\
     \n\
-    A place list says where variables stand in memory: items NAME=ADDRESS joined by\n\
-    commas, without blanks. An address is decimal, or 0x and hexadecimal digits; it is\n\
-    a multiple of the variable's size, and 2^62 at most. Variables that aren't placed\n\
-    stand at 0x10000, 0x10040, 0x10080 and so on, in the order in which the file first\n\
-    names them. For example\n\
+    A place list says where variables stand in memory: items NAME=ADDRESS joined by commas,\n\
+    without blanks. An address is decimal, or 0x and hexadecimal digits; it is a multiple of\n\
+    the variable's size, and 2^62 at most. Variables that aren't placed stand at 0x10000,\n\
+    0x10040, 0x10080 and so on, in the order in which the file first names them. For example,\n\
+    where the first variable is an int x and another a char c,\n\
     \n\
     \x20\x20\x20\x20kcsan_litmus step bytes.litmus --place c=0x10001 --schedule 0x7,1x9\n\
     \n\
-    puts the char c on the second byte of the int x, which is the file's first variable.\n\
+    puts c on the second byte of x, so that accesses to the two can race.\n\
     \n\
-    Status: 0 no report; 2 a report; 64 the words make no sense; 65 the file is refused;\n\
-    66 it can't be read; 70 a task is stuck; 71 out of memory; 74 output can't be\n\
-    written. From 64 on, standard error says why, and standard output is empty, but for\n\
-    what it took before it failed.";
+    Exit status: 0 no report; 2 a report; 64 usage, a schedule or a place list that doesn't\n\
+    read or doesn't suit the file; 65 the file is refused; 66 it can't be read; 70 a task is\n\
+    stuck; 71 out of memory; 74 output can't be written. From 64 on standard error says why,\n\
+    and up to 71 nothing goes to standard output or to the trace's file.";
 
 /// What `replay` does.
 pub const REPLAY: &str = "Checks a trace, and says of what it is a true one";
 
 /// What follows the words of `replay`.
 pub const AFTER_REPLAY: &str = "\
-    Each race in an accepted trace is one of the accesses that stand in it: of two tasks,\n\
-    with a byte in common, in progress at one moment, not both marked. For example\n\
+    A trace is what 'kcsan_litmus step --trace PATH' writes: the accesses of a run, the\n\
+    watchpoints that they set up and hit, and the races that were reported. Each race in an\n\
+    accepted trace is one of two accesses that stand in it: of two tasks, with a byte in\n\
+    common, in progress at one moment, not both marked. For example\n\
     \n\
     \x20\x20\x20\x20kcsan_litmus step race.litmus --schedule 0x7,1x9 --trace race.trace\n\
     \x20\x20\x20\x20kcsan_litmus replay race.trace\n\
     \n\
-    Status: 0 the trace is accepted; 65 it is refused, and standard error names the first\n\
-    line that fails; 66 it can't be read; 71 out of memory; 74 output can't be written.";
+    Exit status: 0 the trace is accepted; 64 usage; 65 it is refused, and standard error names\n\
+    the first line that fails; 66 it can't be read; 71 out of memory; 74 output can't be\n\
+    written.";
 
 /// What `TRACE` is.
 pub const REPLAYED: &str = "The file with the trace";
@@ -68,13 +91,14 @@ pub const TRACE: &str = "Writes the trace of the run to this file";
 pub const SLOTS: &str = "How many page slots watchpoints are spread over, 3 to 1024";
 
 /// What `--skip` says.
-pub const SKIP: &str = "How many accesses are skipped between two that are watched, up to 1000000";
+pub const SKIP: &str =
+    "How many accesses of a task are skipped between two that it watches, up to 1000000";
 
 /// What `--randomize` does.
 pub const RANDOMIZE: &str = "Draws each skip at random, from 1 to what --skip says";
 
 /// What `--seed` says.
-pub const SEED: &str = "The seed of the skips that are drawn; task T has this and T";
+pub const SEED: &str = "The seed of the skips that are drawn; task T has this number and T";
 
 /// What `--strict` does.
 pub const STRICT: &str =
@@ -84,4 +108,5 @@ pub const STRICT: &str =
 pub const WORD: &str = "How many bits a watch word has, 64 or 32";
 
 /// What `--turns` says.
-pub const TURNS: &str = "At so many vain tries of one wait a task is stuck, 1 to 1000000000";
+pub const TURNS: &str =
+    "At so many vain tries to take a lock or to change a variable a task is stuck, 1 to 1000000000";

@@ -1,7 +1,8 @@
 //! What the words ask for.
 
-ghost use Rattle.std.specs.Prelude.{◌≤◌, ◌<◌, ℕ, IfOk, IfSome};
+ghost use Rattle.std.specs.Prelude.{◌≡◌, ◌≤◌, ◌<◌, ℕ, IfOk, IfSome, map};
 ghost use Rattle.command_words.specs.Bounds.{KeepsBounds, MayBeAsked};
+ghost use Rattle.command_words.specs.Help.{asks_for_help, is_help_word};
 
 use crate::help;
 use clap::builder::ValueParser;
@@ -74,6 +75,28 @@ pub fn asked<'a, S: AsStr>(alloc: Global, words: &'a [S]) -> Result<Request<'a>,
     Err(program(alloc)?.error(ErrorKind::MissingSubcommand, "a subcommand is missing")?)
 }
 
+/// The word asks for help.
+fn is_help_word(word: &str) -> bool
+    ensures { result ≡ is_help_word word.now }
+{
+    word == "help" || word == "--help" || word.starts_with("-h")
+}
+
+/// A word asks for help. The first of them is the program's name.
+pub fn asks_for_help<S: AsStr>(words: &[S]) -> bool
+    ensures { result ≡ asks_for_help (map S.text words.now) }
+{
+    let Some((_, words)) = words.split_first() else {
+        return false;
+    };
+    for word in words {
+        if is_help_word(word.as_str()) {
+            return true;
+        }
+    }
+    false
+}
+
 /// What is asked, by the values of the words.
 fn request_of<'a>(matches: &ArgMatches<'a>) -> Option<Request<'a>>
     ensures { IfSome result MayBeAsked }
@@ -126,6 +149,7 @@ fn layout(matches: &ArgMatches<'_>) -> Layout {
 fn program<'a>(alloc: Global) -> Result<Command<'a>, AllocError> {
     Command::new(alloc, "kcsan_litmus")
         .about(help::PROGRAM)
+        .after_help(help::AFTER_PROGRAM)
         .subcommand_required(true)
         .subcommand(step_command(alloc)?)?
         .subcommand(replay_command(alloc)?)
