@@ -3,3 +3,4 @@ pub mod Statements
 pub mod Counts
 pub mod Rises
 pub mod Scopes
+pub mod Passes

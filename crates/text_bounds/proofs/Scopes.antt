@@ -131,11 +131,11 @@ keeps_scope scopes before between after a scoped within inside is_after =
     }
 
 -- a statement is a scoped assertion where it begins a scope
-abbrev BeginsScope : Option Scoped → ℕ → Type 0
+abbrev pub BeginsScope : Option Scoped → ℕ → Type 0
 BeginsScope None begins = begins ≡ 0
 BeginsScope (Some scoped) begins = (begins ≡ 1) × (is_scoped scoped.kind ≡ true)
 
-begins_scope : (statement : Statement) → BeginsScope (scoped_assertion statement) (scopes_of statement)
+pub begins_scope : (statement : Statement) → BeginsScope (scoped_assertion statement) (scopes_of statement)
 begins_scope (tree.load_only l) = refl
 begins_scope (tree.assign data_race a) = refl
 begins_scope (tree.call (calls.Barrier b)) = refl
@@ -152,7 +152,7 @@ begins_scope (tree.if_block e body) = refl
 begins_scope (tree.if_else e body otherwise) = refl
 begins_scope (tree.for_turns r turns body) = refl
 
-has_room : (statement : Statement) (scopes : ℕ) → StatementScopes scopes statement → scopes ≤ scoped_limit → scopes + scopes_of statement ≤ scoped_limit
+pub has_room : (statement : Statement) (scopes : ℕ) → StatementScopes scopes statement → scopes ≤ scoped_limit → scopes + scopes_of statement ≤ scoped_limit
 has_room (tree.load_only l) scopes fits within = omega (arith, within)
 has_room (tree.assign data_race a) scopes fits within = omega (arith, within)
 has_room (tree.call c) scopes fits within = fits

@@ -1,6 +1,6 @@
 //! What each run of a text keeps.
 
-ghost use Rattle.std.specs.Prelude.{◌≡◌, ◌+◌, ◌-◌, ◌++◌, ◌<◌, ◌≤◌, [], ◌∷◌, ℕ, List, count_by, true};
+ghost use Rattle.std.specs.Prelude.{◌≡◌, ◌+◌, ◌-◌, ◌^◌, ◌++◌, ◌<◌, ◌≤◌, [], ◌∷◌, ℕ, List, count_by, true};
 ghost use Rattle.access_types.specs.Access as access;
 ghost use Rattle.access_types.specs.Marked.{is_disable, is_nest_open, marks_of};
 ghost use Rattle.access_types.specs.declared.history.Happening.{Happening};
@@ -8,6 +8,7 @@ ghost use Rattle.access_types.specs.declared.history.Happening.TheVariants.{Begi
 ghost use Rattle.litmus_syntax.specs.Limits.{BlockScopes, block_rises, scoped_limit};
 ghost use Rattle.litmus_syntax.specs.Tree.{Block};
 ghost use Rattle.slot_table.specs.declared.records.Record.{Record};
+ghost use Rattle.text_bounds.specs.Passes.{PassesALimit};
 ghost use Rattle.text_bounds.specs.Scopes.{AreOfNoScope, in_force, is_scoped};
 ghost use Rattle.written_order.specs.Standing.{Setting, Standing, moments};
 ghost use Rattle.written_order.specs.WrittenOrder.{SpellsAll, StepsOfBlock};
@@ -40,4 +41,10 @@ pub fn scopes_are_counted()
     ensures opens { (did : List Happening) (a : access.Access) → is_scoped a.kind ≡ true → in_force (did ++ Begin a ∷ []) ≡ in_force did + 1 }
     ensures closes { (did : List Happening) (a : access.Access) → is_scoped a.kind ≡ true → in_force (did ++ End a ∷ []) ≡ in_force did - 1 }
     ensures others { (did does : List Happening) → AreOfNoScope does → in_force (did ++ does) ≡ in_force did }
+{}
+
+/// Law: no run of a text that keeps its limits passes one of them.
+pub fn no_text_passes_its_limits()
+    ensures { (s : Setting) (registers : ℕ) (body : Block) (records : List Record) → BlockScopes 0 body → block_rises body ≤ 2 ^ 32
+        → (spells : SpellsAll s registers body records) → ¬ PassesALimit s spells.end }
 {}
