@@ -1,0 +1,5 @@
+pub mod Firm
+pub mod Checks
+pub mod Texts
+pub mod Tasks
+pub mod Lists

@@ -1,0 +1,4 @@
+//! How many steps the tasks of a program make, at most. No code.
+#![tactic(auto)]
+
+pub mod laws;
