@@ -55,7 +55,8 @@ word_few task step Goes n (first ∷ later) rest goes h =
     let got = on_word first.answer (λ word. Goes word later) h.2 in few_after n first later rest (goes got.0 later got.2)
 
 flag_few : (task : ℕ) (step : Step) (Goes : Bool → List Record → Type 0) (n : ℕ) (records rest : List Record)
-    → ((flag : Bool) (later : List Record) → Goes flag later → Few n later rest) → MakesFlag task step Goes records → Few (n + 1) records rest
+    → ((flag : Bool) (later : List Record) → Goes flag later → Few n later rest) → MakesFlag task step Goes records
+    → Few (n + 1) records rest
 flag_few task step Goes n [] rest goes h = absurd h
 flag_few task step Goes n (first ∷ later) rest goes h =
     let got = on_flag first.answer (λ flag. Goes flag later) h.2 in few_after n first later rest (goes got.0 later got.2)
@@ -83,18 +84,22 @@ inserts_few : (task word : ℕ) (indices : List ℕ) (records : List Record) (pl
     → TriesInsert task word indices records place rest → Few (length indices) records rest
 inserts_few task word [] records place rest h = none_few records rest h.1
 inserts_few task word (index ∷ indices) records place rest h =
-    let few = flag_few task _ _ (length indices) records rest (λ accepted later goes. by_bool accepted _ _ (Few (length indices) later rest) goes
+    let few = flag_few task _ _ (length indices) records rest (λ accepted later goes. by_bool accepted _ _
+    (Few (length indices) later rest) goes
     (λ it. few_more 0 (length indices) later rest (omega arith) (none_few later rest it.1))
     (λ on. inserts_few task word indices later place rest on)) h in omega (arith, few)
 
 -- loads of a pair that were heard no half go on with one more
-loads_again : (half : Halves → ℕ) (task index : ℕ) (first : Record) (later : List Record) (both : Halves) (rest : List Record) → first.step ≡ PairLoad index
+loads_again : (half : Halves → ℕ) (task index : ℕ) (first : Record) (later : List Record) (both : Halves) (rest : List Record)
+    → first.step ≡ PairLoad index
     → Hears half task index later both rest → vain_before first later ≡ true
 loads_again half task index first [] both rest is h = absurd h
 loads_again half task index first (next ∷ later) both rest is h =
-    ap (λ (x : Step). was_vain x first.answer next.step) is ∙ (ap (λ (x : Step). was_vain (PairLoad index) first.answer x) h.1 ∙ eq-eqb index index refl)
+    ap (λ (x : Step). was_vain x first.answer next.step) is ∙ (ap (λ (x : Step). was_vain (PairLoad index) first.answer x) h.1
+    ∙ eq-eqb index index refl)
 
-hears_few : (half : Halves → ℕ) (task index : ℕ) (records : List Record) (both : Halves) (rest : List Record) → Hears half task index records both rest
+hears_few : (half : Halves → ℕ) (task index : ℕ) (records : List Record) (both : Halves) (rest : List Record)
+    → Hears half task index records both rest
     → Few 1 records rest
 hears_few half task index [] both rest h = absurd h
 hears_few half task index (first ∷ later) both rest h =
@@ -108,7 +113,8 @@ hears_few half task index (first ∷ later) both rest h =
     ]
 
 -- tries of a lock that isn't free go on with one more
-tries_again : (task lock : ℕ) (first : Record) (later rest : List Record) → first.step ≡ LockTry lock task → first.answer ≡ answers.Flag false
+tries_again : (task lock : ℕ) (first : Record) (later rest : List Record) → first.step ≡ LockTry lock task
+    → first.answer ≡ answers.Flag false
     → TakesLock task lock later rest → vain_before first later ≡ true
 tries_again task lock first [] rest is refused h = absurd h
 tries_again task lock first (next ∷ later) rest is refused h =
@@ -143,7 +149,8 @@ on_exchange answers.Done Accepted Refused R h accepted refused = absurd h
 
 module _ (task : ℕ) (a : Access) (source : Source) (change : Change) where
   exchanges_again : (old new word : ℕ) (first : Record) (later : List Record) (effect : Effect) (rest : List Record)
-      → first.step ≡ CellExchange source.cell old new → first.answer ≡ answers.Word word → Exchanges task a source change word later effect rest
+      → first.step ≡ CellExchange source.cell old new → first.answer ≡ answers.Word word
+      → Exchanges task a source change word later effect rest
       → Few 1 later rest → Few 1 (first ∷ later) rest
   exchanges_again old new word first [] effect rest is refused h more =
       by_bool (is_wanted a.size change (value_in a source word)) _ _ (Few 1 (first ∷ []) rest) h (λ no. absurd no)
@@ -154,11 +161,13 @@ module _ (task : ℕ) (a : Access) (source : Source) (change : Change) where
       let vain : vain_before first (next ∷ later) ≡ true =
       ap (λ (x : Step). was_vain x first.answer next.step) is
       ∙ (ap (λ (x : Answer). was_vain (CellExchange source.cell old new) x next.step) refused
-      ∙ (ap (λ (x : Step). was_vain (CellExchange source.cell old new) (answers.Word word) x) again.0.1 ∙ eq-eqb source.cell source.cell refl)) in
+      ∙ (ap (λ (x : Step). was_vain (CellExchange source.cell old new) (answers.Word word) x) again.0.1
+      ∙ eq-eqb source.cell source.cell refl)) in
       let same = none_firm first (next ∷ later) vain in omega (arith, more, same))
       (λ over. few_after 0 first (next ∷ later) rest (none_few (next ∷ later) rest over.1))
 
-  exchanges_few : (seen : ℕ) (records : List Record) (effect : Effect) (rest : List Record) → Exchanges task a source change seen records effect rest
+  exchanges_few : (seen : ℕ) (records : List Record) (effect : Effect) (rest : List Record)
+      → Exchanges task a source change seen records effect rest
       → Few 1 records rest
   exchanges_few seen [] effect rest h =
       by_bool (is_wanted a.size change (value_in a source seen)) _ _ (Few 1 [] rest) h (λ no. absurd no)
@@ -167,22 +176,27 @@ module _ (task : ℕ) (a : Access) (source : Source) (change : Change) where
       by_bool (is_wanted a.size change (value_in a source seen)) _ _ (Few 1 (first ∷ later) rest) h
       (λ tried. on_exchange first.answer _ _ (Few 1 (first ∷ later) rest) tried.1
       (λ accepted. few_after 0 first later rest (none_few later rest accepted.1))
-      (λ word refused on. exchanges_again seen _ word first later effect rest tried.0.1 refused on (exchanges_few word later effect rest on)))
+      (λ word refused on. exchanges_again seen _ word first later effect rest tried.0.1 refused on
+      (exchanges_few word later effect rest on)))
       (λ over. few_more 0 1 (first ∷ later) rest (omega arith) (none_few (first ∷ later) rest over.1))
 
-  changes_few : (records : List Record) (effect : Effect) (rest : List Record) → OperatesIn task a source (operations.Change change) records effect rest
+  changes_few : (records : List Record) (effect : Effect) (rest : List Record)
+      → OperatesIn task a source (operations.Change change) records effect rest
       → Few 2 records rest
   changes_few records effect rest h =
       word_few task _ _ 1 records rest (λ seen later goes. exchanges_few seen later effect rest goes) h
 
 -- an operation on memory
-operates_in_few : (task : ℕ) (a : Access) (source : Source) (operation : Operation) (records : List Record) (effect : Effect) (rest : List Record)
+operates_in_few : (task : ℕ) (a : Access) (source : Source) (operation : Operation) (records : List Record) (effect : Effect)
+    (rest : List Record)
     → OperatesIn task a source operation records effect rest → Few 3 records rest
 operates_in_few task a source operations.Load records effect rest h =
-    let few = word_few task _ _ 0 records rest (λ word later goes. none_few later rest goes.1) h in few_more 1 3 records rest (omega arith) few
+    let few = word_few task _ _ 0 records rest (λ word later goes. none_few later rest goes.1) h in few_more 1 3 records rest
+    (omega arith) few
 operates_in_few task a source (operations.Add amount) records effect rest h =
     word_few task _ _ 2 records rest
-    (λ word later goes. changes_few task a source (changes.Write (sum_of a.size (value_in a source word) amount)) later goes.0 rest goes.1) h
+    (λ word later goes. changes_few task a source (changes.Write (sum_of a.size
+    (value_in a source word) amount)) later goes.0 rest goes.1) h
 operates_in_few task a source (operations.Change change) records effect rest h =
     few_more 2 3 records rest (omega arith) (changes_few task a source change records effect rest h)
 
@@ -193,7 +207,8 @@ operates_few s a (Some operation) records effect rest h = operates_in_few s.task
 
 -- the parts of a check
 module _ (s : Setting) (a : Access) where
-  takes_few : (found : Watchpoint) (records : List Record) (outcome : Outcome) (rest : List Record) → Takes s a found records outcome rest → Few 3 records rest
+  takes_few : (found : Watchpoint) (records : List Record) (outcome : Outcome) (rest : List Record) → Takes s a found records outcome rest
+      → Few 3 records rest
   takes_few found records outcome rest h =
       flag_few s.task _ _ 2 records rest (λ taken later goes. by_bool taken _ _ (Few 2 later rest) goes
       (λ tells. few_both 1 1 later tells.1 rest (hears_few setter_half s.task found.index later tells.0 tells.1 tells.2)
@@ -203,9 +218,11 @@ module _ (s : Setting) (a : Access) where
   found_few : (mask : Option ℕ) (found : Watchpoint) (records : List Record) (outcome : Outcome) (rest : List Record) (Masked : ℕ → Type 0)
       → ((mask : ℕ) → Masked mask → rest ≡ records) → MatchOption mask (Takes s a found records outcome rest) Masked → Few 3 records rest
   found_few None found records outcome rest Masked none h = takes_few found records outcome rest h
-  found_few (Some mask) found records outcome rest Masked none h = few_more 0 3 records rest (omega arith) (none_few records rest (none mask h))
+  found_few (Some mask) found records outcome rest Masked none h = few_more 0 3 records rest (omega arith)
+      (none_few records rest (none mask h))
 
-  loads_few : (source : Option Source) (records : List Record) (value : Option ℕ) (rest : List Record) → LoadsFrom s a source records value rest
+  loads_few : (source : Option Source) (records : List Record) (value : Option ℕ) (rest : List Record)
+      → LoadsFrom s a source records value rest
       → Few 1 records rest
   loads_few None records value rest h = few_more 0 1 records rest (omega arith) (none_few records rest h.1)
   loads_few (Some source) records value rest h = word_few s.task _ _ 0 records rest (λ word later goes. none_few later rest goes.1) h
@@ -217,35 +234,44 @@ module _ (s : Setting) (a : Access) where
       (λ over. few_more 0 1 later rest (omega arith) (none_few later rest over.1))
       (λ hit. hears_few finder_half s.task index later hit.0 rest hit.1)) h
 
-  arms_few : (index : ℕ) (records : List Record) (outcome : Outcome) (rest : List Record) → Arms s a index records outcome rest → Few 5 records rest
+  arms_few : (index : ℕ) (records : List Record) (outcome : Outcome) (rest : List Record) → Arms s a index records outcome rest
+      → Few 5 records rest
   arms_few index records outcome rest h =
       done_few s.task _ _ 4 records rest (λ later watches.
       few_both 1 3 later watches.2 rest (loads_few (source_of s a) later watches.0 watches.2 watches.4)
       (few_both 1 2 watches.2 watches.3 rest (loads_few (source_of s a) watches.2 watches.1 watches.3 watches.5)
       (judges_few index (both_values watches.0 watches.1) watches.3 outcome rest watches.6))) h
 
-  watches_few : (place : Option ℕ) (records : List Record) (judged : Option Judged) (rest : List Record) → WatchesAt s a place records judged rest
+  watches_few : (place : Option ℕ) (records : List Record) (judged : Option Judged) (rest : List Record)
+      → WatchesAt s a place records judged rest
       → Few 5 records rest
   watches_few None records judged rest h = few_more 0 5 records rest (omega arith) (none_few records rest h.1)
   watches_few (Some index) records judged rest h = arms_few index records h.0 rest h.1
 
   frees_few : (index : ℕ) (records rest : List Record) → Frees s index records rest → Few 2 records rest
   frees_few index records rest h =
-      done_few s.task _ _ 1 records rest (λ later removes. done_few s.task _ _ 0 later rest (λ after over. none_few after rest over) removes) h
+      done_few s.task _ _ 1 records rest (λ later removes. done_few s.task _ _ 0 later rest
+      (λ after over. none_few after rest over) removes) h
 
-  ends_few : (asked : ℕ) (judged : Option Judged) (records : List Record) (pass : Pass) (rest : List Record) → cases.Ends s asked judged records pass rest
+  ends_few : (asked : ℕ) (judged : Option Judged) (records : List Record) (pass : Pass) (rest : List Record)
+      → cases.Ends s asked judged records pass rest
       → Few 2 records rest
   ends_few asked None records pass rest h = few_more 0 2 records rest (omega arith) (none_few records rest h.1)
   ends_few asked (Some judged) records pass rest h = frees_few judged.index records rest h.1
 
-  none_found_few : (marked : Bool) (asked : ℕ) (records : List Record) (pass : Pass) (rest : List Record) → NoneFound s a marked asked records pass rest
+  none_found_few : (marked : Bool) (asked : ℕ) (records : List Record) (pass : Pass) (rest : List Record)
+      → NoneFound s a marked asked records pass rest
       → Few 10 records rest
-  none_found_few marked asked records pass rest (cases.counts_as_marked m is over) = few_more 0 10 records rest (omega arith) (none_few records rest over)
-  none_found_few marked asked records pass rest (cases.skipped m n is over) = few_more 0 10 records rest (omega arith) (none_few records rest over)
-  none_found_few marked asked records pass rest (cases.unencodable m w n is over) = few_more 0 10 records rest (omega arith) (none_few records rest over)
+  none_found_few marked asked records pass rest (cases.counts_as_marked m is over) =
+      few_more 0 10 records rest (omega arith) (none_few records rest over)
+  none_found_few marked asked records pass rest (cases.skipped m n is over) =
+      few_more 0 10 records rest (omega arith) (none_few records rest over)
+  none_found_few marked asked records pass rest (cases.unencodable m w n is over) =
+      few_more 0 10 records rest (omega arith) (none_few records rest over)
   none_found_few marked asked records pass rest (cases.watched judged later m w e up ends) =
       few_both 8 2 records later rest
-      (few_both 3 5 records up.1 later (inserts_few s.task _ (try_order (slot_of s a)) records up.0 up.1 up.2) (watches_few up.0 up.1 judged later up.3))
+      (few_both 3 5 records up.1 later (inserts_few s.task _ (try_order (slot_of s a)) records up.0 up.1 up.2)
+      (watches_few up.0 up.1 judged later up.3))
       (ends_few (asked + 1) judged later pass rest ends)
 
   goes_on_few : (found : Option Watchpoint) (marked : Bool) (asked : ℕ) (records : List Record) (pass : Pass) (rest : List Record)
@@ -254,14 +280,17 @@ module _ (s : Setting) (a : Access) where
   goes_on_few (Some found) marked asked records pass rest h =
       few_more 3 10 records rest (omega arith) (found_few a.mask found records pass.outcome rest _ (λ mask none. none.1) h.3)
 
-  once_few : (marked : Bool) (asked : ℕ) (records : List Record) (pass : Pass) (rest : List Record) → ChecksOnce s a marked asked records pass rest
+  once_few : (marked : Bool) (asked : ℕ) (records : List Record) (pass : Pass) (rest : List Record)
+      → ChecksOnce s a marked asked records pass rest
       → Few 13 records rest
   once_few marked asked records pass rest h =
-      few_both 3 10 records h.1 rest (looks_few s a (look_order (slot_of s a)) records h.0 h.1 h.2) (goes_on_few h.0 marked asked h.1 pass rest h.3)
+      few_both 3 10 records h.1 rest (looks_few s a (look_order (slot_of s a)) records h.0 h.1 h.2)
+      (goes_on_few h.0 marked asked h.1 pass rest h.3)
 
 -- a check, and a close
 module _ (s : Setting) where
-  rechecks_few : (scopes : List Begun) (asked : ℕ) (records : List Record) (passes : Passes) (rest : List Record) → Rechecks s scopes asked records passes rest
+  rechecks_few : (scopes : List Begun) (asked : ℕ) (records : List Record) (passes : Passes) (rest : List Record)
+      → Rechecks s scopes asked records passes rest
       → Few (13 * length scopes) records rest
   rechecks_few [] asked records passes rest h = none_few records rest h.1
   rechecks_few (scope ∷ scopes) asked records passes rest h =
@@ -295,5 +324,8 @@ module _ (s : Setting) where
       → Close s scope silenced asked records passes rest → Few 14 records rest
   close_few scope silenced asked records passes rest h =
       let last = h.1 in
-      few_both 13 1 records last.0 rest (rechecks_few (record scope { silenced = scope.silenced || silenced } ∷ []) asked records passes last.0 last.1)
+      few_both 13 1 records last.0 rest (rechecks_few (record scope {
+        silenced =
+            scope.silenced || silenced;
+      } ∷ []) asked records passes last.0 last.1)
       (word_few s.task _ _ 0 last.0 rest (λ stamp after over. none_few after rest over) last.2)

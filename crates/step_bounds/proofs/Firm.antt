@@ -56,7 +56,8 @@ onto_is : (records before : List Record) → onto records before ≡ reverse rec
 onto_is [] before = refl
 onto_is (first ∷ later) before =
     onto_is later (first ∷ before)
-    ∙ (sym (append_assoc (reverse later) (first ∷ []) before) ∙ ap (λ (r : List Record). r ++ before) (sym (reverse-append (first ∷ []) later)))
+    ∙ (sym (append_assoc (reverse later) (first ∷ []) before) ∙ ap (λ (r : List Record). r ++ before)
+    (sym (reverse-append (first ∷ []) later)))
 
 onto_length : (records before : List Record) → length (onto records before) ≡ length records + length before
 onto_length [] before = omega arith
@@ -100,7 +101,8 @@ tried_waits : (step : Step) (earlier : List Record) → 0 < vain_tries step earl
 tried_waits step [] some = absurd (omega (arith, some))
 tried_waits step (before ∷ earlier) some = by_vain (was_vain before.step before.answer step) refl some
   where
-    by_vain : (vain : Bool) → was_vain before.step before.answer step ≡ vain → 0 < (if vain then suc (vain_tries before.step earlier) else 0) → IsWait step
+    by_vain : (vain : Bool) → was_vain before.step before.answer step ≡ vain
+        → 0 < (if vain then suc (vain_tries before.step earlier) else 0) → IsWait step
     by_vain true is more = vain_waits before.step before.answer step is
     by_vain false is more = absurd (omega (arith, more))
 
@@ -128,7 +130,8 @@ few_before turns latest (before ∷ earlier) within =
   where
     by_vain : (vain : Bool) → length earlier ≤ firm_before before earlier * (turns + 1) + vain_tries before.step earlier
         → vain_tries before.step earlier ≤ turns
-        → suc (length earlier) ≤ (one vain + firm_before before earlier) * (turns + 1) + (if vain then suc (vain_tries before.step earlier) else 0)
+        → suc (length earlier) ≤ (one vain + firm_before before earlier) * (turns + 1) +
+        (if vain then suc (vain_tries before.step earlier) else 0)
     by_vain true rest few = omega (arith, rest)
     by_vain false rest few = omega (arith, rest, few)
 

@@ -20,14 +20,18 @@ abbrev all_below : ℕ → List Record → ℕ
 all_below zero records = 0
 all_below (suc task) records = all_below task records + length (records_of task records)
 
-own_latest : (task : ℕ) (latest : Record) (earlier : List Record) → latest.task ≡ task → records_of task (latest ∷ earlier) ≡ latest ∷ records_of task earlier
+own_latest : (task : ℕ) (latest : Record) (earlier : List Record) → latest.task ≡ task
+    → records_of task (latest ∷ earlier) ≡ latest ∷ records_of task earlier
 own_latest task latest earlier is = rw (eq-eqb latest.task task is) refl
 
 -- one record more counts for its task
-as_many : (task : ℕ) (latest : Record) (earlier : List Record) → length (records_of task earlier) ≤ length (records_of task (latest ∷ earlier))
+as_many : (task : ℕ) (latest : Record) (earlier : List Record) → length (records_of task earlier) ≤ length
+    (records_of task (latest ∷ earlier))
 as_many task latest earlier = elim (eqb_tells latest.task task) [
-  | inl own ↦ let long : length (records_of task (latest ∷ earlier)) ≡ length (latest ∷ records_of task earlier) = rw own.0 refl in omega (arith, long)
-  | inr other ↦ let long : length (records_of task (latest ∷ earlier)) ≡ length (records_of task earlier) = rw other.0 refl in omega (arith, long)
+  | inl own ↦ let long : length (records_of task (latest ∷ earlier)) ≡ length (latest ∷ records_of task earlier) =
+      rw own.0 refl in omega (arith, long)
+  | inr other ↦ let long : length (records_of task (latest ∷ earlier)) ≡ length (records_of task earlier) =
+      rw other.0 refl in omega (arith, long)
 ]
 
 still_below : (tasks : ℕ) (latest : Record) (earlier : List Record) → all_below tasks earlier ≤ all_below tasks (latest ∷ earlier)
@@ -35,7 +39,8 @@ still_below zero latest earlier = omega arith
 still_below (suc task) latest earlier =
     let rest = still_below task latest earlier in let own = as_many task latest earlier in omega (arith, rest, own)
 
-one_below : (tasks : ℕ) (latest : Record) (earlier : List Record) → latest.task < tasks → all_below tasks earlier + 1 ≤ all_below tasks (latest ∷ earlier)
+one_below : (tasks : ℕ) (latest : Record) (earlier : List Record) → latest.task < tasks
+    → all_below tasks earlier + 1 ≤ all_below tasks (latest ∷ earlier)
 one_below zero latest earlier below = absurd (omega (arith, below))
 one_below (suc task) latest earlier below = elim (eqb_tells latest.task task) [
   | inl own ↦
@@ -90,8 +95,10 @@ module _ (run : Run) (records : List Record) (keeps : KeepsLimits run.program) (
       let none : task_of run task ≡ idle = get_or-eq_default run.program.tasks idle beyond in
       let own : List Record = reverse (records_of task records) in
       let written = list.tasks task in
-      let steps : StepsOfBlock (task_setting run task) 0 idle.body (at_first (length idle.registers)) (own ++ written.more) written.whole.end [] =
-      subst (λ (t : Task). StepsOfBlock (task_setting run task) 0 t.body (at_first (length t.registers)) (own ++ written.more) written.whole.end []) none
+      let steps : StepsOfBlock (task_setting run task) 0 idle.body (at_first (length idle.registers))
+      (own ++ written.more) written.whole.end [] =
+      subst (λ (t : Task). StepsOfBlock (task_setting run task) 0 t.body (at_first (length t.registers))
+      (own ++ written.more) written.whole.end []) none
       written.whole.steps in
       let empty : length {A = Record} [] ≡ length (own ++ written.more) = ap (λ (r : List Record). length r) steps.1 in
       let parts = length-append own written.more in
@@ -101,7 +108,8 @@ module _ (run : Run) (records : List Record) (keeps : KeepsLimits run.program) (
   few_of_each : (task : ℕ) → task < length run.program.tasks → length (records_of task records) ≤ 2 ^ 25 * (run.rules.turns + 1)
   few_of_each task there =
       let own = All-get_or (TaskKeepsLimits run.program.variables) run.program.tasks task idle there keeps.each_task in
-      let few = few_of_task (task_setting run task) (length (task_of run task).registers) (task_of run task).body (reverse (records_of task records)) own.body
+      let few = few_of_task (task_setting run task) (length (task_of run task).registers) (task_of run task).body
+      (reverse (records_of task records)) own.body
       (list.tasks task) (subst (WithinTurns run.rules.turns) (sym (reverse-reverse (records_of task records))) (list.within task)) in
       let same = length-reverse (records_of task records) in
       omega (arith, few, same)

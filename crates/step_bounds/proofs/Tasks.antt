@@ -40,16 +40,19 @@ few_in_text body keeps =
     let statements = keeps.statements in
     omega (arith, most, statements)
 
-few_firm : (s : Setting) (registers : ℕ) (body : Block) (records : List Record) → BodyKeepsLimits body → WrittenOrder s registers body records
+few_firm : (s : Setting) (registers : ℕ) (body : Block) (records : List Record) → BodyKeepsLimits body
+    → WrittenOrder s registers body records
     → firm records ≤ 2 ^ 25
 few_firm s registers body records keeps written =
-    let all = (block_part s body 0 0 (omega arith) keeps.scopes (at_first registers) (records ++ written.more) written.whole.end [] written.whole.steps).few
+    let all = (block_part s body 0 0 (omega arith) keeps.scopes (at_first registers)
+    (records ++ written.more) written.whole.end [] written.whole.steps).few
     (omega arith) in
     let front = firm_front records written.more in
     let most = few_in_text body keeps in
     omega (arith, all, front, most)
 
-pub few_of_task : (s : Setting) (registers : ℕ) (body : Block) (records : List Record) → BodyKeepsLimits body → WrittenOrder s registers body records
+pub few_of_task : (s : Setting) (registers : ℕ) (body : Block) (records : List Record) → BodyKeepsLimits body
+    → WrittenOrder s registers body records
     → WithinTurns s.rules.turns (reverse records) → length records ≤ 2 ^ 25 * (s.rules.turns + 1)
 few_of_task s registers body records keeps written within =
     let few = few_within s.rules.turns records within in

@@ -53,7 +53,8 @@ Parts n scopes P = (before : Standing) (records : List Record) (after : Standing
     → Part n scopes before records after rest
 
 module _ (s : Setting) where
-  still : (n scopes : ℕ) (before : Standing) (records : List Record) (after : Standing) (rest : List Record) → after.scopes ≡ before.scopes → rest ≡ records
+  still : (n scopes : ℕ) (before : Standing) (records : List Record) (after : Standing) (rest : List Record)
+      → after.scopes ≡ before.scopes → rest ≡ records
       → Part n scopes before records after rest
   still n scopes before records after rest same is = record {
     leaves = same;
@@ -77,13 +78,15 @@ module _ (s : Setting) where
   }
 
   module _ (scopes : ℕ) (few_scopes : scopes ≤ 8) where
-    makes : (a : access.Access) (operation : Option Operation) (before : Standing) (records : List Record) (effect : Effect) (after : Standing)
+    makes : (a : access.Access) (operation : Option Operation) (before : Standing) (records : List Record) (effect : Effect)
+        (after : Standing)
         (rest : List Record) → Makes s before a operation records effect after rest → Part 128 scopes before records after rest
     makes a operation before records effect after rest h = record {
       leaves = ap (λ (st : Standing). st.scopes) h.comes_to
           ∙ operated_scopes a operation (doing before (drop 1 records) (happenings.Begin a ∷ [])) h.checked effect h.done;
       few = λ room.
-          let checked = check_few (checks_of s) before.scopes h.begun before.asked records h.passes h.checked h.check (omega (arith, room, few_scopes)) in
+          let checked = check_few (checks_of s) before.scopes h.begun before.asked records h.passes h.checked h.check
+          (omega (arith, room, few_scopes)) in
           let operated = operates_few (checks_of s) a operation h.checked effect h.done h.operates in
           let ended = word_few s.text.task _ _ 0 h.done rest (λ stamp later over. none_few later rest over) h.ends in
           omega (arith, checked, operated, ended);
@@ -94,7 +97,8 @@ module _ (s : Setting) where
         let own = makes _ _ _ records h.1 h.2 rest h.3 in
         record { leaves = ap (λ (st : Standing). st.scopes) h.6 ∙ own.leaves; few = λ room. own.few room }
 
-    expression_part : (site : ℕ) (e : Expression) (value : ℕ) → Parts 128 scopes (λ b records a rest. StepsOfExpression s site e b records value a rest)
+    expression_part : (site : ℕ) (e : Expression) (value : ℕ) → Parts 128 scopes
+        (λ b records a rest. StepsOfExpression s site e b records value a rest)
     expression_part site (tree.pure e) value before records after rest h =
         still 128 scopes before records after rest (ap (λ (st : Standing). st.scopes) h.1) h.2
     expression_part site (tree.loading e) value before records after rest h = load_part site (load_in e) h.0 before records after rest h.1
@@ -113,12 +117,17 @@ module _ (s : Setting) where
     assign_part : (site : ℕ) (data_race : Bool) (a : Assignment) → Parts 256 scopes (StepsInDataRace s site data_race a)
     assign_part site data_race a before records after rest h =
         let own = assignment_part site a _ records h.0 rest h.1 in
-        record { leaves = ap (λ (st : Standing). st.scopes) h.2 ∙ own.leaves; few = λ room. few_more 128 256 records rest (omega arith) (own.few room) }
+        record {
+          leaves = ap (λ (st : Standing). st.scopes) h.2 ∙ own.leaves;
+          few =
+              λ room. few_more 128 256 records rest (omega arith) (own.few room);
+        }
 
     checks_part : (site : ℕ) (bytes : Bytes) (kind : Kind) (mask : Option ℕ) → Parts 128 scopes (ChecksAt s site bytes kind mask)
     checks_part site bytes kind mask before records after rest h = makes _ None before records h.0 after rest h.1
 
-    check_part : (empty : Bool) (site : ℕ) (bytes : Bytes) (kind : Kind) (before : Standing) (records : List Record) (after : Standing) (rest : List Record)
+    check_part : (empty : Bool) (site : ℕ) (bytes : Bytes) (kind : Kind) (before : Standing) (records : List Record) (after : Standing)
+        (rest : List Record)
         → MatchBool empty (Only before records after rest) (ChecksAt s site bytes kind None before records after rest)
         → Part 256 scopes before records after rest
     check_part true site bytes kind before records after rest h =
@@ -153,7 +162,11 @@ module _ (s : Setting) where
         more 128 256 scopes before after records rest (omega arith) (checks_part site _ _ None before records after rest h)
     call_part site (calls.AssertBits x mask) before records after rest h =
         let own = checks_part site _ _ _ before records h.0 rest h.1 in
-        record { leaves = ap (λ (st : Standing). st.scopes) h.2 ∙ own.leaves; few = λ room. few_more 128 256 records rest (omega arith) (own.few room) }
+        record {
+          leaves = ap (λ (st : Standing). st.scopes) h.2 ∙ own.leaves;
+          few =
+              λ room. few_more 128 256 records rest (omega arith) (own.few room);
+        }
     call_part site (calls.Mark m) before records after rest h =
         still 256 scopes before records after rest (ap (λ (st : Standing). st.scopes) h.2.0 ∙ counting_scopes h.0 before) h.2.1
     call_part site (calls.Check is_write x size) before records after rest h =
@@ -182,13 +195,15 @@ module _ (s : Setting) where
     ]
 
   -- a scoped assertion is in force while what follows in its block is made
-  scope_part : (n scopes : ℕ) → scopes + 1 ≤ 8 → (a : access.Access) (begun : Begun) (before opened closing after : Standing) (records inside later rest : List Record)
+  scope_part : (n scopes : ℕ) → scopes + 1 ≤ 8 → (a : access.Access) (begun : Begun) (before opened closing after : Standing)
+      (records inside later rest : List Record)
       → OpensScope s before a records begun opened inside → Part n (scopes + 1) opened inside closing later
       → ClosesScope s closing begun before.scopes later after rest → Part (256 + n) scopes before records after rest
   scope_part n scopes room a begun before opened closing after records inside later rest opens inner closes = record {
     leaves = ap (λ (st : Standing). st.scopes) closes.comes_to;
     few = λ fewer.
-        let first = check_few (checks_of s) before.scopes begun before.asked records opens.passes inside opens.check (omega (arith, fewer, room)) in
+        let first = check_few (checks_of s) before.scopes begun before.asked records opens.passes inside opens.check
+        (omega (arith, fewer, room)) in
         let in_force : length opened.scopes ≡ length before.scopes + 1 =
         ap (λ (st : Standing). length st.scopes) opens.comes_to ∙ length-append before.scopes (begun ∷ []) in
         let between = inner.few (omega (arith, in_force, fewer)) in
@@ -196,8 +211,10 @@ module _ (s : Setting) where
         omega (arith, first, between, last);
   }
 
-  in_block_part : (scoped : Option Scoped) (Own Later : Steps) (site scopes begins n m : ℕ) → BeginsScope scoped begins → scopes + begins ≤ 8
-      → (begins ≡ 1 → 256 ≤ n) → Parts n scopes Own → Parts m (scopes + begins) Later → Parts (n + m) scopes (StepsInBlock s site scoped Own Later)
+  in_block_part : (scoped : Option Scoped) (Own Later : Steps) (site scopes begins n m : ℕ) → BeginsScope scoped begins
+      → scopes + begins ≤ 8
+      → (begins ≡ 1 → 256 ≤ n) → Parts n scopes Own → Parts m (scopes + begins) Later
+      → Parts (n + m) scopes (StepsInBlock s site scoped Own Later)
   in_block_part None Own Later site scopes begins n m is room most own later before records after rest h =
       let same : scopes + begins ≡ scopes = omega (arith, is) in
       both n m scopes before h.0 after records h.1 rest (own before records h.0 h.1 h.2)
@@ -226,7 +243,8 @@ module _ (s : Setting) where
         more 128 256 scopes before after records rest (omega arith) (load_part scopes room site l h.0 before records after rest h.1)
     statement_part (tree.assign data_race a) site scopes room fits before records after rest h =
         assign_part scopes room site data_race a before records after rest h
-    statement_part (tree.call c) site scopes room fits before records after rest h = call_part scopes room site c before records after rest h
+    statement_part (tree.call c) site scopes room fits before records after rest h =
+        call_part scopes room site c before records after rest h
     statement_part (tree.if_block e body) site scopes room fits before records after rest h =
         let value = expression_part scopes room site e h.0 before records h.1 h.2 h.3 in
         let made : Part (block_steps body + 0) scopes h.1 h.2 after rest =
@@ -241,20 +259,22 @@ module _ (s : Setting) where
         chosen scopes room (block_steps body) (block_steps otherwise) h.0 _ _ h.1 after h.2 rest h.4
         (λ steps. block_part body (after_condition site e) scopes room fits.0 h.1 h.2 after rest steps)
         (λ steps. block_part otherwise (after_condition site e + length (sites_of body)) scopes room fits.1 h.1 h.2 after rest steps) in
-        more (128 + (block_steps body + block_steps otherwise)) (256 + (block_steps body + block_steps otherwise)) scopes before after records rest
-        (omega arith)
+        more (128 + (block_steps body + block_steps otherwise)) (256 + (block_steps body + block_steps otherwise)) scopes before after
+        records rest (omega arith)
         (both 128 (block_steps body + block_steps otherwise) scopes before h.1 after records h.2 rest value made)
     statement_part (tree.for_turns r turns body) site scopes room fits before records after rest h =
         turns_part scopes room (λ b records a rest. StepsOfBlock s site body b records a rest) (block_steps body)
         (λ b records a rest steps. block_part body site scopes room fits b records a rest steps) r 0 turns before records after rest h
 
-    pub block_part : (body : Block) (site scopes : ℕ) → scopes ≤ 8 → BlockScopes scopes body → Parts (block_steps body) scopes (StepsOfBlock s site body)
+    pub block_part : (body : Block) (site scopes : ℕ) → scopes ≤ 8 → BlockScopes scopes body
+        → Parts (block_steps body) scopes (StepsOfBlock s site body)
     block_part tree.empty site scopes room fits before records after rest h =
         still 0 scopes before records after rest (ap (λ (st : Standing). st.scopes) h.0) h.1
     block_part (tree.first statement later) site scopes room fits before records after rest h =
         let enough = has_room statement scopes fits.0 room in
         in_block_part (scoped_assertion statement) (λ b records a rest. StepsOf s site statement b records a rest)
-        (λ b records a rest. StepsOfBlock s (site + length (accesses_of statement)) later b records a rest) site scopes (scopes_of statement)
+        (λ b records a rest. StepsOfBlock s (site + length (accesses_of statement)) later b records a rest) site scopes
+        (scopes_of statement)
         (statement_steps statement) (block_steps later) (begins_scope statement) enough (scope_most statement)
         (λ b records a rest steps. statement_part statement site scopes room fits.0 b records a rest steps)
         (λ b records a rest steps.

@@ -15,7 +15,8 @@ ghost use Rattle.written_order.specs.WrittenOrder.{WrittenOrder};
 /// bits, a run has fewer than 2^96 steps.
 pub fn few_steps_are_made()
     ensures task { (s : Setting) (registers : ℕ) (body : Block) (records : List Record) → BodyKeepsLimits body
-        → WrittenOrder s registers body records → WithinTurns s.rules.turns (reverse records) → length records ≤ 2 ^ 25 * (s.rules.turns + 1) }
+        → WrittenOrder s registers body records → WithinTurns s.rules.turns (reverse records)
+        → length records ≤ 2 ^ 25 * (s.rules.turns + 1) }
     ensures list { (run : Run) (records : List Record) → KeepsLimits run.program → RunList run records
         → length records ≤ length run.program.tasks * (2 ^ 25 * (run.rules.turns + 1)) }
     ensures all { (run : Run) (records : List Record) → KeepsLimits run.program → run.rules.turns < 2 ^ 64 → RunList run records
