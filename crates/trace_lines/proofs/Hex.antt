@@ -120,6 +120,9 @@ hex_glyphs n small =
     let e : digits 16 false n ≡ p.written = sym (onto_all n) ∙ p.is ∙ append-nil p.written in
     hex_is 16 n ∙ ap (λ ds. replicate (16 - length ds) 48 ++ ds) e ∙ p.padded
 
+pub length-hex : (n : ℕ) → n < 2 ^ 64 → length (hex 16 n) ≡ 16
+length-hex n small = ap length (hex_glyphs n small) ∙ length-glyphs 16 n
+
 -- ---- the value of digits
 
 glyph_value : (d : ℕ) → d < 16 → hex_value (digit_glyph false d) ≡ Some d
