@@ -1,0 +1,27 @@
+-- Which accesses set watchpoints up, and which hit them.
+use Rattle.std.specs.Prelude.{◌≡◌, IsTrue, List}
+use Rattle.access_types.specs.Access.{Access}
+use Rattle.access_types.specs.Marked.{CountedAsMarked, Silenced}
+use Rattle.run_lists.specs.Run.{Run}
+use Rattle.run_lists.specs.RunList.{RunList}
+use Rattle.run_lists.specs.Told.{OutcomeAt, history_of}
+use Rattle.run_verdicts.specs.Watches.{is_verdict}
+use Rattle.setup_access.specs.declared.outcome.Outcome.TheVariants as outcomes
+use Rattle.slot.specs.Pair.{Halves}
+use Rattle.slot_table.specs.declared.records.Record.{Record}
+use Rattle.watch_word.specs.Word.{Encodable}
+
+-- a word can stand for the access, and in the history that the list tells it doesn't count as marked and isn't
+-- silenced
+pub record MayBeWatched {run : Run} {records : List Record} (list : RunList run records) (a : Access) : Type 0 where
+  pub encodable : Encodable a
+  pub unmarked : ¬ CountedAsMarked run.rules.plain_writes_atomic (history_of list) a
+  pub heard : ¬ Silenced (history_of list) a
+
+-- so it is of the access that was checked if the outcome is a verdict on its watchpoint
+abbrev pub IfWatched : {run : Run} {records : List Record} → RunList run records → OutcomeAt → Type 0
+IfWatched list came = IsTrue (is_verdict came.outcome) → MayBeWatched list came.access
+
+-- and it isn't silenced if it told the setter of a watchpoint that it had hit
+abbrev pub IfTold : {run : Run} {records : List Record} → RunList run records → OutcomeAt → Type 0
+IfTold list came = (pair : Halves) → came.outcome ≡ outcomes.Told pair → ¬ Silenced (history_of list) came.access
