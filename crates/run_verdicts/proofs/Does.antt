@@ -16,7 +16,7 @@ use Rattle.run_verdicts.specs.Events.{AreMarks, DoesEvent, EachDoesItsEvent, IsE
 use Rattle.run_verdicts.proofs.Tells as tells
 use Rattle.setup_access.specs.Check.{Fallen}
 use Rattle.run_verdicts.proofs.Onces.{begin_once}
-use Rattle.run_verdicts.proofs.Tells.{Tells, goes_on, stays, stops}
+use Rattle.run_verdicts.proofs.Tells.{MadeFor, Tells, goes_on, made_anyway, stays, stops}
 use Rattle.run_verdicts.proofs.TextTells.{whole_tells}
 
 marks_both : (first second : List Happening) → AreMarks first → AreMarks second → AreMarks (first ++ second)
@@ -40,12 +40,12 @@ computes s last records did points outs same (tells.marks r d more point others 
           ∙ append_assoc last.progress.did more rest.marks));
       are = marks_both more rest.marks are rest.are;
     }
-computes s last records did points outs same (tells.silent first later d others o event goes) = record {
+computes s last records did points outs same (tells.silent first later d others o event made goes) = record {
   marks = [];
   all = ap (λ (p : Point). p.progress.did) (stays s (suc (length later)) last later d others o goes (omega arith)) ∙ sym (append-nil last.progress.did);
   are = tt;
 }
-computes s last records did points outs same (tells.event first later d more point others o here says event goes) = record {
+computes s last records did points outs same (tells.event first later d more point others o here says event none goes) = record {
   marks = [];
   all = ap (λ (p : Point). p.progress.did) (stops (suc (length later)) last point others (omega (arith, here))) ∙ sym (append-nil last.progress.did);
   are = tt;
@@ -59,6 +59,7 @@ pub record DoneWith (s : Setting) (last : Point) (x : Record) (q : List Record) 
   pub all : (point_by (length q) last points).progress.did ≡ (point_by (suc (length q)) last points).progress.did ++ (event ++ marks)
   pub is_event : IsEvent s (point_by (suc (length q)) last points).progress.did x.step x.answer event
   pub are : AreMarks marks
+  pub made_for : MadeFor s (point_by (suc (length q)) last points).progress.did x.step
 
 same_first : (first x : Record) (later q : List Record) → first ∷ later ≡ x ∷ q → (first ≡ x) × (later ≡ q)
 same_first first x later q is = (cc, cc)
@@ -79,8 +80,10 @@ done_with s last records did points outs same (tells.marks r d more point others
       is_event = subst (λ (t : Point). IsEvent s t.progress.did x.step x.answer rest.event)
           (sym (goes_on (suc (length q)) last point others (omega (arith, here, long)))) rest.is_event;
       are = rest.are;
+      made_for = subst (λ (t : Point). MadeFor s t.progress.did x.step)
+          (sym (goes_on (suc (length q)) last point others (omega (arith, here, long)))) rest.made_for;
     }
-done_with s last records did points outs same (tells.silent first later d others o event goes) [] x q is =
+done_with s last records did points outs same (tells.silent first later d others o event made goes) [] x q is =
     let it = same_first first x later q is in
     let at_q : Tells s q d others o = subst (λ (r : List Record). Tells s r d others o) it.1 goes in
     let then = computes s last q d others o same at_q in
@@ -93,10 +96,13 @@ done_with s last records did points outs same (tells.silent first later d others
           (subst (λ (d : List Happening). IsEvent s d first.step first.answer [])
           (sym (ap (λ (t : Point). t.progress.did) before ∙ same)) event);
       are = then.are;
+      made_for = subst (λ (r : Record). MadeFor s (point_by (suc (length q)) last others).progress.did r.step) it.0
+          (subst (λ (d : List Happening). MadeFor s d first.step)
+          (sym (ap (λ (t : Point). t.progress.did) before ∙ same)) made);
     }
-done_with s last records did points outs same (tells.silent first later d others o event goes) (f ∷ p) x q is =
+done_with s last records did points outs same (tells.silent first later d others o event made goes) (f ∷ p) x q is =
     let it = same_first first f later (p ++ x ∷ q) is in done_with s last later d others o same goes p x q it.1
-done_with s last records did points outs same (tells.event first later d more point others o here says event goes) [] x q is =
+done_with s last records did points outs same (tells.event first later d more point others o here says event none goes) [] x q is =
     let it = same_first first x later q is in
     let at_q : Tells s q point.progress.did others o = subst (λ (r : List Record). Tells s r point.progress.did others o) it.1 goes in
     let then = computes s point q point.progress.did others o refl at_q in
@@ -112,8 +118,10 @@ done_with s last records did points outs same (tells.event first later d more po
           (subst (λ (d : List Happening). IsEvent s d first.step first.answer more)
           (sym (ap (λ (t : Point). t.progress.did) before ∙ same)) event);
       are = then.are;
+      made_for = subst (λ (r : Record). MadeFor s (point_by (suc (length q)) last (point ∷ others)).progress.did r.step) it.0
+          (made_anyway s (point_by (suc (length q)) last (point ∷ others)).progress.did first.step none);
     }
-done_with s last records did points outs same (tells.event first later d more point others o here says event goes) (f ∷ p) x q is =
+done_with s last records did points outs same (tells.event first later d more point others o here says event none goes) (f ∷ p) x q is =
     let it = same_first first f later (p ++ x ∷ q) is in
     let long : length later ≡ length p + suc (length q) = ap (λ (l : List Record). length l) it.1 ∙ length-append p (x ∷ q) in
     let rest = done_with s point later point.progress.did others o refl goes p x q it.1 in
@@ -126,6 +134,8 @@ done_with s last records did points outs same (tells.event first later d more po
       is_event = subst (λ (t : Point). IsEvent s t.progress.did x.step x.answer rest.event)
           (sym (goes_on (suc (length q)) last point others (omega (arith, here, long)))) rest.is_event;
       are = rest.are;
+      made_for = subst (λ (t : Point). MadeFor s t.progress.did x.step)
+          (sym (goes_on (suc (length q)) last point others (omega (arith, here, long)))) rest.made_for;
     }
 done_with s last records did points outs same (tells.fell r d others o fallen so goes) p x q is = done_with s last r d others o same goes p x q is
 
@@ -143,10 +153,14 @@ module _ (run : Run) (records : List Record) (list : RunList run records) where
       whole_tells (task_setting run task) registers (task_of run task).body all (list.tasks task).whole
       (begin_once (task_setting run task) registers (task_of run task).body all (list.tasks task).whole)
 
-  does_at : (later : List Record) (latest : Record) (earlier : List Record) → records ≡ later ++ latest ∷ earlier
-      → DoesEvent (task_setting run latest.task) (did_by (list.tasks latest.task) (made_by latest.task earlier)) latest.step latest.answer
-      (did_next (list.tasks latest.task) (made_by latest.task earlier))
-  does_at later latest earlier is =
+  -- what it does at a record, and for which access
+  record At (latest : Record) (earlier : List Record) : Type 0 where
+    does : DoesEvent (task_setting run latest.task) (did_by (list.tasks latest.task) (made_by latest.task earlier)) latest.step latest.answer
+        (did_next (list.tasks latest.task) (made_by latest.task earlier))
+    made_for : MadeFor (task_setting run latest.task) (did_by (list.tasks latest.task) (made_by latest.task earlier)) latest.step
+
+  facts_at : (later : List Record) (latest : Record) (earlier : List Record) → records ≡ later ++ latest ∷ earlier → At latest earlier
+  facts_at later latest earlier is =
       let task : ℕ = latest.task in
       let written = list.tasks task in
       let registers : ℕ = length (task_of run task).registers in
@@ -169,18 +183,26 @@ module _ (run : Run) (records : List Record) (list : RunList run records) where
       ap (λ (n : ℕ). (point_by n first written.whole.end.way).progress.did) left
       ∙ (it.all ∙ ap (λ (n : ℕ). (point_by n first written.whole.end.way).progress.did ++ (it.event ++ it.marks)) (sym with_it)) in
       record {
-        event = it.event;
-        marks = it.marks;
-        all = ap (λ (d : List Happening). drop (length (did_by written made)) d) by_now ∙ drop_front (did_by written made) (it.event ++ it.marks);
-        is_event = subst (λ (n : ℕ). IsEvent (task_setting run task) (point_by n first written.whole.end.way).progress.did latest.step latest.answer it.event)
-            (sym with_it) it.is_event;
-        are_marks = it.are;
+        does = record {
+          event = it.event;
+          marks = it.marks;
+          all = ap (λ (d : List Happening). drop (length (did_by written made)) d) by_now ∙ drop_front (did_by written made) (it.event ++ it.marks);
+          is_event = subst (λ (n : ℕ). IsEvent (task_setting run task) (point_by n first written.whole.end.way).progress.did latest.step latest.answer it.event)
+              (sym with_it) it.is_event;
+          are_marks = it.are;
+        };
+        made_for = subst (λ (n : ℕ). MadeFor (task_setting run task) (point_by n first written.whole.end.way).progress.did latest.step)
+            (sym with_it) it.made_for;
       }
+
+  pub made_at : (later : List Record) (latest : Record) (earlier : List Record) → records ≡ later ++ latest ∷ earlier
+      → MadeFor (task_setting run latest.task) (did_by (list.tasks latest.task) (made_by latest.task earlier)) latest.step
+  made_at later latest earlier is = (facts_at later latest earlier is).made_for
 
   each_by : (later earlier : List Record) → records ≡ later ++ earlier → EachDoesItsEvent list earlier
   each_by later [] is = tt
   each_by later (latest ∷ earlier) is =
-      (each_by (later ++ latest ∷ []) earlier (is ∙ sym (append_assoc later (latest ∷ []) earlier)), does_at later latest earlier is)
+      (each_by (later ++ latest ∷ []) earlier (is ∙ sym (append_assoc later (latest ∷ []) earlier)), (facts_at later latest earlier is).does)
 
   pub each_does : EachDoesItsEvent list records
   each_does = each_by [] records refl

@@ -6,6 +6,7 @@ pub mod Counts
 pub mod Takings
 pub mod Endings
 pub mod Quiet
+pub mod Makers
 pub mod Opens
 pub mod Onces
 pub mod Tells
@@ -13,3 +14,6 @@ pub mod Watched
 pub mod TextTells
 pub mod Does
 pub mod Watches
+pub mod Finds
+pub mod MadeFor
+pub mod Joined

@@ -18,9 +18,12 @@ use Rattle.memory_operation.specs.declared.effect.Effect.{Effect}
 use Rattle.memory_operation.specs.declared.operation.Change.{Change}
 use Rattle.memory_operation.specs.declared.operation.Change.TheVariants as changes
 use Rattle.setup_access.specs.Check.{Fallen}
+use Rattle.setup_access.specs.Hits.{Hits}
 use Rattle.setup_access.specs.Own.{IsOwn}
 use Rattle.setup_access.specs.Records.{MakesWord}
+use Rattle.setup_access.specs.Setting as checks
 use Rattle.setup_access.specs.Values.{source_of, value_in}
+use Rattle.setup_access.specs.declared.outcome.Outcome.{Outcome}
 use Rattle.setup_access.specs.declared.source.Source.{Source}
 use Rattle.setup_access.proofs.DisciplineLemmas.{on_word}
 use Rattle.slot_table.specs.declared.records.Record.{Record}
@@ -28,24 +31,54 @@ use Rattle.slot_table.specs.declared.step.Answer.{Answer}
 use Rattle.slot_table.specs.declared.step.Answer.TheVariants as answers
 use Rattle.slot_table.specs.declared.step.Step.{Step}
 use Rattle.slot_table.specs.declared.step.Step.TheVariants.{CellExchange, CellLoad, Clear, Clock, Consume, Insert, Load, LockStore, LockTry, Name, PairLoad, Remove, Tell, TryConsume}
+use Rattle.watch_word.specs.Word.{word_of}
 use Rattle.written_order.specs.Standing.{Point, Setting, Standing, checks_of, counting, point_by}
 use Rattle.run_verdicts.specs.Events.{AreMarks, IsEvent, Reads, ReadsAtMost, Writes}
 use Rattle.run_lists.proofs.Intervals.{IsOpen}
+use Rattle.run_verdicts.specs.Finds.{IsFind, is_telling}
 use Rattle.run_verdicts.specs.Watches.{IsWatch, is_verdict}
 use Rattle.run_verdicts.proofs.Quiet.{IsOfCheck}
 
--- What falls is the verdict on a watch at the front of these records, of an access in progress, which the task doesn't
--- end or go on with before the last of them; or no verdict.
-pub record IsWatched (s : Setting) (records : List Record) (did : List Happening) (points : List Point) (fallen : Fallen) : Type 0 where
-  pub watch : List Record
-  pub split : records ≡ watch ++ fallen.later
-  pub is_watch : IsWatch (checks_of s) fallen.access fallen.outcome watch
+-- what a part of a check is by its records: a watch, or a find at some index under some word
+abbrev pub IsPart : Type 1
+IsPart = checks.Setting → access.Access → Outcome → List Record → Type 0
+
+abbrev pub IsSomeFind : IsPart
+IsSomeFind s a outcome find = (index : ℕ) × (word : ℕ) × IsFind s a index word outcome find
+
+-- What falls is of such a part at the front of these records, of an access in progress, which the task doesn't end or go
+-- on with before the last of them.
+pub record FallsOf (Is : IsPart) (s : Setting) (records : List Record) (did : List Happening) (points : List Point) (fallen : Fallen) : Type 0 where
+  pub part : List Record
+  pub split : records ≡ part ++ fallen.later
+  pub is : Is (checks_of s) fallen.access fallen.outcome part
   pub own : IsOwn (checks_of s) fallen.access
   pub goes : IsOpen did fallen.access
   pub stays : (n : ℕ) (last : Point) → length fallen.later < n → point_by n last points ≡ last
 
-abbrev pub FallsSo : Setting → List Record → List Happening → List Point → Fallen → Type 0
-FallsSo s records did points fallen = IsTrue (is_verdict fallen.outcome) → IsWatched s records did points fallen
+-- so is a verdict of a watch, and a telling of a find
+pub record FallsSo (s : Setting) (records : List Record) (did : List Happening) (points : List Point) (fallen : Fallen) : Type 0 where
+  pub verdict : IsTrue (is_verdict fallen.outcome) → FallsOf IsWatch s records did points fallen
+  pub telling : IsTrue (is_telling fallen.outcome) → FallsOf IsSomeFind s records did points fallen
+
+-- a step that inserts or tries a word is made for an access in progress
+abbrev pub MadeFor : Setting → List Happening → Step → Type 0
+MadeFor s did (Insert index word) =
+    (a : access.Access) × IsOwn (checks_of s) a × IsOpen did a × (word ≡ word_of s.rules.layout a)
+MadeFor s did (TryConsume index word) =
+    (a : access.Access) × IsOwn (checks_of s) a × IsOpen did a × Hits s.rules.layout a word
+MadeFor s did step = Unit {0}
+
+-- the step is neither
+abbrev pub NoWatch : Step → Type 0
+NoWatch (Insert index word) = ⊥
+NoWatch (TryConsume index word) = ⊥
+NoWatch step = Unit {0}
+
+pub made_anyway : (s : Setting) (did : List Happening) (step : Step) → NoWatch step → MadeFor s did step
+made_anyway s did (Insert index word) none = absurd none
+made_anyway s did (TryConsume index word) none = absurd none
+made_anyway s did step none = tt
 
 -- From records that are to come and what was done before them, what the points of a way tell: some marks now, or the
 -- first record, with its event or without one. These outcomes fall at the records.
@@ -54,11 +87,11 @@ pub data Tells (s : Setting) : List Record → List Happening → List Point →
   marks : (records : List Record) (did more : List Happening) (point : Point) (points : List Point) (outs : List Fallen) → point.to_come ≡ length records
       → point.progress.did ≡ did ++ more → AreMarks more → Tells s records point.progress.did points outs → Tells s records did (point ∷ points) outs
   silent : (first : Record) (later : List Record) (did : List Happening) (points : List Point) (outs : List Fallen)
-      → IsEvent s did first.step first.answer []
+      → IsEvent s did first.step first.answer [] → MadeFor s did first.step
       → Tells s later did points outs → Tells s (first ∷ later) did points outs
   event : (first : Record) (later : List Record) (did more : List Happening) (point : Point) (points : List Point) (outs : List Fallen)
       → point.to_come ≡ length later
-      → point.progress.did ≡ did ++ more → IsEvent s did first.step first.answer more → Tells s later point.progress.did points outs
+      → point.progress.did ≡ did ++ more → IsEvent s did first.step first.answer more → NoWatch first.step → Tells s later point.progress.did points outs
       → Tells s (first ∷ later) did (point ∷ points) outs
   fell : (records : List Record) (did : List Happening) (points : List Point) (outs : List Fallen) (fallen : Fallen)
       → FallsSo s records did points fallen → Tells s records did points outs → Tells s records did points (fallen ∷ outs)
@@ -78,8 +111,8 @@ pub stays : (s : Setting) (n : ℕ) (last : Point) (records : List Record) (did 
     → Tells s records did points outs → length records < n → point_by n last points ≡ last
 stays s n last records did points outs (over d) above = refl
 stays s n last records did points outs (marks r d more point others o here says are goes) above = stops n last point others (omega (arith, here, above))
-stays s n last records did points outs (silent first later d others o event_so goes) above = stays s n last later d others o goes (omega (arith, above))
-stays s n last records did points outs (event first later d more point others o here says event_so goes) above =
+stays s n last records did points outs (silent first later d others o event_so made goes) above = stays s n last later d others o goes (omega (arith, above))
+stays s n last records did points outs (event first later d more point others o here says event_so none goes) above =
     stops n last point others (omega (arith, here, above))
 stays s n last records did points outs (fell r d others o fallen so goes) above = stays s n last r d others o goes above
 
@@ -100,9 +133,9 @@ check_silent s did (LockTry lock holder) answer ok = absurd ok
 check_silent s did (LockStore lock) answer ok = absurd ok
 check_silent s did Clock answer ok = absurd ok
 
-pub silent_check : (s : Setting) (did : List Happening) (points : List Point) (outs : List Fallen) (first : Record) (later : List Record) → IsOfCheck first.step → Tells s later did points outs
-    → Tells s (first ∷ later) did points outs
-silent_check s did points outs first later ok tells = silent first later did points outs (check_silent s did first.step first.answer ok) tells
+pub silent_check : (s : Setting) (did : List Happening) (points : List Point) (outs : List Fallen) (first : Record) (later : List Record)
+    → IsOfCheck first.step → MadeFor s did first.step → Tells s later did points outs → Tells s (first ∷ later) did points outs
+silent_check s did points outs first later ok made tells = silent first later did points outs (check_silent s did first.step first.answer ok) made tells
 
 -- the step of the clock at which an access begins or ends
 begins_at : (s : Setting) (did : List Happening) (first : Record) (a : access.Access) → first.step ≡ Clock
@@ -136,6 +169,7 @@ module _ (s : Setting) (a : access.Access) (source : Source) (tells_of : Effect 
   record MayEnd (made : Record) (seen : ℕ) : Type 0 where
     silently : IsEvent s did made.step made.answer []
     reading : IsEvent s did made.step made.answer (tells_of (only_read (value_in a source seen)))
+    no_watch : NoWatch made.step
 
   -- what was read, and what was changed
   abbrev IsReading : Type 0
@@ -156,6 +190,7 @@ module _ (s : Setting) (a : access.Access) (source : Source) (tells_of : Effect 
       record {
         silently = event_of [] (inl refl);
         reading = event_of (tells_of (only_read (value_in a source word))) (reads (answers.Word word) word refl);
+        no_watch = subst NoWatch (sym is) tt;
       }
 
   loaded : (first : Record) (word : ℕ) → IsReading → first.step ≡ CellLoad source.cell → first.answer ≡ answers.Word word → MayEnd first word
@@ -163,6 +198,7 @@ module _ (s : Setting) (a : access.Access) (source : Source) (tells_of : Effect 
     silently = subst (λ (st : Step). IsEvent s did st first.answer []) (sym is) (inl refl);
     reading = subst (λ (st : Step). IsEvent s did st first.answer (tells_of (only_read (value_in a source word)))) (sym is)
         (reads first.answer word answered);
+    no_watch = subst NoWatch (sym is) tt;
   }
 
   module _ (task : ℕ) (change : Change) (effect : Effect) (rest : List Record) (reads : IsReading) (writes : IsWriting change)
@@ -172,7 +208,7 @@ module _ (s : Setting) (a : access.Access) (source : Source) (tells_of : Effect 
     stopped made records seen may ends =
         let says : point.progress.did ≡ did ++ tells_of (only_read (value_in a source seen)) = tells_so ∙ ap (λ (e : Effect). did ++ tells_of e) ends.0 in
         event made records did (tells_of (only_read (value_in a source seen))) point points outs (here ∙ ap (λ (r : List Record). length r) ends.1) says
-        may.reading (subst (λ (r : List Record). Tells s r point.progress.did points outs) ends.1 goes)
+        may.reading may.no_watch (subst (λ (r : List Record). Tells s r point.progress.did points outs) ends.1 goes)
 
     exchanges : (made : Record) (seen : ℕ) (records : List Record) → MayEnd made seen → Exchanges task a source change seen records effect rest
         → Tells s (made ∷ records) did (point ∷ points) outs
@@ -180,7 +216,7 @@ module _ (s : Setting) (a : access.Access) (source : Source) (tells_of : Effect 
         pick (is_wanted a.size change (value_in a source seen)) _ _ _ h (λ none. absurd none) (λ ends. stopped made [] seen may ends)
     exchanges made seen (first ∷ later) may h =
         pick (is_wanted a.size change (value_in a source seen)) _ _ _ h
-        (λ now. silent made (first ∷ later) did (point ∷ points) outs may.silently
+        (λ now. silent made (first ∷ later) did (point ∷ points) outs may.silently (made_anyway s did made.step may.no_watch)
         (on_exchange first.answer _ _ _ now.1
         (λ accepted done.
         let new : ℕ = with_value a source seen (new_value a.size change (value_in a source seen)) in
@@ -188,7 +224,7 @@ module _ (s : Setting) (a : access.Access) (source : Source) (tells_of : Effect 
         let says : point.progress.did ≡ did ++ more = tells_so ∙ ap (λ (e : Effect). did ++ tells_of e) done.0 in
         let written : IsEvent s did first.step first.answer more = subst (λ (st : Step). IsEvent s did st first.answer more) (sym now.0.1)
         (subst (λ (an : Answer). IsEvent s did (CellExchange source.cell seen new) an more) (sym accepted) (writes seen)) in
-        event first later did more point points outs (here ∙ ap (λ (r : List Record). length r) done.1) says written
+        event first later did more point points outs (here ∙ ap (λ (r : List Record). length r) done.1) says written (subst NoWatch (sym now.0.1) tt)
         (subst (λ (r : List Record). Tells s r point.progress.did points outs) done.1 goes))
         (λ word refused_so again.
         exchanges first word later
@@ -263,7 +299,8 @@ module _ (s : Setting) where
       → Tells s later (before.progress.did ++ happenings.Begin a ∷ []) more outs
       → Tells s (first ∷ later) before.progress.did (comes_at before later (meaning.doing before.progress (happenings.Begin a ∷ [])) ∷ more) outs
   begun_part a before first later is more outs goes =
-      event first later before.progress.did (happenings.Begin a ∷ []) _ more outs refl refl (begins_at s before.progress.did first a is) goes
+      event first later before.progress.did (happenings.Begin a ∷ []) _ more outs refl refl (begins_at s before.progress.did first a is)
+      (subst NoWatch (sym is) tt) goes
 
   -- and ends at its last
   pub ended_part : (a : access.Access) (before : Standing) (did : List Happening) (records rest : List Record)
@@ -274,5 +311,5 @@ module _ (s : Setting) where
   ended_part a before did (first ∷ later) rest h same more outs goes =
       let got = on_word first.answer _ h.2 in
       let says : before.progress.did ++ happenings.End a ∷ [] ≡ did ++ happenings.End a ∷ [] = ap (λ (d : List Happening). d ++ happenings.End a ∷ []) same in
-      event first later did (happenings.End a ∷ []) _ more outs (ap (λ (r : List Record). length r) got.2) says (ends_at s did first a h.1)
+      event first later did (happenings.End a ∷ []) _ more outs (ap (λ (r : List Record). length r) got.2) says (ends_at s did first a h.1) (subst NoWatch (sym h.1) tt)
       (subst (λ (d : List Happening). Tells s later d more outs) (sym says) (subst (λ (r : List Record). Tells s r (did ++ happenings.End a ∷ []) more outs) got.2 goes))

@@ -36,7 +36,7 @@ use Rattle.run_lists.proofs.Intervals.{IsOpen, IsPaired, NoneEnds, none_of_effec
 use Rattle.run_lists.proofs.TaskFacts.{counting_outcomes}
 use Rattle.run_verdicts.specs.Events.{AreMarks, IsEvent, ReadsAtMost}
 use Rattle.run_verdicts.proofs.Opens.{AllOpen, all_later, all_with, opens_now}
-use Rattle.run_verdicts.proofs.Tells.{Tells, begun_part, comes_at, counting_way, ended_part, makes_changes, marks_of_one, only_writes, read_of, read_once, writes_once}
+use Rattle.run_verdicts.proofs.Tells.{NoWatch, Tells, begun_part, comes_at, counting_way, ended_part, made_anyway, makes_changes, marks_of_one, only_writes, read_of, read_once, writes_once}
 use Rattle.run_verdicts.proofs.Watched.{checked, rechecks}
 use Rattle.run_verdicts.proofs.Tells as tells
 
@@ -68,7 +68,7 @@ module _ (s : Setting) where
         points = point ∷ [];
         adds = refl;
         tells = λ more outs goes. tells.event first later before.progress.did (moments_of a effect) point more outs (ap (λ (r : List Record). length r) got.2.1) refl
-            (reads_at s before.progress.did first h.0.cell (moments_of a effect) h.2.1 reads)
+            (reads_at s before.progress.did first h.0.cell (moments_of a effect) h.2.1 reads) (subst NoWatch (sym h.2.1) tt)
             (subst (λ (r : List Record). Tells s r point.progress.did more outs) got.2.1 goes);
       }
   operated_part a (Some (operations.Add amount)) before [] effect rest h = absurd h.2
@@ -86,7 +86,7 @@ module _ (s : Setting) where
         points = one ∷ two ∷ [];
         adds = append_assoc before.way (one ∷ []) (two ∷ []);
         tells = λ more outs goes. tells.event first later before.progress.did (read_moments a effect.read) one (two ∷ more) outs refl refl
-            (reads_at s before.progress.did first h.0.cell (read_moments a effect.read) h.2.1 reads)
+            (reads_at s before.progress.did first h.0.cell (read_moments a effect.read) h.2.1 reads) (subst NoWatch (sym h.2.1) tt)
             (makes_changes s a h.0 (λ (e : Effect). write_moments a e.written) one.progress.did two more outs s.text.task (changes.Write sum) got.2.0 rest
             (λ answer word answered. inl refl) (only_writes s a h.0 h.1 sum) refl
             (ap (λ (e : Effect). one.progress.did ++ write_moments a e.written) got.2.2) goes later got.2.1);
@@ -112,19 +112,20 @@ module _ (s : Setting) where
       by_answer got.0 (λ (more_did : List Happening) (event : IsEvent s did (LockTry lock s.text.task) (answers.Flag got.0) more_did).
       subst (λ (st : Step). IsEvent s did st first.answer more_did) (sym h.1)
       (subst (λ (an : Answer). IsEvent s did (LockTry lock s.text.task) an more_did) (sym got.1) event))
-      got.2 (λ again. takes_lock variable did point more outs later rest is_lock again here says goes)
+      (subst NoWatch (sym h.1) tt) got.2 (λ again. takes_lock variable did point more outs later rest is_lock again here says goes)
     where
       by_answer : (was_free : Bool)
           → ((more_did : List Happening) → IsEvent s did (LockTry (lock_number s variable) s.text.task) (answers.Flag was_free) more_did
           → IsEvent s did first.step first.answer more_did)
-          → MatchBool was_free (rest ≡ later) (TakesLock s.text.task (lock_number s variable) later rest)
+          → NoWatch first.step → MatchBool was_free (rest ≡ later) (TakesLock s.text.task (lock_number s variable) later rest)
           → (TakesLock s.text.task (lock_number s variable) later rest → Tells s later did (point ∷ more) outs)
           → Tells s (first ∷ later) did (point ∷ more) outs
-      by_answer true event_of taken again =
+      by_answer true event_of none taken again =
           tells.event first later did (happenings.Lock variable ∷ []) point more outs (here ∙ ap (λ (r : List Record). length r) taken) says
-          (event_of (happenings.Lock variable ∷ []) (variable, refl, is_lock, refl, refl))
+          (event_of (happenings.Lock variable ∷ []) (variable, refl, is_lock, refl, refl)) none
           (subst (λ (r : List Record). Tells s r point.progress.did more outs) taken goes)
-      by_answer false event_of refused again = tells.silent first later did (point ∷ more) outs (event_of [] refl) (again refused)
+      by_answer false event_of none refused again =
+          tells.silent first later did (point ∷ more) outs (event_of [] refl) (made_anyway s did first.step none) (again refused)
 
   frees_lock : (variable : ℕ) (did : List Happening) (point : Point) (more : List Point) (outs : List Fallen) (records rest : List Record)
       → IsTrue (has_lock variable did) → MakesDone s.text.task (LockStore (lock_number s variable)) (λ later. rest ≡ later) records
@@ -133,7 +134,7 @@ module _ (s : Setting) where
   frees_lock variable did point more outs [] rest has h here says goes = absurd h
   frees_lock variable did point more outs (first ∷ later) rest has h here says goes =
       tells.event first later did (happenings.Unlock variable ∷ []) point more outs (here ∙ ap (λ (r : List Record). length r) h.2.1) says
-      (subst (λ (st : Step). IsEvent s did st first.answer (happenings.Unlock variable ∷ [])) (sym h.1) (variable, has, refl, refl))
+      (subst (λ (st : Step). IsEvent s did st first.answer (happenings.Unlock variable ∷ [])) (sym h.1) (variable, has, refl, refl)) (subst NoWatch (sym h.1) tt)
       (subst (λ (r : List Record). Tells s r point.progress.did more outs) h.2.1 goes)
 
 -- what a task does in all, by which each access begins once

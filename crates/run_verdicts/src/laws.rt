@@ -8,10 +8,13 @@ ghost use Rattle.slot_table.specs.Meetings.{Meeting, setters_heard};
 ghost use Rattle.slot_table.specs.declared.records.Record.{Record};
 ghost use Rattle.written_order.specs.Told.{did_by};
 ghost use Rattle.run_verdicts.specs.Events.{AreMarks, EachDoesItsEvent};
+ghost use Rattle.run_verdicts.specs.Finds.{IfTelling};
+ghost use Rattle.run_verdicts.specs.Joined.{IfAnswersBoth};
+ghost use Rattle.run_verdicts.specs.Made.{EachIsMadeFor};
 ghost use Rattle.run_verdicts.specs.Takings.{EachSettles, HasOneAnswer, IsOver, WasTaken};
 ghost use Rattle.run_verdicts.specs.Watches.{IfVerdict};
 
-use run_lists::laws::run_lists_keep_the_discipline;
+use run_lists::laws::{answers_are_to_takings, roles_of_run_lists, run_lists_keep_the_discipline};
 use slot_table::step::Step;
 
 /// Law: in the history that a run list tells each record has its event, by its step and its answer, and then the marks
@@ -39,6 +42,36 @@ pub fn verdicts_are_on_watches()
     ensures { (run : Run) (records : List Record) → (list : RunList run records)
         → All (IfVerdict list) (outcomes_of list) }
 {}
+
+/// Law: each telling is on a find that its task has just made of the very access that was checked: it looked a matching
+/// word up, took it, heard the setter, and told its own ticket. The access is in progress all the while. What it took is
+/// one arming of another task, with its index, its number and its word.
+pub fn tellings_are_on_finds()
+    ensures { (run : Run) (records : List Record) → (list : RunList run records)
+        → All (IfTelling list) (outcomes_of list) }
+{
+    roles_of_run_lists();
+}
+
+/// Law: watchpoints are armed and taken for accesses in progress. Just before each insertion its task has an access of the
+/// program in progress whose word it inserts, and just before each try one that the word matches.
+pub fn watchpoints_are_of_accesses_in_progress()
+    ensures { (run : Run) (records : List Record) → (list : RunList run records) → EachIsMadeFor list records }
+{}
+
+/// Law: each answer to a taking is the verdict on the watch of the very arming that was taken, by the values of its two
+/// loads and by the pair that it heard. The finder is the access in whose find that arming was taken and told of: the
+/// outcome of its check, earlier in the list, is the telling of this pair. Both accesses are in progress all the while.
+pub fn answers_are_on_a_watch_and_a_find()
+    ensures { (run : Run) (records : List Record) → (list : RunList run records)
+        → All (IfAnswersBoth list) (outcomes_of list) }
+{
+    run_lists_keep_the_discipline();
+    answers_are_to_takings();
+    verdicts_are_on_watches();
+    outcomes_fall_where_they_are_settled();
+    tellings_are_on_finds();
+}
 
 /// Law: each taking has one answer in the list once its setter has heard of it: one report of two sides or one named
 /// discard, and no other. So has each taking that no task has in hand any more, and after a step of the clock, as an
