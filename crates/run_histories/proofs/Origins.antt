@@ -10,7 +10,8 @@ use Rattle.std.proofs.lemmas.List.Elements.{All-append, All-cons, All-nil}
 use Rattle.std.proofs.lemmas.Option.{same_Some}
 use Rattle.access_types.specs.Access.{Access}
 use Rattle.access_types.specs.History.{History, content, value_from}
-use Rattle.access_types.specs.Race.{ChangedUnderWatch, bytes_of}
+use Rattle.access_types.specs.Race.{bytes_of}
+use Rattle.access_types.specs.Ticket.{ticket_number}
 use Rattle.access_types.specs.declared.history.Happening.{Happening}
 use Rattle.access_types.specs.declared.history.Moment.{Moment}
 use Rattle.litmus_meaning.specs.Layout.{memory_at_first}
@@ -30,7 +31,7 @@ use Rattle.slot_table.specs.Words.{Words}
 use Rattle.slot_table.specs.declared.records.Record.{Record}
 use Rattle.slot_table.specs.declared.step.Answer.TheVariants as answers
 use Rattle.slot_table.specs.declared.step.Step.{Step}
-use Rattle.slot_table.specs.declared.step.Step.TheVariants.{CellLoad}
+use Rattle.slot_table.specs.declared.step.Step.TheVariants.{CellLoad, Consume, Name}
 use Rattle.value_filter.specs.Change.{BitDiffers, IsSeen}
 use Rattle.value_filter.specs.Verdict as table
 use Rattle.value_filter.specs.Verdict.{VerdictOf}
@@ -48,6 +49,7 @@ use Rattle.run_lists.proofs.OwnLasts.{own_latest, own_split}
 use Rattle.run_verdicts.specs.Watches.{IsOfWatch, IsWatch, is_verdict}
 use Rattle.run_histories.specs.Cells.{CellsHold, memory_after, run_cells}
 use Rattle.run_histories.specs.Origins.{IfUnknown}
+use Rattle.run_histories.specs.Watched.{ChangedInWatch, IfUnknownInWatch}
 use Rattle.run_histories.proofs.CellBlocks.{cells_are_blocks}
 use Rattle.run_histories.proofs.Cells.{lies_there, value_there}
 
@@ -80,7 +82,15 @@ pub record TwoLoads (s : checks.Setting) (a : Access) (watch : List Record) (old
   pub second : Record
   pub back : List Record
   pub split : watch ≡ front ++ first ∷ second ∷ back
-  pub goes_on : 0 < length back
+  pub index : ℕ
+  pub tries : List Record
+  pub name : Record
+  pub front_is : front ≡ tries ++ name ∷ []
+  pub names : name.step ≡ Name index (ticket_number a)
+  pub consume : Record
+  pub back_is : back ≡ consume ∷ []
+  pub consumes : consume.step ≡ Consume index
+  pub untouched_then : consume.answer ≡ answers.Flag true
   pub first_word : ℕ
   pub first_step : first.step ≡ CellLoad source.cell
   pub first_answer : first.answer ≡ answers.Word first_word
@@ -124,16 +134,34 @@ module _ (s : checks.Setting) (a : Access) where
       (values_are, subst (λ (o : Option (ℕ × ℕ)). IsSeen a o) values_are seen)
   untouched values old new (verdicts.quiet change c v o) = absurd (cc)
 
+  -- the consume that finds a word untouched
+  record Quieted (index : ℕ) (values : Option (ℕ × ℕ)) (records : List Record) (old new : ℕ) : Type 0 where
+    consume : Record
+    is : records ≡ consume ∷ []
+    step : consume.step ≡ Consume index
+    answer : consume.answer ≡ answers.Flag true
+    values_are : values ≡ Some (old, new)
+    differs : BitDiffers a.mask old new
+
   judged : (index : ℕ) (values : Option (ℕ × ℕ)) (records : List Record) (old new : ℕ) → Judges s a index values records (outcomes.Unknown old new) []
-      → (0 < length records) × ((values ≡ Some (old, new)) × BitDiffers a.mask old new)
+      → Quieted index values records old new
   judged index values [] old new h = absurd h
   judged index values (first ∷ later) old new h =
-      let got = on_flag first.answer _ h.2 in (omega arith, by_flag got.0 got.2)
+      let got = on_flag first.answer _ h.2 in by_flag got.0 got.1 got.2
     where
-      by_flag : (flag : Bool) → MatchBool flag (UntouchedOutcome s a values (outcomes.Unknown old new) × ([] ≡ later))
-          (JudgesHit s a index values later (outcomes.Unknown old new) []) → (values ≡ Some (old, new)) × BitDiffers a.mask old new
-      by_flag true quiet = untouched values old new quiet.0
-      by_flag false hit = absurd (never_hit s a values hit.0 old new hit.2)
+      by_flag : (flag : Bool) → first.answer ≡ answers.Flag flag → MatchBool flag (UntouchedOutcome s a values (outcomes.Unknown old new) × ([] ≡ later))
+          (JudgesHit s a index values later (outcomes.Unknown old new) []) → Quieted index values (first ∷ later) old new
+      by_flag true is quiet =
+          let it = untouched values old new quiet.0 in
+          record {
+            consume = first;
+            is = ap (λ (r : List Record). first ∷ r) (sym quiet.1);
+            step = h.1;
+            answer = is;
+            values_are = it.0;
+            differs = it.1;
+          }
+      by_flag false is hit = absurd (never_hit s a values hit.0 old new hit.2)
 
   both_there : (first second : Option ℕ) (old new : ℕ) → both_values first second ≡ Some (old, new) → (first ≡ Some old) × (second ≡ Some new)
   both_there None second old new is = absurd (cc)
@@ -146,15 +174,16 @@ module _ (s : checks.Setting) (a : Access) where
   none_loaded records value rest h = let never : Some value ≡ None = h.0 in cc
 
   -- the loads, from the records on of which the setter named itself by the first
-  loaded : (found : Option Source) → source_of s a ≡ found → (name : Record) (named stalled consumed : List Record) (first second : Option ℕ) (old new : ℕ)
+  loaded : (found : Option Source) → source_of s a ≡ found → (name : Record) (index : ℕ) → name.step ≡ Name index (ticket_number a)
+      → (named stalled consumed : List Record) (first second : Option ℕ) (old new : ℕ)
       → LoadsFrom s a found named first stalled → LoadsFrom s a found stalled second consumed
-      → (0 < length consumed) × ((both_values first second ≡ Some (old, new)) × BitDiffers a.mask old new)
+      → Quieted index (both_values first second) consumed old new
       → TwoLoads s a (name ∷ named) old new
-  loaded None is name named stalled consumed first second old new one two it =
-      let values = both_there first second old new it.1.0 in
+  loaded None is name index names named stalled consumed first second old new one two it =
+      let values = both_there first second old new it.values_are in
       absurd (none_loaded named old stalled (subst (λ (v : Option ℕ). LoadsFrom s a None named v stalled) values.0 one))
-  loaded (Some source) is name named stalled consumed first second old new one two it =
-      let values = both_there first second old new it.1.0 in
+  loaded (Some source) is name index names named stalled consumed first second old new one two it =
+      let values = both_there first second old new it.values_are in
       let p = one_load source named old stalled (subst (λ (v : Option ℕ). LoadsFrom s a (Some source) named v stalled) values.0 one) in
       let q = one_load source stalled new consumed (subst (λ (v : Option ℕ). LoadsFrom s a (Some source) stalled v consumed) values.1 two) in
       record {
@@ -165,7 +194,15 @@ module _ (s : checks.Setting) (a : Access) where
         second = q.made;
         back = consumed;
         split = ap (λ (r : List Record). name ∷ r) (p.is ∙ ap (λ (r : List Record). p.made ∷ r) q.is);
-        goes_on = it.0;
+        index = index;
+        tries = [];
+        name = name;
+        front_is = refl;
+        names = names;
+        consume = it.consume;
+        back_is = it.is;
+        consumes = it.step;
+        untouched_then = it.answer;
         first_word = p.word;
         first_step = p.step;
         first_answer = p.answer;
@@ -174,14 +211,14 @@ module _ (s : checks.Setting) (a : Access) where
         second_step = q.step;
         second_answer = q.answer;
         is = q.holds;
-        differs = it.1.1;
+        differs = it.differs;
       }
 
   armed : (index : ℕ) (records : List Record) (old new : ℕ) → Arms s a index records (outcomes.Unknown old new) [] → TwoLoads s a records old new
   armed index [] old new h = absurd h
   armed index (first ∷ later) old new h =
       let w = h.2.1 in
-      loaded (source_of s a) refl first later w.2 w.3 w.0 w.1 old new w.4 w.5 (judged index (both_values w.0 w.1) w.3 old new w.6)
+      loaded (source_of s a) refl first index h.1 later w.2 w.3 w.0 w.1 old new w.4 w.5 (judged index (both_values w.0 w.1) w.3 old new w.6)
 
   -- with more records in front
   later_in : (front records : List Record) (old new : ℕ) → TwoLoads s a records old new → TwoLoads s a (front ++ records) old new
@@ -193,7 +230,15 @@ module _ (s : checks.Setting) (a : Access) where
     second = it.second;
     back = it.back;
     split = ap (λ (r : List Record). front ++ r) it.split ∙ sym (append_assoc front it.front (it.first ∷ it.second ∷ it.back));
-    goes_on = it.goes_on;
+    index = it.index;
+    tries = front ++ it.tries;
+    name = it.name;
+    front_is = ap (λ (r : List Record). front ++ r) it.front_is ∙ sym (append_assoc front it.tries (it.name ∷ []));
+    names = it.names;
+    consume = it.consume;
+    back_is = it.back_is;
+    consumes = it.consumes;
+    untouched_then = it.untouched_then;
     first_word = it.first_word;
     first_step = it.first_step;
     first_answer = it.first_answer;
@@ -382,7 +427,7 @@ module _ (run : Run) (records : List Record) (list : RunList run records) where
         (words_after (first_words run) earlier).cells (holds later earlier is) a source (lies_there (checks_of (task_setting run task)) a source lies)
 
     pub changed : (came : OutcomeAt) (old new : ℕ) → came.outcome ≡ outcomes.Unknown old new → IsOfWatch list came
-        → ChangedUnderWatch (memory_at_first run.places run.program.variables) (history_of list) came.access old new
+        → ChangedInWatch list came old new
     changed came old new unknown it =
         let a : Access = came.access in
         let task : ℕ = a.task in
@@ -418,6 +463,13 @@ module _ (run : Run) (records : List Record) (list : RunList run records) where
         let follows_first : Follows (words_after (first_words run) two.earlier) loads.first =
         (legal_from (first_words run) (after_late ++ two.later) early
         (subst (λ (r : List Record). Legal (first_words run) r) early_is list.legal)).1 in
+        let before_first : records ≡ ((after_late ++ two.later) ++ loads.first ∷ []) ++ two.earlier =
+        early_is ∙ sym (append_assoc (after_late ++ two.later) (loads.first ∷ []) two.earlier) in
+        let was_then : content (memory_at_first run.places run.program.variables) (history_of list) (length (history_by list two.earlier)) (bytes_of a) ≡ old =
+        content_at ((after_late ++ two.later) ++ loads.first ∷ []) two.earlier before_first task a loads.source loads.lies
+        ∙ (ap (λ (n : ℕ). value_in a loads.source n)
+        (stays_there (words_after (first_words run) two.earlier) loads.first loads.source.cell loads.first_word follows_first loads.first_step loads.first_answer)
+        ∙ loads.was) in
         let was : content (memory_at_first run.places run.program.variables) (history_of list) (length h1) (bytes_of a) ≡ old =
         content_at (after_late ++ two.later) early early_is task a loads.source loads.lies
         ∙ (ap (λ (n : ℕ). value_in a loads.source n)
@@ -446,7 +498,8 @@ module _ (run : Run) (records : List Record) (list : RunList run records) where
         ap (λ (r : List Record). records_of task r) two.split
         ∙ (own_split task two.later early ∙ ap (λ (r : List Record). r ++ records_of task early) two.of_later) in
         let early_made : made_by task early ≡ suc (length w) = sym (ap (λ (r : List Record). length r) early_own) ∙ late_made in
-        let some_back : 0 < length loads.back = loads.goes_on in
+        let some_back : 0 < length loads.back =
+        let one : length loads.back ≡ 1 = ap (λ (r : List Record). length r) loads.back_is in omega (arith, one) in
         let rest = told_more after_late one.earlier in
         let whole_long : length (history_of list) ≡ length h2 + length rest.0 =
         ap (λ (r : List Record). length (history_by list r)) late_is ∙ (ap (λ (h : History). length h) rest.1 ∙ length-append h2 rest.0) in
@@ -454,22 +507,50 @@ module _ (run : Run) (records : List Record) (list : RunList run records) where
         let dropped : drop (length h1) (take (length h2) (history_of list)) ≡ between.0 =
         ap (λ (h : History). drop (length h1) h) taken ∙ drop_front h1 between.0 in
         record {
-          first = length h1;
-          later = length h2;
-          order = order;
-          within = omega (arith, whole_long);
-          goes_at_first = it.goes (after_late ++ two.later) early early_is (omega (arith, early_made, w_long))
-              (omega (arith, early_made, w_long, watch_long, some_back));
-          goes_later = it.goes after_late one.earlier late_is (omega (arith, late_made, w_long))
-              (omega (arith, late_made, w_long, watch_long, some_back));
-          was = was;
-          is = is;
-          differ = differ_from_bits a.mask old new loads.differs;
-          others = subst (λ (h : History). All (OthersThan task) h) (sym dropped) between.2;
+          watched = it;
+          index = loads.index;
+          source = loads.source;
+          lies = loads.lies;
+          tries = loads.tries;
+          name = loads.name;
+          first = loads.first;
+          second = loads.second;
+          consume = loads.consume;
+          watch = loads.split ∙ (ap (λ (r : List Record). r ++ loads.first ∷ loads.second ∷ loads.back) loads.front_is
+              ∙ (append_assoc loads.tries (loads.name ∷ []) (loads.first ∷ loads.second ∷ loads.back)
+              ∙ ap (λ (r : List Record). loads.tries ++ loads.name ∷ loads.first ∷ loads.second ∷ r) loads.back_is));
+          names = loads.names;
+          loads = loads.first_step;
+          loads_again = loads.second_step;
+          consumes = loads.consumes;
+          untouched = loads.untouched_then;
+          later = it.later ++ one.later;
+          between = two.later;
+          earlier = two.earlier;
+          split = second_is ∙ ap (λ (r : List Record). (it.later ++ one.later) ++ loads.second ∷ r) two.split;
+          others = two.of_later;
+          was = was_then;
+          is = subst (λ (r : List Record). content (memory_at_first run.places run.program.variables) (history_of list) (length (history_by list r)) (bytes_of a) ≡ new)
+              two.split is;
+          changed = record {
+            first = length h1;
+            later = length h2;
+            order = order;
+            within = omega (arith, whole_long);
+            goes_at_first = it.goes (after_late ++ two.later) early early_is (omega (arith, early_made, w_long))
+                (omega (arith, early_made, w_long, watch_long, some_back));
+            goes_later = it.goes after_late one.earlier late_is (omega (arith, late_made, w_long))
+                (omega (arith, late_made, w_long, watch_long, some_back));
+            was = was;
+            is = is;
+            differ = differ_from_bits a.mask old new loads.differs;
+            others = subst (λ (h : History). All (OthersThan task) h) (sym dropped) between.2;
+          };
         }
 
     -- so is it of what came of a check, if that is of unknown origin
-    pub names_change : (came : OutcomeAt) (outcome : Outcome) → came.outcome ≡ outcome → (IsTrue (is_verdict outcome) → IsOfWatch list came) → IfUnknown list came outcome
+    pub names_change : (came : OutcomeAt) (outcome : Outcome) → came.outcome ≡ outcome → (IsTrue (is_verdict outcome) → IsOfWatch list came)
+        → IfUnknownInWatch list came outcome
     names_change came (outcomes.Unknown old new) is watched = changed came old new is (watched refl)
     names_change came outcomes.Nothing is watched = tt
     names_change came outcomes.Unencodable is watched = tt
@@ -479,3 +560,16 @@ module _ (run : Run) (records : List Record) (list : RunList run records) where
     names_change came outcomes.Quiet is watched = tt
     names_change came (outcomes.Report pair seen) is watched = tt
     names_change came (outcomes.Dropped reason) is watched = tt
+
+-- so its bytes changed under its watch
+pub in_watch : {run : Run} {records : List Record} (list : RunList run records) (came : OutcomeAt) (outcome : Outcome) → IfUnknownInWatch list came outcome
+    → IfUnknown list came outcome
+in_watch list came (outcomes.Unknown old new) it = it.changed
+in_watch list came outcomes.Nothing it = tt
+in_watch list came outcomes.Unencodable it = tt
+in_watch list came outcomes.Capacity it = tt
+in_watch list came outcomes.Lost it = tt
+in_watch list came (outcomes.Told pair) it = tt
+in_watch list came outcomes.Quiet it = tt
+in_watch list came (outcomes.Report pair seen) it = tt
+in_watch list came (outcomes.Dropped reason) it = tt

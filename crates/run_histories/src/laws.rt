@@ -12,6 +12,7 @@ ghost use Rattle.run_histories.specs.Ended.{HasEndedSince};
 ghost use Rattle.run_histories.specs.HeldReads.{ReadsHold};
 ghost use Rattle.run_histories.specs.Origins.{NamesChange};
 ghost use Rattle.run_histories.specs.Reported.{IsOfOutcome, IsTrueReport};
+ghost use Rattle.run_histories.specs.Watched.{NamesWatched};
 ghost use Rattle.run_lists.specs.Reports.{reported, reports_of};
 ghost use Rattle.run_lists.specs.Run.{Run, first_words, task_setting};
 ghost use Rattle.run_lists.specs.RunList.{RunList};
@@ -65,11 +66,14 @@ pub fn run_lists_tell_runs_of_the_program()
 }
 
 /// Law: each report of unknown origin that a run list tells names bytes that changed under the watch of the access that
-/// was checked. In the history that the list tells their content was the old value after the first load of the watch and
-/// the new one before the second, the access was in progress at both, and no moment between them is of its own task.
+/// was checked. In the history that the list tells their content was the old value at the first load of the watch and the
+/// new one at the second, both made after the setter had named itself and before it consumed its word, untouched. The
+/// access was in progress at both, and no moment between them is of its own task.
 pub fn unknown_origins_changed()
-    ensures { (run : Run) (records : List Record) → (list : RunList run records)
+    ensures changed { (run : Run) (records : List Record) → (list : RunList run records)
         → All (NamesChange list) (outcomes_of list) }
+    ensures watched { (run : Run) (records : List Record) → (list : RunList run records)
+        → All (NamesWatched list) (outcomes_of list) }
 {
     cells_hold_the_content();
     verdicts_are_on_watches();

@@ -4,7 +4,7 @@ use Rattle.run_histories.proofs.laws.reports_are_true.Goals as goal
 
 pub returns-clause-all : goal.returns-clause-all
 returns-clause-all c = λ run records list.
-    all_true list (c.reports_name_two_sides.ensures run records list) (c.unknown_origins_changed.ensures run records list)
+    all_true list (c.reports_name_two_sides.ensures run records list) (c.unknown_origins_changed.ensures.changed run records list)
     (c.verdicts_are_on_watches.ensures run records list)
 
 pub returns-clause-outcomes : goal.returns-clause-outcomes
