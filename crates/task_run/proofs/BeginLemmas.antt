@@ -51,9 +51,11 @@ use Rattle.task_run.specs.Due.{PartBegins, StatementDue}
 use Rattle.task_run.specs.Part.{PartLeft, before_access, closes, disabled, locks, makes, opens, over, stops, unlocks}
 use Rattle.task_run.specs.Plans.{PlanLeft}
 use Rattle.task_run.specs.Stands.{Stands}
+use Rattle.task_run.specs.Stops.{Stops}
 use Rattle.task_run.specs.Told.{nothing}
 use Rattle.task_run.specs.declared.machine.Machine.{Machine}
 use Rattle.task_run.specs.declared.stage.Stage.TheVariants as stages
+use Rattle.text_bounds.specs.Scopes.{is_scoped}
 use Rattle.text_walk.specs.Left.{DueLeft}
 use Rattle.text_walk.specs.declared.due.Due.{Due}
 use Rattle.text_walk.specs.declared.due.Due.TheVariants as dues
@@ -61,11 +63,16 @@ use Rattle.text_walk.specs.declared.walk.Walk.{Walk}
 use Rattle.written_order.specs.Standing.{BeginsNow, Setting, Standing, checks_of, coming, counting, doing, is_lock, lock_number, moments, registered}
 
 -- what is due is the part itself, or the text is over
-pub begins_stopped : (s : Setting) (due : Due) (machine : Machine) → PartBegins s (DueLeft s due machine.walk) machine machine (Some stages.Stopped)
-begins_stopped s due machine = λ before stands. (
+pub begins_stopped : (s : Setting) (due : Due) (machine : Machine) → Stops s (DueLeft s due machine.walk) machine
+    → PartBegins s (DueLeft s due machine.walk) machine machine (Some stages.Stopped)
+begins_stopped s due machine why = λ before stands. (
   stops due,
   before,
-  λ later. record { of = (stands later).of; counts = (stands later).counts; is_in = (refl, refl, (stands later).rests) },
+  λ later. record {
+    of = (stands later).of;
+    counts = (stands later).counts;
+    is_in = (refl, refl, (stands later).rests, why (before later) (stands later));
+  },
   λ later end. (λ h. h, λ h. h),
   λ later. nothing,
 )
@@ -182,7 +189,7 @@ before_asked (loaded_by size data_races (condition value)) before later = refl
 before_asked (loaded_by size data_races (to_register register value data_race)) before later = refl
 
 -- an access that is planned is the same before and after reports are turned off
-planned_still : (s : Setting) (plan : Plan) (site count : ℕ) (before after : Standing) (later : List Record)
+pub planned_still : (s : Setting) (plan : Plan) (site count : ℕ) (before after : Standing) (later : List Record)
     → after.progress ≡ (disabled count before later).progress → planned_access s before plan site ≡ planned_access s after plan site
 planned_still s plan site count before after later is =
     ap (λ (n : ℕ). record (planned_access s before plan site) { rep = n })
@@ -335,7 +342,7 @@ begins_closing s machine checker some closes_it context = λ before stands. (
 
 -- the check of a scoped assertion
 pub begins_opening : (s : Setting) (kind : Kind) (variable site : ℕ) (a : access.Access) (machine : Machine) (progress : Progress) (checker : Checker) (begun : Begun)
-    → IsInLimits a → a.mask ≢ Some 0 → begun.access ≡ a → machine.in_force < 8
+    → is_scoped kind ≡ true → IsInLimits a → a.mask ≢ Some 0 → begun.access ≡ a → machine.in_force < 8
     → ((before : Standing) → Stands s before machine → a ≡ scoped_access s.text site before.progress (record { kind = kind; variable = variable }))
     → ((variables : ℕ) (before : Standing) (later : List Record) → Keeps variables before machine.progress → Keeps variables (doing before later (happenings.Begin a ∷ [])) progress)
     → ((scopes : List Begun) (asked : ℕ) (last : Option Begun) → checks.Rests (checks_of s) scopes asked last machine.checker → IsOwn (checks_of s) a
@@ -345,12 +352,12 @@ pub begins_opening : (s : Setting) (kind : Kind) (variable site : ℕ) (a : acce
     → (decided : Begun) → ((before : Standing) → Stands s before machine → IsOwn (checks_of s) a → BeginsNow s before a decided)
     → PartBegins s (DueLeft s (dues.Opens kind variable site) machine.walk) machine
     (record machine { progress = progress; checker = checker; begins = Some decided }) (Some stages.Opening)
-begins_opening s kind variable site a machine progress checker begun in_limits mask of_access room is_scoped counts_it decides follows decided decides_it = λ before stands. (
+begins_opening s kind variable site a machine progress checker begun scope in_limits mask of_access room planned counts_it decides follows decided decides_it = λ before stands. (
   opens a,
   before,
   λ later. agrees (before later) (stands later),
   λ later end. subst (λ (x : access.Access). DueLeft s (dues.Opens kind variable site) machine.walk (before later) later end []
-      ↔ PartLeft s (opens x) machine.walk (before later) later end []) (sym (is_scoped (before later) (stands later))) (λ h. h, λ h. h),
+      ↔ PartLeft s (opens x) machine.walk (before later) later end []) (sym (planned (before later) (stands later))) (λ h. h, λ h. h),
   λ later. nothing,
 )
   where
@@ -358,7 +365,7 @@ begins_opening s kind variable site a machine progress checker begun in_limits m
         → Agrees s (opens a) before [] (record machine { progress = progress; checker = checker; begins = Some decided }) stages.Opening
     agrees before stands =
         let own : IsOwn (checks_of s) a = record {
-          task = ap (λ (x : access.Access). x.task) (is_scoped before stands);
+          task = ap (λ (x : access.Access). x.task) (planned before stands);
           in_limits = in_limits;
           mask = mask;
         } in
@@ -391,6 +398,7 @@ begins_opening s kind variable site a machine progress checker begun in_limits m
             begins.1,
             nothing_checked (checks_of s) before.scopes begun before.asked,
             ap (λ (b : Begun). Some b) (begins_one s before a decided begun (decides_it before stands own) now_begins),
+            ap (λ (x : access.Access). is_scoped x.kind) (planned before stands) ∙ scope,
           );
         }
 

@@ -1,5 +1,5 @@
 -- What is over at once: how it goes on from where the task stood.
-use Rattle.std.proofs.Common.{◌≡◌, ◌≢◌, ◌↔◌, ◌∙◌, ℕ, Bool, List, [], ◌∷◌, None, Option, Some, inl, inr, subst, sym}
+use Rattle.std.proofs.Common.{◌≡◌, ◌≢◌, ◌↔◌, ◌∙◌, ℕ, Bool, List, [], ◌∷◌, None, Option, Some, inl, inr, refl, subst, sym}
 use Rattle.access_types.specs.declared.history.Happening.TheVariants as happenings
 use Rattle.access_types.specs.declared.history.Mark.TheVariants as marks
 use Rattle.litmus_meaning.specs.Expressions.{loading_value}
@@ -9,7 +9,7 @@ use Rattle.litmus_syntax.specs.Tree.{Loading}
 use Rattle.memory_operation.specs.declared.effect.Effect.{Effect}
 use Rattle.slot_table.specs.declared.records.Record.{Record}
 use Rattle.task_plan.specs.Follow.{Taker, assigned, condition, goes_on, loaded_by, marks_next, nobody, so_often, to_register}
-use Rattle.task_run.proofs.ToldLemmas.{computes_both, does_more, does_now, registers_more}
+use Rattle.task_run.proofs.ToldLemmas.{computes_both, does_now, marks_more, marks_now, registers_more}
 use Rattle.task_run.specs.Due.{EndsAtOnce, PartBegins}
 use Rattle.task_run.specs.Part.{FollowLeft, TakerLeft, enabled}
 use Rattle.task_run.specs.Stands.{Stands, StandsBy}
@@ -79,14 +79,14 @@ module _ (s : Setting) (walk : Walk) (before : List Record → Standing) (machin
       → EndsAtOnce s (FollowLeft s walk marks_next effect) before machine
   follows_mark effect is stands = ends_standing s (FollowLeft s walk marks_next effect) before
       (λ later. doing (before later) later (happenings.Mark (marks.Next 1) ∷ [])) walk machine is (λ later end. (λ h. h, λ h. h)) stands
-      (λ later. does_now later (before later) _)
+      (λ later. does_now later (before later) (happenings.Mark (marks.Next 1) ∷ []) (refl, tt))
 
   pub follows_assignment : (data_race : Bool) (effect : Effect) → machine.walk ≡ walk
       → ((later : List Record) → Stands s (enabled (so_often data_race) (before later) later) machine)
       → EndsAtOnce s (FollowLeft s walk (assigned data_race) effect) before machine
   follows_assignment data_race effect is stands = ends_standing s (FollowLeft s walk (assigned data_race) effect) before
       (λ later. enabled (so_often data_race) (before later) later) walk machine is (λ later end. (λ h. h, λ h. h)) stands
-      (λ later. does_now later (before later) _)
+      (λ later. marks_now later (before later) (so_often data_race) marks.Enable)
 
   -- a load's value is taken
   pub follows_load : (size data_races : ℕ) (taker : Taker) (effect : Effect) (old : ℕ) → effect.read ≡ Some old
@@ -99,7 +99,7 @@ module _ (s : Setting) (walk : Walk) (before : List Record → Standing) (machin
         λ h. let same : h.0 ≡ old = let both : Some h.0 ≡ Some old = sym h.1 ∙ read in cc in
             subst (λ (n : ℕ). TakerLeft s walk taker (sign_extended size n) (enabled data_races (before later) later) later end []) same h.2,
         λ t. (old, read, t),
-      )) (λ later. does_now later (before later) _) ends
+      )) (λ later. marks_now later (before later) data_races marks.Enable) ends
 
   -- a register takes it
   pub takes_register : (register : ℕ) (value : Loading) (data_race : Bool) (loaded given : ℕ)
@@ -111,7 +111,7 @@ module _ (s : Setting) (walk : Walk) (before : List Record → Standing) (machin
       (λ later. enabled (so_often data_race) (registered (before later) later register given) later) walk machine is
       (λ later end. subst (λ (g : ℕ). TakerLeft s walk (to_register register value data_race) loaded (before later) later end []
       ↔ WalkLeft s walk (enabled (so_often data_race) (registered (before later) later register g) later) later end []) (sym (gives later)) (λ h. h, λ h. h))
-      stands (λ later. does_more later (before later) _ _ (registers_more later (before later) _ register given nothing))
+      stands (λ later. marks_more later (before later) _ (so_often data_race) marks.Enable (registers_more later (before later) _ register given nothing))
 
   -- a condition takes it
   pub takes_holding : (value : Loading) (loaded : ℕ) → ((later : List Record) → loading_value (before later).progress.registers loaded value ≢ 0)

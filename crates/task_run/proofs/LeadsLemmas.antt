@@ -3,11 +3,13 @@ use Rattle.std.proofs.Common.{◌≡◌, ◌↔◌, ◌∙◌, ◌++◌, ◌∷�
 use Rattle.std.proofs.lemmas.List.{append-nil}
 use Rattle.litmus_syntax.specs.Tree.{Block}
 use Rattle.slot_table.specs.declared.records.Record.{Record}
+use Rattle.task_run.proofs.ScopeLemmas.{scopes_on}
 use Rattle.task_run.proofs.ToldLemmas.{told_on}
 use Rattle.task_run.proofs.WaitLemmas.{IsNoWait, ends_in_no_wait}
 use Rattle.task_run.specs.Agrees.{Agrees, Begins}
 use Rattle.task_run.specs.Leads.{Leads}
 use Rattle.task_run.specs.Part.{Part, PartLeft}
+use Rattle.task_run.specs.Stops.{ScopesAreTold}
 use Rattle.task_run.specs.Told.{IsTold}
 use Rattle.task_run.specs.declared.run.TaskRun.{TaskRun}
 use Rattle.text_walk.proofs.StepsLemmas.{through}
@@ -50,6 +52,7 @@ module _ (s : Setting) (registers : ℕ) (body : Block) (records : List Record) 
       spelled = ap (λ (x : List Record). x ++ made ∷ []) leads.spelled ∙ append_assoc leads.earlier leads.mine (made ∷ []);
       now = leads.now;
       told = leads.told;
+      scopes = leads.scopes;
       agrees = agrees;
       left = λ later end. subst (λ (w : Walk). StepsOfBlock s 0 body (at_first registers) ((records ++ made ∷ []) ++ later) end []
           ↔ PartLeft s part w (leads.now ((leads.mine ++ made ∷ []) ++ later)) ((leads.mine ++ made ∷ []) ++ later) end [])
@@ -58,12 +61,12 @@ module _ (s : Setting) (registers : ℕ) (body : Block) (records : List Record) 
 
     -- the part is over, and the next begins: from these standings on, what was left after the part is left of the text
     pub next_part : IsNoWait made → (new : TaskRun) (walk : Walk) (next : List Record → Standing)
-        → ((later : List Record) → IsTold registers later (next later))
+        → ((later : List Record) → IsTold registers later (next later)) → ((later : List Record) → ScopesAreTold (next later))
         → ((later : List Record) (end : Standing)
         → PartLeft s part old.machine.walk (leads.now ((leads.mine ++ made ∷ []) ++ later)) ((leads.mine ++ made ∷ []) ++ later) end []
         ↔ WalkLeft s walk (next later) later end [])
         → Begins s (WalkLeft s walk) next new.machine new.stage → Leads s registers body (records ++ made ∷ []) new
-    next_part none new walk next told over begins = record {
+    next_part none new walk next told scopes over begins = record {
       part = begins.0;
       earlier = records ++ made ∷ [];
       waits = ends_in_no_wait records made none;
@@ -71,6 +74,7 @@ module _ (s : Setting) (registers : ℕ) (body : Block) (records : List Record) 
       spelled = sym (append-nil (records ++ made ∷ []));
       now = begins.1;
       told = λ later. told_on registers (begins.4 later) (told later);
+      scopes = λ later. scopes_on (begins.4 later) (scopes later);
       agrees = begins.2;
       left = λ later end. through (left_on later end) (through (over later end) (begins.3 later end));
     }

@@ -1,12 +1,15 @@
 pub mod SaysLemmas
+pub mod GrowLemmas
 pub mod CountsLemmas
 pub mod StandsLemmas
 pub mod PartLemmas
 pub mod EndLemmas
 pub mod ToldLemmas
+pub mod ScopeLemmas
 pub mod FollowLemmas
 pub mod BeginLemmas
 pub mod PlanLemmas
+pub mod StopLemmas
 pub mod BeginsLemmas
 pub mod WaitLemmas
 pub mod TriesLemmas

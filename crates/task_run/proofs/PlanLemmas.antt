@@ -226,7 +226,7 @@ ends_mark s m site old new walk makes = λ before stands.
       λ n. let h = only.1 n in (h.0, h.1, (made.0, made.1, h.2), h.3),
     ))
     (λ later. (makes (before later) (stands later)).2 later)
-    (λ later. counts_more later (before later) (makes (before later) (stands later)).0 (happenings.Mark m ∷ []))
+    (λ later. counts_more later (before later) (makes (before later) (stands later)).0 (happenings.Mark m ∷ []) (refl, tt))
 
 pub begins_register : (s : Setting) (site register : ℕ) (value : Loading) (data_race : Bool) (load : Load) (old new : Machine) (stage : Option Stage) → load ≡ load_in value
     → PartBegins s (LoadLeft s old.walk site load (to_register register value data_race)) old new stage

@@ -1,5 +1,5 @@
 -- One record more leads a task's machine on, in each of its stages.
-use Rattle.std.proofs.Common.{◌≡◌, ◌↔◌, ◌∙◌, ◌+◌, ◌-◌, ◌++◌, ◌<◌, ℕ, Bool, true, false, IsSomeAnd, List, [], ◌∷◌, None, Option, Some, ap, arith, length, refl, slice_get, subst, sym, unwrap_or}
+use Rattle.std.proofs.Common.{◌≡◌, ◌↔◌, ◌∙◌, ◌+◌, ◌-◌, ◌++◌, ◌<◌, ℕ, Bool, true, false, IsSomeAnd, List, [], ◌∷◌, None, Option, Some, ap, arith, drop, length, refl, slice_get, subst, sym, unwrap_or}
 use Rattle.std.proofs.lemmas.List.{length-append}
 use Rattle.std.proofs.lemmas.Option.{slice_get_within}
 use Rattle.access_run.specs.Leads.{AccessIsComplete, AccessIsDone, AccessLeads}
@@ -40,6 +40,7 @@ use Rattle.task_run.proofs.CountsLemmas.{counts_silent, history_of}
 use Rattle.task_run.proofs.EndLemmas.{after_access, after_closing, after_opening, passes_of}
 use Rattle.task_run.proofs.LeadsLemmas.{agrees_in, inside, next_part}
 use Rattle.task_run.proofs.ReadLemmas.{operation_reads}
+use Rattle.task_run.proofs.ScopeLemmas.{access_scopes, closing_scopes, done_scopes, opening_scopes, scopes_on}
 use Rattle.task_run.proofs.StageLemmas.{in_closing, in_locking, in_making, in_opening, in_unlocking}
 use Rattle.task_run.proofs.ToldLemmas.{access_told, closing_told, done_told, opening_told, told_on}
 use Rattle.task_run.proofs.WaitLemmas.{IsNoWait, no_try_no_wait, taken_no_wait}
@@ -55,6 +56,7 @@ use Rattle.task_run.specs.declared.stage.Stage.TheVariants as stages
 use Rattle.text_walk.proofs.StepsLemmas.{through}
 use Rattle.text_walk.specs.Left.{WalkLeft}
 use Rattle.text_walk.specs.declared.walk.Walk.{Walk}
+use Rattle.written_order.specs.Access.{operated}
 use Rattle.written_order.specs.Standing.{Setting, Standing, checks_of, doing, lock_number}
 use Rattle.written_order.specs.Waits.{was_vain}
 
@@ -131,6 +133,7 @@ module _ (s : Setting) (registers : ℕ) (body : Block) (records : List Record) 
         next_part s registers body records old leads (locks variable) lock_part made
         (taken_no_wait s.text.task (lock_number s variable) leads.mine made (taken (lock_number s variable) mine (lock_leads []))) new old.machine.walk next
         (λ later. done_told registers mine (at_begin later) later (happenings.Lock variable) (leads.told (mine ++ later)))
+        (λ later. done_scopes (at_begin later) (next later) (happenings.Lock variable ∷ []) refl refl (refl, tt) (leads.scopes (mine ++ later)))
         (λ later end. let a = lock_agrees (mine ++ later) in
         lock_over s (at_begin later) variable mine old.machine.walk a.is_in.2
         (taken (lock_number s variable) mine (lock_leads (mine ++ later))) later end)
@@ -206,6 +209,10 @@ module _ (s : Setting) (registers : ℕ) (body : Block) (records : List Record) 
         (access_told registers (checks_of s) making.0 (access_agrees (mine ++ later)).is_in.2.access making.1 (at_begin later) leads.mine made
         (complete later).makes.checked (complete later).makes.done later effect (complete later).makes.done (complete later).fallen (complete later).now
         (complete later).makes.operates (leads.told (mine ++ later))))
+        (λ later. let began : Standing = doing (at_begin later) (drop 1 (mine ++ later)) (happenings.Begin making.0 ∷ []) in
+        let made : Standing = operated making.0 making.1 began ((complete later).makes.checked ++ later) effect ((complete later).makes.done ++ later) in
+        scopes_on (over.3 later) (access_scopes making.0 making.1 (at_begin later) began made (next later) ((complete later).makes.checked ++ later) effect
+        ((complete later).makes.done ++ later) refl refl refl refl refl (leads.scopes (mine ++ later))))
         (λ later end. let a = access_agrees (mine ++ later) in
         through (subst (λ (w : Walk). PartLeft s (makes making.0 making.1 (follow_of kept)) w (at_begin later) (mine ++ later) end []
         ↔ FollowLeft s machine.walk (follow_of kept) effect (next later) later end []) (walk_kept s old.machine machine other)
@@ -238,6 +245,7 @@ module _ (s : Setting) (registers : ℕ) (body : Block) (records : List Record) 
         (sym (step (at_begin []) (stands []))) (no_try_no_wait (LockStore (lock_number s variable)) made.answer tt) in
         next_part s registers body records old leads (unlocks variable) unlock_part made none new old.machine.walk next
         (λ later. done_told registers mine (at_begin later) later (happenings.Unlock variable) (leads.told (mine ++ later)))
+        (λ later. done_scopes (at_begin later) (next later) (happenings.Unlock variable ∷ []) refl refl (refl, tt) (leads.scopes (mine ++ later)))
         (λ later end. subst (λ (r : List Record). PartLeft s (unlocks variable) old.machine.walk (at_begin later) r end []
         ↔ WalkLeft s old.machine.walk (next later) later end []) (sym (only later)) (
           λ h. subst (λ (l : List Record). WalkLeft s old.machine.walk (doing (at_begin later) l (happenings.Unlock variable ∷ [])) l end []) h.1.2.1 h.2,
@@ -284,6 +292,7 @@ module _ (s : Setting) (registers : ℕ) (body : Block) (records : List Record) 
             check_goes (checks_of s) (leads.now later).scopes a.is_in.0 (leads.now later).asked leads.mine made a.is_in.5
                 (going (leads.now later).scopes (Checks a.is_in.0) (leads.now later).asked mine (opening_leads later)),
             begun_before a.is_in.0 leads.mine made machine.begins none_begins,
+            a.is_in.7,
           );
         })
 
@@ -331,6 +340,8 @@ module _ (s : Setting) (registers : ℕ) (body : Block) (records : List Record) 
         next_part s registers body records old leads (opens opening.0) opening.1 made none new machine.walk next
         (λ later. opening_told registers opening.0 (opening_agrees (mine ++ later)).is_in.0 (at_begin later) leads.mine made later (complete later).fallen
         (complete later).now (leads.told (mine ++ later)))
+        (λ later. let a = opening_agrees (mine ++ later) in
+        opening_scopes opening.0 a.is_in.0 (at_begin later) (next later) a.is_in.7 a.is_in.2.access refl refl (leads.scopes (mine ++ later)))
         (λ later end. let a = opening_agrees (mine ++ later) in
         subst (λ (w : Walk). PartLeft s (opens opening.0) w (at_begin later) (mine ++ later) end [] ↔ WalkLeft s machine.walk (next later) later end [])
         (walk_kept s old.machine machine other)
@@ -417,6 +428,8 @@ module _ (s : Setting) (registers : ℕ) (body : Block) (records : List Record) 
         next_part s registers body records old leads closes closing made none new machine.walk next
         (λ later. let a = closing_agrees (mine ++ later) in
         closing_told registers a.is_in.1.access a.is_in.0 (at_begin later) mine later (complete later).fallen (complete later).now (leads.told (mine ++ later)))
+        (λ later. let a = closing_agrees (mine ++ later) in
+        closing_scopes a.is_in.0 a.is_in.1 (at_begin later) (next later) a.is_in.4 refl refl (leads.scopes (mine ++ later)))
         (λ later end. let a = closing_agrees (mine ++ later) in
         subst (λ (w : Walk). PartLeft s closes w (at_begin later) (mine ++ later) end [] ↔ WalkLeft s machine.walk (next later) later end [])
         (walk_kept s old.machine machine other)

@@ -1,5 +1,6 @@
 -- A part that waits too long is stuck by the records: the only step that they go on with is a try too much.
-use Rattle.std.proofs.Common.{◌≡◌, ◌↔◌, ◌⊎◌, ◌∙◌, ◌++◌, ◌∷◌, [], ℕ, Bool, true, false, IfSome, IsNone, List, None, Option, Some, ap, inl, inr, refl, reverse, subst, sym}
+use Rattle.std.proofs.Common.{◌≡◌, ◌↔◌, ◌⊎◌, ◌∙◌, ◌++◌, ◌^◌, ◌≤◌, ◌∷◌, [], ℕ, Bool, true, false, IfSome, IsNone, List, None, Option, Some, ap, inl, inr, refl, reverse, subst, sym}
+use Rattle.std.proofs.lemmas.List.{append-nil}
 use Rattle.access_run.proofs.CheckFronts.{check, close, framed_checks}
 use Rattle.access_run.proofs.LeadsLemmas.{check_only, check_stuck, end_not_stuck, operate_only, operate_stuck}
 use Rattle.access_run.proofs.WholeLemmas.{split}
@@ -10,6 +11,7 @@ use Rattle.access_run.specs.declared.access.AccessRun.{AccessRun}
 use Rattle.access_run.specs.declared.stage.Stage as access_stages
 use Rattle.access_run.specs.declared.stage.Stage.TheVariants as accessing
 use Rattle.access_types.specs.Access as access
+use Rattle.litmus_syntax.specs.Limits.{BlockScopes, block_rises}
 use Rattle.litmus_syntax.specs.Tree.{Block}
 use Rattle.memory_operation.proofs.LeadsLemmas as operations_lemmas
 use Rattle.memory_operation.proofs.LockLemmas.{only_try, taken_whole}
@@ -39,11 +41,16 @@ use Rattle.task_run.proofs.NextLemmas.{closing_is, closing_only, closing_part, l
 use Rattle.task_run.proofs.PairLemmas.{AreOfOne, check_of_one, close_of_one}
 use Rattle.task_run.proofs.TriesLemmas.{all_onto, onto, onto_both}
 use Rattle.task_run.specs.Leads.{IsStuck, Leads, WaitsTooLong}
-use Rattle.task_run.specs.Part.{Part, PartLeft, closes, locks, makes, opens}
+use Rattle.task_run.specs.Agrees.{IsIn}
+use Rattle.task_run.specs.Part.{Part, PartLeft, closes, locks, makes, opens, over, stops, unlocks}
 use Rattle.task_run.specs.Says.{IsStopped, Says}
+use Rattle.task_run.specs.declared.machine.Machine.{Machine}
 use Rattle.task_run.specs.declared.run.TaskRun.{TaskRun}
 use Rattle.task_run.specs.declared.stage.Stage.{Stage}
 use Rattle.task_run.specs.declared.stage.Stage.TheVariants as stages
+use Rattle.text_bounds.proofs.Passes.{passes_none}
+use Rattle.text_walk.specs.Left.{DueLeft}
+use Rattle.text_walk.specs.declared.due.Due.{Due}
 use Rattle.written_order.specs.Standing.{Setting, Standing, checks_of, lock_number}
 use Rattle.written_order.specs.Waits as waits
 use Rattle.written_order.specs.Waits.{IsTooMuch, OnlyStep}
@@ -267,7 +274,30 @@ one_next : (task : ℕ) (one other : Step) (records : List Record) → operation
 one_next task one other [] h k = absurd h
 one_next task one other (first ∷ later) h k = sym h.1 ∙ k.1
 
--- no step is left exactly where the text is over, or the task is stuck by its records, or the machine has stopped
+-- only a part that stops has a machine that stopped
+in_stopped : (s : Setting) (before : Standing) (mine : List Record) (machine : Machine) (stage : Stage) (part : Part) → IsIn s part before mine machine stage
+    → stage ≡ stages.Stopped → (due : Due) × (part ≡ stops due)
+in_stopped s before mine machine stage (makes a operation follow) h is = absurd (let no : stages.Making h.0 h.1 ≡ stages.Stopped = sym h.3 ∙ is in cc)
+in_stopped s before mine machine stage (opens a) h is = absurd (let no : stages.Opening ≡ stages.Stopped = sym h.1 ∙ is in cc)
+in_stopped s before mine machine stage closes h is = absurd (let no : stages.Closing ≡ stages.Stopped = sym h.3 ∙ is in cc)
+in_stopped s before mine machine stage (locks variable) h is = absurd (let no : stages.Locking h.0 variable ≡ stages.Stopped = sym h.1 ∙ is in cc)
+in_stopped s before mine machine stage over h is = absurd (let no : stages.Over ≡ stages.Stopped = sym h.0 ∙ is in cc)
+in_stopped s before mine machine stage (stops due) h is = (due, refl)
+in_stopped s before mine machine stage (unlocks variable) h is = absurd (let no : stages.Unlocking variable ≡ stages.Stopped = sym h.0 ∙ is in cc)
+
+-- whatever completes the records of such a one has the task pass a limit, which no text that keeps the limits does
+pub none_stops : (s : Setting) (registers : ℕ) (body : Block) (records : List Record) (run : TaskRun) → Leads s registers body records run
+    → WrittenOrder s registers body records → BlockScopes 0 body → block_rises body ≤ 2 ^ 32 → ¬ IsStopped run
+none_stops s registers body records run leads written few rises stopped =
+    let all : List Record = leads.mine ++ written.more in
+    let part = in_stopped s (leads.now all) leads.mine run.machine run.stage leads.part (leads.agrees all).is_in stopped in
+    let agrees = agrees_in s registers body records run leads (stops part.0) part.1 all in
+    let left : DueLeft s part.0 run.machine.walk (leads.now all) all written.whole.end [] =
+    subst (λ (p : Part). PartLeft s p run.machine.walk (leads.now all) all written.whole.end []) part.1
+    ((leads.left written.more written.whole.end).0 written.whole.steps) in
+    passes_none s registers body (records ++ written.more) few rises written.whole (agrees.is_in.3 (leads.scopes all) all written.whole.end left)
+
+-- no step is left exactly where the text is over, or the task is stuck by its records
 module _ (s : Setting) (registers : ℕ) (body : Block) (records : List Record) (run : TaskRun) (leads : Leads s registers body records run) (o : Option Step)
     (only : IfSome o (OnlyStep s registers body records)) (says : IfSome o (λ step. Says run step)) (stuck_none : IsStuck leads → IsNone o) where
   none_by_records : waits.IsStuck s registers body records → IsNone o
@@ -281,17 +311,23 @@ module _ (s : Setting) (registers : ℕ) (body : Block) (records : List Record) 
           (subst (λ (x : Step). IsTooMuch s.rules.turns x (reverse records)) same by.tried))
 
   pub over_by_records : (IsNone o ↔ (SpellsAll s registers body records ⊎ (IsStuck leads ⊎ IsStopped run))) → WrittenOrder s registers body records
-      → IsNone o ↔ (SpellsAll s registers body records ⊎ (waits.IsStuck s registers body records ⊎ IsStopped run))
-  over_by_records none written = (to, from)
+      → BlockScopes 0 body → block_rises body ≤ 2 ^ 32 → IsNone o ↔ (SpellsAll s registers body records ⊎ waits.IsStuck s registers body records)
+  over_by_records none written few rises = (to, from)
     where
-      stuck_or : IsStuck leads ⊎ IsStopped run → waits.IsStuck s registers body records ⊎ IsStopped run
-      stuck_or (inl stuck) = inl (stuck_by_records s registers body records run leads written stuck)
-      stuck_or (inr stopped) = inr stopped
+      to : IsNone o → SpellsAll s registers body records ⊎ waits.IsStuck s registers body records
+      to h = elim (none.0 h) [
+        | inl all ↦ inl all
+        | inr rest ↦ elim rest [
+          | inl stuck ↦ inr (stuck_by_records s registers body records run leads written stuck)
+          | inr stopped ↦ absurd (none_stops s registers body records run leads written few rises stopped)
+        ]
+      ]
 
-      to : IsNone o → SpellsAll s registers body records ⊎ (waits.IsStuck s registers body records ⊎ IsStopped run)
-      to h = elim (none.0 h) [ inl all ↦ inl all | inr rest ↦ inr (stuck_or rest) ]
-
-      from : SpellsAll s registers body records ⊎ (waits.IsStuck s registers body records ⊎ IsStopped run) → IsNone o
+      from : SpellsAll s registers body records ⊎ waits.IsStuck s registers body records → IsNone o
       from (inl all) = none.1 (inl all)
-      from (inr (inl by)) = none_by_records by
-      from (inr (inr stopped)) = none.1 (inr (inr stopped))
+      from (inr by) = none_by_records by
+
+-- a text that is over has no wait
+pub over_waits_not : (s : Setting) (registers : ℕ) (body : Block) (records : List Record) → SpellsAll s registers body records → ¬ waits.IsStuck s registers body records
+over_waits_not s registers body records all by =
+    by.only [] (subst (λ (r : List Record). SpellsAll s registers body r) (sym (append-nil records)) all)

@@ -56,6 +56,7 @@ keeping s registers body records run news leads = record {
   now = leads.now;
   waits = leads.waits;
   told = leads.told;
+  scopes = leads.scopes;
   agrees = leads.agrees;
   left = leads.left;
 }

@@ -1,9 +1,11 @@
 -- Where a task stands is told by its way after what it computes, and after each part of its text.
-use Rattle.std.proofs.Common.{◌≡◌, ◌≤◌, ◌++◌, ◌∷◌, [], ℕ, Bool, true, false, List, None, Option, Some, ap, arith, drop, le_refl, length, refl, sym}
+use Rattle.std.proofs.Common.{◌≡◌, ◌≤◌, ◌++◌, ◌∷◌, [], ℕ, zero, suc, Bool, true, false, List, None, Option, Some, ap, arith, drop, le_refl, length, refl, replicate, sym}
 use Rattle.std.proofs.lemmas.List.{append-nil, length-append}
 use Rattle.access_types.specs.Access as access
 use Rattle.access_types.specs.declared.history.Happening.{Happening}
 use Rattle.access_types.specs.declared.history.Happening.TheVariants as happenings
+use Rattle.access_types.specs.declared.history.Mark.{Mark}
+use Rattle.access_types.specs.declared.history.Mark.TheVariants as marks
 use Rattle.litmus_meaning.specs.Task as meaning
 use Rattle.memory_operation.specs.Effects.{read_moments}
 use Rattle.memory_operation.specs.Operations.{Operates}
@@ -15,47 +17,60 @@ use Rattle.setup_access.specs.Fallen.{followed}
 use Rattle.setup_access.specs.Setting as settings
 use Rattle.setup_access.specs.declared.begun.Begun.{Begun}
 use Rattle.slot_table.specs.declared.records.Record.{Record}
-use Rattle.task_plan.specs.Follow.{Follow, assigned, condition, goes_on, loaded_by, marks_next, nobody, to_register}
+use Rattle.task_plan.specs.Follow.{Follow, assigned, condition, goes_on, loaded_by, marks_next, nobody, so_often, to_register}
 use Rattle.task_run.specs.Part.{before_access}
 use Rattle.task_run.specs.Told.{AllFellFrom, AllFrom, Computes, IsTold, last_of, nothing, one_more}
+use Rattle.text_bounds.specs.Scopes.{AreOfNoScope}
 use Rattle.written_order.specs.Access.{operated}
 use Rattle.written_order.specs.Standing.{Point, Standing, coming, counting, doing, registered}
 use Rattle.written_order.specs.WrittenOrder.{at_first, first_point}
 
 -- what is computed at once
-pub does_more : (later : List Record) (before between : Standing) (does : List Happening) → Computes later before between
+pub does_more : (later : List Record) (before between : Standing) (does : List Happening) → AreOfNoScope does → Computes later before between
     → Computes later before (doing between later does)
-does_more later before between does so_far = one_more between false (meaning.doing between.progress does) does refl so_far
+does_more later before between does none so_far = one_more between false (meaning.doing between.progress does) does refl none so_far
 
-pub does_now : (later : List Record) (before : Standing) (does : List Happening) → Computes later before (doing before later does)
-does_now later before does = does_more later before before does nothing
+pub does_now : (later : List Record) (before : Standing) (does : List Happening) → AreOfNoScope does → Computes later before (doing before later does)
+does_now later before does none = does_more later before before does none nothing
 
-pub counts_more : (later : List Record) (before : Standing) (ends_nothing : Bool) (does : List Happening)
+-- marks begin and end no scoped assertion
+of_marks : (count : ℕ) (m : Mark) → AreOfNoScope (replicate count (happenings.Mark m))
+of_marks zero m = tt
+of_marks (suc count) m = (refl, of_marks count m)
+
+pub marks_more : (later : List Record) (before between : Standing) (count : ℕ) (m : Mark) → Computes later before between
+    → Computes later before (doing between later (replicate count (happenings.Mark m)))
+marks_more later before between count m so_far = does_more later before between (replicate count (happenings.Mark m)) (of_marks count m) so_far
+
+pub marks_now : (later : List Record) (before : Standing) (count : ℕ) (m : Mark) → Computes later before (doing before later (replicate count (happenings.Mark m)))
+marks_now later before count m = marks_more later before before count m nothing
+
+pub counts_more : (later : List Record) (before : Standing) (ends_nothing : Bool) (does : List Happening) → AreOfNoScope does
     → Computes later before (doing (counting ends_nothing before) later does)
-counts_more later before true does = one_more before true (meaning.doing before.progress does) does refl nothing
-counts_more later before false does = does_now later before does
+counts_more later before true does none = one_more before true (meaning.doing before.progress does) does refl none nothing
+counts_more later before false does none = does_now later before does none
 
 pub counts_now : (later : List Record) (before : Standing) → Computes later before (coming (counting true before) later before.progress)
-counts_now later before = one_more before true before.progress [] (sym (append-nil before.progress.did)) nothing
+counts_now later before = one_more before true before.progress [] (sym (append-nil before.progress.did)) tt nothing
 
 pub registers_more : (later : List Record) (before between : Standing) (register value : ℕ) → Computes later before between
     → Computes later before (registered between later register value)
 registers_more later before between register value so_far =
-    one_more between false (meaning.assigning between.progress register value) [] (sym (append-nil between.progress.did)) so_far
+    one_more between false (meaning.assigning between.progress register value) [] (sym (append-nil between.progress.did)) tt so_far
 
 pub computes_both : {later : List Record} {before between after : Standing} → Computes later before between → Computes later between after
     → Computes later before after
 computes_both first nothing = first
-computes_both first (one_more between ends_nothing progress does same so_far) = one_more between ends_nothing progress does same (computes_both first so_far)
+computes_both first (one_more between ends_nothing progress does same none so_far) = one_more between ends_nothing progress does same none (computes_both first so_far)
 
 pub before_computes : (follow : Follow) (later : List Record) (before : Standing) → Computes later before (before_access follow before later)
 before_computes goes_on later before = nothing
 before_computes marks_next later before = nothing
-before_computes (assigned data_race) later before = does_now later before _
-before_computes (loaded_by size data_races nobody) later before = does_now later before _
-before_computes (loaded_by size data_races (condition value)) later before = does_now later before _
+before_computes (assigned data_race) later before = marks_now later before (so_often data_race) marks.Disable
+before_computes (loaded_by size data_races nobody) later before = marks_now later before data_races marks.Disable
+before_computes (loaded_by size data_races (condition value)) later before = marks_now later before data_races marks.Disable
 before_computes (loaded_by size data_races (to_register register value data_race)) later before =
-    does_more later before _ _ (does_now later before _)
+    marks_more later before _ data_races marks.Disable (marks_now later before (so_often data_race) marks.Disable)
 
 points_both : (count : ℕ) (one other : List Point) → AllFrom count one → AllFrom count other → AllFrom count (one ++ other)
 points_both count [] other first second = second
@@ -115,7 +130,7 @@ module _ (registers : ℕ) where
   pub told_on : {later : List Record} {before after : Standing} → Computes later before after → IsTold registers later before
       → IsTold registers later after
   told_on nothing told = told
-  told_on {later = later} (one_more between ends_nothing progress does same so_far) told =
+  told_on {later = later} (one_more between ends_nothing progress does same none so_far) told =
       counted_told later between ends_nothing progress (told_on so_far told)
 
   -- an operation on memory

@@ -19,6 +19,7 @@ use Rattle.slot_table.specs.declared.records.Record.{Record}
 use Rattle.task_plan.specs.Follow.{Follow, loaded_by}
 use Rattle.task_run.specs.Part.{Part, PartLeft, closes, locks, makes, opens, over, stops, unlocks}
 use Rattle.task_run.specs.Stands.{Counts, IsOf, RestsAt, SameToEnd}
+use Rattle.task_run.specs.Stops.{PassesWith}
 use Rattle.task_run.specs.Told.{ComputesBy}
 use Rattle.task_plan.specs.Views.{follow_of}
 use Rattle.task_plan.specs.declared.follow.Then.{Then}
@@ -26,6 +27,8 @@ use Rattle.task_run.specs.declared.machine.Machine.{Machine}
 use Rattle.task_run.specs.declared.stage.Stage.{Stage}
 use Rattle.task_run.specs.declared.stage.Stage.TheVariants as stages
 use Rattle.written_order.specs.Standing.{BeginsNow, IsDisabled, IsLockAt, Setting, Standing, checks_of, doing, lock_number}
+use Rattle.text_bounds.specs.Scopes.{is_scoped}
+use Rattle.text_walk.specs.Left.{DueLeft}
 use Rattle.written_order.specs.WrittenOrder.{Steps}
 
 -- where the task stands while it is in the part: an access begins with it
@@ -60,6 +63,7 @@ abbrev pub IsIn : Setting → Part → Standing → List Record → Machine → 
 IsIn s over before mine machine stage = (stage ≡ stages.Over) × (mine ≡ []) × RestsAt s before machine
 IsIn s (stops due) before mine machine stage =
     (stage ≡ stages.Stopped) × (mine ≡ []) × RestsAt s before machine
+    × PassesWith s (DueLeft s due machine.walk) before
 IsIn s (makes a operation follow) before mine machine stage =
     (access : AccessRun) × (kept : Then) × (begun : Begun) × (stage ≡ stages.Making access kept)
     × (follow_of kept ≡ follow) × IsFit follow operation × BeginsNow s before a begun
@@ -70,7 +74,7 @@ IsIn s (opens a) before mine machine stage =
     (begun : Begun) × (stage ≡ stages.Opening) × BeginsNow s before a begun × (length before.scopes < 8)
     × checks.Leads (checks_of s) before.scopes (Checks begun) before.asked mine machine.checker
     × NoneWhole (Check (checks_of s) before.scopes begun before.asked) mine
-    × (machine.begins ≡ begins_now begun mine)
+    × (machine.begins ≡ begins_now begun mine) × (is_scoped a.kind ≡ true)
 IsIn s closes before mine machine stage =
     (scopes : List Begun) × (newest : Begun) × (silenced : Bool) × (stage ≡ stages.Closing)
     × (before.scopes ≡ scopes ++ newest ∷ []) × (IsTrue silenced ↔ IsDisabled s before)

@@ -13,6 +13,7 @@ use Rattle.slot_table.specs.declared.step.Step.TheVariants.{LockTry}
 use Rattle.task_run.specs.Agrees.{Agrees}
 use Rattle.task_run.specs.Part.{Part, PartLeft, closes, locks, makes, opens, over, stops, unlocks}
 use Rattle.task_run.specs.Says.{Says}
+use Rattle.task_run.specs.Stops.{ScopesAreTold}
 use Rattle.task_run.specs.Told.{IsTold}
 use Rattle.task_run.specs.declared.run.TaskRun.{TaskRun}
 use Rattle.written_order.specs.Standing.{BeginsNow, Setting, Standing, checks_of, lock_number}
@@ -36,6 +37,7 @@ pub record Leads (s : Setting) (registers : ℕ) (body : Block) (records : List 
   pub waits : EndInNoWait earlier
   pub now : List Record → Standing
   pub told : (later : List Record) → IsTold registers later (now later)
+  pub scopes : (later : List Record) → ScopesAreTold (now later)
   pub agrees : (later : List Record) → Agrees s part (now later) mine run.machine run.stage
   pub left : (later : List Record) (end : Standing)
       → StepsOfBlock s 0 body (at_first registers) (records ++ later) end []

@@ -3,6 +3,7 @@ pub mod Part
 pub mod Plans
 pub mod Stands
 pub mod Told
+pub mod Stops
 pub mod Agrees
 pub mod Follows
 pub mod Due

@@ -24,6 +24,15 @@ StageSays (stages.Unlocking variable) run step =
 abbrev pub Says : TaskRun → Step → Type 0
 Says run step = StageSays run.stage run step
 
+-- a task in this stage is in a part of its text
+abbrev pub IsGoingIn : Stage → Type 0
+IsGoingIn stages.Over = ⊥
+IsGoingIn stages.Stopped = ⊥
+IsGoingIn stage = Unit {0}
+
+abbrev pub IsGoing : TaskRun → Type 0
+IsGoing run = IsGoingIn run.stage
+
 -- what is due needs more than the machine has room for
 abbrev pub IsStopped : TaskRun → Type 0
 IsStopped run = run.stage ≡ stages.Stopped

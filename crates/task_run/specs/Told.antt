@@ -4,14 +4,16 @@ use Rattle.access_types.specs.declared.history.Happening.{Happening}
 use Rattle.litmus_meaning.specs.Task.{Progress}
 use Rattle.setup_access.specs.Check.{Fallen}
 use Rattle.slot_table.specs.declared.records.Record.{Record}
+use Rattle.text_bounds.specs.Scopes.{AreOfNoScope}
 use Rattle.written_order.specs.Standing.{Point, Standing, coming, counting}
 use Rattle.written_order.specs.WrittenOrder.{first_point}
 
--- what a task computes with these records still to come, from where it stood to where it stands then
+-- what a task computes with these records still to come, from where it stood to where it stands then: no scoped
+-- assertion begins or ends in it
 pub data Computes (later : List Record) (before : Standing) : Standing → Type 0 where
   nothing : Computes later before before
   one_more : (between : Standing) (ends_nothing : Bool) (progress : Progress) (does : List Happening)
-      → progress.did ≡ between.progress.did ++ does → Computes later before between
+      → progress.did ≡ between.progress.did ++ does → AreOfNoScope does → Computes later before between
       → Computes later before (coming (counting ends_nothing between) later progress)
 
 -- the same, whichever records are to come

@@ -1,6 +1,6 @@
 //! How what is due in a task's text begins.
 
-ghost use Rattle.std.specs.Prelude.{◌≡◌, ◌≢◌, ◌<◌, ◌≤◌, ℕ, List, IfOk, IsTrue, None, OnErr};
+ghost use Rattle.std.specs.Prelude.{◌≡◌, ◌≢◌, ◌↔◌, ◌<◌, ◌≤◌, ℕ, List, IfOk, IsTrue, None, OnErr, true};
 ghost use Rattle.access_types.specs.Access.{IsInLimits};
 ghost use Rattle.litmus_syntax.specs.Tree as tree;
 ghost use Rattle.litmus_syntax.specs.Views.{assignment_of, expression_of, load_of, pure_of, statement_of};
@@ -10,10 +10,14 @@ ghost use Rattle.slot_table.specs.declared.records.Record.{Record};
 ghost use Rattle.access_run.specs.Leads.{HasCell};
 ghost use Rattle.task_run.specs.Agrees.{Begins, IsFit};
 ghost use Rattle.task_run.specs.Due.{ConditionDue, PartBegins, StatementDue};
-ghost use Rattle.task_plan.specs.Plans.{planned_access};
+ghost use Rattle.litmus_meaning.specs.Task as meaning;
+ghost use Rattle.task_plan.specs.Plans.{call_plan, planned_access};
 ghost use Rattle.task_plan.specs.Keeps.{Keeps};
 ghost use Rattle.task_run.specs.Plans.{LoadLeft, PlanLeft};
 ghost use Rattle.task_run.specs.Stands.{Stands, StandsBy};
+ghost use Rattle.task_run.specs.Stops.{CanBegin, Stops};
+ghost use Rattle.text_bounds.specs.Scopes.{is_scoped};
+ghost use Rattle.text_walk.specs.Form.{HasNoBlock, IsOfForm};
 ghost use Rattle.task_plan.specs.Views.{plan_of, taker_of};
 ghost use Rattle.text_walk.specs.Cost.{walk_cost};
 ghost use Rattle.text_walk.specs.Left.{DueLeft, WalkLeft};
@@ -51,6 +55,7 @@ impl<'a> Machine<'a> {
 
     /// What is due begins. It is over at once where there is no stage: it makes no step.
     pub(crate) fn begins(&mut self, due: Due<'a>) -> Option<Stage<'a>>
+        requires form { IsOfForm due }
         ensures begins { (s : Setting) → PartBegins s (DueLeft s due.entry self.old.walk) self.old self.new result }
         ensures ends { due.entry ≡ dues.Ends → result ≢ None }
         ensures cost { walk_cost self.new.walk ≤ walk_cost self.old.walk }
@@ -61,10 +66,12 @@ impl<'a> Machine<'a> {
         }
     }
 
-    /// The same, but for what needs too much: then nothing changes.
+    /// The same, but for what needs too much: then nothing changes. Whatever completes it has the task pass a limit.
     fn part(&mut self, due: Due<'a>) -> Result<Option<Stage<'a>>, Beyond>
+        requires form { IsOfForm due }
         ensures begins { IfOk result (λ stage. (s : Setting) → PartBegins s (DueLeft s due.entry self.old.walk) self.old self.new stage) }
         ensures unchanged { OnErr result (self.new ≡ self.old) }
+        ensures stops { OnErr result ((s : Setting) → Stops s (DueLeft s due.entry self.old.walk) self.old) }
         ensures ends { IfOk result (λ stage. due.entry ≡ dues.Ends → stage ≢ None) }
         ensures cost { walk_cost self.new.walk ≤ walk_cost self.old.walk }
     {
@@ -103,8 +110,10 @@ impl<'a> Machine<'a> {
         statement: &'a Statement,
         site: usize,
     ) -> Result<Option<Stage<'a>>, Beyond>
+        requires simple { HasNoBlock (statement_of statement.now) }
         ensures begins { IfOk result (λ stage. (s : Setting) → PartBegins s (StatementDue s (statement_of statement.now) site self.old.walk) self.old self.new stage) }
         ensures unchanged { OnErr result (self.new ≡ self.old) }
+        ensures stops { OnErr result ((s : Setting) → Stops s (StatementDue s (statement_of statement.now) site self.old.walk) self.old) }
         ensures cost { self.new.walk ≡ self.old.walk }
     {
         match statement {
@@ -128,6 +137,7 @@ impl<'a> Machine<'a> {
         ensures begins { IfOk result (λ stage. (s : Setting)
             → PartBegins s (LoadLeft s self.old.walk site (load_of load.now) (taker_of taker.entry)) self.old self.new stage) }
         ensures unchanged { OnErr result (self.new ≡ self.old) }
+        ensures stops { OnErr result ((s : Setting) → Stops s (LoadLeft s self.old.walk site (load_of load.now) (taker_of taker.entry)) self.old) }
         ensures cost { self.new.walk ≡ self.old.walk }
     {
         let plan = self.planner().load(load, taker);
@@ -142,6 +152,7 @@ impl<'a> Machine<'a> {
     ) -> Result<Option<Stage<'a>>, Beyond>
         ensures begins { IfOk result (λ stage. (s : Setting) → PartBegins s (ConditionDue s (expression_of condition.now) site self.old.walk) self.old self.new stage) }
         ensures unchanged { OnErr result (self.new ≡ self.old) }
+        ensures stops { OnErr result ((s : Setting) → Stops s (ConditionDue s (expression_of condition.now) site self.old.walk) self.old) }
         ensures cost { walk_cost self.new.walk ≤ walk_cost self.old.walk }
     {
         match condition {
@@ -174,6 +185,7 @@ impl<'a> Machine<'a> {
     ) -> Result<Option<Stage<'a>>, Beyond>
         ensures begins { IfOk result (λ stage. (s : Setting) → PartBegins s (StatementDue s (tree.assign data_race (assignment_of assignment.now)) site self.old.walk) self.old self.new stage) }
         ensures unchanged { OnErr result (self.new ≡ self.old) }
+        ensures stops { OnErr result ((s : Setting) → Stops s (StatementDue s (tree.assign data_race (assignment_of assignment.now)) site self.old.walk) self.old) }
         ensures cost { self.new.walk ≡ self.old.walk }
     {
         match assignment {
@@ -198,6 +210,7 @@ impl<'a> Machine<'a> {
         ensures begins { IfOk result (λ stage. (s : Setting)
             → PartBegins s (StatementDue s (tree.assign data_race (tree.to_register register (expression_of value.now))) site self.old.walk) self.old self.new stage) }
         ensures unchanged { OnErr result (self.new ≡ self.old) }
+        ensures stops { OnErr result ((s : Setting) → Stops s (StatementDue s (tree.assign data_race (tree.to_register register (expression_of value.now))) site self.old.walk) self.old) }
         ensures cost { self.new.walk ≡ self.old.walk }
     {
         match value {
@@ -226,6 +239,7 @@ impl<'a> Machine<'a> {
         ensures begins { IfOk result (λ _. (s : Setting) (site : ℕ)
             → PartBegins s (StatementDue s (tree.assign data_race (tree.to_register register (tree.pure (pure_of value.now)))) site self.old.walk) self.old self.new None) }
         ensures unchanged { OnErr result (self.new ≡ self.old) }
+        ensures stops { OnErr result ((s : Setting) → (site : ℕ) → Stops s (StatementDue s (tree.assign data_race (tree.to_register register (tree.pure (pure_of value.now)))) site self.old.walk) self.old) }
         ensures cost { self.new.walk ≡ self.old.walk }
     {
         self.disable(so_often(data_race))?;
@@ -239,6 +253,7 @@ impl<'a> Machine<'a> {
     fn calls(&mut self, call: Call, site: usize) -> Result<Option<Stage<'a>>, Beyond>
         ensures begins { IfOk result (λ stage. (s : Setting) → PartBegins s (StatementDue s (tree.call call) site self.old.walk) self.old self.new stage) }
         ensures unchanged { OnErr result (self.new ≡ self.old) }
+        ensures stops { OnErr result ((s : Setting) → Stops s (StatementDue s (tree.call call) site self.old.walk) self.old) }
         ensures cost { self.new.walk ≡ self.old.walk }
     {
         match call {
@@ -263,8 +278,10 @@ impl<'a> Machine<'a> {
 
     /// The access of a call begins.
     fn plans(&mut self, call: Call, site: usize) -> Result<Option<Stage<'a>>, Beyond>
+        requires planned { (text : meaning.Setting) → call_plan text call ≢ None }
         ensures begins { IfOk result (λ stage. (s : Setting) → PartBegins s (StatementDue s (tree.call call) site self.old.walk) self.old self.new stage) }
         ensures unchanged { OnErr result (self.new ≡ self.old) }
+        ensures stops { OnErr result ((s : Setting) → Stops s (StatementDue s (tree.call call) site self.old.walk) self.old) }
         ensures cost { self.new.walk ≡ self.old.walk }
     {
         match self.planner().call(call) {
@@ -277,6 +294,7 @@ impl<'a> Machine<'a> {
     fn locks(&mut self, variable: usize) -> Result<Option<Stage<'a>>, Beyond>
         ensures begins { IfOk result (λ stage. (s : Setting) (site : ℕ) → PartBegins s (StatementDue s (tree.call (Lock variable)) site self.old.walk) self.old self.new stage) }
         ensures unchanged { self.new ≡ self.old }
+        ensures stops { OnErr result ((s : Setting) (site : ℕ) → Stops s (StatementDue s (tree.call (Lock variable)) site self.old.walk) self.old) }
     {
         if !is_lock_at(self.variables, variable) {
             return Err(Beyond);
@@ -299,8 +317,10 @@ impl<'a> Machine<'a> {
 
     /// The access that is planned at a site, which begins now.
     fn access(&self, plan: Plan<'a>, site: usize) -> Result<Access, Beyond>
-        ensures { IfOk result (λ access. (0 < access.size) × (access.site ≡ site) × IsInLimits access × ((s : Setting) (before : Standing) → Stands s before self.now
+        ensures made { IfOk result (λ access. (0 < access.size) × (access.site ≡ site) × IsInLimits access × ((s : Setting) (before : Standing) → Stands s before self.now
             → access ≡ planned_access s before (plan_of plan.entry) site)) }
+        ensures cannot { OnErr result ((s : Setting) (before : Standing) → Stands s before self.now
+            → ¬ CanBegin (planned_access s before (plan_of plan.entry) site)) }
     {
         let rep = self.progress.begun_at(site);
         if self.task >= TASKS || site >= SITES || rep >= SITES as u64 || plan.bytes.size == 0 {
@@ -325,7 +345,7 @@ impl<'a> Machine<'a> {
     /// The bytes of an access lie in one cell, if it touches them.
     fn has_cell(&self, access: &Access, operation: Option<Operation>) -> bool
         requires has_bytes { 0 < access.now.size }
-        ensures { (s : Setting) (before : Standing) → Stands s before self.now → IsTrue result → HasCell (checks_of s) access.now operation }
+        ensures { (s : Setting) (before : Standing) → Stands s before self.now → (IsTrue result ↔ HasCell (checks_of s) access.now operation) }
     {
         match operation {
             Some(_) => self.checker.source(access).is_some(),
@@ -355,6 +375,7 @@ impl<'a> Machine<'a> {
         ensures begins { IfOk result (λ stage. (s : Setting) → IsFit (plan_of plan.entry).follow (plan_of plan.entry).operation
             → PartBegins s (PlanLeft s self.old.walk site (plan_of plan.entry)) self.old self.new stage) }
         ensures unchanged { OnErr result (self.new ≡ self.old) }
+        ensures stops { OnErr result ((s : Setting) → Stops s (PlanLeft s self.old.walk site (plan_of plan.entry)) self.old) }
         ensures cost { self.new.walk ≡ self.old.walk }
     {
         let access = self.access(plan, site)?;
@@ -376,9 +397,11 @@ impl<'a> Machine<'a> {
         variable: usize,
         site: usize,
     ) -> Result<Option<Stage<'a>>, Beyond>
+        requires scoped { is_scoped kind ≡ true }
         ensures begins { IfOk result (λ stage. (s : Setting)
             → PartBegins s (DueLeft s (dues.Opens kind variable site) self.old.walk) self.old self.new stage) }
         ensures unchanged { OnErr result (self.new ≡ self.old) }
+        ensures stops { OnErr result ((s : Setting) → Stops s (DueLeft s (dues.Opens kind variable site) self.old.walk) self.old) }
         ensures cost { self.new.walk ≡ self.old.walk }
     {
         let plan = Plan {
@@ -403,6 +426,7 @@ impl<'a> Machine<'a> {
     fn closes(&mut self) -> Result<Option<Stage<'a>>, Beyond>
         ensures begins { IfOk result (λ stage. (s : Setting) → PartBegins s (DueLeft s dues.Closes self.old.walk) self.old self.new stage) }
         ensures unchanged { OnErr result (self.new ≡ self.old) }
+        ensures stops { OnErr result ((s : Setting) → Stops s (DueLeft s dues.Closes self.old.walk) self.old) }
         ensures cost { self.new.walk ≡ self.old.walk }
     {
         if self.in_force == 0 {

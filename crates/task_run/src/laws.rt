@@ -1,11 +1,12 @@
 //! What is true of a task's machine, whatever it does.
 
-ghost use Rattle.std.specs.Prelude.{◌≡◌, ℕ, List};
+ghost use Rattle.std.specs.Prelude.{◌≡◌, ◌^◌, ◌≤◌, ℕ, List};
+ghost use Rattle.litmus_syntax.specs.Limits.{BlockScopes, block_rises};
 ghost use Rattle.litmus_syntax.specs.Tree.{Block};
 ghost use Rattle.slot_table.specs.declared.records.Record.{Record};
 ghost use Rattle.slot_table.specs.declared.step.Step.{Step};
 ghost use Rattle.task_run.specs.Leads.{IsStuck, Leads};
-ghost use Rattle.task_run.specs.Says.{Says};
+ghost use Rattle.task_run.specs.Says.{IsStopped, Says};
 ghost use Rattle.task_run.specs.declared.run.TaskRun.{TaskRun};
 ghost use Rattle.written_order.specs.Standing.{Setting};
 ghost use Rattle.written_order.specs.Waits as waits;
@@ -21,4 +22,10 @@ pub fn one_step_is_next()
 pub fn too_long_a_wait_is_told_by_the_records()
     ensures { (s : Setting) (registers : ℕ) (body : Block) (records : List Record) (run : TaskRun) → (leads : Leads s registers body records run)
         → WrittenOrder s registers body records → IsStuck leads → waits.IsStuck s registers body records }
+{}
+
+/// Law: a task of a text that keeps the limits never stops for want of room.
+pub fn no_task_stops()
+    ensures { (s : Setting) (registers : ℕ) (body : Block) (records : List Record) (run : TaskRun) → Leads s registers body records run
+        → WrittenOrder s registers body records → BlockScopes 0 body → block_rises body ≤ 2 ^ 32 → ¬ IsStopped run }
 {}

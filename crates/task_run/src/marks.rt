@@ -1,13 +1,17 @@
 //! What a task computes between its steps.
 
-ghost use Rattle.std.specs.Prelude.{◌≡◌, ◌↔◌, ◌+◌, ◌-◌, ◌^◌, ◌<◌, ◌≤◌, [], ◌∷◌, Bool, IsTrue, List, OnErr, OnOk, count_by, take, if◌then◌else◌};
+ghost use Rattle.std.specs.Prelude.{◌≡◌, ◌↔◌, ◌+◌, ◌-◌, ◌^◌, ◌<◌, ◌≤◌, [], ◌∷◌, Bool, IsTrue, List, OnErr, OnOk, count_by, ℕ, take, if◌then◌else◌};
 ghost use Rattle.access_types.specs.declared.history.Happening.TheVariants as happenings;
 ghost use Rattle.access_types.specs.declared.history.Mark.{Mark};
 ghost use Rattle.access_types.specs.declared.history.Mark.TheVariants.{Disable, Enable, FlatBegin, FlatEnd, NestClose, NestOpen, Next};
 ghost use Rattle.setup_access.specs.Shown.{context_of};
 ghost use Rattle.slot_table.specs.declared.records.Record.{Record};
+ghost use Rattle.litmus_syntax.specs.Tree as tree;
+ghost use Rattle.litmus_syntax.specs.declared.statement.Call.TheVariants as calls;
+ghost use Rattle.task_run.specs.Due.{StatementDue};
 ghost use Rattle.task_run.specs.Part.{disabled, enabled};
 ghost use Rattle.task_run.specs.Stands.{AfterMark, Stands};
+ghost use Rattle.task_run.specs.Stops.{Stops};
 ghost use Rattle.written_order.specs.Standing.{EndsNothing, Setting, Standing, counting, doing, is_lock, lock_number};
 
 use crate::machine::{Beyond, Machine};
@@ -104,6 +108,7 @@ impl<'a> Machine<'a> {
         ensures few { OnOk result (count ≤ 2 ^ 32) }
         ensures walk { self.new.walk ≡ self.old.walk }
         ensures unchanged { OnErr result (self.new ≡ self.old) }
+        ensures many { OnErr result (2 ^ 32 < (context_of self.old.checker).disable_count + count) }
     {
         if count > self.disable_room() {
             return Err(Beyond);
@@ -143,6 +148,7 @@ impl<'a> Machine<'a> {
             × ((later : List Record) → Stands s (doing (counting ends_nothing before) later (happenings.Mark mark ∷ [])) self.new)) }
         ensures walk { self.new.walk ≡ self.old.walk }
         ensures unchanged { OnErr result (self.new ≡ self.old) }
+        ensures stops { OnErr result ((s : Setting) (site : ℕ) → Stops s (StatementDue s (tree.call (calls.Mark mark)) site self.old.walk) self.old) }
     {
         match mark {
             Mark::Disable => {

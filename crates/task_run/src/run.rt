@@ -1,6 +1,6 @@
 //! A task of a program, under way.
 
-ghost use Rattle.std.specs.Prelude.{◌≡◌, ◌↔◌, ◌++◌, ◌<◌, ◌≤◌, ◌⊎◌, ◌∷◌, [], ℕ, List, IfOk, IfSome, IsErrOf, IsNone, IsTrue, None, Option, Some, length, reverse, slice_get};
+ghost use Rattle.std.specs.Prelude.{◌≡◌, ◌↔◌, ◌++◌, ◌^◌, ◌<◌, ◌≤◌, ◌⊎◌, ◌∷◌, [], ℕ, List, IfOk, IfSome, IsErrOf, IsNone, IsTrue, None, Option, Some, length, reverse, slice_get};
 
 use crate::machine::Machine;
 use crate::points::{After, Before, Latest, News};
@@ -79,7 +79,7 @@ impl From<CheckerError> for TaskRunError {
 
 impl<'a> TaskRun<'a> {
     ghost use Rattle.litmus_meaning.specs.Layout.{cells_of};
-    ghost use Rattle.litmus_syntax.specs.Limits.{KeepsLimits};
+    ghost use Rattle.litmus_syntax.specs.Limits.{BlockScopes, KeepsLimits, block_rises};
     ghost use Rattle.litmus_syntax.specs.Tree.{Block};
     ghost use Rattle.litmus_syntax.specs.Views.{block_of, program_of};
     ghost use Rattle.program_layout.specs.Places.{AreFit, places_of};
@@ -92,7 +92,7 @@ impl<'a> TaskRun<'a> {
     ghost use Rattle.task_run.specs.Leads.{BeginsNext, IsStuck, Leads, LeadsOn, stands_at};
     ghost use Rattle.task_plan.specs.Counts.{up_to_last};
     ghost use Rattle.access_run.specs.Leads.{AccessSays};
-    ghost use Rattle.task_run.specs.Says.{IsStopped, Says};
+    ghost use Rattle.task_run.specs.Says.{IsGoing, IsStopped, Says};
     ghost use Rattle.task_run.specs.Fell.{FellAt, fell_of};
     ghost use Rattle.std.specs.Option.{is_some};
     ghost use Rattle.setup_access.specs.declared.begun.Begun.{Begun};
@@ -168,8 +168,10 @@ impl<'a> TaskRun<'a> {
         ensures none { (s : Setting) (registers : ℕ) (body : Block) (records : List Record) → (leads : Leads s registers body records self.now)
             → (IsNone result ↔ (SpellsAll s registers body records ⊎ (IsStuck leads ⊎ IsStopped self.now))) }
         ensures over { (s : Setting) (registers : ℕ) (body : Block) (records : List Record) → Leads s registers body records self.now
-            → WrittenOrder s registers body records
-            → (IsNone result ↔ (SpellsAll s registers body records ⊎ (waits.IsStuck s registers body records ⊎ IsStopped self.now))) }
+            → WrittenOrder s registers body records → BlockScopes 0 body → block_rises body ≤ 2 ^ 32
+            → (IsNone result ↔ (SpellsAll s registers body records ⊎ waits.IsStuck s registers body records)) }
+        ensures going { (s : Setting) (registers : ℕ) (body : Block) (records : List Record) → (leads : Leads s registers body records self.now)
+            → IsGoing self.now → (IsNone result ↔ IsStuck leads) }
         ensures stops { (s : Setting) (registers : ℕ) (body : Block) (records : List Record) → (leads : Leads s registers body records self.now)
             → (step : Step) → Says self.now step → IsNone result → IsStuck leads }
         ensures within { (s : Setting) (registers : ℕ) (body : Block) (records : List Record) → Leads s registers body records self.now
@@ -191,17 +193,16 @@ impl<'a> TaskRun<'a> {
 
     /// A wait of the task had as many vain tries as the rules allow.
     pub fn stuck(&self) -> bool
-        ensures { (s : Setting) (registers : ℕ) (body : Block) (records : List Record) → (leads : Leads s registers body records self.now)
+        ensures stage { (s : Setting) (registers : ℕ) (body : Block) (records : List Record) → (leads : Leads s registers body records self.now)
             → (IsTrue result ↔ IsStuck leads) }
+        ensures records { (s : Setting) (registers : ℕ) (body : Block) (records : List Record) → Leads s registers body records self.now
+            → WrittenOrder s registers body records → BlockScopes 0 body → block_rises body ≤ 2 ^ 32
+            → (IsTrue result ↔ waits.IsStuck s registers body records) }
     {
         match self.stage {
             Stage::Over => false,
             Stage::Stopped => false,
-            Stage::Unlocking(_) => false,
-            Stage::Making(run, _) => run.stuck(&self.machine.checker),
-            Stage::Opening => self.machine.checker.stuck(),
-            Stage::Closing => self.machine.checker.stuck(),
-            Stage::Locking(wait, _) => wait.stuck(self.machine.rules.turns),
+            _ => self.next().is_none(),
         }
     }
 

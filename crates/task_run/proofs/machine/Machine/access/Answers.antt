@@ -1,5 +1,5 @@
 -- The access is the one that is planned: as many began at its site before as are kept.
-use Rattle.std.proofs.Common.{◌∙◌, ◌<◌, ap, arith, count_by, length, subst, sym}
+use Rattle.std.proofs.Common.{◌≡◌, ◌∙◌, ◌<◌, ap, arith, count_by, length, subst, sym}
 use Rattle.access_types.specs.Access.{IsInLimits}
 use Rattle.litmus_meaning.specs.Task.{begins_at}
 use Rattle.task_plan.specs.Plans.{planned_access}
@@ -7,8 +7,8 @@ use Rattle.task_plan.specs.Views.{plan_of}
 use Rattle.task_run.proofs.BeginLemmas.{few_rep}
 use Rattle.task_run.proofs.machine.Machine.access.Goals as goal
 
-pub returns-in-Ok : goal.returns-in-Ok
-returns-in-Ok c =
+pub returns-in-Ok-clause-made : goal.returns-in-Ok-clause-made
+returns-in-Ok-clause-made c =
     let made = c.in-Ok.ensures.made in (
       subst (λ x. 0 < x.size) (sym made.1) (omega (arith, c.if-plan-eq0.false)),
       ap (λ x. x.site) made.1,

@@ -1,5 +1,7 @@
 -- Reports are turned off, the register gets the value, and reports are turned on.
+use Rattle.task_run.proofs.StopLemmas.{on_err}
 use Rattle.std.proofs.Common.{◌≡◌, ◌↔◌, ◌∙◌, ℕ, List, [], ap, length, refl, subst, sym}
+use Rattle.access_types.specs.declared.history.Mark.TheVariants as marks
 use Rattle.litmus_meaning.specs.Expressions.{pure_value}
 use Rattle.litmus_syntax.specs.Tree as tree
 use Rattle.litmus_syntax.specs.Views.{pure_of}
@@ -8,10 +10,13 @@ use Rattle.task_plan.specs.Follow.{so_often}
 use Rattle.task_run.proofs.FollowLemmas.{ends_standing}
 use Rattle.task_run.proofs.PartLemmas.{at_once_left}
 use Rattle.task_run.proofs.StandsLemmas.{stands_keeping}
-use Rattle.task_run.proofs.ToldLemmas.{does_more, does_now, registers_more}
+use Rattle.task_run.proofs.ToldLemmas.{marks_more, marks_now, registers_more}
 use Rattle.task_run.specs.Due.{StatementDue}
 use Rattle.task_run.specs.Part.{disabled, enabled}
 use Rattle.task_run.specs.Stands.{Stands}
+use Rattle.std.proofs.Common.{◌+◌, ◌<◌, ◌^◌}
+use Rattle.setup_access.specs.Shown.{context_of}
+use Rattle.task_run.proofs.StopLemmas.{at_once_stops}
 use Rattle.task_run.proofs.machine.Machine.assigns_at_once.Goals as goal
 use Rattle.text_walk.specs.Left.{WalkLeft}
 use Rattle.written_order.specs.Standing.{Standing, registered}
@@ -35,4 +40,8 @@ returns-clause-begins c = λ s site before stands.
     (c.enable.ensures.stands s (registered (start later) later c.args.register value) later
     (stands_keeping s (start later) (registered (start later) later c.args.register value) c.disable.new.self c.assign.new.self refl refl refl
     (c.assign.ensures (length s.text.variables) (start later) later (began later).counts.keeps) (began later))))
-    (λ later. does_more later (before later) _ _ (registers_more later (before later) _ c.args.register value (does_now later (before later) _)))
+    (λ later. marks_more later (before later) _ often marks.Enable (registers_more later (before later) _ c.args.register value (marks_now later (before later) often marks.Disable)))
+
+pub returns-in_err-disable-clause-stops : goal.returns-in_err-disable-clause-stops
+returns-in_err-disable-clause-stops c = on_err c.from_residual.result (λ s site. at_once_stops s site c.args.register (pure_of c.args.value.now) c.args.data_race c.args.self.now
+    (subst (λ (n : ℕ). 2 ^ 32 < (context_of c.args.self.now.checker).disable_count + n) c.so_often.ensures c.in_err-disable.ensures.many))

@@ -28,3 +28,6 @@ pub returns-clause-stands : goal.returns-clause-stands
 returns-clause-stands c = λ s before later stands.
     let all : c.loop.counter ≡ c.args.count = omega (arith, c.loop.auto.counter-end) in
     subst (λ n. Stands s (disabled n before later) c.loop.self) all (c.loop.invariant.stands s before later stands)
+
+pub returns-then-count-disable_room-clause-many : goal.returns-then-count-disable_room-clause-many
+returns-then-count-disable_room-clause-many c = omega (arith, c.disable_room.ensures.value, c.if-count-disable_room.true)

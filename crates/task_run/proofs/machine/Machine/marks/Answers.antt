@@ -3,6 +3,8 @@ use Rattle.std.proofs.Common.{false, subst, sym}
 use Rattle.access_types.specs.declared.history.Mark.TheVariants as marks
 use Rattle.task_run.proofs.StandsLemmas.{never, no_region, no_report}
 use Rattle.task_run.specs.Stands.{Stands}
+use Rattle.std.proofs.Common.{arith}
+use Rattle.task_run.proofs.StopLemmas.{disable_stops, nest_stops}
 use Rattle.task_run.proofs.machine.Machine.marks.Goals as goal
 
 pub returns-else-disable_room-eq0-clause-stands : goal.returns-else-disable_room-eq0-clause-stands
@@ -40,3 +42,9 @@ returns-in-FlatEnd-clause-stands c = λ s before stands. rw c.in-FlatEnd.is
 pub returns-in-Next-clause-stands : goal.returns-in-Next-clause-stands
 returns-in-Next-clause-stands c = λ s before stands. rw c.in-Next.is
     (false, (never, λ no. absurd no), λ later. c.marks_next.ensures.stands s before later stands)
+
+pub returns-then-disable_room-eq0-clause-stops : goal.returns-then-disable_room-eq0-clause-stops
+returns-then-disable_room-eq0-clause-stops c = λ s site. rw c.in-Disable.is (disable_stops s site c.args.self.now (omega (arith, c.disable_room.ensures.value, c.if-disable_room-eq0.true)))
+
+pub returns-then-nest_room-eq0-clause-stops : goal.returns-then-nest_room-eq0-clause-stops
+returns-then-nest_room-eq0-clause-stops c = λ s site. rw c.in-NestOpen.is (nest_stops s site c.args.self.now (omega (arith, c.nest_room.ensures.value, c.if-nest_room-eq0.true)))

@@ -22,3 +22,15 @@ returns-in-Leaves-clause-begins c = λ s. rw c.in-Leaves.is (ends_leaving s c.ar
 
 pub returns-in-Ends-clause-begins : goal.returns-in-Ends-clause-begins
 returns-in-Ends-clause-begins c = λ s. rw c.in-Ends.is (begins_over s c.args.self.now.walk c.args.self.now)
+
+pub returns-in-Statement-clause-stops : goal.returns-in-Statement-clause-stops
+returns-in-Statement-clause-stops c = rw c.in-Statement.is c.statement.ensures.stops
+
+pub returns-in-Opens-clause-stops : goal.returns-in-Opens-clause-stops
+returns-in-Opens-clause-stops c = rw c.in-Opens.is c.opens.ensures.stops
+
+pub returns-in-Condition-clause-stops : goal.returns-in-Condition-clause-stops
+returns-in-Condition-clause-stops c = rw c.in-Condition.is c.condition.ensures.stops
+
+pub returns-in-Closes-clause-stops : goal.returns-in-Closes-clause-stops
+returns-in-Closes-clause-stops c = rw c.in-Closes.is c.closes.ensures.stops

@@ -5,7 +5,7 @@ use Rattle.memory_operation.specs.LockLeads.{LockSays, OnlyLockStep}
 use Rattle.setup_access.specs.Leads as checks
 use Rattle.slot_table.specs.declared.step.Step.TheVariants.{LockStore}
 use Rattle.written_order.specs.Waits.{OnlyStep}
-use Rattle.task_run.specs.Says.{StageSays}
+use Rattle.task_run.specs.Says.{IsGoingIn, StageSays}
 use Rattle.task_run.specs.declared.stage.Stage.TheVariants as stages
 use Rattle.written_order.specs.Standing.{checks_of}
 use Rattle.task_run.proofs.NextLemmas.{closing_none, closing_only, locking_none, locking_only, making_none, making_only, none_left, opening_none, opening_only, over_spelled, some_says, step_only, unlocking_only, unlocking_stuck, within_on}
@@ -226,3 +226,35 @@ pub returns-in-Locking-clause-stops : goal.returns-in-Locking-clause-stops
 returns-in-Locking-clause-stops c = λ s registers body records leads step says none.
     (locking_none s registers body records c.args.self.now leads c.in-Locking.wait c.in-Locking.field-1 c.in-Locking.is (IsNone c.next-in-Locking.result)
     (λ lock so_far own. c.next-in-Locking.ensures.none s.text.task lock so_far own)).0 none
+
+pub returns-in-Over-clause-going : goal.returns-in-Over-clause-going
+returns-in-Over-clause-going c = λ s registers body records leads going. absurd (subst IsGoingIn c.in-Over.is going)
+
+pub returns-in-Stopped-clause-going : goal.returns-in-Stopped-clause-going
+returns-in-Stopped-clause-going c = λ s registers body records leads going. absurd (subst IsGoingIn c.in-Stopped.is going)
+
+pub returns-in-Making-clause-going : goal.returns-in-Making-clause-going
+returns-in-Making-clause-going c = λ s registers body records leads going.
+    making_none s registers body records c.args.self.now leads c.in-Making.run' c.in-Making.field-1 c.in-Making.is (IsNone c.next.result)
+    (λ scopes begun asked operation so_far own. c.next.ensures.none (checks_of s) scopes begun asked operation so_far own)
+
+pub returns-in-Opening-clause-going : goal.returns-in-Opening-clause-going
+returns-in-Opening-clause-going c = λ s registers body records leads going.
+    opening_none s registers body records c.args.self.now leads c.in-Opening.is (IsNone c.next-in-Opening.result)
+    (λ scopes doing asked so_far own. c.next-in-Opening.ensures.none (checks_of s) scopes doing asked so_far own)
+
+pub returns-in-Closing-clause-going : goal.returns-in-Closing-clause-going
+returns-in-Closing-clause-going c = λ s registers body records leads going.
+    closing_none s registers body records c.args.self.now leads c.in-Closing.is (IsNone c.next-in-Closing.result)
+    (λ scopes doing asked so_far own. c.next-in-Closing.ensures.none (checks_of s) scopes doing asked so_far own)
+
+pub returns-in-Locking-clause-going : goal.returns-in-Locking-clause-going
+returns-in-Locking-clause-going c = λ s registers body records leads going.
+    locking_none s registers body records c.args.self.now leads c.in-Locking.wait c.in-Locking.field-1 c.in-Locking.is (IsNone c.next-in-Locking.result)
+    (λ lock so_far own. c.next-in-Locking.ensures.none s.text.task lock so_far own)
+
+pub returns-in-Unlocking-clause-going : goal.returns-in-Unlocking-clause-going
+returns-in-Unlocking-clause-going c = λ s registers body records leads going. (
+  λ none. absurd (let no : true ≡ false = none in cc),
+  λ stuck. absurd (unlocking_stuck s registers body records c.args.self.now leads c.in-Unlocking.variable c.in-Unlocking.is stuck),
+)

@@ -1,39 +1,58 @@
--- The part under way is stuck, or has no wait.
-use Rattle.std.proofs.Common.{◌≡◌, IsTrue, false, true}
-use Rattle.written_order.specs.Standing.{checks_of}
-use Rattle.task_run.proofs.NextLemmas.{closing_stuck, locking_stuck, making_stuck, opening_stuck, over_stuck, stopped_stuck, unlocking_stuck}
+-- No step follows in a part of the text exactly where the part is stuck.
+use Rattle.std.proofs.Common.{◌≡◌, ◌≢◌, ◌∙◌, ◌↔◌, Bool, IsNone, IsTrue, Option, false, inl, inr, not, refl, sym, true}
+use Rattle.std.specs.Option.{is_some}
+use Rattle.slot_table.specs.declared.step.Step.{Step}
+use Rattle.task_run.proofs.NextLemmas.{over_spelled, over_stuck, stopped_stuck}
+use Rattle.task_run.proofs.StuckLemmas.{none_stops, over_waits_not, stuck_by_records}
+use Rattle.task_run.specs.Says.{IsGoingIn}
+use Rattle.task_run.specs.declared.stage.Stage.{Stage}
+use Rattle.task_run.specs.declared.stage.Stage.TheVariants as stages
 use Rattle.task_run.proofs.run.TaskRun.stuck.Goals as goal
 
-pub returns-in-Over : goal.returns-in-Over
-returns-in-Over c = λ s registers body records leads.
+-- a stage that is none of these two is in a part of the text
+going : (stage : Stage) → stage ≢ stages.Over → stage ≢ stages.Stopped → IsGoingIn stage
+going stages.Over none other = none refl
+going stages.Stopped none other = other refl
+going (stages.Making run kept) none other = tt
+going stages.Opening none other = tt
+going stages.Closing none other = tt
+going (stages.Locking wait variable) none other = tt
+going (stages.Unlocking variable) none other = tt
+
+none_is : (says : Bool) (o : Option Step) → is_some o ≡ not says → IsNone o ↔ IsTrue says
+none_is true o is = (λ h. refl, λ h. is)
+none_is false o is = (λ none. absurd (let no : false ≡ true = sym none ∙ is in cc), λ h. absurd (let no : false ≡ true = h in cc))
+
+pub returns-in-Over-clause-stage : goal.returns-in-Over-clause-stage
+returns-in-Over-clause-stage c = λ s registers body records leads.
     (λ h. absurd (let no : false ≡ true = h in cc), λ stuck. absurd (over_stuck s registers body records c.args.self.now leads c.in-Over.is stuck))
 
-pub returns-in-Stopped : goal.returns-in-Stopped
-returns-in-Stopped c = λ s registers body records leads.
+pub returns-in-Stopped-clause-stage : goal.returns-in-Stopped-clause-stage
+returns-in-Stopped-clause-stage c = λ s registers body records leads.
     (λ h. absurd (let no : false ≡ true = h in cc), λ stuck. absurd (stopped_stuck s registers body records c.args.self.now leads c.in-Stopped.is stuck))
 
-pub returns-in-Unlocking : goal.returns-in-Unlocking
-returns-in-Unlocking c = λ s registers body records leads. (
+pub returns-in-Over-clause-records : goal.returns-in-Over-clause-records
+returns-in-Over-clause-records c = λ s registers body records leads written few rises. (
   λ h. absurd (let no : false ≡ true = h in cc),
-  λ stuck. absurd (unlocking_stuck s registers body records c.args.self.now leads c.in-Unlocking.field-0 c.in-Unlocking.is stuck),
+  λ by. absurd (over_waits_not s registers body records (over_spelled s registers body records c.args.self.now leads c.in-Over.is) by),
 )
 
-pub returns-in-Making : goal.returns-in-Making
-returns-in-Making c = λ s registers body records leads.
-    making_stuck s registers body records c.args.self.now leads c.in-Making.run' c.in-Making.field-1 c.in-Making.is (IsTrue c.stuck.result)
-    (λ scopes begun asked operation so_far own. c.stuck.ensures (checks_of s) scopes begun asked operation so_far own)
+pub returns-in-Stopped-clause-records : goal.returns-in-Stopped-clause-records
+returns-in-Stopped-clause-records c = λ s registers body records leads written few rises. (
+  λ h. absurd (let no : false ≡ true = h in cc),
+  λ by. absurd (none_stops s registers body records c.args.self.now leads written few rises c.in-Stopped.is),
+)
 
-pub returns-in-Opening : goal.returns-in-Opening
-returns-in-Opening c = λ s registers body records leads.
-    opening_stuck s registers body records c.args.self.now leads c.in-Opening.is (IsTrue c.stuck-in-Opening.result)
-    (λ scopes doing asked so_far own. c.stuck-in-Opening.ensures.records (checks_of s) scopes doing asked so_far own)
+pub returns-in_default-clause-stage : goal.returns-in_default-clause-stage
+returns-in_default-clause-stage c = λ s registers body records leads.
+    let says = none_is c.is_none.result c.next.result c.is_none.ensures in
+    let is = c.next.ensures.going s registers body records leads (going c.args.self.now.stage c.in_default.not-Over c.in_default.not-Stopped) in
+    (λ h. is.0 (says.1 h), λ stuck. says.0 (is.1 stuck))
 
-pub returns-in-Closing : goal.returns-in-Closing
-returns-in-Closing c = λ s registers body records leads.
-    closing_stuck s registers body records c.args.self.now leads c.in-Closing.is (IsTrue c.stuck-in-Closing.result)
-    (λ scopes doing asked so_far own. c.stuck-in-Closing.ensures.records (checks_of s) scopes doing asked so_far own)
-
-pub returns-in-Locking : goal.returns-in-Locking
-returns-in-Locking c = λ s registers body records leads.
-    locking_stuck s registers body records c.args.self.now leads c.in-Locking.wait c.in-Locking.field-1 c.in-Locking.is (IsTrue c.stuck-in-Locking.result)
-    (λ lock so_far own. c.stuck-in-Locking.ensures s.text.task lock so_far own)
+pub returns-in_default-clause-records : goal.returns-in_default-clause-records
+returns-in_default-clause-records c = λ s registers body records leads written few rises.
+    let says = none_is c.is_none.result c.next.result c.is_none.ensures in
+    let is = c.next.ensures.going s registers body records leads (going c.args.self.now.stage c.in_default.not-Over c.in_default.not-Stopped) in (
+      λ h. stuck_by_records s registers body records c.args.self.now leads written (is.0 (says.1 h)),
+      λ by. says.0 ((c.next.ensures.over s registers body records leads written few rises).1 (inr by)),
+    )
