@@ -64,7 +64,7 @@ pub record DoneWith (s : Setting) (last : Point) (x : Record) (q : List Record) 
 same_first : (first x : Record) (later q : List Record) → first ∷ later ≡ x ∷ q → (first ≡ x) × (later ≡ q)
 same_first first x later q is = (cc, cc)
 
-done_with : (s : Setting) (last : Point) (records : List Record) (did : List Happening) (points : List Point) (outs : List Fallen) → last.progress.did ≡ did → Tells s records did points outs
+pub done_with : (s : Setting) (last : Point) (records : List Record) (did : List Happening) (points : List Point) (outs : List Fallen) → last.progress.did ≡ did → Tells s records did points outs
     → (p : List Record) (x : Record) (q : List Record) → records ≡ p ++ x ∷ q → DoneWith s last x q points
 done_with s last records did points outs same (tells.over d) p x q is =
     let long : 0 ≡ length p + suc (length q) = ap (λ (r : List Record). length r) is ∙ length-append p (x ∷ q) in absurd (omega (arith, long))

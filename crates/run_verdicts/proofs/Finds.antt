@@ -13,6 +13,7 @@ use Rattle.setup_access.specs.Setting.{look_order, slot_of}
 use Rattle.setup_access.specs.declared.outcome.Outcome.{Outcome}
 use Rattle.setup_access.specs.declared.outcome.Outcome.TheVariants as outcomes
 use Rattle.slot.specs.Pair.{Halves}
+use Rattle.slot_table.specs.Armings.{last_arming_number}
 use Rattle.slot_table.specs.Discipline.{heard, in_hand}
 use Rattle.slot_table.specs.Hearings.{EachHearsTheOther, HearsTheOther, IsMet}
 use Rattle.slot_table.specs.Records.{records_of}
@@ -54,6 +55,11 @@ pair_hears first index both is answer own =
     (subst (λ (an : Answer). heard index (record { task = first.task; step = PairLoad index; answer = an } ∷ own) ≡ Some both) (sym answer)
     (rw (eq-eqb index index refl) refl))
 
+pair_arms : (first : Record) (index at : ℕ) → first.step ≡ PairLoad at → (own : List Record)
+    → last_arming_number index (first ∷ own) ≡ last_arming_number index own
+pair_arms first index at is own =
+    subst (λ (st : Step). last_arming_number index (record first { step = st } ∷ own) ≡ last_arming_number index own) (sym is) refl
+
 -- a wait for a half keeps what is in hand, and hears both
 pub record Waited (half : Halves → ℕ) (index : ℕ) (both : Halves) (records rest : List Record) : Type 0 where
   pub pairs : List Record
@@ -61,6 +67,7 @@ pub record Waited (half : Halves → ℕ) (index : ℕ) (both : Halves) (records
   pub keeps : (own : List Record) → in_hand (back pairs own) ≡ in_hand own
   pub hears : (own : List Record) → heard index (back pairs own) ≡ Some both
   pub above : 0 < half both
+  pub arms : (own : List Record) → last_arming_number index (back pairs own) ≡ last_arming_number index own
 
 pub waits : (half : Halves → ℕ) (task index : ℕ) (records : List Record) (both : Halves) (rest : List Record) → Hears half task index records both rest
     → Waited half index both records rest
@@ -74,6 +81,7 @@ waits half task index (first ∷ later) both rest h =
         keeps = pair_keeps first index h.1;
         hears = pair_hears first index both h.1 (got.1 ∙ ap (λ (b : Halves). answers.Halves b.setter b.finder) (sym stands.1));
         above = subst (λ (b : Halves). 0 < half b) (sym stands.1) stands.0;
+        arms = pair_arms first index index h.1;
       }
       | inr not_yet ↦ let it = waits half task index later both rest not_yet.1 in record {
         pairs = first ∷ it.pairs;
@@ -81,6 +89,7 @@ waits half task index (first ∷ later) both rest h =
         keeps = λ own. it.keeps (first ∷ own) ∙ pair_keeps first index h.1 own;
         hears = λ own. it.hears (first ∷ own);
         above = it.above;
+        arms = λ own. it.arms (first ∷ own) ∙ pair_arms first index index h.1 own;
       }
     ]
 

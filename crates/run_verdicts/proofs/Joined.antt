@@ -1,12 +1,14 @@
 -- An answer to a taking is the verdict on the watch in which its arming was made, and names the access of the find in
 -- which it was taken.
-use Rattle.std.proofs.Common.{◌≡◌, ◌≢◌, ◌∙◌, ◌<◌, ◌+◌, ◌++◌, [], ◌∷◌, inl, inr, ℕ, suc, Bool, true, false, All, AllPairs, Contains, IsTrue, List, MatchBool}
+use Rattle.std.proofs.Common.{◌≡◌, ◌≢◌, ◌∙◌, ◌<◌, ◌≤◌, ◌+◌, ◌++◌, [], ◌∷◌, inl, inr, ℕ, suc, Bool, true, false, All, AllPairs, Contains, IsTrue, List, MatchBool}
 use Rattle.std.proofs.Common.{None, Option, Some, ap, append_assoc, arith, length, map, refl, reverse, slice_index_or, subst, sym}
 use Rattle.std.specs.Option.{option_map}
-use Rattle.std.proofs.lemmas.List.{length-append}
+use Rattle.std.proofs.lemmas.Bool.{eq-eqb}
+use Rattle.std.proofs.lemmas.List.{length-append, length-reverse}
 use Rattle.std.proofs.lemmas.List.Elements.{All-append, All-cons, All-nil}
 use Rattle.std.specs.FinMap as fin
 use Rattle.access_types.specs.Access.{Access}
+use Rattle.access_types.specs.History.{InProgress}
 use Rattle.access_types.specs.Ticket.{ticket_number}
 use Rattle.setup_access.proofs.DisciplineLemmas.{on_flag, on_word}
 use Rattle.setup_access.specs.Check.{Fallen}
@@ -22,7 +24,7 @@ use Rattle.setup_access.specs.declared.outcome.Outcome.{Outcome}
 use Rattle.setup_access.specs.declared.outcome.Outcome.TheVariants as outcomes
 use Rattle.setup_access.specs.declared.source.Source.{Source}
 use Rattle.slot.specs.Pair.{Halves}
-use Rattle.slot_table.specs.Armings.{last_arming_number}
+use Rattle.slot_table.specs.Armings.{last_arming_number, number_made}
 use Rattle.slot_table.specs.Discipline.{heard, in_hand}
 use Rattle.slot_table.specs.Meetings.{Meeting, finders_told, numbers_met, told_by, told_to}
 use Rattle.slot_table.specs.Records.{records_of}
@@ -32,7 +34,7 @@ use Rattle.slot_table.specs.declared.records.Record.{Record}
 use Rattle.slot_table.specs.declared.step.Answer.{Answer}
 use Rattle.slot_table.specs.declared.step.Answer.TheVariants as answers
 use Rattle.slot_table.specs.declared.step.Step.{Step}
-use Rattle.slot_table.specs.declared.step.Step.TheVariants.{Consume, Tell}
+use Rattle.slot_table.specs.declared.step.Step.TheVariants.{CellLoad, Consume, Insert, Name, Tell}
 use Rattle.slot_table.proofs.Lists.{Keeps, keeps_before}
 use Rattle.slot_table.proofs.Meetings.{meetings_differ}
 use Rattle.slot_table.proofs.Moves.{some_same}
@@ -44,16 +46,17 @@ use Rattle.written_order.specs.Told.{fell_next}
 use Rattle.run_lists.specs.Answers.{AnswersTaking, IfAnswer, is_answer}
 use Rattle.run_lists.specs.Run.{Run, first_cells, locks_of, task_setting}
 use Rattle.run_lists.specs.RunList.{RunList}
-use Rattle.run_lists.specs.Told.{Armed, OutcomeAt, armed_by, armed_in, came_next, made_by, outcome_at, outcomes_by, outcomes_of}
+use Rattle.run_lists.specs.Told.{Armed, OutcomeAt, armed_by, armed_in, came_next, history_by, history_of, made_by, outcome_at, outcomes_by, outcomes_of}
 use Rattle.run_lists.proofs.CheckFacts.{back}
 use Rattle.run_lists.proofs.Intervals.{Has, contains_has, has_contains, has_first, has_last}
-use Rattle.run_lists.proofs.OwnLasts.{finder_told}
+use Rattle.run_lists.proofs.OwnLasts.{finder_told, last_below, own_latest, own_split, same_arming}
 use Rattle.run_verdicts.specs.Finds.{IfTelling, IsOfFind, is_telling}
 use Rattle.run_verdicts.specs.Joined.{IfAnswersBoth, IsHitWatch, JudgesWatch, NamesFinder}
 use Rattle.run_verdicts.specs.Settles.{One, Settles, TellsOf}
 use Rattle.run_verdicts.specs.Takings.{EachSettles}
 use Rattle.run_verdicts.specs.Watches.{IfVerdict, IsOfWatch, IsWatch, is_verdict}
 use Rattle.run_verdicts.proofs.Finds.{back_both, back_is, ends_so, waits}
+use Rattle.run_verdicts.proofs.Watches.{some_find}
 
 same_back : (p u q v : List Record) → length q ≡ length v → p ++ q ≡ u ++ v → q ≡ v
 same_back [] [] q v long is = is
@@ -62,6 +65,20 @@ same_back [] (other ∷ u) q v long is =
 same_back (first ∷ p) [] q v long is =
     let all : suc (length p) + length q ≡ length v = sym (length-append (first ∷ p) q) ∙ ap (λ (r : List Record). length r) is in absurd (omega (arith, long, all))
 same_back (first ∷ p) (other ∷ u) q v long is = same_back p u q v long (let rest : p ++ q ≡ u ++ v = cc in rest)
+
+behead : (all : List Record) (n : ℕ) → length all ≡ suc n → (latest : Record) × (earlier : List Record) × (all ≡ latest ∷ earlier)
+behead [] n is = absurd (omega (arith, is))
+behead (latest ∷ earlier) n is = (latest, earlier, refl)
+
+-- what stands before a shorter end
+front_until : (all later front base : List Record) → later ++ all ≡ front ++ base → length base < length all
+    → (first : Record) × (more : List Record) × (all ≡ first ∷ (more ++ base))
+front_until all [] [] base is shorter = let same : length all ≡ length base = ap (λ (r : List Record). length r) is in absurd (omega (arith, same, shorter))
+front_until all [] (first ∷ front) base is shorter = (first, front, is)
+front_until all (one ∷ later) [] base is shorter =
+    let long : suc (length later) + length all ≡ length base = sym (length-append (one ∷ later) all) ∙ ap (λ (r : List Record). length r) is in
+    absurd (omega (arith, long, shorter))
+front_until all (one ∷ later) (first ∷ front) base is shorter = front_until all later front base (let rest : later ++ all ≡ front ++ base = cc in rest) shorter
 
 -- one of those of which all is so
 all_has : {X : Type 0} (P : X → Type 0) (xs : List X) (x : X) → All P xs → Has xs x → P x
@@ -75,6 +92,12 @@ pick : (b : Bool) (Yes No Goal : Type 0) → MatchBool b Yes No → (Yes → Goa
 pick true Yes No Goal given at_true at_false = at_true given
 pick false Yes No Goal given at_true at_false = at_false given
 
+-- the last arming at the index stands behind so many records
+record NumberedFrom (index from : ℕ) (own : List Record) : Type 0 where
+  number : ℕ
+  last : last_arming_number index own ≡ Some number
+  since : from ≤ number
+
 -- a watch that was hit, and what its task has in hand and heard then
 record HitFrom (s : checks.Setting) (a : Access) (outcome : Outcome) (watch : List Record) : Type 0 where
   index : ℕ
@@ -84,31 +107,80 @@ record HitFrom (s : checks.Setting) (a : Access) (outcome : Outcome) (watch : Li
   hand : (own : List Record) → in_hand (back watch own) ≡ Some (record { index = index; part = Hit })
   hears : (own : List Record) → heard index (back watch own) ≡ Some pair
   above : 0 < pair.finder
+  numbered : (own : List Record) → NumberedFrom index (length own) (back watch own)
 
 module _ (s : checks.Setting) (a : Access) where
   never_untouched : (values : Option (ℕ × ℕ)) (outcome : Outcome) → IsTrue (is_answer outcome) → UntouchedOutcome s a values outcome → ⊥
   never_untouched values outcome told_so (verdicts.unknown change old new c v is o) = let both : false ≡ true = sym (ap is_answer o) ∙ told_so in cc
   never_untouched values outcome told_so (verdicts.quiet change c v o) = let both : false ≡ true = sym (ap is_answer o) ∙ told_so in cc
 
+  -- a step that inserts nothing arms nothing
+  abbrev InsertsNone : Step → Type 0
+  InsertsNone (Insert index word) = ⊥
+  InsertsNone step = Unit {0}
+
+  none_armed : (index : ℕ) (step : Step) → InsertsNone step → (made : Record) → made.step ≡ step → (own : List Record)
+      → last_arming_number index (made ∷ own) ≡ last_arming_number index own
+  none_armed index (Insert at word) none made is own = absurd none
+  none_armed index step none made is own =
+      subst (λ (st : Step). last_arming_number index (record made { step = st } ∷ own) ≡ last_arming_number index own) (sym is) refl
+
   -- what stands before what is left
-  abbrev IsFront : List Record → List Record → Type 0
-  IsFront records rest = (front : List Record) × (records ≡ front ++ rest)
+  record Unarmed (index : ℕ) (records rest : List Record) : Type 0 where
+    front : List Record
+    split : records ≡ front ++ rest
+    same : (own : List Record) → last_arming_number index (back front own) ≡ last_arming_number index own
 
-  tried : (word : ℕ) (indices : List ℕ) (records : List Record) (place : Option ℕ) (rest : List Record)
-      → TriesInsert s.task word indices records place rest → IsFront records rest
-  tried word [] records place rest h = ([], sym h.1)
-  tried word (index ∷ indices) [] place rest h = absurd h
-  tried word (index ∷ indices) (first ∷ later) place rest h =
+  -- tries that end with an arming at this index
+  record Tried (index : ℕ) (records rest : List Record) : Type 0 where
+    front : List Record
+    split : records ≡ front ++ rest
+    numbered : (own : List Record) → NumberedFrom index (length own) (back front own)
+
+  arms_here : (index : ℕ) (word : ℕ) (first : Record) → first.step ≡ Insert index word → first.answer ≡ answers.Flag true → (own : List Record)
+      → NumberedFrom index (length own) (first ∷ own)
+  arms_here index word first is answer own = record {
+    number = length own;
+    last = subst (λ (st : Step). last_arming_number index (record first { step = st } ∷ own) ≡ Some (length own)) (sym is)
+        (subst (λ (an : Answer). last_arming_number index (record { task = first.task; step = Insert index word; answer = an } ∷ own) ≡ Some (length own)) (sym answer)
+        (rw (eq-eqb index index refl) refl));
+    since = omega arith;
+  }
+
+  same_place : (at index : ℕ) → Some index ≡ Some at → at ≡ index
+  same_place at index is = sym (some_same is)
+
+  tried_at : (word : ℕ) (indices : List ℕ) (records : List Record) (index : ℕ) (rest : List Record)
+      → TriesInsert s.task word indices records (Some index) rest → Tried index records rest
+  tried_at word [] records index rest h = absurd (let none : Some index ≡ None = h.0 in cc)
+  tried_at word (at ∷ indices) [] index rest h = absurd h
+  tried_at word (at ∷ indices) (first ∷ later) index rest h =
       let got = on_flag first.answer _ h.2 in
-      pick got.0 _ _ _ got.2 (λ stands. (first ∷ [], ap (λ (r : List Record). first ∷ r) (sym stands.1)))
-      (λ again. let it = tried word indices later place rest again in (first ∷ it.0, ap (λ (r : List Record). first ∷ r) it.1))
+      by_flag got.0 got.1 got.2 (λ again. tried_at word indices later index rest again)
+    where
+      by_flag : (accepted : Bool) → first.answer ≡ answers.Flag accepted
+          → MatchBool accepted ((Some index ≡ Some at) × (rest ≡ later)) (TriesInsert s.task word indices later (Some index) rest)
+          → (TriesInsert s.task word indices later (Some index) rest → Tried index later rest) → Tried index (first ∷ later) rest
+      by_flag true is stands goes = record {
+        front = first ∷ [];
+        split = ap (λ (r : List Record). first ∷ r) (sym stands.1);
+        numbered = arms_here index word first (h.1 ∙ ap (λ (i : ℕ). Insert i word) (same_place at index stands.0)) is;
+      }
+      by_flag false is again goes =
+          let it = goes again in record {
+            front = first ∷ it.front;
+            split = ap (λ (r : List Record). first ∷ r) it.split;
+            numbered = λ own. let more = it.numbered (first ∷ own) in
+                record { number = more.number; last = more.last; since = let b : suc (length own) ≤ more.number = more.since in omega (arith, b) };
+          }
 
-  loaded : (source : Option Source) (records : List Record) (value : Option ℕ) (rest : List Record) → LoadsFrom s a source records value rest
-      → IsFront records rest
-  loaded None records value rest h = ([], sym h.1)
-  loaded (Some source) [] value rest h = absurd h
-  loaded (Some source) (first ∷ later) value rest h =
-      let got = on_word first.answer _ h.2 in (first ∷ [], ap (λ (r : List Record). first ∷ r) (sym got.2.1))
+  loaded : (index : ℕ) (source : Option Source) (records : List Record) (value : Option ℕ) (rest : List Record) → LoadsFrom s a source records value rest
+      → Unarmed index records rest
+  loaded index None records value rest h = record { front = []; split = sym h.1; same = λ own. refl }
+  loaded index (Some source) [] value rest h = absurd h
+  loaded index (Some source) (first ∷ later) value rest h =
+      let got = on_word first.answer _ h.2 in
+      record { front = first ∷ []; split = ap (λ (r : List Record). first ∷ r) (sym got.2.1); same = none_armed index (CellLoad source.cell) tt first h.1 }
 
   -- from the consume on
   record Consumed (index : ℕ) (values : Option (ℕ × ℕ)) (outcome : Outcome) (records : List Record) : Type 0 where
@@ -139,25 +211,27 @@ module _ (s : checks.Setting) (a : Access) where
       (subst (λ (an : Answer). in_hand (record { task = made.task; step = Consume index; answer = an } ∷ own)
       ≡ Some (record { index = index; part = Hit })) (sym answer) refl)
 
-  by_arms : (index : ℕ) (outcome : Outcome) (watch front : List Record) (armed : List Record) → IsTrue (is_answer outcome)
-      → Inserts s a (word_of s.rules.layout a) watch (Some index) armed → watch ≡ front ++ armed
+  by_arms : (index : ℕ) (outcome : Outcome) (watch armed : List Record) → IsTrue (is_answer outcome)
+      → Inserts s a (word_of s.rules.layout a) watch (Some index) armed
       → Arms s a index armed outcome [] → HitFrom s a outcome watch
-  by_arms index outcome watch front [] told_so inserts split h = absurd h
-  by_arms index outcome watch front (name ∷ named) told_so inserts split h =
+  by_arms index outcome watch [] told_so inserts h = absurd h
+  by_arms index outcome watch (name ∷ named) told_so inserts h =
       let w = h.2.1 in
+      let tried = tried_at (word_of s.rules.layout a) (try_order (slot_of s a)) watch index (name ∷ named) inserts in
+      let front : List Record = tried.front in
       let values : Option (ℕ × ℕ) = both_values w.0 w.1 in
-      let one = loaded (source_of s a) named w.0 w.2 w.4 in
-      let two = loaded (source_of s a) w.2 w.1 w.3 w.5 in
+      let one = loaded index (source_of s a) named w.0 w.2 w.4 in
+      let two = loaded index (source_of s a) w.2 w.1 w.3 w.5 in
       let it = consumed index values outcome w.3 told_so w.6 in
       let both : Halves = it.judges.0 in
       let wait = waits finder_half s.task index it.later both [] it.judges.1 in
-      let before : List Record = front ++ name ∷ (one.0 ++ two.0) in
+      let before : List Record = front ++ name ∷ (one.front ++ two.front) in
       let parted : watch ≡ before ++ (it.consume ∷ (wait.pairs ++ [])) =
-      split ∙ (ap (λ (r : List Record). front ++ name ∷ r)
-      (one.1 ∙ (ap (λ (r : List Record). one.0 ++ r) (two.1 ∙ ap (λ (r : List Record). two.0 ++ r)
+      tried.split ∙ (ap (λ (r : List Record). front ++ name ∷ r)
+      (one.split ∙ (ap (λ (r : List Record). one.front ++ r) (two.split ∙ ap (λ (r : List Record). two.front ++ r)
       (it.split ∙ ap (λ (r : List Record). it.consume ∷ r) wait.split))
-      ∙ sym (append_assoc one.0 two.0 (it.consume ∷ (wait.pairs ++ [])))))
-      ∙ sym (append_assoc front (name ∷ (one.0 ++ two.0)) (it.consume ∷ (wait.pairs ++ [])))) in
+      ∙ sym (append_assoc one.front two.front (it.consume ∷ (wait.pairs ++ [])))))
+      ∙ sym (append_assoc front (name ∷ (one.front ++ two.front)) (it.consume ∷ (wait.pairs ++ [])))) in
       let read : (own : List Record) → back watch own ≡ back wait.pairs (it.consume ∷ back before own) =
       λ own. ap (λ (r : List Record). back r own) parted
       ∙ (back_both before (it.consume ∷ (wait.pairs ++ [])) own ∙ back_both wait.pairs [] (it.consume ∷ back before own)) in
@@ -187,24 +261,38 @@ module _ (s : checks.Setting) (a : Access) where
             ∙ (wait.keeps (it.consume ∷ back before own) ∙ consume_hand it.consume index it.step it.answer (back before own));
         hears = λ own. ap (λ (r : List Record). heard index r) (read own) ∙ wait.hears (it.consume ∷ back before own);
         above = wait.above;
+        numbered = λ own.
+            let armed = tried.numbered own in
+            let loads : back before own ≡ back two.front (back one.front (name ∷ back front own)) =
+            back_both front (name ∷ (one.front ++ two.front)) own ∙ back_both one.front two.front (name ∷ back front own) in
+            record {
+              number = armed.number;
+              last = ap (λ (r : List Record). last_arming_number index r) (read own)
+                  ∙ (wait.arms (it.consume ∷ back before own)
+                  ∙ (none_armed index (Consume index) tt it.consume it.step (back before own)
+                  ∙ (ap (λ (r : List Record). last_arming_number index r) loads
+                  ∙ (two.same (back one.front (name ∷ back front own))
+                  ∙ (one.same (name ∷ back front own)
+                  ∙ (none_armed index (Name index (ticket_number a)) tt name h.1 (back front own) ∙ armed.last))))));
+              since = armed.since;
+            };
       }
 
-  at_place : (place : Option ℕ) (judged : Judged) (watch front armed : List Record) → IsTrue (is_answer judged.outcome)
-      → Inserts s a (word_of s.rules.layout a) watch place armed → watch ≡ front ++ armed
+  at_place : (place : Option ℕ) (judged : Judged) (watch armed : List Record) → IsTrue (is_answer judged.outcome)
+      → Inserts s a (word_of s.rules.layout a) watch place armed
       → WatchesAt s a place armed (Some judged) [] → HitFrom s a judged.outcome watch
-  at_place None judged watch front armed told_so inserts split h = absurd (let none : Some judged ≡ None = h.0 in cc)
-  at_place (Some index) judged watch front armed told_so inserts split h =
+  at_place None judged watch armed told_so inserts h = absurd (let none : Some judged ≡ None = h.0 in cc)
+  at_place (Some index) judged watch armed told_so inserts h =
       let it : Some judged ≡ Some (record { index = index; outcome = h.0 }) = h.2 in
       let same : judged ≡ record { index = index; outcome = h.0 } = cc in
       let outcome : judged.outcome ≡ h.0 = ap (λ (j : Judged). j.outcome) same in
-      by_arms index judged.outcome watch front armed told_so inserts split
+      by_arms index judged.outcome watch armed told_so inserts
       (subst (λ (o : Outcome). Arms s a index armed o []) (sym outcome) h.1)
 
   hit_from : (outcome : Outcome) (watch : List Record) → IsTrue (is_answer outcome) → IsWatch s a outcome watch → HitFrom s a outcome watch
   hit_from outcome watch told_so it =
       let up = it.sets_up in
-      let front = tried (word_of s.rules.layout a) (try_order (slot_of s a)) watch up.0 up.1 up.2 in
-      at_place up.0 (record { index = it.index; outcome = outcome }) watch front.0 up.1 told_so up.2 front.1 up.3
+      at_place up.0 (record { index = it.index; outcome = outcome }) watch up.1 told_so up.2 up.3
 
 -- meetings over one arming are one
 where_met : (xs : List Meeting) (m : Meeting) (d : ℕ) → Has xs m
@@ -399,6 +487,7 @@ module _ (run : Run) (records : List Record) (list : RunList run records)
     watch : JudgesWatch answer
     finder : answer.finder ≡ first.finder
     mine : (latest : Record) (earlier : List Record) → answer.by_then ≡ latest ∷ earlier → latest.task ≡ came.access.task
+    numbered : NumberedFrom answer.index (length watch.before) (records_of came.access.task answer.by_then)
 
   watched : (came : OutcomeAt) (answer : AnswersTaking list came) → IsTrue (is_answer came.outcome) → IsOfWatch list came → ArmsAt came → Watched came answer
   watched came answer told_so of at =
@@ -460,6 +549,8 @@ module _ (run : Run) (records : List Record) (list : RunList run records)
         watch = record { watch = of.watch; before = of.before; own = own; is_watch = is_watch; goes = of.goes };
         finder = refl;
         mine = λ latest earlier is. of.mine latest earlier (same ∙ is);
+        numbered = subst (λ (i : ℕ). NumberedFrom i (length of.before) (records_of task by_then)) its.0
+            (subst (λ (r : List Record). NumberedFrom hit.index (length of.before) r) (sym read) (hit.numbered of.before));
       }
 
   -- the finder, by the telling
@@ -526,8 +617,70 @@ module _ (run : Run) (records : List Record) (list : RunList run records)
         number = number;
       }
 
+  -- just before the tell both are in progress
+  record Together (came : OutcomeAt) (answer : AnswersTaking list came) : Type 0 where
+    moment : ℕ
+    setter_goes : InProgress (history_of list) came.access moment
+    finder_goes : InProgress (history_of list) answer.finder moment
+
+  together : (came : OutcomeAt) (first : AnswersTaking list came) (w : Watched came first) → (names : NamesFinder w.answer) → Together came w.answer
+  together came first w names =
+      let answer = w.answer in
+      let find = names.find in
+      let task : ℕ = came.access.task in
+      let other : ℕ = names.telling.access.task in
+      let at = behead find.by_then names.telling.at find.at in
+      let base : List Record = at.1 in
+      let latest : Record = at.0 in
+      let split : records ≡ (find.later ++ latest ∷ []) ++ base =
+      find.split ∙ (ap (λ (r : List Record). find.later ++ r) at.2 ∙ sym (append_assoc find.later (latest ∷ []) base)) in
+      let finds : latest.task ≡ other = find.mine latest base at.2 in
+      let ends = ends_so run names.telling find.index find.word find.find find.before latest base find.is_find finds
+      (ap (λ (r : List Record). records_of other r) (sym at.2) ∙ find.own) in
+      let met_last : last_arming_number find.index (latest ∷ base) ≡ Some find.number =
+      subst (λ (r : List Record). last_arming_number find.index r ≡ Some find.number) at.2 find.met.last in
+      let last : last_arming_number answer.index base ≡ Some answer.number =
+      subst (λ (i : ℕ). last_arming_number i base ≡ Some answer.number) names.index
+      (last_before find.index find.number latest base find.index (ticket_number names.telling.access) ends.step met_last ∙ ap Some names.number) in
+      let below : answer.number < length base = last_below answer.index answer.number base last in
+      let long : length base ≡ names.telling.at =
+      let it : length find.by_then ≡ suc (length base) = ap (λ (r : List Record). length r) at.2 in
+      let was : length find.by_then ≡ suc names.telling.at = find.at in omega (arith, it, was) in
+      let by_then : List Record = answer.by_then in
+      let grown = front_until by_then answer.later (find.later ++ latest ∷ []) base (sym answer.split ∙ split)
+      (let all : length by_then ≡ suc came.at = answer.at in let before : names.telling.at < came.at = names.before in omega (arith, all, before, long)) in
+      let same_number : last_arming_number answer.index (records_of task by_then) ≡ last_arming_number answer.index (records_of task base) =
+      ap (λ (r : List Record). last_arming_number answer.index (records_of task r)) grown.2
+      ∙ same_arming task answer.index answer.number (grown.0 ∷ grown.1) base
+      (subst (λ (r : List Record). number_made task answer.index r ≡ Some answer.number) grown.2 answer.met.made) below in
+      let own_below : w.numbered.number < made_by task base =
+      last_below answer.index w.numbered.number (records_of task base) (sym same_number ∙ w.numbered.last) in
+      let since : length w.watch.before ≤ w.numbered.number = w.numbered.since in
+      let all_own : length (records_of task by_then) ≡ length w.watch.watch + length w.watch.before =
+      ap (λ (r : List Record). length r) w.watch.own
+      ∙ (length-append (reverse w.watch.watch) w.watch.before ∙ ap (λ (n : ℕ). n + length w.watch.before) (length-reverse w.watch.watch)) in
+      let split_own : length (records_of task by_then) ≡ suc (length (records_of task grown.1)) + made_by task base =
+      ap (λ (r : List Record). length (records_of task r)) grown.2
+      ∙ (ap (λ (r : List Record). length r) (own_latest task grown.0 (grown.1 ++ base) (w.mine grown.0 (grown.1 ++ base) grown.2)
+      ∙ ap (λ (r : List Record). grown.0 ∷ r) (own_split task grown.1 base)) ∙ length-append (grown.0 ∷ records_of task grown.1) (records_of task base)) in
+      let find_own : suc (made_by other base) ≡ length find.find + length find.before =
+      sym (ap (λ (r : List Record). length r) (own_latest other latest base finds))
+      ∙ (ap (λ (r : List Record). length (records_of other r)) (sym at.2)
+      ∙ (ap (λ (r : List Record). length r) find.own
+      ∙ (length-append (reverse find.find) find.before ∙ ap (λ (n : ℕ). n + length find.before) (length-reverse find.find)))) in
+      let some : 0 < length find.find =
+      some_find run records list (checks_of (task_setting run other)) names.telling.access names.telling.outcome find.find (find.index, find.word, find.is_find) in
+      record {
+        moment = length (history_by list base);
+        setter_goes = w.watch.goes (find.later ++ latest ∷ []) base split (omega (arith, since, own_below)) (omega (arith, all_own, split_own));
+        finder_goes = subst (λ (f : Access). InProgress (history_of list) f (length (history_by list base))) names.access
+            (find.goes (find.later ++ latest ∷ []) base split (omega (arith, find_own, some)) (omega (arith, find_own)));
+      }
+
   pub all_both : All (IfAnswer list) (outcomes_of list) → All (IfVerdict list) (outcomes_of list) → EachSettles list records
       → All (IfTelling list) (outcomes_of list) → All (IfAnswersBoth list) (outcomes_of list)
   all_both answers verdicts each tellings = λ place other below. λ told_so.
       let w = watched _ (answers place other below told_so) told_so (verdicts place other below (answer_is _ told_so)) (armed_at [] records refl place other below) in
-      record { answer = w.answer; watch = w.watch; finder = names _ w.answer w.mine each tellings }
+      let finder = names _ w.answer w.mine each tellings in
+      let at = together _ _ w finder in
+      record { answer = w.answer; watch = w.watch; finder = finder; moment = at.moment; setter_goes = at.setter_goes; finder_goes = at.finder_goes }

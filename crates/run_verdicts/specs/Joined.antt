@@ -73,12 +73,15 @@ pub record NamesFinder {run : Run} {records : List Record} {list : RunList run r
   pub number : find.number ≡ answer.number
 
 -- The answer is the verdict on the two accesses of a taking: the one that its arming was made for, in
--- its watch, and the one that it was made for, in its find.
+-- its watch, and the one that it was made for, in its find. At one moment both are in progress.
 pub record AnswersBoth {run : Run} {records : List Record} (list : RunList run records) (came : OutcomeAt) :
     Type 0 where
   pub answer : AnswersTaking list came
   pub watch : JudgesWatch answer
   pub finder : NamesFinder answer
+  pub moment : ℕ
+  pub setter_goes : InProgress (history_of list) came.access moment
+  pub finder_goes : InProgress (history_of list) answer.finder moment
 
 -- so it is if the outcome is an answer
 abbrev pub IfAnswersBoth : {run : Run} {records : List Record} → RunList run records → OutcomeAt → Type 0
