@@ -18,3 +18,5 @@ pub mod Balance
 pub mod Spanning
 pub mod Once
 pub mod Numbering
+pub mod Settling
+pub mod Verdicts

@@ -8,6 +8,7 @@ use Rattle.litmus_syntax.specs.Tree.{Block}
 use Rattle.run_lists.proofs.OwnLasts.{own_latest}
 use Rattle.run_logs.specs.Noted.{AreNoted}
 use Rattle.run_logs.specs.Removed.{ToldAt, as_told, told_at, told_by}
+use Rattle.setup_access.specs.declared.outcome.Outcome.{Outcome}
 use Rattle.slot_table.specs.Records.{records_of}
 use Rattle.slot_table.specs.declared.records.Record.{Record}
 use Rattle.slot_table.specs.declared.step.Step.{Step}
@@ -73,21 +74,21 @@ all_numbered [] = no_arm
 all_numbered (latest ∷ before) = numbered_at latest.step before (arms_of before) (all_numbered before)
 
 -- takings
-told_with : (step : Step) (before : List Noted) → map as_told (takes_at step before (takes_of before)) ≡ map as_told (takes_of before) ++ told_at step
-told_with (steps.Tell index ticket) before = map-append as_told (takes_of before) _
-told_with (steps.Load index) before = sym (append-nil (map as_told (takes_of before)))
-told_with (steps.Insert index word) before = sym (append-nil (map as_told (takes_of before)))
-told_with (steps.TryConsume index word) before = sym (append-nil (map as_told (takes_of before)))
-told_with (steps.Consume index) before = sym (append-nil (map as_told (takes_of before)))
-told_with (steps.PairLoad index) before = sym (append-nil (map as_told (takes_of before)))
-told_with (steps.Name index ticket) before = sym (append-nil (map as_told (takes_of before)))
-told_with (steps.Clear index) before = sym (append-nil (map as_told (takes_of before)))
-told_with (steps.CellLoad cell) before = sym (append-nil (map as_told (takes_of before)))
-told_with (steps.CellExchange cell expected new) before = sym (append-nil (map as_told (takes_of before)))
-told_with (steps.LockTry lock holder) before = sym (append-nil (map as_told (takes_of before)))
-told_with (steps.LockStore lock) before = sym (append-nil (map as_told (takes_of before)))
-told_with steps.Clock before = sym (append-nil (map as_told (takes_of before)))
-told_with (steps.Remove index) before = sym (append-nil (map as_told (takes_of before)))
+told_with : (step : Step) (outcome : Option Outcome) (before : List Noted) → map as_told (takes_at step outcome (takes_of before)) ≡ map as_told (takes_of before) ++ told_at step
+told_with (steps.Tell index ticket) outcome before = map-append as_told (takes_of before) _
+told_with (steps.Load index) outcome before = sym (append-nil (map as_told (takes_of before)))
+told_with (steps.Insert index word) outcome before = sym (append-nil (map as_told (takes_of before)))
+told_with (steps.TryConsume index word) outcome before = sym (append-nil (map as_told (takes_of before)))
+told_with (steps.Consume index) outcome before = sym (append-nil (map as_told (takes_of before)))
+told_with (steps.PairLoad index) outcome before = sym (append-nil (map as_told (takes_of before)))
+told_with (steps.Name index ticket) outcome before = sym (append-nil (map as_told (takes_of before)))
+told_with (steps.Clear index) outcome before = sym (append-nil (map as_told (takes_of before)))
+told_with (steps.CellLoad cell) outcome before = sym (append-nil (map as_told (takes_of before)))
+told_with (steps.CellExchange cell expected new) outcome before = sym (append-nil (map as_told (takes_of before)))
+told_with (steps.LockTry lock holder) outcome before = sym (append-nil (map as_told (takes_of before)))
+told_with (steps.LockStore lock) outcome before = sym (append-nil (map as_told (takes_of before)))
+told_with steps.Clock outcome before = sym (append-nil (map as_told (takes_of before)))
+told_with (steps.Remove index) outcome before = sym (append-nil (map as_told (takes_of before)))
 
 module _ {s : Setting} {registers : ℕ} {body : Block} {all : List Record} (written : WrittenOrder s registers body all) (task : ℕ) where
   its_step : (latest : Record) (earlier : List Record)
@@ -96,8 +97,8 @@ module _ {s : Setting} {registers : ℕ} {body : Block} {all : List Record} (wri
       → map as_told (takes_of noted) ≡ told_by task earlier ++ told_at latest.step
   its_step latest earlier rest [] are = absurd are
   its_step latest earlier rest (noted ∷ before) are =
-      ap (λ (st : Step). map as_told (takes_at st before (takes_of before))) are.1.step
-      ∙ (told_with latest.step before ∙ ap (λ (l : List ToldAt). l ++ told_at latest.step) (rest before are.0))
+      ap (λ (st : Step). map as_told (takes_at st noted.outcome (takes_of before))) are.1.step
+      ∙ (told_with latest.step noted.outcome before ∙ ap (λ (l : List ToldAt). l ++ told_at latest.step) (rest before are.0))
 
   pub kept_takes : (records : List Record) (noted : List Noted) → AreNoted written (records_of task records) noted
       → map as_told (takes_of noted) ≡ told_by task records

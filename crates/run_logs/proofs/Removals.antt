@@ -30,7 +30,7 @@ use Rattle.task_log.specs.declared.noted.Noted.{Noted}
 use Rattle.written_order.specs.Standing.{Setting}
 use Rattle.written_order.specs.WrittenOrder.{WrittenOrder}
 
-words_noted : {s : Setting} {registers : ℕ} {body : Block} {records : List Record} (written : WrittenOrder s registers body records) (own : List Record)
+pub words_noted : {s : Setting} {registers : ℕ} {body : Block} {records : List Record} (written : WrittenOrder s registers body records) (own : List Record)
     (noted : List Noted) → AreNoted written own noted → last_of armed noted ≡ last_word own
 words_noted written [] [] are = refl
 words_noted written [] (noted ∷ before) are = absurd are
@@ -40,14 +40,14 @@ words_noted written (latest ∷ earlier) (noted ∷ before) are =
     ∙ (ap (λ (an : Answer). option_or (armed_by latest.step an) (last_of armed before)) are.1.answer
     ∙ ap (λ (o : Option ℕ). option_or (armed_by latest.step latest.answer) o) (words_noted written earlier before are.0))
 
-of_task : (task : ℕ) (records : List Record) → AreOf task (records_of task records)
+pub of_task : (task : ℕ) (records : List Record) → AreOf task (records_of task records)
 of_task task [] = tt
 of_task task (latest ∷ earlier) = elim (eqb_tells latest.task task) [
   | inl mine ↦ rw mine.0 (mine.1, of_task task earlier)
   | inr others ↦ rw others.0 (of_task task earlier)
 ]
 
-some_is : (one other : ℕ) → ◌≡◌ {A = Option ℕ} (Some one) (Some other) → one ≡ other
+pub some_is : (one other : ℕ) → ◌≡◌ {A = Option ℕ} (Some one) (Some other) → one ≡ other
 some_is one other is = cc
 
 -- who removes at an index is the setter of the last arming there
@@ -60,15 +60,15 @@ setter_there index v task (hears, inr (phase, h)) has =
 
 module _ (page_slots locks : ℕ) (cells : List ℕ) where
   -- what the table tells of an arming at its remove the task's own last words tell
-  record AtRemove (task index : ℕ) (earlier : List Record) : Type 0 where
-    word : ℕ
-    ticket : ℕ
-    armed_so : last_arming index earlier ≡ Some (record { setter = task; word = word })
-    named_so : named_at index earlier ≡ Some ticket
-    own_armed : last_word (records_of task earlier) ≡ Some word
-    own_named : last_name (records_of task earlier) ≡ Some ticket
+  pub record AtRemove (task index : ℕ) (earlier : List Record) : Type 0 where
+    pub word : ℕ
+    pub ticket : ℕ
+    pub armed_so : last_arming index earlier ≡ Some (record { setter = task; word = word })
+    pub named_so : named_at index earlier ≡ Some ticket
+    pub own_armed : last_word (records_of task earlier) ≡ Some word
+    pub own_named : last_name (records_of task earlier) ≡ Some ticket
 
-  at_remove : (latest : Record) (earlier : List Record) (index : ℕ) → Keeps page_slots locks cells (latest ∷ earlier) → latest.step ≡ steps.Remove index
+  pub at_remove : (latest : Record) (earlier : List Record) (index : ℕ) → Keeps page_slots locks cells (latest ∷ earlier) → latest.step ≡ steps.Remove index
       → AtRemove latest.task index earlier
   at_remove latest earlier index rules is =
       let task : ℕ = latest.task in

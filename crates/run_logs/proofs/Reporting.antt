@@ -60,7 +60,7 @@ unnamed (steps.LockStore lock) answer hand outcome settles = refl
 unnamed steps.Clock answer hand outcome settles = refl
 
 -- those that are left by a test are of the task too
-left_of : (task n : ℕ) (fallen : List Fallen) → AllOfTask task fallen → AllOfTask task (filter (λ (f : Fallen). length f.later == n) fallen)
+pub left_of : (task n : ℕ) (fallen : List Fallen) → AllOfTask task fallen → AllOfTask task (filter (λ (f : Fallen). length f.later == n) fallen)
 left_of task n [] of = tt
 left_of task n (one ∷ others) of = by_test (left_of task n others of.1) (length one.later == n) refl
   where

@@ -3,3 +3,4 @@ pub mod Totals
 pub mod Removed
 pub mod Decided
 pub mod Spans
+pub mod Lists

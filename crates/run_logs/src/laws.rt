@@ -10,6 +10,7 @@ ghost use Rattle.run_lists.specs.Run.{Run, task_of, task_setting};
 ghost use Rattle.run_lists.specs.RunList.{RunList};
 ghost use Rattle.run_lists.specs.Told.{made_by};
 ghost use Rattle.run_logs.specs.Decided.{IsStampedSo};
+ghost use Rattle.run_logs.specs.Lists.{AreArmsOf};
 ghost use Rattle.run_logs.specs.Noted.{AreNoted, IsNoted, Notes};
 ghost use Rattle.run_logs.specs.Removed.{as_removed, as_told, removed_by, told_by};
 ghost use Rattle.run_logs.specs.Spans.{IsSpan, is_end};
@@ -118,6 +119,16 @@ pub fn a_log_keeps_the_armings_that_are_over()
         → arm.number ≡ count_by (λ (one : Arm). one.setter == arm.setter) earlier }
 {
     run_lists_keep_the_discipline();
+}
+
+/// Law: the armings that a log of a task keeps are just those that the task has removed, each with its index, its watch word,
+/// the ticket of the access whose verdict it is, and what that verdict says became of it.
+pub fn a_log_keeps_just_the_arms()
+    ensures { (run : Run) (records : List Record) (list : RunList run records) (task : ℕ) (noted : List Noted)
+        → Notes list task noted → AreArmsOf list task (arms_of noted) }
+{
+    run_lists_keep_the_discipline();
+    verdicts_are_on_watches();
 }
 
 /// Law: the takings that a log of a task keeps are those of which the task has told, in this order, each with its index

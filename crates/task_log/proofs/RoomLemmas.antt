@@ -1,18 +1,18 @@
 -- What a task keeps grows with its steps, and there is room for it as long as all of it fits.
-use Rattle.std.proofs.Common.{◌≡◌, ◌+◌, ◌<◌, ◌≤◌, ◌++◌, ◌∙◌, ℕ, zero, suc, Global, Vec, Bool, true, false, List, [], ◌∷◌, None, Option, Some, ap, arith, cond, length, refl, subst, sym, unwrap_or}
+use Rattle.std.proofs.Common.{◌≡◌, ◌+◌, ◌<◌, ◌≤◌, ◌++◌, ◌∙◌, ℕ, zero, suc, Global, Vec, Bool, true, false, List, [], ◌∷◌, None, Option, Some, ap, arith, cond, length, refl, subst, sym}
 use Rattle.std.proofs.lemmas.List.{length-append}
 use Rattle.std.specs.List.{list_any}
 use Rattle.std.specs.Prelude.{vec_capacity, vec_len}
 use Rattle.access_types.specs.Arms.{Arm}
 use Rattle.access_types.specs.Takes.{Take}
 use Rattle.setup_access.specs.declared.begun.Begun.{Begun}
+use Rattle.setup_access.specs.declared.outcome.Outcome.{Outcome}
 use Rattle.slot_table.specs.declared.step.Answer.{Answer}
 use Rattle.slot_table.specs.declared.step.Answer.TheVariants.{Done, Flag, Halves, Word}
 use Rattle.slot_table.specs.declared.step.Step.{Step}
 use Rattle.slot_table.specs.declared.step.Step.TheVariants.{CellExchange, CellLoad, Clear, Clock, Consume, Insert, Load, LockStore, LockTry, Name, PairLoad, Remove, Tell, TryConsume}
-use Rattle.task_log.specs.Arms.{arm_removed, arms_at, takes_at}
+use Rattle.task_log.specs.Arms.{arm_removed, arms_at, setter_told, takes_at}
 use Rattle.task_log.specs.Keeps.{HasRoomToRemove, HasRoomToTell}
-use Rattle.task_log.specs.Noted.{heard_setter, last_of}
 use Rattle.task_log.specs.Touches.{HasRoomToBegin, end_newest, goes_on, touches_at}
 use Rattle.task_log.specs.declared.log.TaskLog.{TaskLog}
 use Rattle.task_log.specs.declared.noted.Noted.{Noted}
@@ -57,26 +57,22 @@ room_to_remove (Remove index) earlier log before watches is few room =
     within_room log.arms before (arm_removed index earlier before) watches is few room
 room_to_remove step earlier log before watches is few room = tt
 
-pub room_to_tell : (step : Step) (earlier : List Noted) (log : TaskLog) (before : List Take) (watches : ℕ)
-    → log.takes.items ≡ before → length (takes_at step earlier before) ≤ watches → watches ≤ vec_capacity log.takes
+pub room_to_tell : (step : Step) (outcome : Option Outcome) (log : TaskLog) (before : List Take) (watches : ℕ)
+    → log.takes.items ≡ before → length (takes_at step outcome before) ≤ watches → watches ≤ vec_capacity log.takes
     → HasRoomToTell step log
-room_to_tell (Tell index ticket) earlier log before watches is few room =
+room_to_tell (Tell index ticket) outcome log before watches is few room =
     within_room log.takes before _ watches is few room
-room_to_tell step earlier log before watches is few room = tt
+room_to_tell step outcome log before watches is few room = tt
 
 -- the taking that a tell ends
-take_told : ℕ → ℕ → List Noted → Take
-take_told index ticket earlier = record {
-  finder = ticket;
-  index = index;
-  setter = unwrap_or (last_of heard_setter earlier) 0;
-}
+take_told : ℕ → ℕ → Option Outcome → Take
+take_told index ticket outcome = record { finder = ticket; index = index; setter = setter_told outcome }
 
 pub arms_grow : (step : Step) (earlier : List Noted) (before : List Arm) → length before ≤ length (arms_at step earlier before)
 arms_grow (Remove index) earlier before = omega (arith, one_more before (arm_removed index earlier before))
 arms_grow step earlier before = omega arith
 
-pub takes_grow : (step : Step) (earlier : List Noted) (before : List Take) → length before ≤ length (takes_at step earlier before)
+pub takes_grow : (step : Step) (outcome : Option Outcome) (before : List Take) → length before ≤ length (takes_at step outcome before)
 unfolding take_told
-takes_grow (Tell index ticket) earlier before = omega (arith, one_more before (take_told index ticket earlier))
-takes_grow step earlier before = omega arith
+takes_grow (Tell index ticket) outcome before = omega (arith, one_more before (take_told index ticket outcome))
+takes_grow step outcome before = omega arith

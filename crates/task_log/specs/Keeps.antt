@@ -4,25 +4,17 @@ use Rattle.slot_table.specs.declared.step.Step.{Step}
 use Rattle.slot_table.specs.declared.step.Step.TheVariants.{Remove, Tell}
 use Rattle.task_log.specs.Arms.{arms_of, takes_of}
 use Rattle.task_log.specs.Counters.{Count}
-use Rattle.task_log.specs.Noted.{armed, heard_finder, heard_setter, last_of, named, settled}
+use Rattle.task_log.specs.Noted.{armed, became, last_of, named}
 use Rattle.task_log.specs.Touches.{touches_of}
 use Rattle.task_log.specs.declared.latest.Latest.{Latest}
 use Rattle.task_log.specs.declared.log.TaskLog.{TaskLog}
 use Rattle.task_log.specs.declared.noted.Noted.{Noted}
 
--- what was last named, set up, heard and settled in a task's steps, the latest first
+-- what was last named and set up in a task's steps, the latest first, and what last became of a watchpoint
 pub record IsLatest (own : List Noted) (latest : Latest) : Type 0 where
   pub named : latest.named ≡ last_of named own
   pub armed : latest.armed ≡ last_of armed own
-  pub heard_setter : latest.heard_setter ≡ last_of heard_setter own
-  pub heard_finder : latest.heard_finder ≡ last_of heard_finder own
-  pub settled : latest.settled ≡ last_of settled own
-
--- a task with these steps, the latest first, has at most so many accesses, armings and takings
-pub record Fits (accesses watches : ℕ) (own : List Noted) : Type 0 where
-  pub few_accesses : length (touches_of own) ≤ accesses
-  pub few_arms : length (arms_of own) ≤ watches
-  pub few_takes : length (takes_of own) ≤ watches
+  pub became : latest.became ≡ last_of became own
 
 -- there is room for the arming that is removed, if one is
 abbrev pub HasRoomToRemove : Step → TaskLog → Type 0

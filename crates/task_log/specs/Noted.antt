@@ -1,6 +1,10 @@
 -- What one step of a task says.
 use Rattle.std.specs.Prelude.{ℕ, true, List, [], ◌∷◌, Option, None, Some}
 use Rattle.std.specs.Option.{option_or}
+use Rattle.access_types.specs.declared.arms.ArmOutcome.{ArmOutcome}
+use Rattle.access_types.specs.declared.arms.ArmOutcome.TheVariants as arms
+use Rattle.access_types.specs.declared.arms.HitResult.{HitResult}
+use Rattle.access_types.specs.declared.arms.HitResult.TheVariants as results
 use Rattle.setup_access.specs.declared.outcome.Outcome.{Outcome}
 use Rattle.setup_access.specs.declared.outcome.Outcome.TheVariants as outcomes
 use Rattle.slot_table.specs.declared.step.Answer.{Answer}
@@ -8,6 +12,8 @@ use Rattle.slot_table.specs.declared.step.Answer.TheVariants.{Flag, Halves}
 use Rattle.slot_table.specs.declared.step.Step.{Step}
 use Rattle.slot_table.specs.declared.step.Step.TheVariants.{Insert, Name, PairLoad}
 use Rattle.task_log.specs.declared.noted.Noted.{Noted}
+use Rattle.value_filter.specs.declared.verdict.Reason.{Reason}
+use Rattle.value_filter.specs.declared.verdict.Reason.TheVariants.{Encoding, MaskedBits, SameValue}
 
 abbrev pub named_by : Step → Option ℕ
 named_by (Name index ticket) = Some ticket
@@ -25,32 +31,28 @@ armed_by step answer = None
 abbrev pub armed : Noted → Option ℕ
 armed noted = armed_by noted.step noted.answer
 
-abbrev pub setter_by : Step → Answer → Option ℕ
-setter_by (PairLoad index) (Halves setter finder) = Some setter
-setter_by step answer = None
+-- the finder's half of a pair that was loaded, where there is none 0
+abbrev pub finder_heard : Step → Answer → ℕ
+finder_heard (PairLoad index) (Halves setter finder) = finder
+finder_heard step answer = 0
 
--- the setter's half of a pair that was loaded
-abbrev pub heard_setter : Noted → Option ℕ
-heard_setter noted = setter_by noted.step noted.answer
+-- why a hit was dropped
+abbrev pub dropped : Reason → HitResult
+dropped Encoding = results.Encoding
+dropped SameValue = results.Same
+dropped MaskedBits = results.Masked
 
-abbrev pub finder_by : Step → Answer → Option ℕ
-finder_by (PairLoad index) (Halves setter finder) = Some finder
-finder_by step answer = None
+-- what became of a watchpoint, by the verdict on it; a hit has its finder
+abbrev pub became_of : Option Outcome → ℕ → Option ArmOutcome
+became_of (Some outcomes.Quiet) finder = Some arms.Quiet
+became_of (Some (outcomes.Unknown old new)) finder = Some arms.Origin
+became_of (Some (outcomes.Report pair seen)) finder = Some (arms.Hit finder results.Report)
+became_of (Some (outcomes.Dropped reason)) finder = Some (arms.Hit finder (dropped reason))
+became_of outcome finder = None
 
--- the finder's half of a pair that was loaded
-abbrev pub heard_finder : Noted → Option ℕ
-heard_finder noted = finder_by noted.step noted.answer
-
-abbrev pub settled_by : Option Outcome → Option Outcome
-settled_by (Some outcomes.Quiet) = Some outcomes.Quiet
-settled_by (Some (outcomes.Unknown old new)) = Some (outcomes.Unknown old new)
-settled_by (Some (outcomes.Report pair seen)) = Some (outcomes.Report pair seen)
-settled_by (Some (outcomes.Dropped reason)) = Some (outcomes.Dropped reason)
-settled_by outcome = None
-
--- what came of a watchpoint
-abbrev pub settled : Noted → Option Outcome
-settled noted = settled_by noted.outcome
+-- what became of a watchpoint on which a verdict falls by this step
+abbrev pub became : Noted → Option ArmOutcome
+became noted = became_of noted.outcome (finder_heard noted.step noted.answer)
 
 -- what the latest step that says it says, of a task's steps, the latest first
 abbrev pub last_of : {A : Type 0} → (Noted → Option A) → List Noted → Option A

@@ -1,4 +1,4 @@
-//! What a task last named, set up, heard and settled.
+//! What a task last named and set up, and what last became of a watchpoint of it.
 
 ghost use Rattle.std.specs.Prelude.{◌≡◌, ◌∷◌, [], List, None, unwrap_or};
 ghost use Rattle.task_log.specs.Keeps.{IsLatest};
@@ -6,7 +6,7 @@ ghost use Rattle.task_log.specs.Noted as spec;
 ghost use Rattle.task_log.specs.Noted.{last_of};
 
 use crate::noted::Noted;
-use setup_access::Outcome;
+use access_types::ArmOutcome;
 
 /// What a task last said of a handshake.
 #[derive(Clone, Copy, Debug)]
@@ -15,11 +15,8 @@ pub(crate) struct Latest {
     pub named: Option<u32>,
     /// The watch word that it set up.
     pub armed: Option<u64>,
-    /// The halves of the pair that it loaded.
-    pub heard_setter: Option<u32>,
-    pub heard_finder: Option<u32>,
-    /// What came of a watchpoint.
-    pub settled: Option<Outcome>,
+    /// What became of a watchpoint.
+    pub became: Option<ArmOutcome>,
 }
 
 impl Latest {
@@ -30,9 +27,7 @@ impl Latest {
         Latest {
             named: None,
             armed: None,
-            heard_setter: None,
-            heard_finder: None,
-            settled: None,
+            became: None,
         }
     }
 
@@ -42,8 +37,6 @@ impl Latest {
     {
         self.named = noted.named().or(self.named);
         self.armed = noted.armed().or(self.armed);
-        self.heard_setter = noted.heard_setter().or(self.heard_setter);
-        self.heard_finder = noted.heard_finder().or(self.heard_finder);
-        self.settled = noted.settled().or(self.settled);
+        self.became = noted.became().or(self.became);
     }
 }

@@ -1,23 +1,21 @@
 //! What a task keeps of its steps.
 
-ghost use Rattle.std.specs.Prelude.{◌≡◌, ◌==◌, ◌<◌, ◌≤◌, ◌++◌, ◌∷◌, [], ℕ, List, IfOk, count_by, vec_capacity, vec_len};
-ghost use Rattle.slot_table.specs.declared.step.Step.TheVariants.{Tell};
-ghost use Rattle.task_log.specs.Arms.{arm_removed, arms_at, arms_of, became_of, takes_at, takes_of};
+ghost use Rattle.std.specs.Prelude.{◌≡◌, ◌==◌, ◌<◌, ◌≤◌, ◌++◌, ◌∷◌, [], ℕ, List, IfOk, count_by, length, vec_capacity, vec_len};
+ghost use Rattle.task_log.specs.Arms.{arm_removed, arms_at, arms_of, takes_at, takes_of};
 ghost use Rattle.task_log.specs.Counters.{Count};
-ghost use Rattle.task_log.specs.Keeps.{Fits, HasRoomToRemove, HasRoomToTell, IsLatest, Keeps};
+ghost use Rattle.task_log.specs.Keeps.{HasRoomToRemove, HasRoomToTell, IsLatest, Keeps};
 ghost use Rattle.task_log.specs.Reports.{reported};
-ghost use Rattle.task_log.specs.Touches.{accesses_of};
+ghost use Rattle.task_log.specs.Touches.{accesses_of, touches_of};
 ghost use Rattle.task_log.specs.declared.noted.Noted.{Noted};
 
 use crate::counters::Counters;
 use crate::latest::Latest;
 use crate::noted::Noted;
 use crate::touches::{self, Touch};
-use access_types::{Arm, ArmOutcome, HitResult, Report, Stamped, Take};
+use access_types::{Arm, ArmOutcome, Report, Stamped, Take};
 use setup_access::Outcome;
 use slot_table::Step;
 use std::alloc::{AllocError, Global};
-use value_filter::Reason;
 
 /// What a task keeps of its steps. It takes all its room when it is made.
 #[derive(Debug, Drop)]
@@ -27,21 +25,6 @@ pub struct TaskLog {
     takes: Vec<Take>,
     latest: Latest,
     counters: Counters,
-}
-
-/// What became of a watchpoint; a hit has its finder.
-fn became(outcome: Option<Outcome>, finder: u32) -> ArmOutcome
-    ensures { result ≡ became_of outcome finder }
-{
-    let result = match outcome {
-        Some(Outcome::Unknown { .. }) => return ArmOutcome::Origin,
-        Some(Outcome::Report { .. }) => HitResult::Report,
-        Some(Outcome::Dropped(Reason::Encoding)) => HitResult::Encoding,
-        Some(Outcome::Dropped(Reason::SameValue)) => HitResult::Same,
-        Some(Outcome::Dropped(Reason::MaskedBits)) => HitResult::Masked,
-        _ => return ArmOutcome::Quiet,
-    };
-    ArmOutcome::Hit { finder, result }
 }
 
 /// How many armings are by the access with this ticket.
@@ -86,15 +69,15 @@ impl TaskLog {
     fn over(&mut self, noted: &Noted)
         ensures arms { (own : List Noted) → IsLatest own self.old.latest → HasRoomToRemove noted.now.step self.old
             → self.new.arms.items ≡ arms_at noted.now.step own self.old.arms.items }
-        ensures takes { (own : List Noted) → IsLatest own self.old.latest → HasRoomToTell noted.now.step self.old
-            → self.new.takes.items ≡ takes_at noted.now.step own self.old.takes.items }
+        ensures takes { HasRoomToTell noted.now.step self.old
+            → self.new.takes.items ≡ takes_at noted.now.step noted.now.outcome self.old.takes.items }
         ensures kept { self.new ≡ record self.old { arms = self.new.arms; takes = self.new.takes } }
         ensures room_for_arms { vec_capacity self.old.arms ≤ vec_capacity self.new.arms }
         ensures room_for_takes { vec_capacity self.old.takes ≤ vec_capacity self.new.takes }
     {
         match noted.step {
             Step::Remove(index) => self.removes(index),
-            Step::Tell(index, ticket) => self.tells(index, ticket),
+            Step::Tell(index, ticket) => self.tells(index, ticket, noted.setter_told()),
             _ => {}
         }
     }
@@ -112,23 +95,21 @@ impl TaskLog {
         let setter = self.latest.named.unwrap_or(0);
         let number = armings_of(self.arms.as_slice(), setter);
         let word = self.latest.armed.unwrap_or(0);
-        let outcome = became(self.latest.settled, self.latest.heard_finder.unwrap_or(0));
+        let outcome = self.latest.became.unwrap_or(ArmOutcome::Quiet);
         self.arms
             .push_reserved(Arm::new(setter, number, index, word, outcome));
     }
 
     /// The setter of the watchpoint that the task took is told the ticket.
-    fn tells(&mut self, index: usize, ticket: u32)
-        ensures takes { (own : List Noted) → IsLatest own self.old.latest → vec_len self.old.takes < vec_capacity self.old.takes
-            → self.new.takes.items ≡ takes_at (Tell index ticket) own self.old.takes.items }
+    fn tells(&mut self, index: usize, ticket: u32, setter: u32)
+        ensures takes { vec_len self.old.takes < vec_capacity self.old.takes
+            → self.new.takes.items ≡ self.old.takes.items ++ record { finder = ticket; index = index; setter = setter } ∷ [] }
         ensures kept { self.new ≡ record self.old { takes = self.new.takes } }
         ensures room { vec_capacity self.old.takes ≤ vec_capacity self.new.takes }
     {
-        if self.takes.len() == self.takes.capacity() {
-            return;
+        if self.takes.len() < self.takes.capacity() {
+            self.takes.push_reserved(Take::new(ticket, index, setter));
         }
-        let setter = self.latest.heard_setter.unwrap_or(0);
-        self.takes.push_reserved(Take::new(ticket, index, setter));
     }
 
     /// What is reported at a step.
@@ -156,24 +137,24 @@ impl TaskLog {
 
     /// The accesses that have ended, in the order of their begins.
     pub fn accesses(&self, alloc: Global) -> Result<Vec<Stamped>, AllocError>
-        ensures { (accesses watches : ℕ) (own : List Noted) → Keeps accesses watches own self.now → Fits accesses watches own
-            → IfOk result (λ all. all.items ≡ accesses_of own) }
+        ensures { (accesses watches : ℕ) (own : List Noted) → Keeps accesses watches own self.now
+            → length (touches_of own) ≤ accesses → IfOk result (λ all. all.items ≡ accesses_of own) }
     {
         touches::ended(alloc, self.touches.as_slice())
     }
 
     /// The armings that are over, in the order in which they were removed.
     pub fn arms(&self) -> &[Arm]
-        ensures { (accesses watches : ℕ) (own : List Noted) → Keeps accesses watches own self.now → Fits accesses watches own
-            → result.now ≡ arms_of own }
+        ensures { (accesses watches : ℕ) (own : List Noted) → Keeps accesses watches own self.now
+            → length (arms_of own) ≤ watches → result.now ≡ arms_of own }
     {
         self.arms.as_slice()
     }
 
     /// The takings that are over, in the order in which they were told.
     pub fn takes(&self) -> &[Take]
-        ensures { (accesses watches : ℕ) (own : List Noted) → Keeps accesses watches own self.now → Fits accesses watches own
-            → result.now ≡ takes_of own }
+        ensures { (accesses watches : ℕ) (own : List Noted) → Keeps accesses watches own self.now
+            → length (takes_of own) ≤ watches → result.now ≡ takes_of own }
     {
         self.takes.as_slice()
     }

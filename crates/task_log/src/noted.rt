@@ -1,10 +1,13 @@
 //! What is noted of a step.
 
 ghost use Rattle.std.specs.Prelude.{◌≡◌};
+ghost use Rattle.task_log.specs.Arms.{setter_told};
 ghost use Rattle.task_log.specs.Noted as spec;
 
+use access_types::{ArmOutcome, HitResult};
 use setup_access::{Begun, Outcome};
 use slot_table::{Answer, Step};
+use value_filter::Reason;
 
 /// A step of a task, with its answer.
 #[derive(Clone, Copy, Debug, PartialEq, Eq)]
@@ -38,38 +41,45 @@ impl Noted {
         }
     }
 
-    /// The setter's half of a pair that was loaded.
-    pub(crate) fn heard_setter(&self) -> Option<u32>
-        ensures { result ≡ spec.heard_setter self.now }
+    /// The finder's half of a pair that was loaded, where there is none 0.
+    fn finder_heard(&self) -> u32
+        ensures { result ≡ spec.finder_heard self.now.step self.now.answer }
     {
         match (self.step, self.answer) {
-            (Step::PairLoad(_), Answer::Halves(setter, _)) => Some(setter),
-            _ => None,
+            (Step::PairLoad(_), Answer::Halves(_, finder)) => finder,
+            _ => 0,
         }
     }
 
-    /// The finder's half of a pair that was loaded.
-    pub(crate) fn heard_finder(&self) -> Option<u32>
-        ensures { result ≡ spec.heard_finder self.now }
+    /// What became of a watchpoint on which a verdict falls by this step.
+    pub(crate) fn became(&self) -> Option<ArmOutcome>
+        ensures { result ≡ spec.became self.now }
     {
-        match (self.step, self.answer) {
-            (Step::PairLoad(_), Answer::Halves(_, finder)) => Some(finder),
-            _ => None,
-        }
+        let result = match self.outcome? {
+            Outcome::Quiet => return Some(ArmOutcome::Quiet),
+            Outcome::Unknown { .. } => return Some(ArmOutcome::Origin),
+            Outcome::Report { .. } => HitResult::Report,
+            Outcome::Dropped(Reason::Encoding) => HitResult::Encoding,
+            Outcome::Dropped(Reason::SameValue) => HitResult::Same,
+            Outcome::Dropped(Reason::MaskedBits) => HitResult::Masked,
+            _ => return None,
+        };
+        Some(ArmOutcome::Hit {
+            finder: self.finder_heard(),
+            result,
+        })
     }
 
-    /// What came of a watchpoint.
-    pub(crate) fn settled(&self) -> Option<Outcome>
-        ensures { result ≡ spec.settled self.now }
+    /// The setter that was told, where this step tells it, else 0.
+    pub(crate) fn setter_told(&self) -> u32
+        ensures { result ≡ setter_told self.now.outcome }
     {
         match self.outcome {
-            Some(
-                Outcome::Quiet
-                | Outcome::Unknown { .. }
-                | Outcome::Report { .. }
-                | Outcome::Dropped(_),
-            ) => self.outcome,
-            _ => None,
+            Some(Outcome::Told { pair }) => {
+                let (setter, _finder) = pair.halves();
+                setter
+            }
+            _ => 0,
         }
     }
 }

@@ -27,10 +27,10 @@ returns-clause-keeps c = λ accesses watches own keeps.
           (keeps.arms before) few keeps.room_for_arms in
           c.over.ensures.arms own keeps.latest room ∙ ap (arms_at noted.step own) (keeps.arms before);
       takes = λ few.
-          let before : length (takes_of own) ≤ watches = omega (arith, takes_grow noted.step own (takes_of own), few) in
-          let room = room_to_tell noted.step own (record c.args.self.now { touches = c.note.new.touches }) (takes_of own) watches
+          let before : length (takes_of own) ≤ watches = omega (arith, takes_grow noted.step noted.outcome (takes_of own), few) in
+          let room = room_to_tell noted.step noted.outcome (record c.args.self.now { touches = c.note.new.touches }) (takes_of own) watches
           (keeps.takes before) few keeps.room_for_takes in
-          c.over.ensures.takes own keeps.latest room ∙ ap (takes_at noted.step own) (keeps.takes before);
+          c.over.ensures.takes room ∙ ap (takes_at noted.step noted.outcome) (keeps.takes before);
       latest = c.note-2.ensures own
           (subst (IsLatest own) (sym (ap (λ (log : TaskLog). log.latest) kept)) keeps.latest);
       counts = c.note-3.ensures own
