@@ -1,0 +1,5 @@
+pub mod Going
+pub mod Points
+pub mod Afters
+pub mod Machines
+pub mod Ended
