@@ -1,0 +1,2 @@
+pub mod Races
+pub mod Headline

@@ -1,0 +1,35 @@
+//! The headline.
+
+ghost use Rattle.std.specs.Prelude.{List};
+ghost use Rattle.run_headline.specs.Headline.{Headline};
+ghost use Rattle.run_lists.specs.Run.{Run};
+ghost use Rattle.run_lists.specs.RunList.{RunList};
+ghost use Rattle.slot_table.specs.declared.records.Record.{Record};
+
+use run_histories::laws::{
+    reports_are_true, run_lists_tell_runs_of_the_program,
+    takings_of_ended_accesses_have_one_answer, unknown_origins_changed,
+};
+use run_lists::laws::{reports_name_two_sides, roles_of_run_lists};
+use run_totals::laws::totals_agree;
+use run_verdicts::laws::{
+    answers_are_on_a_watch_and_a_find, watchpoints_are_of_accesses_in_progress,
+};
+
+/// Law: for every litmus program, setting and list of steps, each armed watchpoint is taken at most once, each taking
+/// whose two accesses ended gave one report or one named discard, and every report of two sides names, as its finder
+/// does, a true race: different tasks, shared bytes, in progress at one moment, conflicting, not both marked. One of
+/// unknown origin names bytes that changed under its watch.
+pub fn the_headline_holds()
+    ensures { (run : Run) (records : List Record) → (list : RunList run records) → Headline list }
+{
+    run_lists_tell_runs_of_the_program();
+    roles_of_run_lists();
+    takings_of_ended_accesses_have_one_answer();
+    watchpoints_are_of_accesses_in_progress();
+    answers_are_on_a_watch_and_a_find();
+    reports_name_two_sides();
+    unknown_origins_changed();
+    reports_are_true();
+    totals_agree();
+}
