@@ -1,5 +1,6 @@
 -- What comes of checks is of accesses that have begun, and a verdict of one that is watched.
-use Rattle.std.proofs.Common.{◌≡◌, ◌∙◌, ◌∷◌, ◌++◌, ◌||◌, [], ℕ, Bool, true, false, IsTrue, List, Option, None, Some, MatchBool, MatchOption, ap, append-nil, append_assoc, drop, inl, inr, refl, replicate, subst, suc, sym, zero}
+use Rattle.std.proofs.Common.{◌+◌, ◌≡◌, ◌∙◌, ◌∷◌, ◌++◌, ◌||◌, [], ◌<◌, ℕ, Bool, true, false, IsTrue, List, Option, None, Some, MatchBool, MatchOption, ap, append-nil, append_assoc, arith, count_by, drop, if◌then◌else◌, inl, inr, refl, replicate, subst, suc, sym, zero}
+use Rattle.std.proofs.lemmas.List.Sums.{sum_by-cons}
 use Rattle.access_types.specs.Access as access
 use Rattle.access_types.specs.Marked.{CountsAfter}
 use Rattle.access_types.specs.Ticket.{ticket_number}
@@ -11,7 +12,8 @@ use Rattle.litmus_syntax.specs.Tree.{Block}
 use Rattle.memory_operation.specs.Effects.{moments_of, read_moments, write_moments}
 use Rattle.memory_operation.specs.declared.effect.Effect.{Effect}
 use Rattle.memory_operation.specs.declared.operation.Operation.{Operation}
-use Rattle.run_lists.proofs.Intervals.{Has, has_either, has_first, has_last}
+use Rattle.run_lists.proofs.Intervals as ends
+use Rattle.run_lists.proofs.Intervals.{Has, NoneEnds, has_either, has_first, has_last}
 use Rattle.run_lists.proofs.TaskFacts.{IsKnown}
 use Rattle.run_verdicts.specs.Watches.{is_verdict}
 use Rattle.setup_access.specs.Check as cases
@@ -28,6 +30,8 @@ use Rattle.slot.specs.Pair.{Halves}
 use Rattle.slot_table.specs.declared.records.Record.{Record}
 use Rattle.slot_table.specs.declared.step.Step.TheVariants.{Tell}
 use Rattle.watch_word.specs.Word.{Encodable}
+use Rattle.watched_accesses.specs.Stamps.{is_end}
+use Rattle.written_tellings.specs.Begins.{is_begin}
 use Rattle.written_order.specs.Access.{Makes}
 use Rattle.written_order.specs.Standing.{BeginsNow, Setting, Standing, checks_of, coming, counting, doing, moments, registered}
 use Rattle.written_order.specs.WrittenOrder.{ClosesScope, OpensScope, SpellsAll, at_first}
@@ -111,6 +115,50 @@ closed_access a inside closed = λ b h. elim h [
     ]
   ]
 ]
+
+-- as many end as begin
+pub counted : (p : Happening → Bool) (x : Happening) (did : List Happening) → count_by p (x ∷ did) ≡ (if p x then 1 else 0) + count_by p did
+counted p x did = sum_by-cons (λ (y : Happening). if p y then 1 else 0) x did
+
+pub count_both : (p : Happening → Bool) (first second : List Happening) → count_by p (first ++ second) ≡ count_by p first + count_by p second
+count_both p [] second = omega arith
+count_both p (x ∷ first) second = omega (arith, counted p x (first ++ second), counted p x first, count_both p first second)
+
+even_both : (first second : List Happening) → count_by is_end first ≡ count_by is_begin first → count_by is_end second ≡ count_by is_begin second
+    → count_by is_end (first ++ second) ≡ count_by is_begin (first ++ second)
+even_both first second p q = omega (arith, count_both is_end first second, count_both is_begin first second, p, q)
+
+no_begins : (did : List Happening) → NoneBegin did → NoneEnds did → (count_by is_end did ≡ 0) × (count_by is_begin did ≡ 0)
+no_begins [] b e = (refl, refl)
+no_begins (happenings.Begin a ∷ did) b e = absurd b.0
+no_begins (happenings.End a ∷ did) b e = absurd e.0
+no_begins (happenings.Read bytes value ∷ did) b e = let more = no_begins did b.1 e.1 in
+    (counted is_end (happenings.Read bytes value) did ∙ omega (arith, more.0), counted is_begin (happenings.Read bytes value) did ∙ omega (arith, more.1))
+no_begins (happenings.Write bytes value ∷ did) b e = let more = no_begins did b.1 e.1 in
+    (counted is_end (happenings.Write bytes value) did ∙ omega (arith, more.0), counted is_begin (happenings.Write bytes value) did ∙ omega (arith, more.1))
+no_begins (happenings.Lock lock ∷ did) b e = let more = no_begins did b.1 e.1 in
+    (counted is_end (happenings.Lock lock) did ∙ omega (arith, more.0), counted is_begin (happenings.Lock lock) did ∙ omega (arith, more.1))
+no_begins (happenings.Unlock lock ∷ did) b e = let more = no_begins did b.1 e.1 in
+    (counted is_end (happenings.Unlock lock) did ∙ omega (arith, more.0), counted is_begin (happenings.Unlock lock) did ∙ omega (arith, more.1))
+no_begins (happenings.Mark m ∷ did) b e = let more = no_begins did b.1 e.1 in
+    (counted is_end (happenings.Mark m) did ∙ omega (arith, more.0), counted is_begin (happenings.Mark m) did ∙ omega (arith, more.1))
+
+even_none : (did : List Happening) → NoneBegin did → NoneEnds did → count_by is_end did ≡ count_by is_begin did
+even_none did b e = let none = no_begins did b e in none.0 ∙ sym none.1
+
+even_access : (a : access.Access) (inside : List Happening) → count_by is_end inside ≡ count_by is_begin inside
+    → count_by is_end (happenings.Begin a ∷ (inside ++ happenings.End a ∷ [])) ≡ count_by is_begin (happenings.Begin a ∷ (inside ++ happenings.End a ∷ []))
+even_access a inside even =
+    omega (
+      arith,
+      counted is_end (happenings.Begin a) (inside ++ happenings.End a ∷ []),
+      counted is_begin (happenings.Begin a) (inside ++ happenings.End a ∷ []),
+      count_both is_end inside (happenings.End a ∷ []),
+      count_both is_begin inside (happenings.End a ∷ []),
+      counted is_end (happenings.End a) [],
+      counted is_begin (happenings.End a) [],
+      even,
+    )
 
 -- a task that does all this in its text
 module _ (s : Setting) (end : Standing) where
@@ -250,10 +298,41 @@ module _ (s : Setting) (end : Standing) where
             (record { outcomes = now.2; asked = passes.asked }) rest now.4,
       ))
 
+  -- an access that begins is one of the task, and has bytes
+  record IsFit (a : access.Access) : Type 0 where
+    own : IsOwn (checks_of s) a
+    has_bytes : 0 < a.size
+
+  abbrev AllFit : List Happening → Type 0
+  AllFit did = (a : access.Access) → Has did (happenings.Begin a) → IsFit a
+
+  fit_both : (first second : List Happening) → AllFit first → AllFit second → AllFit (first ++ second)
+  fit_both first second p q = λ a h. elim (has_either first second (happenings.Begin a) h) [ inl here ↦ p a here | inr there ↦ q a there ]
+
+  fit_none : (did : List Happening) → NoneBegin did → AllFit did
+  fit_none did none = λ a h. absurd (none_begins did a none h)
+
+  fit_access : (a : access.Access) (inside : List Happening) → IsFit a → AllFit inside → AllFit (happenings.Begin a ∷ (inside ++ happenings.End a ∷ []))
+  fit_access a inside fit all = λ b h. elim h [
+    | inl begins ↦ let same : a ≡ b = cc in subst IsFit same fit
+    | inr more ↦ elim (has_either inside (happenings.End a ∷ []) (happenings.Begin b) more) [
+      | inl within ↦ all b within
+      | inr last ↦ elim last [
+        | inl is ↦ absurd (subst (λ (x : Happening). IsNoBegin x) is tt)
+        | inr none ↦ absurd none
+      ]
+    ]
+  ]
+
+  fit_now : (before : Standing) (a : access.Access) (begun : Begun) → BeginsNow s before a begun → IsFit a
+  fit_now before a begun now = record { own = now.own; has_bytes = subst (λ (b : access.Access). 0 < b.size) now.access begun.has_bytes }
+
   -- a part of the text
   record Part (before : Standing) (records : List Record) (after : Standing) (rest : List Record) : Type 0 where
     begins : Begins before.progress.did after.progress.did
     closed : IsClosed begins.0
+    even : count_by is_end begins.0 ≡ count_by is_begin begins.0
+    fit : AllFit begins.0
     scopes : after.scopes ≡ before.scopes
     new : List Fallen
     outcomes : after.outcomes ≡ before.outcomes ++ new
@@ -261,10 +340,12 @@ module _ (s : Setting) (end : Standing) where
 
   -- one without a check
   plainly : (before after : Standing) (records rest : List Record) (did : List Happening) → after.progress.did ≡ before.progress.did ++ did
-      → NoneBegin did → after.scopes ≡ before.scopes → after.outcomes ≡ before.outcomes → Part before records after rest
-  plainly before after records rest did is none scopes same = record {
+      → NoneBegin did → NoneEnds did → after.scopes ≡ before.scopes → after.outcomes ≡ before.outcomes → Part before records after rest
+  plainly before after records rest did is none no_ends scopes same = record {
     begins = (did, is);
     closed = closed_none did none;
+    even = even_none did none no_ends;
+    fit = fit_none did none;
     scopes = scopes;
     new = [];
     outcomes = same ∙ sym (append-nil before.outcomes);
@@ -283,6 +364,8 @@ module _ (s : Setting) (end : Standing) where
       record {
         begins = (access_does a effect, did);
         closed = closed_access a (moments_of a effect) (closed_none (moments_of a effect) (none_of_effect a effect));
+        even = even_access a (moments_of a effect) (even_none (moments_of a effect) (none_of_effect a effect) (ends.none_of_effect a effect));
+        fit = fit_access a (moments_of a effect) (fit_now before a h.begun h.begins) (fit_none (moments_of a effect) (none_of_effect a effect));
         scopes = ap (λ (st : Standing). st.scopes) h.comes_to ∙ operated_scopes a operation began h.checked effect h.done;
         new = h.passes.outcomes;
         outcomes = ap (λ (st : Standing). st.outcomes) h.comes_to;
@@ -314,6 +397,8 @@ module _ (s : Setting) (end : Standing) where
       record {
         begins = (does_all, did);
         closed = closed_access a inner.begins.0 inner.closed;
+        even = even_access a inner.begins.0 inner.even;
+        fit = fit_access a inner.begins.0 (fit_now before a begun opens.begins) inner.fit;
         scopes = ap (λ (st : Standing). st.scopes) closes.comes_to;
         new = (opens.passes.outcomes ++ inner.new) ++ closes.passes.outcomes;
         outcomes = last_out ∙ (ap (λ (o : List Fallen). o ++ closes.passes.outcomes)
@@ -336,13 +421,15 @@ module _ (s : Setting) (end : Standing) where
 
   kept_parts : Kept s Part
   kept_parts = record {
-    still = λ before records. plainly before before records records [] (sym (append-nil before.progress.did)) tt refl refl;
+    still = λ before records. plainly before before records records [] (sym (append-nil before.progress.did)) tt tt refl refl;
     joins = λ before between after records later rest p q. record {
       begins = (
         p.begins.0 ++ q.begins.0,
         q.begins.1 ∙ (ap (λ (d : List Happening). d ++ q.begins.0) p.begins.1 ∙ append_assoc before.progress.did p.begins.0 q.begins.0),
       );
       closed = closed_both p.begins.0 q.begins.0 p.closed q.closed;
+      even = even_both p.begins.0 q.begins.0 p.even q.even;
+      fit = fit_both p.begins.0 q.begins.0 p.fit q.fit;
       scopes = q.scopes ∙ p.scopes;
       new = p.new ++ q.new;
       outcomes = q.outcomes ∙ (ap (λ (o : List Fallen). o ++ q.new) p.outcomes ∙ append_assoc before.outcomes p.new q.new);
@@ -354,17 +441,17 @@ module _ (s : Setting) (end : Standing) where
         let counted : Standing = counting ends_nothing before in
         let marks : List Happening = replicate count (happenings.Mark m) in
         plainly before (doing counted records marks) records records marks
-        (ap (λ (p : meaning.Progress). p.did ++ marks) (counting_progress ends_nothing before)) (none_of_marks count m)
+        (ap (λ (p : meaning.Progress). p.did ++ marks) (counting_progress ends_nothing before)) (none_of_marks count m) (ends.none_of_marks count m)
         (counting_scopes ends_nothing before) (counting_outcomes ends_nothing before);
     lost = λ before records.
-        plainly before (coming (counting true before) records before.progress) records records [] (sym (append-nil before.progress.did)) tt refl refl;
+        plainly before (coming (counting true before) records before.progress) records records [] (sym (append-nil before.progress.did)) tt tt refl refl;
     assigned = λ before records register value.
-        plainly before (registered before records register value) records records [] (sym (append-nil before.progress.did)) tt refl refl;
+        plainly before (registered before records register value) records records [] (sym (append-nil before.progress.did)) tt tt refl refl;
     makes = makes_part;
     locks = λ lock before records rest is takes.
-        plainly before (doing before rest (happenings.Lock lock ∷ [])) records rest (happenings.Lock lock ∷ []) refl (tt, tt) refl refl;
+        plainly before (doing before rest (happenings.Lock lock ∷ [])) records rest (happenings.Lock lock ∷ []) refl (tt, tt) (tt, tt) refl refl;
     unlocks = λ lock before records rest has stores.
-        plainly before (doing before rest (happenings.Unlock lock ∷ [])) records rest (happenings.Unlock lock ∷ []) refl (tt, tt) refl refl;
+        plainly before (doing before rest (happenings.Unlock lock ∷ [])) records rest (happenings.Unlock lock ∷ []) refl (tt, tt) (tt, tt) refl refl;
     scoped = scoped_part;
   }
 
@@ -381,3 +468,17 @@ pub all_closed : (s : Setting) (registers : ℕ) (body : Block) (records : List 
 all_closed s registers body records whole =
     let part = by_block s (Part s whole.end) (kept_parts s whole.end) 0 body (at_first registers) records whole.end [] whole.steps in
     subst IsClosed (sym part.begins.1) part.closed
+
+-- each access that it begins is one of its own, and as many end as begin
+pub all_fit : (s : Setting) (registers : ℕ) (body : Block) (records : List Record) (whole : SpellsAll s registers body records)
+    → (a : access.Access) → Has whole.end.progress.did (happenings.Begin a) → IsOwn (checks_of s) a × (0 < a.size)
+all_fit s registers body records whole a has =
+    let part = by_block s (Part s whole.end) (kept_parts s whole.end) 0 body (at_first registers) records whole.end [] whole.steps in
+    let it = part.fit a (subst (λ (d : List Happening). Has d (happenings.Begin a)) part.begins.1 has) in
+    (it.own, it.has_bytes)
+
+pub all_even : (s : Setting) (registers : ℕ) (body : Block) (records : List Record) (whole : SpellsAll s registers body records)
+    → count_by is_end whole.end.progress.did ≡ count_by is_begin whole.end.progress.did
+all_even s registers body records whole =
+    let part = by_block s (Part s whole.end) (kept_parts s whole.end) 0 body (at_first registers) records whole.end [] whole.steps in
+    subst (λ (d : List Happening). count_by is_end d ≡ count_by is_begin d) (sym part.begins.1) part.even

@@ -21,7 +21,7 @@ use Rattle.run_lists.specs.Run.{IsOfProgram, Run, idle, task_of, task_setting}
 use Rattle.run_lists.specs.RunList.{AllHaveEnded, RunList}
 use Rattle.run_lists.specs.Told.{Armed, OutcomeAt, armed_by, came_next, history_of, made_by, moments_of, outcome_at, outcomes_by, outcomes_of}
 use Rattle.run_lists.proofs.Histories.{did_of_all, has_own, of_both, of_task, own_has}
-use Rattle.run_lists.proofs.Intervals.{Has, contains_has, has_contains}
+use Rattle.run_lists.proofs.Intervals.{Has, contains_has, has_contains, has_first}
 use Rattle.run_lists.proofs.OwnMarks.{begins_once, counts_own, marks_same}
 use Rattle.run_lists.proofs.TaskFacts.{IsKnown}
 use Rattle.run_lists.proofs.Ways.{last_of, whole_chain}
@@ -35,8 +35,9 @@ use Rattle.written_order.specs.Told.{did_by, to_come}
 use Rattle.written_order.specs.WrittenOrder.{SpellsAll, first_point}
 use Rattle.written_order.proofs.MeaningLemmas.{whole_means}
 use Rattle.written_order.proofs.WayLemmas.{Begins}
-use Rattle.watched_accesses.specs.Watched.{IfTold, IfWatched}
-use Rattle.watched_accesses.proofs.Checked.{Each, FallsSo, all_closed, all_fall}
+use Rattle.run_verdicts.proofs.Opens.{has_split}
+use Rattle.watched_accesses.specs.Watched.{FitsItsTask, IfTold, IfWatched}
+use Rattle.watched_accesses.proofs.Checked.{Each, FallsSo, all_closed, all_fall, all_fit}
 
 there : (before later : List Happening) (x : Happening) → slice_get (before ++ x ∷ later) (length before) ≡ Some x
 there [] later x = refl
@@ -64,7 +65,7 @@ those keep at arming P Q (f ∷ outs) falls each = by (keep f) refl (those keep 
     by false e more = rw e more
 
 -- at the end of a way stands its last point
-at_last : (last : Point) (points : List Point) → point_by 0 last points ≡ last_of last points
+pub at_last : (last : Point) (points : List Point) → point_by 0 last points ≡ last_of last points
 at_last last [] = refl
 at_last last (point ∷ points) = rw (le-leb 0 point.to_come (omega arith)) (at_last point points)
 
@@ -211,3 +212,29 @@ module _ (run : Run) (records : List Record) (list : RunList run records) where
         let closed = all_closed (task_setting run t) (length (task_of run t).registers) (task_of run t).body (whole t) (list.tasks t).whole in
         has_contains (history_of list) (ending a)
         (own_has t (history_of list) (happenings.End a) (subst (λ (d : List Happening). Has d (happenings.End a)) (sym own) (closed a has)))
+
+-- an access that has begun is in the limits, and has bytes
+pub begun_fits : (run : Run) (records : List Record) (list : RunList run records) → All (λ (moment : Moment). moment.task < length run.program.tasks) (history_of list)
+    → (a : access.Access) → Contains (history_of list) (beginning a) → FitsItsTask run a
+begun_fits run records list below a begins =
+    let t : ℕ = a.task in
+    let few : t < length run.program.tasks = All-contains (λ (moment : Moment). moment.task < length run.program.tasks) (history_of list) (beginning a) below begins in
+    let written = list.tasks t in
+    let own : happenings_of t (history_of list) ≡ did_by written (made_by t records) = of_task run records list t few records in
+    let front = did_of_all written (made_by t records) in
+    let by_then : Has (did_by written (made_by t records)) (happenings.Begin a) =
+    subst (λ (d : List Happening). Has d (happenings.Begin a)) own
+    (has_own t (history_of list) (happenings.Begin a) (contains_has (history_of list) (beginning a) begins)) in
+    let has : Has written.whole.end.progress.did (happenings.Begin a) =
+    subst (λ (d : List Happening). Has d (happenings.Begin a)) (sym front.1) (has_first (did_by written (made_by t records)) front.0 (happenings.Begin a) by_then) in
+    let it = all_fit (task_setting run t) (length (task_of run t).registers) (task_of run t).body (reverse (records_of t records) ++ written.more) written.whole a has in
+    let at = has_split written.whole.end.progress.did (happenings.Begin a) has in
+    let means = whole_means (task_setting run t) (length (task_of run t).registers) (task_of run t).body
+    (reverse (records_of t records) ++ written.more) written.whole in
+    record {
+      below = few;
+      limits = it.0.in_limits;
+      has_bytes = it.1;
+      is_of = of_text (task_setting run t).text (task_of run t).body _ written.whole.end.progress means (length at.0) a
+          (subst (λ (d : List Happening). slice_get d (length at.0) ≡ Some (happenings.Begin a)) (sym at.2) (there at.0 at.1 (happenings.Begin a)));
+    }

@@ -1,8 +1,8 @@
 -- Which accesses set watchpoints up, and which hit them.
-use Rattle.std.specs.Prelude.{◌≡◌, IsTrue, List}
-use Rattle.access_types.specs.Access.{Access}
+use Rattle.std.specs.Prelude.{◌≡◌, ◌<◌, IsTrue, List, length}
+use Rattle.access_types.specs.Access.{Access, IsInLimits}
 use Rattle.access_types.specs.Marked.{CountedAsMarked, Silenced}
-use Rattle.run_lists.specs.Run.{Run}
+use Rattle.run_lists.specs.Run.{IsOfProgram, Run}
 use Rattle.run_lists.specs.RunList.{RunList}
 use Rattle.run_lists.specs.Told.{OutcomeAt, history_of}
 use Rattle.run_verdicts.specs.Watches.{is_verdict}
@@ -25,3 +25,10 @@ IfWatched list came = IsTrue (is_verdict came.outcome) → MayBeWatched list cam
 -- and it isn't silenced if it told the setter of a watchpoint that it had hit
 abbrev pub IfTold : {run : Run} {records : List Record} → RunList run records → OutcomeAt → Type 0
 IfTold list came = (pair : Halves) → came.outcome ≡ outcomes.Told pair → ¬ Silenced (history_of list) came.access
+
+-- the access is one of the text of its task, which the program has; it is within the limits of accesses, and has bytes
+pub record FitsItsTask (run : Run) (a : Access) : Type 0 where
+  pub below : a.task < length run.program.tasks
+  pub limits : IsInLimits a
+  pub has_bytes : 0 < a.size
+  pub is_of : IsOfProgram run a

@@ -1,16 +1,20 @@
 //! What is true of the accesses of each run list that are watched, and of their ends.
 
-ghost use Rattle.std.specs.Prelude.{All, Contains, List};
+ghost use Rattle.std.specs.Prelude.{◌≡◌, ◌<◌, ◌^◌, ◌++◌, ◌∷◌, All, Contains, List};
 ghost use Rattle.access_types.specs.Access.{Access};
 ghost use Rattle.access_types.specs.History.{beginning, ending};
+ghost use Rattle.litmus_syntax.specs.Limits.{KeepsLimits};
 ghost use Rattle.run_lists.specs.Run.{Run};
 ghost use Rattle.run_lists.specs.RunList.{AllHaveEnded, RunList};
 ghost use Rattle.run_lists.specs.Told.{history_of, outcomes_of};
 ghost use Rattle.slot_table.specs.declared.records.Record.{Record};
-ghost use Rattle.watched_accesses.specs.Watched.{IfTold, IfWatched};
+ghost use Rattle.watched_accesses.specs.Stamps.{stamps_in};
+ghost use Rattle.watched_accesses.specs.Watched.{FitsItsTask, IfTold, IfWatched};
 
 use run_histories::laws::run_lists_tell_runs_of_the_program;
-use written_tellings::one_telling;
+use run_verdicts::laws::records_tell_their_events;
+use slot_table::step::{Answer, Step};
+use written_tellings::{few_accesses_begin, one_telling};
 
 /// Law: each verdict that a run list tells is on the watchpoint of an access that a word can stand for, which doesn't
 /// count as marked and isn't silenced. Nor is an access silenced that hits a watchpoint and tells its setter.
@@ -26,4 +30,25 @@ pub fn accesses_of_ended_tasks_have_ended()
 {
     one_telling();
     run_lists_tell_runs_of_the_program();
+}
+
+/// Law: each access that begins in the history of a run list is one of the text of its task, within the limits of
+/// accesses, and has bytes.
+pub fn accesses_that_begin_fit()
+    ensures { (run : Run) (records : List Record) → (list : RunList run records)
+        → (a : Access) → Contains (history_of list) (beginning a) → FitsItsTask run a }
+{
+    run_lists_tell_runs_of_the_program();
+}
+
+/// Law: the clock answers how many of its steps come before, and in a list of a program within the limits it has
+/// fewer than 2^64. So stamps rise with the list, and no two of them are one.
+pub fn stamps_tell_the_order()
+    ensures answers { (run : Run) (records : List Record) → RunList run records → KeepsLimits run.program
+        → (later earlier : List Record) (latest : Record) → records ≡ later ++ latest ∷ earlier → latest.step ≡ Step.Clock
+        → latest.answer ≡ Answer.Word (stamps_in earlier) }
+    ensures few { (run : Run) (records : List Record) → RunList run records → KeepsLimits run.program → stamps_in records < 2 ^ 64 }
+{
+    few_accesses_begin();
+    records_tell_their_events();
 }
