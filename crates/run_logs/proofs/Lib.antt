@@ -20,3 +20,4 @@ pub mod Once
 pub mod Numbering
 pub mod Settling
 pub mod Verdicts
+pub mod Takings

@@ -99,7 +99,7 @@ its_setter index task v part other (hears, inr (phase, h)) has =
     }
 
 -- the ends of one list that are as long are one
-same_end : (first later other others : List Record) → first ++ later ≡ other ++ others → length later ≡ length others → later ≡ others
+pub same_end : (first later other others : List Record) → first ++ later ≡ other ++ others → length later ≡ length others → later ≡ others
 same_end [] later [] others is long = is
 same_end [] later (x ∷ other) others is long =
     let all : length later ≡ suc (length other + length others) = ap (λ (r : List Record). length r) is ∙ ap suc (length-append other others) in
@@ -205,13 +205,13 @@ one_verdict : (at : ℕ) (arming : Option Armed) (fallen : Fallen) → is_verdic
     → verdicts_in (outcome_at at arming fallen ∷ []) ≡ outcome_at at arming fallen ∷ []
 one_verdict at arming fallen is = rw is refl
 
-only_one : (here : List Fallen) (outcome : Outcome) → outcomes_in here ≡ outcome ∷ [] → (fallen : Fallen) × (here ≡ fallen ∷ []) × (fallen.outcome ≡ outcome)
+pub only_one : (here : List Fallen) (outcome : Outcome) → outcomes_in here ≡ outcome ∷ [] → (fallen : Fallen) × (here ≡ fallen ∷ []) × (fallen.outcome ≡ outcome)
 only_one [] outcome is = absurd (cc)
 only_one (fallen ∷ []) outcome is = (fallen, refl, cc)
 only_one (fallen ∷ other ∷ here) outcome is = absurd (cc)
 
 -- what is noted of it
-noted_one : (o : Option Outcome) (outcome : Outcome) → option_to_list o ≡ outcome ∷ [] → o ≡ Some outcome
+pub noted_one : (o : Option Outcome) (outcome : Outcome) → option_to_list o ≡ outcome ∷ [] → o ≡ Some outcome
 noted_one None outcome is = absurd (let no : [] ≡ outcome ∷ [] = is in cc)
 noted_one (Some one) outcome is = let heads : one ∷ [] ≡ outcome ∷ [] = is in cc
 
@@ -296,7 +296,7 @@ made_by_others task index maker (steps.Insert at word) (answers.Flag true) n bef
 made_by_others task index maker step answer n before others = refl
 
 -- what falls at a record of a task is of the task
-fell_own : (run : Run) (all : List Record) (list : RunList run all) (task made : ℕ) → AllOfTask task (fell_next (list.tasks task) made)
+pub fell_own : (run : Run) (all : List Record) (list : RunList run all) (task made : ℕ) → AllOfTask task (fell_next (list.tasks task) made)
 fell_own run all list task made =
     left_of task (to_come (list.tasks task) (made + 1)) (list.tasks task).whole.end.outcomes
     (whole_own (task_setting run task) (length (task_of run task).registers) (task_of run task).body

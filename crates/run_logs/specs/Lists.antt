@@ -12,9 +12,9 @@ use Rattle.access_types.specs.declared.arms.HitResult.TheVariants as results
 use Rattle.access_types.specs.declared.history.Happening.TheVariants.{End}
 use Rattle.run_lists.specs.Run.{Run}
 use Rattle.run_lists.specs.RunList.{RunList}
-use Rattle.run_lists.specs.Told.{OutcomeAt, came_next}
+use Rattle.run_lists.specs.Told.{OutcomeAt, came_next, made_by}
 use Rattle.run_logs.specs.Decided.{IsStampedSo}
-use Rattle.run_logs.specs.Spans.{HappensAt, IsSpan}
+use Rattle.run_logs.specs.Spans.{HappensAt, IsSpan, is_end}
 use Rattle.run_verdicts.specs.Watches.{is_verdict}
 use Rattle.setup_access.specs.declared.outcome.Outcome.{Outcome}
 use Rattle.setup_access.specs.declared.outcome.Outcome.TheVariants as outcomes
@@ -24,16 +24,18 @@ use Rattle.slot_table.specs.declared.records.Record.{Record}
 use Rattle.slot_table.specs.declared.step.Step.{Step}
 use Rattle.slot_table.specs.declared.step.Step.TheVariants.{Remove}
 use Rattle.task_log.specs.Noted.{dropped}
+use Rattle.written_order.specs.Told.{did_by}
 
 -- the accesses of a task that have ended: each began and ended in the list at its stamps, and is marked and
--- silenced as the history decides; each end in the list is that of one of them; they stand in the order of
--- their begins
+-- silenced as the history decides; each end in the list is that of one of them, and they are as many as
+-- have ended; they stand in the order of their begins
 pub record AreAccessesOf {run : Run} {records : List Record} (list : RunList run records) (task : ℕ)
     (accesses : List Stamped) : Type 0 where
   pub spans : All (IsSpan list task) accesses
   pub decided : All (IsStampedSo list) accesses
   pub all : (a : Access) (end : ℕ) → HappensAt list task (End a) end
       → (one : Stamped) × Contains accesses one × (one.access ≡ a) × (one.end ≡ end)
+  pub many : length accesses ≡ count_by is_end (did_by (list.tasks task) (made_by task records))
   pub ordered : AllPairs (λ one later. one.begin < later.begin) accesses
 
 -- the verdicts on watchpoints that fell at these records of a task, in this order

@@ -1,11 +1,12 @@
 -- How often each thing comes of the checks in a run list.
-use Rattle.std.specs.Prelude.{◌≡◌, ◌++◌, ℕ, List, [], ◌∷◌, Some, count_by, filter, nat_lt, if◌then◌else◌}
+use Rattle.std.specs.Prelude.{◌≡◌, ◌++◌, ℕ, zero, suc, length, List, [], ◌∷◌, Some, count_by, filter, nat_lt, if◌then◌else◌}
 use Rattle.run_lists.specs.Run.{Run}
 use Rattle.run_lists.specs.RunList.{RunList}
 use Rattle.run_lists.specs.Told.{OutcomeAt, came_next, outcomes_of}
 use Rattle.slot_table.specs.declared.records.Record.{Record}
 use Rattle.task_log.specs.Counters.{is_arming, is_capacity, is_encoding, is_lost, is_masked, is_quiet, is_same, is_taken, is_two_sided, is_unencodable, is_unknown, resting, together}
 use Rattle.task_log.specs.declared.counters.Counters.{Counters}
+use Rattle.written_order.specs.WrittenOrder.{stands_after}
 
 -- the outcomes that fell at these records of the tasks below a number
 abbrev pub outcomes_below : {run : Run} {all : List Record} → RunList run all → ℕ → List Record → List OutcomeAt
@@ -51,3 +52,12 @@ pub record AddUp (some one both : Counters) : Type 0 where
   pub masked : both.masked ≡ together some.masked one.masked
   pub capacity : both.capacity ≡ together some.capacity one.capacity
   pub unencodable : both.unencodable ≡ together some.unencodable one.unencodable
+
+-- how many calls of the tasks below a number had nothing to end; the sum rests at the largest number of 64 bits
+abbrev pub unbalanced_below : {run : Run} {all : List Record} → RunList run all → ℕ → ℕ
+unbalanced_below list zero = 0
+unbalanced_below list (suc task) = together (unbalanced_below list task) (stands_after (list.tasks task)).unbalanced
+
+-- the count is of the calls of all its tasks that had nothing to end
+abbrev pub IsUnbalanced : {run : Run} {all : List Record} → RunList run all → ℕ → Type 0
+IsUnbalanced {run = run} list count = count ≡ unbalanced_below list (length run.program.tasks)

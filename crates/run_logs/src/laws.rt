@@ -10,7 +10,7 @@ ghost use Rattle.run_lists.specs.Run.{Run, task_of, task_setting};
 ghost use Rattle.run_lists.specs.RunList.{RunList};
 ghost use Rattle.run_lists.specs.Told.{made_by};
 ghost use Rattle.run_logs.specs.Decided.{IsStampedSo};
-ghost use Rattle.run_logs.specs.Lists.{AreArmsOf};
+ghost use Rattle.run_logs.specs.Lists.{AreArmsOf, AreTakesOf};
 ghost use Rattle.run_logs.specs.Noted.{AreNoted, IsNoted, Notes};
 ghost use Rattle.run_logs.specs.Removed.{as_removed, as_told, removed_by, told_by};
 ghost use Rattle.run_logs.specs.Spans.{IsSpan, is_end};
@@ -33,9 +33,10 @@ ghost use Rattle.written_order.specs.Standing.{Setting};
 ghost use Rattle.written_order.specs.Told.{did_by};
 ghost use Rattle.written_order.specs.WrittenOrder.{WrittenOrder};
 
-use run_lists::laws::run_lists_keep_the_discipline;
+use run_lists::laws::{roles_of_run_lists, run_lists_keep_the_discipline};
 use run_verdicts::laws::{
-    outcomes_fall_where_they_are_settled, records_tell_their_events, verdicts_are_on_watches,
+    outcomes_fall_where_they_are_settled, records_tell_their_events, tellings_are_on_finds,
+    verdicts_are_on_watches,
 };
 use written_tellings::{few_accesses_begin, one_telling};
 
@@ -137,6 +138,16 @@ pub fn a_log_keeps_the_takings_that_are_over()
     ensures { (run : Run) (records : List Record) (list : RunList run records) (task : ℕ) (noted : List Noted)
         → Notes list task noted → map as_told (takes_of noted) ≡ told_by task records }
 {}
+
+/// Law: the takings that a log of a task keeps are just those over which the task has told, each with its index, the ticket
+/// that it told and that of the setter which it had heard.
+pub fn a_log_keeps_just_the_takes()
+    ensures { (run : Run) (records : List Record) (list : RunList run records) (task : ℕ) (noted : List Noted)
+        → Notes list task noted → AreTakesOf list task (takes_of noted) }
+{
+    roles_of_run_lists();
+    tellings_are_on_finds();
+}
 
 /// Law: a run list notes one list of each task, and no other.
 pub fn one_list_is_noted()

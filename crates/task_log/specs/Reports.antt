@@ -1,5 +1,6 @@
 -- What is reported at a step.
-use Rattle.std.specs.Prelude.{List, Option, None, Some}
+use Rattle.std.specs.Prelude.{List, [], ◌∷◌, ◌++◌, Option, None, Some}
+use Rattle.std.specs.Option.{option_to_list}
 use Rattle.access_types.specs.declared.report.Report.{Report}
 use Rattle.access_types.specs.declared.report.Report.TheVariants as reports
 use Rattle.setup_access.specs.declared.outcome.Outcome.{Outcome}
@@ -14,3 +15,8 @@ reported (Some (outcomes.Report pair seen)) earlier = Some (reports.Two pair.set
 reported (Some (outcomes.Unknown old new)) earlier =
     Some (reports.Unknown (setter_named earlier) old new)
 reported outcome earlier = None
+
+-- what is reported at a task's steps, the latest first, in the order of the steps
+abbrev pub reported_in : List Noted → List Report
+reported_in [] = []
+reported_in (latest ∷ earlier) = reported_in earlier ++ option_to_list (reported latest.outcome earlier)
