@@ -1,5 +1,5 @@
 -- Each end of an access in a list is that of an access that its task's log keeps.
-use Rattle.std.proofs.Common.{◌≡◌, ◌∙◌, ◌⊎◌, ◌==◌, ◌<◌, ◌+◌, ◌++◌, ◌∷◌, [], inl, inr, ℕ, zero, suc, Bool, true, false, Contains, List, None, Option, Some, ap, append_assoc, arith, length, refl, subst, sym}
+use Rattle.std.proofs.Common.{◌≡◌, ◌∙◌, ◌⊎◌, ◌==◌, ◌<◌, ◌+◌, ◌++◌, ◌∷◌, if◌then◌else◌, [], inl, inr, ℕ, zero, suc, Bool, true, false, Contains, List, None, Option, Some, ap, append_assoc, arith, length, refl, subst, sym}
 use Rattle.std.specs.List.{cons_option, filter_map, list_any}
 use Rattle.std.specs.Prelude.{is_none}
 use Rattle.std.proofs.lemmas.Bool.Decides.{eqb_tells}
@@ -62,13 +62,19 @@ still_there : (stamp : ℕ) (touches : List Touch) (touch : Touch) (end : ℕ) �
 still_there stamp [] touch end there is = let none : there.0 < 0 = there.1 in absurd (omega (arith, none))
 still_there stamp (one ∷ newer) touch end there is = by_newer (list_any goes_on newer) refl (stands one touch newer there) (λ later. still_there stamp newer touch end later is)
   where
+    last_one : (b : Bool) → goes_on one ≡ b → list_any goes_on newer ≡ false → Contains ((if b then record one { end = Some stamp } else one) ∷ newer) touch
+        → Contains (end_newest stamp (one ∷ newer)) touch
+    last_one b goes none there_so =
+        subst (λ (c : Bool). Contains (if c then one ∷ end_newest stamp newer else (if goes_on one then record one { end = Some stamp } else one) ∷ newer) touch)
+        (sym none) (subst (λ (c : Bool). Contains ((if c then record one { end = Some stamp } else one) ∷ newer) touch) (sym goes) there_so)
+
     by_one : (b : Bool) → goes_on one ≡ b → list_any goes_on newer ≡ false → Stands one touch newer → Contains (end_newest stamp (one ∷ newer)) touch
     by_one true goes none (at_front same) =
         absurd (let over : goes_on touch ≡ false = ended_going touch.end end is in
         let both : true ≡ false = sym goes ∙ (ap goes_on same ∙ over) in cc)
-    by_one true goes none (later_on later) = rw (none, goes) (behind (record one { end = Some stamp }) touch newer later)
-    by_one false goes none (at_front same) = rw (none, goes) (subst (λ (t : Touch). Contains (one ∷ newer) t) same (first_of one newer))
-    by_one false goes none (later_on later) = rw (none, goes) (behind one touch newer later)
+    by_one true goes none (later_on later) = last_one true goes none (behind (record one { end = Some stamp }) touch newer later)
+    by_one false goes none (at_front same) = last_one false goes none (subst (λ (t : Touch). Contains (one ∷ newer) t) same (first_of one newer))
+    by_one false goes none (later_on later) = last_one false goes none (behind one touch newer later)
 
     by_newer : (b : Bool) → list_any goes_on newer ≡ b → Stands one touch newer → (Contains newer touch → Contains (end_newest stamp newer) touch)
         → Contains (end_newest stamp (one ∷ newer)) touch
@@ -152,8 +158,8 @@ module _ (run : Run) (records : List Record) (list : RunList run records) (task 
         absurd (let none : begun_in next ≡ [] = ap begun_in did ∙ none_begun event.marks (plain_none event.marks marks_are) in
         let no : [] ≡ begun.access ∷ [] = sym none ∙ begun_so.0 in cc)
     end_one a stamp clock answered did None same begun_so =
-        let runs = (spanning.next_runs run records list task first made kept.goes kept.runs).2 in
-        let on : Runs kept.goes (happenings.End a ∷ event.marks) _ = subst (λ (d : List Happening). Runs kept.goes d _) did runs in
+        let runs = spanning.next_runs run records list task first made kept.goes kept.runs in
+        let on : Runs kept.goes (happenings.End a ∷ event.marks) runs.0 = subst (λ (d : List Happening). Runs kept.goes d runs.0) did runs.2 in
         ends a on.0 stamp event.marks answered did (kept.holds ∙ on.1)
         (at_clock stamp clock answered ∙ ap (λ (b : Option Begun). touches_at steps.Clock (answers.Word stamp) b before) same)
 
@@ -197,12 +203,15 @@ module _ (run : Run) (records : List Record) (list : RunList run records) (task 
         let one : b ≡ a = same_end b a others marks (sym does ∙ did) in
         let stamps : now ≡ stamp = same_stamp now stamp (sym at_now ∙ answered) in
         subst (λ (l : List Touch). IsKept l a stamp) (sym same)
-        (subst (λ (n : ℕ). IsKept (end_newest n before) a n) stamps (subst (λ (x : Access). IsKept (end_newest now before) x now) one (ends_now now before b older open_so)))
+        (subst (λ (n : ℕ). IsKept (end_newest now before) a n) stamps (subst (λ (x : Access). IsKept (end_newest now before) x now) one (ends_now now before b older open_so)))
+
+  none_split : (l : List Record) (latest : Record) (e : List Record) → [] ≡ l ++ latest ∷ e → ⊥
+  none_split [] latest e at = let no : [] ≡ latest ∷ e = at in cc
+  none_split (x ∷ l) latest e at = let no : [] ≡ x ∷ (l ++ latest ∷ e) = at in cc
 
   all_ends : (later earlier : List Record) → records ≡ later ++ earlier → EachDoesItsEvent list earlier → (noted : List Noted)
       → AreNoted (list.tasks task) (records_of task earlier) noted → EndsKept earlier (touches_of noted)
-  all_ends later [] is events noted are [] latest e a stamp marks at mine answered did = absurd (let no : [] ≡ latest ∷ e = at in cc)
-  all_ends later [] is events noted are (x ∷ l) latest e a stamp marks at mine answered did = absurd (let no : [] ≡ x ∷ (l ++ latest ∷ e) = at in cc)
+  all_ends later [] is events noted are = λ l latest e a stamp marks at mine answered did. absurd (none_split l latest e at)
   all_ends later (now ∷ earlier) is events noted are =
       let back : records ≡ (later ++ now ∷ []) ++ earlier = is ∙ sym (append_assoc later (now ∷ []) earlier) in
       elim (eqb_tells now.task task) [

@@ -21,3 +21,4 @@ pub mod Numbering
 pub mod Settling
 pub mod Verdicts
 pub mod Takings
+pub mod Ends

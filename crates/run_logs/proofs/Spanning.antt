@@ -38,11 +38,11 @@ use Rattle.written_order.specs.Standing as tasks
 use Rattle.written_order.specs.Told.{did_by, did_next}
 
 -- the accesses that go on, the newest first
-abbrev one_open : Bool → Access → List Access
+abbrev pub one_open : Bool → Access → List Access
 one_open true a = a ∷ []
 one_open false a = []
 
-abbrev open_in : List Touch → List Access
+abbrev pub open_in : List Touch → List Access
 open_in [] = []
 open_in (touch ∷ newer) = open_in newer ++ one_open (goes_on touch) touch.begun.access
 
@@ -87,13 +87,13 @@ end_here : ℕ → Touch → Touch
 end_here stamp touch = record touch { end = Some stamp }
 
 -- how the newest that goes on ends: there is another behind it, or it is this one
-data Newest (stamp : ℕ) (a : Access) (older : List Access) (touch : Touch) (newer : List Touch) : Type 0 where
+pub data Newest (stamp : ℕ) (a : Access) (older : List Access) (touch : Touch) (newer : List Touch) : Type 0 where
   behind : (more : List Access) → open_in newer ≡ a ∷ more → older ≡ more ++ one_open (goes_on touch) touch.begun.access
       → end_newest stamp (touch ∷ newer) ≡ touch ∷ end_newest stamp newer → Newest stamp a older touch newer
   here : touch.begun.access ≡ a → older ≡ [] → open_in newer ≡ [] → goes_on touch ≡ true
       → end_newest stamp (touch ∷ newer) ≡ record touch { end = Some stamp } ∷ newer → Newest stamp a older touch newer
 
-newest : (stamp : ℕ) (a : Access) (older : List Access) (touch : Touch) (newer : List Touch) → open_in (touch ∷ newer) ≡ a ∷ older
+pub newest : (stamp : ℕ) (a : Access) (older : List Access) (touch : Touch) (newer : List Touch) → open_in (touch ∷ newer) ≡ a ∷ older
     → Newest stamp a older touch newer
 newest stamp a older touch newer is = by_newer (list_any goes_on newer) refl
   where
@@ -161,7 +161,7 @@ ended_more stamp (touch ∷ newer) a older is = by_case (newest stamp a older to
         ap (λ (l : List Touch). length (filter_map stamped l)) ends ∙ ap suc (sym before)
 
 -- what a record does, by its step
-data Kind (step : Step) (event : List Happening) : Type 0 where
+pub data Kind (step : Step) (event : List Happening) : Type 0 where
   quiet : (step ≡ steps.Clock → ⊥) → ArePlain event → Kind step event
   begins_one : step ≡ steps.Clock → (a : Access) → event ≡ happenings.Begin a ∷ [] → Kind step event
   ends_one : step ≡ steps.Clock → (a : Access) → event ≡ happenings.End a ∷ [] → Kind step event
@@ -201,7 +201,7 @@ module _ (s : tasks.Setting) (before : List Happening) where
     | inr is ↦ ends_one refl h.0 is
   ]
 
-  kind_of : (step : Step) (answer : Answer) (event : List Happening) → IsEvent s before step answer event → Kind step event
+  pub kind_of : (step : Step) (answer : Answer) (event : List Happening) → IsEvent s before step answer event → Kind step event
   kind_of steps.Clock answer event h = clock_kind answer event h
   kind_of (steps.CellLoad cell) answer event h = quiet (λ is. let no : steps.CellLoad cell ≡ steps.Clock = is in cc) (reads_plain s cell answer event h)
   kind_of (steps.CellExchange cell expected new) answer event h =
@@ -229,7 +229,7 @@ mark_plain (happenings.Write bytes value) is = tt
 mark_plain (happenings.Lock lock) is = tt
 mark_plain (happenings.Unlock lock) is = tt
 
-marks_plain : (did : List Happening) → AreMarks did → ArePlain did
+pub marks_plain : (did : List Happening) → AreMarks did → ArePlain did
 marks_plain [] are = tt
 marks_plain (happening ∷ later) are = (mark_plain happening are.0, marks_plain later are.1)
 
@@ -242,7 +242,7 @@ plain_begins (happenings.Write bytes value) is = refl
 plain_begins (happenings.Lock lock) is = refl
 plain_begins (happenings.Unlock lock) is = refl
 
-plain_none : (did : List Happening) → ArePlain did → NoneBegins did
+pub plain_none : (did : List Happening) → ArePlain did → NoneBegins did
 plain_none [] plain = tt
 plain_none (happening ∷ later) plain = (plain_begins happening plain.0, plain_none later plain.1)
 
@@ -262,7 +262,7 @@ no_ends (happening ∷ later) plain =
     let rest = no_ends later plain.1 in
     let all = counted is_end happening later in omega (arith, head, rest, all)
 
-still : (step : Step) (answer : Answer) (begins : Option Begun) (before : List Touch) → (step ≡ steps.Clock → ⊥) → touches_at step answer begins before ≡ before
+pub still : (step : Step) (answer : Answer) (begins : Option Begun) (before : List Touch) → (step ≡ steps.Clock → ⊥) → touches_at step answer begins before ≡ before
 still steps.Clock answer begins before other = absurd (other refl)
 still (steps.Load index) answer begins before other = refl
 still (steps.Insert index word) answer begins before other = refl
@@ -282,7 +282,7 @@ still (steps.LockStore lock) answer begins before other = refl
 clock_word : (words : Words) → (stamp : ℕ) × ((step_line words steps.Clock).answer ≡ answers.Word stamp)
 clock_word words = (words.clock, refl)
 
-legal_at : (first : Words) (later : List Record) (latest : Record) (earlier : List Record) → Legal first (later ++ latest ∷ earlier) → latest.step ≡ steps.Clock
+pub legal_at : (first : Words) (later : List Record) (latest : Record) (earlier : List Record) → Legal first (later ++ latest ∷ earlier) → latest.step ≡ steps.Clock
     → (stamp : ℕ) × (latest.answer ≡ answers.Word stamp)
 legal_at first [] latest earlier legal is =
     let words : Words = words_after first earlier in
@@ -291,11 +291,11 @@ legal_at first [] latest earlier legal is =
 legal_at first (one ∷ later) latest earlier legal is = legal_at first later latest earlier legal.0 is
 
 module _ (run : Run) (records : List Record) (list : RunList run records) (task : ℕ) (first : AreMarks (did_by (list.tasks task) 0)) where
-  abbrev EndSo : Access → Option ℕ → Type 0
+  abbrev pub EndSo : Access → Option ℕ → Type 0
   EndSo a None = Unit {0}
   EndSo a (Some stamp) = HappensAt list task (happenings.End a) stamp
 
-  abbrev AllSo : List Touch → Type 0
+  abbrev pub AllSo : List Touch → Type 0
   AllSo [] = Unit {0}
   AllSo (touch ∷ newer) = (HappensAt list task (happenings.Begin touch.begun.access) touch.begin × EndSo touch.begun.access touch.end) × AllSo newer
 
@@ -316,12 +316,12 @@ module _ (run : Run) (records : List Record) (list : RunList run records) (task 
           subst AllSo (sym ended_so) ((so.0.0, subst (λ (x : Access). HappensAt list task (happenings.End x) stamp) (sym same) ends), so.1)
 
   -- after so many of its records the accesses that go on are those whose ends are to come
-  record Keeps (made : ℕ) (touches : List Touch) : Type 0 where
-    goes : List Access
-    runs : Runs [] (did_by (list.tasks task) made) goes
-    holds : open_in touches ≡ goes
-    so : AllSo touches
-    many : length (filter_map stamped touches) ≡ count_by is_end (did_by (list.tasks task) made)
+  pub record Keeps (made : ℕ) (touches : List Touch) : Type 0 where
+    pub goes : List Access
+    pub runs : Runs [] (did_by (list.tasks task) made) goes
+    pub holds : open_in touches ≡ goes
+    pub so : AllSo touches
+    pub many : length (filter_map stamped touches) ≡ count_by is_end (did_by (list.tasks task) made)
 
   at_first_kept : Keeps 0 []
   at_first_kept =
@@ -341,7 +341,7 @@ module _ (run : Run) (records : List Record) (list : RunList run records) (task 
       (reverse (records_of task records) ++ (list.tasks task).more) (list.tasks task).whole
 
   -- what is done next leads on
-  next_runs : (made : ℕ) (goes : List Access) → Runs [] (did_by (list.tasks task) made) goes
+  pub next_runs : (made : ℕ) (goes : List Access) → Runs [] (did_by (list.tasks task) made) goes
       → (after : List Access) × Runs [] (did_by (list.tasks task) (made + 1)) after × Runs goes (did_next (list.tasks task) made) after
   next_runs made goes runs =
       let rest = did_of_all (list.tasks task) (made + 1) in
@@ -491,7 +491,7 @@ module _ (run : Run) (records : List Record) (list : RunList run records) (task 
             let it = legal_at (first_words run) later latest earlier (subst (λ (r : List Record). Legal (first_words run) r) is list.legal) clock in
             end_of a it.0 clock it.1 does
 
-  all_kept : (later earlier : List Record) → records ≡ later ++ earlier → EachDoesItsEvent list earlier → (noted : List Noted)
+  pub all_kept : (later earlier : List Record) → records ≡ later ++ earlier → EachDoesItsEvent list earlier → (noted : List Noted)
       → AreNoted (list.tasks task) (records_of task earlier) noted → Keeps (made_by task earlier) (touches_of noted)
   all_kept later [] is events [] are = at_first_kept
   all_kept later [] is events (noted ∷ before) are = absurd are

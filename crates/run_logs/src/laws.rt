@@ -1,7 +1,10 @@
 //! What is true of what a run list notes.
 
-ghost use Rattle.std.specs.Prelude.{◌+◌, ◌++◌, ◌==◌, ◌≡◌, ◌≢◌, ◌≤◌, ◌∷◌, ℕ, [], All, List, Option, count_by, length, map, reverse};
+ghost use Rattle.std.specs.Prelude.{◌+◌, ◌++◌, ◌==◌, ◌≡◌, ◌≢◌, ◌≤◌, ◌∷◌, ℕ, [], All, Contains, List, Option, count_by, length, map, reverse};
+ghost use Rattle.access_types.specs.Access.{Access};
 ghost use Rattle.access_types.specs.Arms.{Arm};
+ghost use Rattle.access_types.specs.Stamped.{Stamped};
+ghost use Rattle.access_types.specs.declared.history.Happening.TheVariants.{End};
 ghost use Rattle.litmus_syntax.specs.Limits.{BodyKeepsLimits, block_repeats};
 ghost use Rattle.litmus_syntax.specs.Tree.{Block};
 ghost use Rattle.std.specs.Option.{option_to_list};
@@ -13,7 +16,7 @@ ghost use Rattle.run_logs.specs.Decided.{IsStampedSo};
 ghost use Rattle.run_logs.specs.Lists.{AreArmsOf, AreTakesOf};
 ghost use Rattle.run_logs.specs.Noted.{AreNoted, IsNoted, Notes};
 ghost use Rattle.run_logs.specs.Removed.{as_removed, as_told, removed_by, told_by};
-ghost use Rattle.run_logs.specs.Spans.{IsSpan, is_end};
+ghost use Rattle.run_logs.specs.Spans.{HappensAt, IsSpan, is_end};
 ghost use Rattle.run_logs.specs.Totals.{AddUp, CountsList, CountsTasks};
 ghost use Rattle.setup_access.specs.declared.begun.Begun.{Begun};
 ghost use Rattle.setup_access.specs.declared.outcome.Outcome.{Outcome};
@@ -167,10 +170,14 @@ pub fn a_log_says_of_accesses_what_the_history_decides()
 }
 
 /// Law: the accesses that a log of a task keeps are as many as have ended in the list, and each of them began and ended
-/// there at its stamps: with that access the task did so at a step of the clock which was answered this.
+/// there at its stamps: with that access the task did so at a step of the clock which was answered this. Each end in the
+/// list is that of one of them.
 pub fn a_log_keeps_the_accesses_that_have_ended()
     ensures spans { (run : Run) (records : List Record) (list : RunList run records) (task : ℕ) (noted : List Noted)
         → Notes list task noted → All (IsSpan list task) (accesses_of noted) }
+    ensures all { (run : Run) (records : List Record) (list : RunList run records) (task : ℕ) (noted : List Noted)
+        → Notes list task noted → (a : Access) (end : ℕ) → HappensAt list task (End a) end
+        → (one : Stamped) × Contains (accesses_of noted) one × (one.access ≡ a) × (one.end ≡ end) }
     ensures many { (run : Run) (records : List Record) (list : RunList run records) (task : ℕ) (noted : List Noted)
         → Notes list task noted → length (accesses_of noted) ≡ count_by is_end (did_by (list.tasks task) (made_by task records)) }
 {

@@ -1,4 +1,5 @@
 -- Accesses of a task end in the other order than they begin.
+use Rattle.run_logs.proofs.Ends.{each_end_kept}
 use Rattle.run_logs.proofs.Spanning.{as_many_ended, spans}
 use Rattle.run_logs.proofs.laws.a_log_keeps_the_accesses_that_have_ended.Goals as goal
 
@@ -10,4 +11,9 @@ returns-clause-spans c = λ run records list task noted notes.
 pub returns-clause-many : goal.returns-clause-many
 returns-clause-many c = λ run records list task noted notes.
     as_many_ended run records list task (c.records_tell_their_events.ensures.first run records list task) noted notes
+    (c.records_tell_their_events.ensures.each run records list)
+
+pub returns-clause-all : goal.returns-clause-all
+returns-clause-all c = λ run records list task noted notes.
+    each_end_kept run records list task (c.records_tell_their_events.ensures.first run records list task) noted notes
     (c.records_tell_their_events.ensures.each run records list)
