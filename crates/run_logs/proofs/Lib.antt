@@ -3,7 +3,6 @@ pub mod Sums
 pub mod Points
 pub mod Begun
 pub mod Unfinished
-pub mod Afters
 pub mod Ties
 pub mod Machines
 pub mod Counting
