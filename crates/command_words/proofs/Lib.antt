@@ -1,1 +1,1 @@
-mod WordLemmas
+mod ValueLemmas

@@ -4,7 +4,7 @@
 pub mod help;
 pub mod request;
 
-pub use request::{ReplayRequest, Request, StepRequest, asked, asks_for_help};
+pub use request::{ReplayRequest, Request, StepRequest, asked};
 
 #[cfg(test)]
 mod tests;

@@ -1,8 +1,9 @@
 //! What the words ask for.
 
-ghost use Rattle.std.specs.Prelude.{◌≡◌, ◌≤◌, ◌<◌, ℕ, IfOk, IfSome, map};
+ghost use Rattle.std.specs.Prelude.{◌≡◌, ◌≤◌, ◌<◌, ℕ, IfErr, IfOk, IfSome, codes, map};
 ghost use Rattle.command_words.specs.Bounds.{KeepsBounds, MayBeAsked};
-ghost use Rattle.command_words.specs.Help.{asks_for_help, is_help_word};
+ghost use Rattle.command_words.specs.Words.{Ask, AskStep, IsArg, IsAskedOf, IsLayout, IsNumber, IsProgram, IsStep, MayFail, files_app, flag_rule, number_rule, replay_app, text_rule, word_rule};
+ghost use Rattle.clap.specs.Words.{app_of, found_of, kind_of, rows_of, subcommand_rows_of};
 
 use crate::help;
 use clap::builder::ValueParser;
@@ -20,6 +21,9 @@ const SKIP: (u64, u64) = (0, 1_000_000);
 
 /// The fewest and the most vain tries of a wait.
 const TURNS: (u64, u64) = (1, 1_000_000_000);
+
+/// How many bits a watch word can have.
+static BITS: [&str; 2] = ["64", "32"];
 
 /// What the program is asked to do.
 #[derive(Clone, Copy, Debug, PartialEq, Eq)]
@@ -66,7 +70,9 @@ pub struct StepRequest<'a> {
 
 /// What the words ask for; the first of them is the program's name. An error is a mistake in them, or asks for help.
 pub fn asked<'a, S: AsStr>(alloc: Global, words: &'a [S]) -> Result<Request<'a>, clap::Error>
-    ensures { IfOk result MayBeAsked }
+    ensures bounds { IfOk result MayBeAsked }
+    ensures asked { IfOk result (Ask (map S.text words.entry.now)) }
+    ensures fails { IfErr result (λ error. MayFail (map S.text words.entry.now) (kind_of error)) }
 {
     let matches = program(alloc)?.try_get_matches_from(words)?;
     if let Some(request) = request_of(&matches) {
@@ -75,31 +81,10 @@ pub fn asked<'a, S: AsStr>(alloc: Global, words: &'a [S]) -> Result<Request<'a>,
     Err(program(alloc)?.error(ErrorKind::MissingSubcommand, "a subcommand is missing")?)
 }
 
-/// The word asks for help.
-fn is_help_word(word: &str) -> bool
-    ensures { result ≡ is_help_word word.now }
-{
-    word == "help" || word == "--help" || word.starts_with("-h")
-}
-
-/// A word asks for help. The first of them is the program's name.
-pub fn asks_for_help<S: AsStr>(words: &[S]) -> bool
-    ensures { result ≡ asks_for_help (map S.text words.now) }
-{
-    let Some((_, words)) = words.split_first() else {
-        return false;
-    };
-    for word in words {
-        if is_help_word(word.as_str()) {
-            return true;
-        }
-    }
-    false
-}
-
 /// What is asked, by the values of the words.
 fn request_of<'a>(matches: &ArgMatches<'a>) -> Option<Request<'a>>
-    ensures { IfSome result MayBeAsked }
+    ensures bounds { IfSome result MayBeAsked }
+    ensures asked { IfSome result (IsAskedOf (subcommand_rows_of matches.now)) }
 {
     match matches.subcommand()? {
         ("step", step) => Some(Request::Step(step_request(step)?)),
@@ -112,7 +97,8 @@ fn request_of<'a>(matches: &ArgMatches<'a>) -> Option<Request<'a>>
 
 /// What `step` is asked to do, by the values of its options.
 fn step_request<'a>(step: &ArgMatches<'a>) -> Option<StepRequest<'a>>
-    ensures { IfSome result KeepsBounds }
+    ensures bounds { IfSome result KeepsBounds }
+    ensures asked { IfSome result (AskStep (rows_of (found_of step.now))) }
 {
     Some(StepRequest {
         file: step.get_str("FILE")?,
@@ -124,29 +110,36 @@ fn step_request<'a>(step: &ArgMatches<'a>) -> Option<StepRequest<'a>>
         randomize: step.get_flag("randomize"),
         seed: number(step, "seed", (0, u64::MAX))?,
         strict: step.get_flag("strict"),
-        layout: layout(step),
+        layout: layout(step)?,
         turns: number(step, "turns", TURNS)?,
     })
 }
 
 /// The number of an option, within its bounds.
 fn number(matches: &ArgMatches<'_>, option: &str, bounds: (u64, u64)) -> Option<u64>
-    ensures { IfSome result (λ number. (bounds.0 ≤ number) × (number ≤ bounds.1)) }
+    ensures within { IfSome result (λ number. (bounds.0 ≤ number) × (number ≤ bounds.1)) }
+    ensures asked { IfSome result (IsNumber (rows_of (found_of matches.now)) option.now) }
 {
     let number = matches.get_one::<u64>(option)?;
     (bounds.0 <= number && number <= bounds.1).then_some(number)
 }
 
 /// How many bits a watch word is to have.
-fn layout(matches: &ArgMatches<'_>) -> Layout {
-    match matches.get_str("word") {
-        Some("32") => Layout::W32,
-        _ => Layout::W64,
-    }
+fn layout(matches: &ArgMatches<'_>) -> Option<Layout>
+    ensures { IfSome result (IsLayout (rows_of (found_of matches.now)) (codes "word")) }
+{
+    let bits = matches.get_str("word")?;
+    Some(if bits == "32" {
+        Layout::W32
+    } else {
+        Layout::W64
+    })
 }
 
 /// The words that the program knows.
-fn program<'a>(alloc: Global) -> Result<Command<'a>, AllocError> {
+fn program<'a>(alloc: Global) -> Result<Command<'a>, AllocError>
+    ensures { IfOk result IsProgram }
+{
     Command::new(alloc, "kcsan_litmus")
         .about(help::PROGRAM)
         .after_help(help::AFTER_PROGRAM)
@@ -156,7 +149,9 @@ fn program<'a>(alloc: Global) -> Result<Command<'a>, AllocError> {
 }
 
 /// `replay`, with its file.
-fn replay_command<'a>(alloc: Global) -> Result<Command<'a>, AllocError> {
+fn replay_command<'a>(alloc: Global) -> Result<Command<'a>, AllocError>
+    ensures { IfOk result (λ command. app_of command ≡ replay_app) }
+{
     Command::new(alloc, "replay")
         .about(help::REPLAY)
         .after_help(help::AFTER_REPLAY)
@@ -164,7 +159,9 @@ fn replay_command<'a>(alloc: Global) -> Result<Command<'a>, AllocError> {
 }
 
 /// The file that a command is about.
-fn file<'a>(alloc: Global, name: &'a str, help: &'a str) -> Arg<'a> {
+fn file<'a>(alloc: Global, name: &'a str, help: &'a str) -> Arg<'a>
+    ensures { IsArg (word_rule name.entry.now) result }
+{
     Arg::new(alloc, name)
         .help(help)
         .required(true)
@@ -172,7 +169,9 @@ fn file<'a>(alloc: Global, name: &'a str, help: &'a str) -> Arg<'a> {
 }
 
 /// `step`, with its file and its options.
-fn step_command<'a>(alloc: Global) -> Result<Command<'a>, AllocError> {
+fn step_command<'a>(alloc: Global) -> Result<Command<'a>, AllocError>
+    ensures { IfOk result IsStep }
+{
     let command = Command::new(alloc, "step")
         .about(help::STEP)
         .after_help(help::AFTER_STEP)
@@ -184,9 +183,12 @@ fn step_command<'a>(alloc: Global) -> Result<Command<'a>, AllocError> {
 }
 
 /// The options that say how accesses are checked.
-fn checking<'a>(alloc: Global, command: Command<'a>) -> Result<Command<'a>, AllocError> {
+fn checking<'a>(alloc: Global, command: Command<'a>) -> Result<Command<'a>, AllocError>
+    requires { app_of command ≡ files_app }
+    ensures { IfOk result IsStep }
+{
     let word = text_option(alloc, "word", "BITS", help::WORD)
-        .value_parser(["64", "32"].as_slice())
+        .value_parser(BITS.as_slice())
         .default_value("64");
     command
         .arg(number_option(alloc, "slots", help::SLOTS, SLOTS, "64"))?
@@ -199,7 +201,9 @@ fn checking<'a>(alloc: Global, command: Command<'a>) -> Result<Command<'a>, Allo
 }
 
 /// An option that takes a text.
-fn text_option<'a>(alloc: Global, name: &'a str, value: &'a str, help: &'a str) -> Arg<'a> {
+fn text_option<'a>(alloc: Global, name: &'a str, value: &'a str, help: &'a str) -> Arg<'a>
+    ensures { IsArg (text_rule name.entry.now) result }
+{
     Arg::new(alloc, name)
         .long(name)
         .value_name(value)
@@ -214,14 +218,18 @@ fn number_option<'a>(
     help: &'a str,
     bounds: (u64, u64),
     default: &'a str,
-) -> Arg<'a> {
+) -> Arg<'a>
+    ensures { IsArg (number_rule name.entry.now bounds.0 bounds.1 default.entry.now) result }
+{
     text_option(alloc, name, "N", help)
         .value_parser(ValueParser::Unsigned(bounds.0, bounds.1))
         .default_value(default)
 }
 
 /// An option that stands alone.
-fn flag<'a>(alloc: Global, name: &'a str, help: &'a str) -> Arg<'a> {
+fn flag<'a>(alloc: Global, name: &'a str, help: &'a str) -> Arg<'a>
+    ensures { IsArg (flag_rule name.entry.now) result }
+{
     Arg::new(alloc, name)
         .long(name)
         .help(help)

@@ -1,6 +1,6 @@
 //! What words ask for, and which make no sense.
 
-use crate::request::{ReplayRequest, Request, StepRequest, asked, asks_for_help};
+use crate::request::{ReplayRequest, Request, StepRequest, asked};
 use clap::error::ErrorKind;
 use std::alloc::Global;
 use std::process::Abort;
@@ -228,16 +228,8 @@ fn some_words_ask_for_help(rt: HostRuntime) {
         ["k", "help"].as_slice(),
         ["k", "--help"].as_slice(),
         ["k", "step", "-h"].as_slice(),
-        ["k", "step", "t", "-hx"].as_slice(),
+        ["k", "help", "step"].as_slice(),
     ] {
-        assert!(rt; asks_for_help(words), "at {words:?}");
         refuse(&rt, rt.alloc(), words, ErrorKind::DisplayHelp);
-    }
-    for words in [
-        ["help"].as_slice(),
-        ["k", "step", "t"].as_slice(),
-        ["k", "step", "--helpful"].as_slice(),
-    ] {
-        assert!(rt; !asks_for_help(words), "at {words:?}");
     }
 }

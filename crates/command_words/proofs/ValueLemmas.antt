@@ -1,0 +1,101 @@
+-- What is read of the values of options.
+use Rattle.std.proofs.Common.{◌≡◌, ◌∙◌, ℕ, Bool, true, false, List, Option, None, Some, Result, Ok, Err, IfErr, IfSome, ap, ap₂, not, option_map, refl, subst, sym, Bor, ◌&&◌}
+use Rattle.std.proofs.lemmas.Option.{same_Some}
+use Rattle.std.specs.Prelude.{IsErrAnd, codes}
+use Rattle.std.specs.Bool.{then_some}
+use Rattle.std.specs.Str.Parse.{digits_value, without_leading_plus}
+use Rattle.clap.specs.Words.{ReadsOne, Row, Text, first_of, first_value, is_simple, is_simple_and_free, one_text, rows_of, subcommand_of}
+use Rattle.clap.specs.declared.parser.matches.Found.{Found}
+use Rattle.clap.proofs.WalkLemmas.{first_value-rows, one_text-rows}
+use Rattle.command_words.specs.Words.{AreSizes, Ask, IsAskedOf, IsFlag, IsNumber, program_app}
+use Rattle.command_words.specs.declared.request.Request.{Request}
+
+-- the text of an option that was read is its first value
+pub text_read : (found : Found) (option : Text) (result : Option (Bor Text)) → option_map (λ text. text.now) result ≡ first_value found option
+    → first_of option (rows_of found) ≡ option_map (λ text. text.now) result
+text_read found option result is = sym (first_value-rows found option) ∙ sym is
+
+pub some_read : (found : Found) (option : Text) (result : Option (Bor Text)) (text : Bor Text)
+    → option_map (λ text. text.now) result ≡ first_value found option → result ≡ Some text
+    → first_of option (rows_of found) ≡ Some text.now
+some_read found option result text is some = text_read found option result is ∙ ap (option_map (λ text. text.now)) some
+
+-- what holds of a value holds of it where it is kept
+pub kept : (P : ℕ → Type 0) (keeps : Bool) (number : ℕ) → P number → IfSome (then_some keeps number) P
+kept P true number holds = holds
+kept P false number holds = tt
+
+never : (number : ℕ) → None ≡ Some number → ⊥
+never number same = cc
+
+-- a number that was read is spelled by the option's value
+pub number_read : {E : Type 0} (gives : List ℕ → Result ℕ E → Type 0)
+    → ((text : Text) (n : ℕ) → gives text (Ok n) → digits_value 10 (without_leading_plus text) ≡ n)
+    → (found : Found) (option : Text) (result : Option ℕ) (number : ℕ) → result ≡ Some number
+    → (one_text found option ≡ None → result ≡ None)
+    → ((text : Text) → one_text found option ≡ Some text → ReadsOne gives text result)
+    → IsNumber (rows_of found) option number
+number_read {E} gives spelled found option result number some none value = by (one_text found option) refl where
+  by : (text : Option Text) → one_text found option ≡ text → IsNumber (rows_of found) option number
+  by None is = absurd (never number (sym (none is) ∙ some))
+  by (Some text) is = record {
+    text = text;
+    given = sym (one_text-rows found option) ∙ is;
+    spelled = spelled text number (subst (ReadsOne gives text) some (value text is));
+  }
+
+-- whether an option that stands alone is set
+pub flag_read : (found : Found) (option : Text) (set : Bool) → (one_text found option ≡ None → set ≡ false)
+    → (one_text found option ≡ Some (codes "true") → set ≡ true) → (one_text found option ≡ Some (codes "false") → set ≡ false)
+    → IsFlag (rows_of found) option set
+flag_read found option set none on off = record {
+  on = λ is. on (one_text-rows found option ∙ is);
+  off = λ is. off (one_text-rows found option ∙ is);
+  none = λ is. none (one_text-rows found option ∙ is);
+}
+
+-- a name beside values
+abbrev pub beside : {B : Type 0} → (B → Text) → (B → List Row) → B → Text × List Row
+beside name values it = (name it, values it)
+
+abbrev pair : Text → List Row → Text × List Row
+pair text rows = (text, rows)
+
+-- the name and the values of the command that was called, by each
+pub both_read : {B : Type 0} (name : B → Text) (values : B → List Row) (called : Option B) (text : Text) (rows : List Row)
+    → Some text ≡ option_map name called
+    → Some rows ≡ option_map (λ (call : Text × List Row). call.1) (option_map (beside name values) called)
+    → option_map (beside name values) called ≡ Some (text, rows)
+both_read name values None text rows is are = absurd (cc)
+both_read name values (Some it) text rows is are =
+    ap Some (ap₂ pair (sym (same_Some text (name it) is)) (sym (same_Some rows (values it) are)))
+
+-- a command whose fields are plain has no arguments but its own
+pub third_is_not : (one other third rest : Bool) → (one && (other && (not third && rest))) ≡ true → third ≡ false
+third_is_not true true true rest is = absurd (cc)
+third_is_not true true false rest is = refl
+third_is_not true false third rest is = absurd (cc)
+third_is_not false other third rest is = absurd (cc)
+
+-- the words ask for what the command that they call asks for
+pub asked_by : (words : List Text) (sizes : Bor (List (Bor Text))) → AreSizes sizes → (called : Option (Text × List Row)) (request : Request)
+    → subcommand_of (program_app sizes) words ≡ called → IsAskedOf called request → Ask words request
+asked_by words sizes are None request is asked = absurd asked
+asked_by words sizes are (Some call) request is asked = record {
+  name = call.0;
+  values = call.1;
+  call = record { sizes = sizes; sizes_are = are; called = is };
+  asked = asked;
+}
+
+pub program_is_simple : (sizes : Bor (List (Bor Text))) → is_simple (program_app sizes) ≡ true
+program_is_simple sizes = refl
+
+pub program_is_free : (sizes : Bor (List (Bor Text))) → is_simple_and_free (program_app sizes) ≡ true
+program_is_free sizes = refl
+
+-- what holds of an error holds of what is answered with it
+pub err_holds : {X E : Type 0} (P : E → Type 0) (result : Result X E) (error : E) → IsErrAnd result (λ found. found ≡ error) → P error
+    → IfErr result P
+err_holds P (Ok x) error is holds = tt
+err_holds P (Err found) error is holds = subst P (sym is) holds

@@ -1,0 +1,20 @@
+-- the bits are the value of the option
+use Rattle.std.proofs.Common.{ap, codes, if◌then◌else◌}
+use Rattle.watch_word.specs.declared.layout.Layout.TheVariants as layouts
+use Rattle.clap.specs.Words.{found_of}
+use Rattle.command_words.proofs.ValueLemmas.{some_read}
+use Rattle.command_words.proofs.request.layout.Goals as goal
+
+pub returns-then-eq : goal.returns-then-eq
+returns-then-eq c = record {
+  bits = c.in_ok-bits.bits.now;
+  given = some_read (found_of c.args.matches.now) (codes "word") c.get_str.result _ c.get_str.ensures c.in_ok-bits.was;
+  is = ap (λ same. if same then layouts.W32 else layouts.W64) c.if-eq.ensures;
+}
+
+pub returns-else-eq : goal.returns-else-eq
+returns-else-eq c = record {
+  bits = c.in_ok-bits.bits.now;
+  given = some_read (found_of c.args.matches.now) (codes "word") c.get_str.result _ c.get_str.ensures c.in_ok-bits.was;
+  is = ap (λ same. if same then layouts.W32 else layouts.W64) c.if-eq.ensures;
+}

@@ -1,0 +1,168 @@
+-- What words ask for: the commands that the program knows, with their options, and what is read of the words.
+use Rattle.std.specs.Prelude.{◌≡◌, ◌⊎◌, ◌∷◌, [], ℕ, Bool, List, Option, None, Some, bytes_eq, codes, map, option_map, true, false, if◌then◌else◌}
+use Rattle.std.specs.Str.Parse.{digits_value, without_leading_plus}
+use Rattle.std.specs.Borrow.{Bor}
+use Rattle.clap.specs.Words.{App, IsAmong, Row, Rule, Text, app_of, fault_of, first_of, new_app, new_rule, one_of, rule_of, subcommand_of, with_rule, with_subcommand}
+use Rattle.clap.specs.Simple.{on_top}
+use Rattle.clap.specs.declared.builder.action.ArgAction.TheVariants.{Set, SetTrue}
+use Rattle.clap.specs.declared.builder.arg.Arg.{Arg}
+use Rattle.clap.specs.declared.builder.command.Command.{Command}
+use Rattle.clap.specs.declared.error.kind.ErrorKind.{ErrorKind}
+use Rattle.clap.specs.declared.error.kind.ErrorKind.TheVariants as kinds
+use Rattle.clap.specs.declared.builder.value_parser.ValueParser.TheVariants as values
+use Rattle.command_words.specs.declared.request.ReplayRequest.{ReplayRequest}
+use Rattle.command_words.specs.declared.request.Request.{Request}
+use Rattle.command_words.specs.declared.request.Request.TheVariants as requests
+use Rattle.command_words.specs.declared.request.StepRequest.{StepRequest}
+use Rattle.watch_word.specs.declared.layout.Layout.{Layout}
+use Rattle.watch_word.specs.declared.layout.Layout.TheVariants as layouts
+
+-- a word that has to be there
+abbrev pub word_rule : Text → Rule
+word_rule name = record (new_rule name) { required = true; action = Some Set }
+
+-- an option that takes a text
+abbrev pub text_rule : Text → Rule
+text_rule name = record (new_rule name) { long = Some name; action = Some Set; value_names = 1 }
+
+-- one that has a text where it isn't given
+abbrev pub default_rule : Text → (text : Text) → Rule
+default_rule name text = record (text_rule name) { defaults = text ∷ [] }
+
+-- an option that takes a number within bounds, and has one where it isn't given
+abbrev pub number_rule : Text → (low high : ℕ) → (text : Text) → Rule
+number_rule name low high text = record (default_rule name text) { parser = Some (values.Unsigned low high) }
+
+-- an option that stands alone
+abbrev pub flag_rule : Text → Rule
+flag_rule name = record (new_rule name) { long = Some name; action = Some SetTrue }
+
+-- an option that takes one of some names
+abbrev pub name_rule : Text → Bor (List (Bor Text)) → (text : Text) → Rule
+name_rule name names text = record (default_rule name text) { parser = Some (values.Names names) }
+
+-- `step`, with its file and what else it takes texts for
+abbrev pub files_app : App
+files_app =
+    with_rule (with_rule (with_rule (with_rule (new_app (codes "step"))
+    (word_rule (codes "FILE")))
+    (default_rule (codes "schedule") []))
+    (default_rule (codes "place") []))
+    (text_rule (codes "trace"))
+
+-- `step`, also with the options that say how accesses are checked; its `--word` takes one of these names
+abbrev pub step_app : Bor (List (Bor Text)) → App
+step_app sizes =
+    with_rule (with_rule (with_rule (with_rule (with_rule (with_rule (with_rule files_app
+    (number_rule (codes "slots") 3 1024 (codes "64")))
+    (number_rule (codes "skip") 0 1000000 (codes "0")))
+    (flag_rule (codes "randomize")))
+    (number_rule (codes "seed") 0 18446744073709551615 (codes "1")))
+    (flag_rule (codes "strict")))
+    (name_rule (codes "word") sizes (codes "64")))
+    (number_rule (codes "turns") 1 1000000000 (codes "1000000"))
+
+-- `replay`, with its file
+abbrev pub replay_app : App
+replay_app = with_rule (new_app (codes "replay")) (word_rule (codes "TRACE"))
+
+-- the program, one of whose commands has to be named
+abbrev pub program_app : Bor (List (Bor Text)) → App
+program_app sizes =
+    with_subcommand (with_subcommand
+    (on_top (λ shape. record shape { subcommand_required = true }) (new_app (codes "kcsan_litmus")))
+    (step_app sizes).top) replay_app.top
+
+-- an argument goes by a rule, and is of its own command alone
+pub record IsArg (rule : Rule) (arg : Arg) : Type 0 where
+  pub rule_is : rule_of arg ≡ rule
+  pub own : arg.global ≡ false
+
+-- these are the names that `--word` takes
+abbrev pub AreSizes : Bor (List (Bor Text)) → Type 0
+AreSizes sizes = map (λ size. size.now) sizes.now ≡ codes "64" ∷ codes "32" ∷ []
+
+-- a command is `step`
+pub record IsStep (command : Command) : Type 0 where
+  pub sizes : Bor (List (Bor Text))
+  pub sizes_are : AreSizes sizes
+  pub is : app_of command ≡ step_app sizes
+
+-- a command is the whole program
+pub record IsProgram (command : Command) : Type 0 where
+  pub sizes : Bor (List (Bor Text))
+  pub sizes_are : AreSizes sizes
+  pub is : app_of command ≡ program_app sizes
+
+-- the words call this command, by its name, with these values of its options and words; `--word` takes 64 or 32
+pub record IsCall (words : List Text) (name : Text) (values : List Row) : Type 0 where
+  pub sizes : Bor (List (Bor Text))
+  pub sizes_are : AreSizes sizes
+  pub called : subcommand_of (program_app sizes) words ≡ Some (name, values)
+
+-- the value of an option is a number, in decimal digits
+pub record IsNumber (values : List Row) (option : Text) (number : ℕ) : Type 0 where
+  pub text : Text
+  pub given : one_of option values ≡ Some text
+  pub spelled : digits_value 10 (without_leading_plus text) ≡ number
+
+-- whether an option that stands alone is set
+pub record IsFlag (values : List Row) (option : Text) (set : Bool) : Type 0 where
+  pub on : one_of option values ≡ Some (codes "true") → set ≡ true
+  pub off : one_of option values ≡ Some (codes "false") → set ≡ false
+  pub none : one_of option values ≡ None → set ≡ false
+
+-- how many bits a watch word has, by the value of an option: 64, but for 32
+pub record IsLayout (values : List Row) (option : Text) (layout : Layout) : Type 0 where
+  pub bits : Text
+  pub given : first_of option values ≡ Some bits
+  pub is : layout ≡ (if bytes_eq bits (codes "32") then layouts.W32 else layouts.W64)
+
+-- the values of `step` ask for this
+pub record AskStep (values : List Row) (request : StepRequest) : Type 0 where
+  pub file : first_of (codes "FILE") values ≡ Some request.file.now
+  pub schedule : first_of (codes "schedule") values ≡ Some request.schedule.now
+  pub places : first_of (codes "place") values ≡ Some request.places.now
+  pub trace : first_of (codes "trace") values ≡ option_map (λ path. path.now) request.trace
+  pub slots : IsNumber values (codes "slots") request.slots
+  pub skip : IsNumber values (codes "skip") request.skip
+  pub randomize : IsFlag values (codes "randomize") request.randomize
+  pub seed : IsNumber values (codes "seed") request.seed
+  pub strict : IsFlag values (codes "strict") request.strict
+  pub layout : IsLayout values (codes "word") request.layout
+  pub turns : IsNumber values (codes "turns") request.turns
+
+-- the values of `replay` ask for this
+abbrev pub AskReplay : List Row → ReplayRequest → Type 0
+AskReplay values request = first_of (codes "TRACE") values ≡ Some request.trace.now
+
+-- a command of this name with these values asks for this
+abbrev pub IsAskedBy : Text → List Row → Request → Type 0
+IsAskedBy name values (requests.Step request) = (name ≡ codes "step") × AskStep values request
+IsAskedBy name values (requests.Replay request) = (name ≡ codes "replay") × AskReplay values request
+
+-- the command that was called, with its values, if there is one, asks for this
+abbrev pub IsAskedOf : Option (Text × List Row) → Request → Type 0
+IsAskedOf None request = ⊥
+IsAskedOf (Some call) request = IsAskedBy call.0 call.1 request
+
+-- the words ask for this
+pub record Ask (words : List Text) (request : Request) : Type 0 where
+  pub name : Text
+  pub values : List Row
+  pub call : IsCall words name values
+  pub asked : IsAskedBy name values request
+
+-- the words ask for nothing, and this is said of them
+pub record IsSaidOf (words : List Text) (kind : ErrorKind) : Type 0 where
+  pub sizes : Bor (List (Bor Text))
+  pub sizes_are : AreSizes sizes
+  pub said : IsAmong kind (fault_of (program_app sizes) words)
+
+-- the words ask for help
+abbrev pub AskForHelp : List Text → Type 0
+AskForHelp words = IsSaidOf words kinds.DisplayHelp
+
+-- this may be said where the words ask for nothing: that memory ran out, that they name no command, or what is to be said of them
+abbrev pub MayFail : List Text → ErrorKind → Type 0
+MayFail words kind = (kind ≡ kinds.OutOfMemory) ⊎ ((kind ≡ kinds.MissingSubcommand) ⊎ IsSaidOf words kind)
