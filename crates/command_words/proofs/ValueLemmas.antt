@@ -1,5 +1,6 @@
 -- What is read of the values of options.
-use Rattle.std.proofs.Common.{◌≡◌, ◌∙◌, ℕ, Bool, true, false, List, Option, None, Some, Result, Ok, Err, IfErr, IfSome, ap, ap₂, not, option_map, refl, subst, sym, Bor, ◌&&◌}
+use Rattle.std.proofs.Common.{◌≡◌, ◌∙◌, ℕ, Bool, true, false, List, Option, None, Some, Result, Ok, Err, IfErr, IfSome, ap, ap₂}
+use Rattle.std.proofs.Common.{not, option_map, refl, subst, sym, Bor, ◌&&◌}
 use Rattle.std.proofs.lemmas.Option.{same_Some}
 use Rattle.std.specs.Prelude.{IsErrAnd, codes}
 use Rattle.std.specs.Bool.{then_some}
@@ -11,7 +12,8 @@ use Rattle.command_words.specs.Words.{AreSizes, Ask, IsAskedOf, IsFlag, IsNumber
 use Rattle.command_words.specs.declared.request.Request.{Request}
 
 -- the text of an option that was read is its first value
-pub text_read : (found : Found) (option : Text) (result : Option (Bor Text)) → option_map (λ text. text.now) result ≡ first_value found option
+pub text_read : (found : Found) (option : Text) (result : Option (Bor Text))
+    → option_map (λ text. text.now) result ≡ first_value found option
     → first_of option (rows_of found) ≡ option_map (λ text. text.now) result
 text_read found option result is = sym (first_value-rows found option) ∙ sym is
 
@@ -78,7 +80,8 @@ third_is_not true false third rest is = absurd (cc)
 third_is_not false other third rest is = absurd (cc)
 
 -- the words ask for what the command that they call asks for
-pub asked_by : (words : List Text) (sizes : Bor (List (Bor Text))) → AreSizes sizes → (called : Option (Text × List Row)) (request : Request)
+pub asked_by : (words : List Text) (sizes : Bor (List (Bor Text))) → AreSizes sizes
+    → (called : Option (Text × List Row)) (request : Request)
     → subcommand_of (program_app sizes) words ≡ called → IsAskedOf called request → Ask words request
 asked_by words sizes are None request is asked = absurd asked
 asked_by words sizes are (Some call) request is asked = record {

@@ -2,7 +2,8 @@
 
 ghost use Rattle.std.specs.Prelude.{◌≡◌, ◌≤◌, ◌<◌, ℕ, IfErr, IfOk, IfSome, codes, map};
 ghost use Rattle.command_words.specs.Bounds.{KeepsBounds, MayBeAsked};
-ghost use Rattle.command_words.specs.Words.{Ask, AskStep, IsArg, IsAskedOf, IsLayout, IsNumber, IsProgram, IsStep, MayFail, files_app, flag_rule, number_rule, replay_app, text_rule, word_rule};
+ghost use Rattle.command_words.specs.Words.{Ask, AskStep, IsArg, IsAskedOf, IsLayout, IsNumber, IsProgram, IsStep, MayFail};
+ghost use Rattle.command_words.specs.Words.{files_app, flag_rule, number_rule, replay_app, text_rule, word_rule};
 ghost use Rattle.clap.specs.Words.{app_of, found_of, kind_of, rows_of, subcommand_rows_of};
 
 use crate::help;

@@ -13,9 +13,11 @@ returns c =
     ap rule_of c.default_value-word.ensures
     ∙ ap (λ (rule : Rule). record rule { defaults = codes "64" ∷ [] })
     (ap rule_of c.value_parser.ensures.others
-    ∙ ap₂ (λ (rule : Rule) parser. record rule { parser = parser }) c.text_option.ensures.rule_is (c.value_parser.ensures.given.1 ∙ ap Some c.value_parser.ensures.given.2)) in
+    ∙ ap₂ (λ (rule : Rule) parser. record rule { parser = parser }) c.text_option.ensures.rule_is
+    (c.value_parser.ensures.given.1 ∙ ap Some c.value_parser.ensures.given.2)) in
     let before = c.in_ok-arg-6.ensures.shape
-    (ap (λ arg. arg.global) c.default_value-word.ensures ∙ (ap (λ arg. arg.global) c.value_parser.ensures.others ∙ c.text_option.ensures.own))
+    (ap (λ arg. arg.global) c.default_value-word.ensures
+    ∙ (ap (λ arg. arg.global) c.value_parser.ensures.others ∙ c.text_option.ensures.own))
     ∙ ap₂ with_rule (c.in_ok-arg-5.ensures.shape c.flag-2.ensures.own
     ∙ ap₂ with_rule (c.in_ok-arg-4.ensures.shape c.number_option-3.ensures.own
     ∙ ap₂ with_rule (c.in_ok-arg-3.ensures.shape c.flag.ensures.own

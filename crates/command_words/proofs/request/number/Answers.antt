@@ -12,6 +12,7 @@ returns-clause-asked c =
     let P = IsNumber (rows_of found) c.args.option.now in
     subst (λ result. IfSome result P) (sym c.then_some.ensures)
     (kept P c.if-bounds-number.then_some c.in_ok-number.number
-    (number_read (λ text result. ParsesUnsigned 64 10 text result × ExplainsUnsignedError 10 text result × HasUnsignedDigitsIfOk text result)
+    (number_read
+    (λ text result. ParsesUnsigned 64 10 text result × ExplainsUnsignedError 10 text result × HasUnsignedDigitsIfOk text result)
     (λ text n gives. sym gives.0.1) found c.args.option.now c.get_one.result c.in_ok-number.number c.in_ok-number.was
     c.get_one.ensures.none c.get_one.ensures.value))

@@ -8,7 +8,8 @@ use Rattle.command_words.proofs.request.program.Goals as goal
 
 pub returns : goal.returns
 returns c =
-    let first : app_of c.subcommand_required.result ≡ on_top (λ shape. record shape { subcommand_required = true }) (new_app (codes "kcsan_litmus")) =
+    let first : app_of c.subcommand_required.result
+    ≡ on_top (λ shape. record shape { subcommand_required = true }) (new_app (codes "kcsan_litmus")) =
     ap app_of_fields c.subcommand_required.ensures
     ∙ ap (on_top (λ shape. record shape { subcommand_required = true }))
     (ap app_of_fields c.after_help.ensures ∙ (ap app_of_fields c.about.ensures ∙ c.new.ensures.app)) in
@@ -19,5 +20,6 @@ returns c =
     IfOk-weaker c.subcommand-2.result _ _ (λ command adds. record {
       sizes = step.sizes;
       sizes_are = step.sizes_are;
-      is = adds.shape (third_is_not _ _ _ _ (ap (λ (a : App). a.top.is_plain) replay)) ∙ ap₂ with_subcommand with_step (ap (λ (a : App). a.top) replay);
+      is = adds.shape (third_is_not _ _ _ _ (ap (λ (a : App). a.top.is_plain) replay))
+          ∙ ap₂ with_subcommand with_step (ap (λ (a : App). a.top) replay);
     }) c.subcommand-2.ensures

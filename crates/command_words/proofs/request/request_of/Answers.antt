@@ -13,6 +13,8 @@ returns-in_ok-get_str-in-replay-default-clause-asked c =
     let called : subcommand_rows_of c.args.matches.now ≡ Some (call.0.now, rows_of found) =
     both_read _ _ _ call.0.now (rows_of found) c.in_ok-step.ensures.name c.in_ok-step.ensures.rows in
     let request = requests.Replay (record { trace = c.in_ok-get_str-in-replay-default.field-0 }) in
-    let asks : IsAskedOf (Some (call.0.now, rows_of found)) request =
-    (c.in-replay-default.is-replay-0, some_read found (codes "TRACE") c.get_str.result _ c.get_str.ensures c.in_ok-get_str-in-replay-default.was) in
+    let asks : IsAskedOf (Some (call.0.now, rows_of found)) request = (
+      c.in-replay-default.is-replay-0,
+      some_read found (codes "TRACE") c.get_str.result _ c.get_str.ensures c.in_ok-get_str-in-replay-default.was,
+    ) in
     subst (λ called. IsAskedOf called request) (sym called) asks

@@ -14,9 +14,11 @@ returns-clause-asked c =
       trace = text_read found (codes "trace") c.get_str-4.result c.get_str-4.ensures;
       slots = c.in_ok-number.ensures.asked;
       skip = c.in_ok-number-2.ensures.asked;
-      randomize = flag_read found (codes "randomize") c.get_flag.result c.get_flag.ensures.none c.get_flag.ensures.value c.get_flag.ensures.other;
+      randomize = flag_read found (codes "randomize") c.get_flag.result c.get_flag.ensures.none c.get_flag.ensures.value
+          c.get_flag.ensures.other;
       seed = c.in_ok-number-3.ensures.asked;
-      strict = flag_read found (codes "strict") c.get_flag-2.result c.get_flag-2.ensures.none c.get_flag-2.ensures.value c.get_flag-2.ensures.other;
+      strict = flag_read found (codes "strict") c.get_flag-2.result c.get_flag-2.ensures.none c.get_flag-2.ensures.value
+          c.get_flag-2.ensures.other;
       layout = c.in_ok-layout.ensures;
       turns = c.in_ok-number-4.ensures.asked;
     }
