@@ -96,7 +96,8 @@ impl<'a> Machine<'a> {
     /// What the accesses of statements are planned by.
     fn planner(&self) -> Planner<'_>
         ensures layout { result.layout.now ≡ self.now.layout }
-        ensures registers { (variables : ℕ) (before : Standing) → Keeps variables before self.now.progress → result.registers.now ≡ before.progress.registers }
+        ensures registers { (variables : ℕ) (before : Standing) → Keeps variables before self.now.progress
+            → result.registers.now ≡ before.progress.registers }
     {
         Planner {
             layout: &self.layout,
@@ -111,7 +112,8 @@ impl<'a> Machine<'a> {
         site: usize,
     ) -> Result<Option<Stage<'a>>, Beyond>
         requires simple { HasNoBlock (statement_of statement.now) }
-        ensures begins { IfOk result (λ stage. (s : Setting) → PartBegins s (StatementDue s (statement_of statement.now) site self.old.walk) self.old self.new stage) }
+        ensures begins { IfOk result (λ stage. (s : Setting)
+            → PartBegins s (StatementDue s (statement_of statement.now) site self.old.walk) self.old self.new stage) }
         ensures unchanged { OnErr result (self.new ≡ self.old) }
         ensures stops { OnErr result ((s : Setting) → Stops s (StatementDue s (statement_of statement.now) site self.old.walk) self.old) }
         ensures cost { self.new.walk ≡ self.old.walk }
@@ -137,7 +139,8 @@ impl<'a> Machine<'a> {
         ensures begins { IfOk result (λ stage. (s : Setting)
             → PartBegins s (LoadLeft s self.old.walk site (load_of load.now) (taker_of taker.entry)) self.old self.new stage) }
         ensures unchanged { OnErr result (self.new ≡ self.old) }
-        ensures stops { OnErr result ((s : Setting) → Stops s (LoadLeft s self.old.walk site (load_of load.now) (taker_of taker.entry)) self.old) }
+        ensures stops { OnErr result ((s : Setting)
+            → Stops s (LoadLeft s self.old.walk site (load_of load.now) (taker_of taker.entry)) self.old) }
         ensures cost { self.new.walk ≡ self.old.walk }
     {
         let plan = self.planner().load(load, taker);
@@ -150,7 +153,8 @@ impl<'a> Machine<'a> {
         condition: &'a Expression,
         site: usize,
     ) -> Result<Option<Stage<'a>>, Beyond>
-        ensures begins { IfOk result (λ stage. (s : Setting) → PartBegins s (ConditionDue s (expression_of condition.now) site self.old.walk) self.old self.new stage) }
+        ensures begins { IfOk result (λ stage. (s : Setting)
+            → PartBegins s (ConditionDue s (expression_of condition.now) site self.old.walk) self.old self.new stage) }
         ensures unchanged { OnErr result (self.new ≡ self.old) }
         ensures stops { OnErr result ((s : Setting) → Stops s (ConditionDue s (expression_of condition.now) site self.old.walk) self.old) }
         ensures cost { walk_cost self.new.walk ≤ walk_cost self.old.walk }
@@ -168,7 +172,8 @@ impl<'a> Machine<'a> {
 
     /// The condition of an `if` is decided, by an expression without a load.
     fn decides(&mut self, value: &Pure)
-        ensures begins { (s : Setting) (site : ℕ) → PartBegins s (ConditionDue s (tree.pure (pure_of value.now)) site self.old.walk) self.old self.new None }
+        ensures begins { (s : Setting) (site : ℕ)
+            → PartBegins s (ConditionDue s (tree.pure (pure_of value.now)) site self.old.walk) self.old self.new None }
         ensures cost { walk_cost self.new.walk ≤ walk_cost self.old.walk }
     {
         if pure_value(value, self.progress.registers()) != 0 {
@@ -183,9 +188,12 @@ impl<'a> Machine<'a> {
         data_race: bool,
         site: usize,
     ) -> Result<Option<Stage<'a>>, Beyond>
-        ensures begins { IfOk result (λ stage. (s : Setting) → PartBegins s (StatementDue s (tree.assign data_race (assignment_of assignment.now)) site self.old.walk) self.old self.new stage) }
+        ensures begins { IfOk result (λ stage. (s : Setting)
+            → PartBegins s
+            (StatementDue s (tree.assign data_race (assignment_of assignment.now)) site self.old.walk) self.old self.new stage) }
         ensures unchanged { OnErr result (self.new ≡ self.old) }
-        ensures stops { OnErr result ((s : Setting) → Stops s (StatementDue s (tree.assign data_race (assignment_of assignment.now)) site self.old.walk) self.old) }
+        ensures stops { OnErr result ((s : Setting)
+            → Stops s (StatementDue s (tree.assign data_race (assignment_of assignment.now)) site self.old.walk) self.old) }
         ensures cost { self.new.walk ≡ self.old.walk }
     {
         match assignment {
@@ -208,9 +216,13 @@ impl<'a> Machine<'a> {
         site: usize,
     ) -> Result<Option<Stage<'a>>, Beyond>
         ensures begins { IfOk result (λ stage. (s : Setting)
-            → PartBegins s (StatementDue s (tree.assign data_race (tree.to_register register (expression_of value.now))) site self.old.walk) self.old self.new stage) }
+            → PartBegins s
+            (StatementDue s (tree.assign data_race (tree.to_register register (expression_of value.now))) site self.old.walk)
+            self.old self.new stage) }
         ensures unchanged { OnErr result (self.new ≡ self.old) }
-        ensures stops { OnErr result ((s : Setting) → Stops s (StatementDue s (tree.assign data_race (tree.to_register register (expression_of value.now))) site self.old.walk) self.old) }
+        ensures stops { OnErr result ((s : Setting)
+            → Stops s
+            (StatementDue s (tree.assign data_race (tree.to_register register (expression_of value.now))) site self.old.walk) self.old) }
         ensures cost { self.new.walk ≡ self.old.walk }
     {
         match value {
@@ -237,9 +249,14 @@ impl<'a> Machine<'a> {
         data_race: bool,
     ) -> Result<(), Beyond>
         ensures begins { IfOk result (λ _. (s : Setting) (site : ℕ)
-            → PartBegins s (StatementDue s (tree.assign data_race (tree.to_register register (tree.pure (pure_of value.now)))) site self.old.walk) self.old self.new None) }
+            → PartBegins s
+            (StatementDue s (tree.assign data_race (tree.to_register register (tree.pure (pure_of value.now)))) site self.old.walk)
+            self.old self.new None) }
         ensures unchanged { OnErr result (self.new ≡ self.old) }
-        ensures stops { OnErr result ((s : Setting) → (site : ℕ) → Stops s (StatementDue s (tree.assign data_race (tree.to_register register (tree.pure (pure_of value.now)))) site self.old.walk) self.old) }
+        ensures stops { OnErr result ((s : Setting) → (site : ℕ)
+            → Stops s
+            (StatementDue s (tree.assign data_race (tree.to_register register (tree.pure (pure_of value.now)))) site self.old.walk)
+            self.old) }
         ensures cost { self.new.walk ≡ self.old.walk }
     {
         self.disable(so_often(data_race))?;
@@ -251,7 +268,8 @@ impl<'a> Machine<'a> {
 
     /// A call begins.
     fn calls(&mut self, call: Call, site: usize) -> Result<Option<Stage<'a>>, Beyond>
-        ensures begins { IfOk result (λ stage. (s : Setting) → PartBegins s (StatementDue s (tree.call call) site self.old.walk) self.old self.new stage) }
+        ensures begins { IfOk result (λ stage. (s : Setting)
+            → PartBegins s (StatementDue s (tree.call call) site self.old.walk) self.old self.new stage) }
         ensures unchanged { OnErr result (self.new ≡ self.old) }
         ensures stops { OnErr result ((s : Setting) → Stops s (StatementDue s (tree.call call) site self.old.walk) self.old) }
         ensures cost { self.new.walk ≡ self.old.walk }
@@ -279,7 +297,8 @@ impl<'a> Machine<'a> {
     /// The access of a call begins.
     fn plans(&mut self, call: Call, site: usize) -> Result<Option<Stage<'a>>, Beyond>
         requires planned { (text : meaning.Setting) → call_plan text call ≢ None }
-        ensures begins { IfOk result (λ stage. (s : Setting) → PartBegins s (StatementDue s (tree.call call) site self.old.walk) self.old self.new stage) }
+        ensures begins { IfOk result (λ stage. (s : Setting)
+            → PartBegins s (StatementDue s (tree.call call) site self.old.walk) self.old self.new stage) }
         ensures unchanged { OnErr result (self.new ≡ self.old) }
         ensures stops { OnErr result ((s : Setting) → Stops s (StatementDue s (tree.call call) site self.old.walk) self.old) }
         ensures cost { self.new.walk ≡ self.old.walk }
@@ -292,9 +311,11 @@ impl<'a> Machine<'a> {
 
     /// A lock is tried.
     fn locks(&mut self, variable: usize) -> Result<Option<Stage<'a>>, Beyond>
-        ensures begins { IfOk result (λ stage. (s : Setting) (site : ℕ) → PartBegins s (StatementDue s (tree.call (Lock variable)) site self.old.walk) self.old self.new stage) }
+        ensures begins { IfOk result (λ stage. (s : Setting) (site : ℕ)
+            → PartBegins s (StatementDue s (tree.call (Lock variable)) site self.old.walk) self.old self.new stage) }
         ensures unchanged { self.new ≡ self.old }
-        ensures stops { OnErr result ((s : Setting) (site : ℕ) → Stops s (StatementDue s (tree.call (Lock variable)) site self.old.walk) self.old) }
+        ensures stops { OnErr result ((s : Setting) (site : ℕ)
+            → Stops s (StatementDue s (tree.call (Lock variable)) site self.old.walk) self.old) }
     {
         if !is_lock_at(self.variables, variable) {
             return Err(Beyond);
@@ -305,7 +326,8 @@ impl<'a> Machine<'a> {
 
     /// A lock is given back; where the task hasn't it, no step is made and the call is counted.
     fn unlocks(&mut self, variable: usize) -> Option<Stage<'a>>
-        ensures begins { (s : Setting) (site : ℕ) → PartBegins s (StatementDue s (tree.call (Unlock variable)) site self.old.walk) self.old self.new result }
+        ensures begins { (s : Setting) (site : ℕ)
+            → PartBegins s (StatementDue s (tree.call (Unlock variable)) site self.old.walk) self.old self.new result }
         ensures cost { self.new.walk ≡ self.old.walk }
     {
         if self.progress.has_lock(variable) {
@@ -317,7 +339,8 @@ impl<'a> Machine<'a> {
 
     /// The access that is planned at a site, which begins now.
     fn access(&self, plan: Plan<'a>, site: usize) -> Result<Access, Beyond>
-        ensures made { IfOk result (λ access. (0 < access.size) × (access.site ≡ site) × IsInLimits access × ((s : Setting) (before : Standing) → Stands s before self.now
+        ensures made { IfOk result (λ access. (0 < access.size) × (access.site ≡ site) × IsInLimits access
+            × ((s : Setting) (before : Standing) → Stands s before self.now
             → access ≡ planned_access s before (plan_of plan.entry) site)) }
         ensures cannot { OnErr result ((s : Setting) (before : Standing) → Stands s before self.now
             → ¬ CanBegin (planned_access s before (plan_of plan.entry) site)) }
@@ -345,7 +368,8 @@ impl<'a> Machine<'a> {
     /// The bytes of an access lie in one cell, if it touches them.
     fn has_cell(&self, access: &Access, operation: Option<Operation>) -> bool
         requires has_bytes { 0 < access.now.size }
-        ensures { (s : Setting) (before : Standing) → Stands s before self.now → (IsTrue result ↔ HasCell (checks_of s) access.now operation) }
+        ensures { (s : Setting) (before : Standing) → Stands s before self.now
+            → (IsTrue result ↔ HasCell (checks_of s) access.now operation) }
     {
         match operation {
             Some(_) => self.checker.source(access).is_some(),

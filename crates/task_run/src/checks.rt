@@ -58,8 +58,10 @@ impl<'a> Machine<'a> {
     /// An access that is under way takes the answer.
     pub(crate) fn answers_access(&mut self, run: AccessRun, answer: Answer) -> AccessRun
         requires { (step : Step) × AccessSays run self.old.checker step × Answers step answer }
-        ensures leads { (s : settings.Setting) (scopes : List Begun) (begun : Begun) (asked : ℕ) (operation : Option Operation) (records : List Record) (step : Step)
-            → s.sites ≡ self.old.sites → AccessLeads s scopes begun asked operation records run self.old.checker → AccessSays run self.old.checker step
+        ensures leads { (s : settings.Setting) (scopes : List Begun) (begun : Begun) (asked : ℕ) (operation : Option Operation)
+            (records : List Record) (step : Step)
+            → s.sites ≡ self.old.sites → AccessLeads s scopes begun asked operation records run self.old.checker
+            → AccessSays run self.old.checker step
             → AccessLeads s scopes begun asked operation (records ++ made s.task step answer ∷ []) result self.new.checker }
         ensures context { context_of self.new.checker ≡ context_of self.old.checker }
         ensures kept { self.new ≡ record self.old { checker = self.new.checker; begins = self.new.begins } }
@@ -78,7 +80,8 @@ impl<'a> Machine<'a> {
             → s.sites ≡ self.old.sites → checks.Leads s scopes doing asked records self.old.checker → checks.Says self.old.checker step
             → checks.Leads s scopes doing asked (records ++ made s.task step answer ∷ []) self.new.checker }
         ensures over { (s : settings.Setting) (scopes : List Begun) (doing : Doing) (asked : ℕ) (records : List Record)
-            → checks.Leads s scopes doing asked records self.new.checker → (IsTrue result.over ↔ checks.IsDone s scopes doing asked records) }
+            → checks.Leads s scopes doing asked records self.new.checker
+            → (IsTrue result.over ↔ checks.IsDone s scopes doing asked records) }
         ensures complete { (s : settings.Setting) (scopes : List Begun) (doing : Doing) (asked : ℕ) (records : List Record)
             → checks.Leads s scopes doing asked records self.new.checker → checks.IsDone s scopes doing asked records
             → checks.IsComplete s scopes doing asked records self.new.checker }
@@ -98,7 +101,8 @@ impl<'a> Machine<'a> {
 
     /// The scoped assertion whose check is over is in force from now on.
     pub(crate) fn opened(&mut self)
-        ensures opens { (s : settings.Setting) (scopes : List Begun) (begun : Begun) (asked : ℕ) → checks.Rests s scopes asked (Some begun) self.old.checker
+        ensures opens { (s : settings.Setting) (scopes : List Begun) (begun : Begun) (asked : ℕ)
+            → checks.Rests s scopes asked (Some begun) self.old.checker
             → IsOwn s begun.access → length scopes < 8 → checks.Rests s (scopes ++ begun ∷ []) asked None self.new.checker }
         ensures in_force { self.old.in_force < 8 → self.new.in_force ≡ self.old.in_force + 1 }
         ensures context { context_of self.new.checker ≡ context_of self.old.checker }

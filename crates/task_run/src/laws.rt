@@ -20,7 +20,8 @@ pub fn one_step_is_next()
 /// Law: where a part of the text waits too long, the task is stuck by its records in the written order: the only step
 /// that they go on with is a try too much.
 pub fn too_long_a_wait_is_told_by_the_records()
-    ensures { (s : Setting) (registers : ℕ) (body : Block) (records : List Record) (run : TaskRun) → (leads : Leads s registers body records run)
+    ensures { (s : Setting) (registers : ℕ) (body : Block) (records : List Record) (run : TaskRun)
+        → (leads : Leads s registers body records run)
         → WrittenOrder s registers body records → IsStuck leads → waits.IsStuck s registers body records }
 {}
 

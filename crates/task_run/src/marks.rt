@@ -1,6 +1,7 @@
 //! What a task computes between its steps.
 
-ghost use Rattle.std.specs.Prelude.{◌≡◌, ◌↔◌, ◌+◌, ◌-◌, ◌^◌, ◌<◌, ◌≤◌, [], ◌∷◌, Bool, IsTrue, List, OnErr, OnOk, count_by, ℕ, take, if◌then◌else◌};
+ghost use Rattle.std.specs.Prelude.{◌≡◌, ◌↔◌, ◌+◌, ◌-◌, ◌^◌, ◌<◌, ◌≤◌, [], ◌∷◌};
+ghost use Rattle.std.specs.Prelude.{Bool, IsTrue, List, OnErr, OnOk, count_by, ℕ, take, if◌then◌else◌};
 ghost use Rattle.access_types.specs.declared.history.Happening.TheVariants as happenings;
 ghost use Rattle.access_types.specs.declared.history.Mark.{Mark};
 ghost use Rattle.access_types.specs.declared.history.Mark.TheVariants.{Disable, Enable, FlatBegin, FlatEnd, NestClose, NestOpen, Next};
@@ -132,7 +133,8 @@ impl<'a> Machine<'a> {
 
     /// A call had nothing to end, or not.
     fn counts(&mut self, ends_nothing: bool)
-        ensures stands { (s : Setting) (before : Standing) (later : List Record) (mark : Mark) → Stands s (doing before later (happenings.Mark mark ∷ [])) self.old
+        ensures stands { (s : Setting) (before : Standing) (later : List Record) (mark : Mark)
+            → Stands s (doing before later (happenings.Mark mark ∷ [])) self.old
             → Stands s (doing (counting ends_nothing before) later (happenings.Mark mark ∷ [])) self.new }
         ensures walk { self.new.walk ≡ self.old.walk }
     {
@@ -148,7 +150,8 @@ impl<'a> Machine<'a> {
             × ((later : List Record) → Stands s (doing (counting ends_nothing before) later (happenings.Mark mark ∷ [])) self.new)) }
         ensures walk { self.new.walk ≡ self.old.walk }
         ensures unchanged { OnErr result (self.new ≡ self.old) }
-        ensures stops { OnErr result ((s : Setting) (site : ℕ) → Stops s (StatementDue s (tree.call (calls.Mark mark)) site self.old.walk) self.old) }
+        ensures stops { OnErr result ((s : Setting) (site : ℕ)
+            → Stops s (StatementDue s (tree.call (calls.Mark mark)) site self.old.walk) self.old) }
     {
         match mark {
             Mark::Disable => {

@@ -1,6 +1,7 @@
 //! A task of a program, under way.
 
-ghost use Rattle.std.specs.Prelude.{◌≡◌, ◌↔◌, ◌++◌, ◌^◌, ◌<◌, ◌≤◌, ◌⊎◌, ◌∷◌, [], ℕ, List, IfOk, IfSome, IsErrOf, IsNone, IsTrue, None, Option, Some, length, reverse, slice_get};
+ghost use Rattle.std.specs.Prelude.{◌≡◌, ◌↔◌, ◌++◌, ◌^◌, ◌<◌, ◌≤◌, ◌⊎◌, ◌∷◌, [], ℕ, List};
+ghost use Rattle.std.specs.Prelude.{IfOk, IfSome, IsErrOf, IsNone, IsTrue, None, Option, Some, length, reverse, slice_get};
 
 use crate::machine::Machine;
 use crate::points::{After, Before, Latest, News};
@@ -165,18 +166,22 @@ impl<'a> TaskRun<'a> {
         ensures says { IfSome result (λ step. Says self.now step) }
         ensures only { (s : Setting) (registers : ℕ) (body : Block) (records : List Record) → Leads s registers body records self.now
             → IfSome result (OnlyStep s registers body records) }
-        ensures none { (s : Setting) (registers : ℕ) (body : Block) (records : List Record) → (leads : Leads s registers body records self.now)
+        ensures none { (s : Setting) (registers : ℕ) (body : Block) (records : List Record)
+            → (leads : Leads s registers body records self.now)
             → (IsNone result ↔ (SpellsAll s registers body records ⊎ (IsStuck leads ⊎ IsStopped self.now))) }
         ensures over { (s : Setting) (registers : ℕ) (body : Block) (records : List Record) → Leads s registers body records self.now
             → WrittenOrder s registers body records → BlockScopes 0 body → block_rises body ≤ 2 ^ 32
             → (IsNone result ↔ (SpellsAll s registers body records ⊎ waits.IsStuck s registers body records)) }
-        ensures going { (s : Setting) (registers : ℕ) (body : Block) (records : List Record) → (leads : Leads s registers body records self.now)
+        ensures going { (s : Setting) (registers : ℕ) (body : Block) (records : List Record)
+            → (leads : Leads s registers body records self.now)
             → IsGoing self.now → (IsNone result ↔ IsStuck leads) }
-        ensures stops { (s : Setting) (registers : ℕ) (body : Block) (records : List Record) → (leads : Leads s registers body records self.now)
+        ensures stops { (s : Setting) (registers : ℕ) (body : Block) (records : List Record)
+            → (leads : Leads s registers body records self.now)
             → (step : Step) → Says self.now step → IsNone result → IsStuck leads }
         ensures within { (s : Setting) (registers : ℕ) (body : Block) (records : List Record) → Leads s registers body records self.now
             → WithinTurns s.rules.turns (reverse records)
-            → IfSome result (λ step. (answer : Answer) → WithinTurns s.rules.turns (reverse (records ++ made s.text.task step answer ∷ []))) }
+            → IfSome result (λ step. (answer : Answer)
+            → WithinTurns s.rules.turns (reverse (records ++ made s.text.task step answer ∷ []))) }
     {
         match self.stage {
             Stage::Over => None,
@@ -193,7 +198,8 @@ impl<'a> TaskRun<'a> {
 
     /// A wait of the task had as many vain tries as the rules allow.
     pub fn stuck(&self) -> bool
-        ensures stage { (s : Setting) (registers : ℕ) (body : Block) (records : List Record) → (leads : Leads s registers body records self.now)
+        ensures stage { (s : Setting) (registers : ℕ) (body : Block) (records : List Record)
+            → (leads : Leads s registers body records self.now)
             → (IsTrue result ↔ IsStuck leads) }
         ensures records { (s : Setting) (registers : ℕ) (body : Block) (records : List Record) → Leads s registers body records self.now
             → WrittenOrder s registers body records → BlockScopes 0 body → block_rises body ≤ 2 ^ 32
@@ -227,7 +233,8 @@ impl<'a> TaskRun<'a> {
         requires { (step : Step) × Says self.old step × Answers step answer }
         ensures leads { LeadsOn self.old self.new answer }
         ensures fell { FellAt self.old (fell_of self.new) answer }
-        ensures points { (s : Setting) (registers : ℕ) (body : Block) (records : List Record) → (leads : Leads s registers body records self.old)
+        ensures points { (s : Setting) (registers : ℕ) (body : Block) (records : List Record)
+            → (leads : Leads s registers body records self.old)
             → (step : Step) (begins : Option Begun) (steps : List Stepped) → Says self.old step → (¬ IsStuck leads)
             → BeginsNext s leads.part (stands_at leads []) leads.mine begins → HasMade steps self.old
             → HasMade (record { step = step; begins = is_some begins } ∷ steps) self.new }
@@ -269,7 +276,8 @@ impl<'a> TaskRun<'a> {
     pub fn before(&self) -> Before
         ensures { (s : Setting) (registers : ℕ) (body : Block) (records : List Record) → (leads : Leads s registers body records self.now)
             → (step : Step) (begins : Option Begun) (steps : List Stepped) → Says self.now step → (¬ IsStuck leads)
-            → BeginsNext s leads.part (stands_at leads []) leads.mine begins → HasMade steps self.now → result ≡ next_is steps step (is_some begins) }
+            → BeginsNext s leads.part (stands_at leads []) leads.mine begins → HasMade steps self.now
+            → result ≡ next_is steps step (is_some begins) }
     {
         match self.next() {
             Some(step) => self.news.latest.with_next(step, self.begins().is_some()),
