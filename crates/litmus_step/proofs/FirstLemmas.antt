@@ -1,5 +1,5 @@
 -- The list without a step is one of each run.
-use Rattle.std.proofs.Common.{◌≡◌, ◌≤◌, ◌<◌, ◌∙◌, ◌∷◌, ◌++◌, [], ℕ, zero, suc, Bool, List, Option, None, Some, IsSomeAnd, ap, arith, count_by, get_or, inl, inr, length, map, refl, slice_get, subst, sym}
+use Rattle.std.proofs.Common.{◌≡◌, ◌≤◌, ◌<◌, ◌^◌, ◌∙◌, ◌∷◌, ◌++◌, [], ℕ, zero, suc, Bool, List, Option, None, Some, IsSomeAnd, ap, arith, count_by, get_or, inl, inr, length, map, refl, slice_get, subst, sym}
 use Rattle.std.proofs.lemmas.Option.{get_or_from_slice_get, slice_get_cases}
 use mathlib.Core.Path.{fun_ext}
 use Rattle.std.specs.FinMap as finite
@@ -10,7 +10,7 @@ use Rattle.litmus_meaning.specs.Layout as layout
 use Rattle.litmus_meaning.specs.RunOfProgram.{setting_of}
 use Rattle.litmus_meaning.specs.TextSites.{IsOfText}
 use Rattle.litmus_syntax.specs.Limits.{KeepsLimits, TaskKeepsLimits}
-use Rattle.litmus_syntax.specs.Tree.{Program, Task}
+use Rattle.litmus_syntax.specs.Tree.{Program, Task, empty}
 use Rattle.litmus_syntax.specs.Views.{block_of, program_of, task_of as syntax_task_of}
 use Rattle.litmus_syntax.specs.declared.program.Contents.{Contents}
 use Rattle.litmus_syntax.specs.declared.program.Contents.TheVariants.{Atomic, Char, Int, Lock, Long, Short}
@@ -32,7 +32,8 @@ use Rattle.task_run.specs.Leads as task_run
 use Rattle.task_run.specs.declared.run.TaskRun.{TaskRun}
 use Rattle.written_order.specs.Standing as standing
 use Rattle.written_order.specs.Standing.{Setting}
-use Rattle.written_order.specs.WrittenOrder.{WrittenOrder, at_first}
+use Rattle.slot_table.specs.declared.records.Record.{Record}
+use Rattle.written_order.specs.WrittenOrder.{SpellsAll, WrittenOrder, at_first}
 
 -- the variables of a program are placed for each of its tasks
 abbrev pub ArePlacedInTasks : Type 0
@@ -46,16 +47,17 @@ AreSpelled = (s : Setting) (task : Task) → ArePlaced s → TaskKeepsLimits s.t
     → WrittenOrder s (length task.registers) task.body []
 
 pub first_can : ArePlacedInTasks → (run : Run) (places : List Place) → KeepsLimits run.program → run.places ≡ places_of places
-    → AreFit run.program.variables places → 3 ≤ run.rules.slots → CanBeMade run
-first_can placed run places limits are fit slots = record {
+    → AreFit run.program.variables places → 3 ≤ run.rules.slots → run.rules.turns < 2 ^ 64 → CanBeMade run
+first_can placed run places limits are fit slots turns = record {
   limits = limits;
   placed = λ task below. placed run.program places limits fit (task_setting run task) task below
       (ap (λ (p : List layout.Place). setting_of run.program p task) are);
   slots = slots;
+  turns = turns;
 }
 
 -- past the last task there is none that does anything
-past : (run : Run) (task : ℕ) → tasks_of run ≤ task → task_of run task ≡ idle
+pub past : (run : Run) (task : ℕ) → tasks_of run ≤ task → task_of run task ≡ idle
 past run task beyond = over run.program.tasks task beyond
   where
     over : (tasks : List Task) (at : ℕ) → length tasks ≤ at → get_or tasks at idle ≡ idle
@@ -66,6 +68,18 @@ past run task beyond = over run.program.tasks task beyond
 within : (task : Task) (s : Setting) → task ≡ idle → WrittenOrder s (length task.registers) task.body []
 within task s is = subst (λ (t : Task). WrittenOrder s (length t.registers) t.body []) (sym is)
     (record { more = []; whole = record { end = at_first 0; steps = (refl, refl) } })
+
+-- a task that does nothing has made no step, and has ended
+pub idle_has_ended : (s : Setting) (task : Task) (records : List Record) → task ≡ idle
+    → WrittenOrder s (length task.registers) task.body records → SpellsAll s (length task.registers) task.body records
+idle_has_ended s task records is =
+    subst (λ (t : Task). WrittenOrder s (length t.registers) t.body records → SpellsAll s (length t.registers) t.body records)
+    (sym is) (λ w. subst (SpellsAll s 0 empty) (all_made records w.more w.whole.steps.1) w.whole)
+  where
+    all_made : (made more : List Record) → [] ≡ made ++ more → made ++ more ≡ made
+    all_made [] [] none = refl
+    all_made [] (later ∷ more) none = absurd (cc)
+    all_made (made ∷ rest) more none = absurd (cc)
 
 in_order : AreSpelled → (run : Run) → CanBeMade run → (task : ℕ) → InWrittenOrder run task []
 in_order spelled run can task =

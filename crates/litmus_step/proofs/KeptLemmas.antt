@@ -34,17 +34,17 @@ OneMoreIsReported = (run : Run) (latest : Record) (earlier : List Record) (befor
     → reports_of other ≡ reports_of one ++ option_to_list (reported noted.outcome before)
 
 -- what is reported by a list, as far as there is room for it
-record AreReported (reports : List Report) (room : ℕ) (all : List Report) : Type 0 where
+record AreFirst (reports : List Report) (room : ℕ) (all : List Report) : Type 0 where
   later : List Report
   reported : reports ++ later ≡ all
   full : (later ≡ []) ⊎ (room ≤ length reports)
 
 -- what is added to the reports is what the list reports more
-more_reports : (report : Option Report) (room : ℕ) (before after told all : List Report) → AreReported before room told
-    → all ≡ told ++ option_to_list report → Added report room before after → AreReported after room all
+more_reports : (report : Option Report) (room : ℕ) (before after told all : List Report) → AreFirst before room told
+    → all ≡ told ++ option_to_list report → Added report room before after → AreFirst after room all
 more_reports None room before after told all so_far more added =
-    subst (λ (rs : List Report). AreReported rs room all) (sym added)
-    (subst (λ (rs : List Report). AreReported before room rs) (sym (more ∙ append-nil told)) so_far)
+    subst (λ (rs : List Report). AreFirst rs room all) (sym added)
+    (subst (λ (rs : List Report). AreFirst before room rs) (sym (more ∙ append-nil told)) so_far)
 more_reports (Some report) room before after told all so_far more added =
     elim added [
       | inl pushed ↦
@@ -102,29 +102,29 @@ pub kept_more : OneMoreIsNoted → OthersAreNoted → OneMoreIsReported → (run
     → AreKept other (set logs latest.task after) after_reports room
 kept_more one_more others_noted reported_more run latest earlier one other logs reports after_reports room log after noted report
     kept stands there is_noted in_log added =
-    let so_far = kept.each latest.task log stands in
+    let so_far = kept.logs_are.each latest.task log stands in
+    let told = kept.reports_are in
     let grown = more_reports report room reports after_reports (reports_of one) (reports_of other)
-    (record { later = kept.later; reported = kept.reported; full = kept.full })
+    (record { later = told.later; reported = told.reported; full = told.full })
     (reported_more run latest earlier so_far.noted noted one other so_far.notes is_noted
     ∙ ap (λ (r : Option Report). reports_of one ++ option_to_list r) (sym (in_log.reported accesses_kept watches_kept so_far.noted so_far.keeps)))
     added in
     record {
-      all = length-set logs latest.task after ∙ kept.all;
-      each = by_task (λ t. (l : TaskLog) → slice_get (set logs latest.task after) t ≡ Some l → IsKept other t l) latest.task
-          (λ l is. subst (IsKept other latest.task) (same_some after l (sym (set_here logs latest.task after there) ∙ is)) (record {
-            noted = noted ∷ so_far.noted;
-            notes = one_more run latest earlier so_far.noted noted one other so_far.notes is_noted;
-            keeps = in_log.keeps accesses_kept watches_kept so_far.noted so_far.keeps;
-          }))
-          (λ t apart l is.
-          let old = kept.each t l (sym (set_other logs latest.task t after apart) ∙ is) in
-          record {
-            noted = old.noted;
-            notes = others_noted run latest earlier t old.noted one other apart old.notes;
-            keeps = old.keeps;
-          });
-      later = grown.later;
-      reported = grown.reported;
-      full = grown.full;
-      space = kept.space;
+      logs_are = record {
+        all = length-set logs latest.task after ∙ kept.logs_are.all;
+        each = by_task (λ t. (l : TaskLog) → slice_get (set logs latest.task after) t ≡ Some l → IsKept other t l) latest.task
+            (λ l is. subst (IsKept other latest.task) (same_some after l (sym (set_here logs latest.task after there) ∙ is)) (record {
+              noted = noted ∷ so_far.noted;
+              notes = one_more run latest earlier so_far.noted noted one other so_far.notes is_noted;
+              keeps = in_log.keeps accesses_kept watches_kept so_far.noted so_far.keeps;
+            }))
+            (λ t apart l is.
+            let old = kept.logs_are.each t l (sym (set_other logs latest.task t after apart) ∙ is) in
+            record {
+              noted = old.noted;
+              notes = others_noted run latest earlier t old.noted one other apart old.notes;
+              keeps = old.keeps;
+            });
+      };
+      reports_are = record { later = grown.later; reported = grown.reported; full = grown.full; space = told.space };
     }

@@ -3,6 +3,8 @@ pub mod StepLemmas
 pub mod FirstLemmas
 pub mod OrderLemmas
 pub mod TurnLemmas
+pub mod FurtherLemmas
 pub mod MakeLemmas
 pub mod RoundLemmas
 pub mod KeptLemmas
+pub mod ReaderLemmas

@@ -1,5 +1,5 @@
 -- A world after one step more, by what is changed in it.
-use Rattle.std.proofs.Common.{Option, ap, inl, inr, ◌∙◌, ◌≡◌, ◌<◌, ◌≤◌, ◌+◌, ◌-◌, ◌*◌, ◌^◌, ◌∷◌, [], ℕ, List, Some, length, vec_capacity, arith, get_or, refl, set, slice_get, subst, sym}
+use Rattle.std.proofs.Common.{Option, ap, inl, inr, ◌∙◌, ◌≡◌, ◌<◌, ◌≤◌, ◌+◌, ◌*◌, ◌∷◌, [], ℕ, List, Some, length, vec_capacity, arith, get_or, refl, set, slice_get, subst, sym}
 use Rattle.run_lists.specs.Run.{Run, first_words, task_setting}
 use Rattle.run_lists.specs.RunList.{RunList}
 use Rattle.setup_access.specs.Parts.{made}
@@ -81,17 +81,12 @@ pub first_kept : ((run : Run) (list : RunList run []) → (task : ℕ) → Notes
     → ((task : ℕ) (log : TaskLog) → slice_get logs task ≡ Some log → Keeps accesses_kept watches_kept [] log)
     → reports ≡ [] → tasks_of run * watches_kept ≤ room → AreKept list logs reports room
 first_kept none run list logs reports room all each empty space = record {
-  all = all;
-  each = λ task log stands. record { noted = []; notes = none run list task; keeps = each task log stands };
-  later = [];
-  reported = append-nil reports ∙ empty;
-  full = inl refl;
-  space = space;
+  logs_are = record {
+    all = all;
+    each = λ task log stands. record { noted = []; notes = none run list task; keeps = each task log stands };
+  };
+  reports_are = record { later = []; reported = append-nil reports ∙ empty; full = inl refl; space = space };
 }
-
--- a count of steps is small
-pub is_small : (steps n : ℕ) → steps ≡ up_to_last n → steps ≤ 2 ^ 64 - 1
-is_small steps n is = rw is (omega arith)
 
 -- where a task's log notes the step that its machine makes, what is kept is what the list says still
 abbrev pub StepsKeep : Type 0
@@ -126,7 +121,7 @@ pub noted_more : StepsKeep → (world : World) (task : ℕ) (step : Step) (answe
     → (run : Run) (records : List Record) → LeadsTo run records world → (list : RunList run (made task step answer ∷ records))
     → AreKept list logs reports room
 noted_more keep world task step answer old begins fell logs reports room below stands says begun fallen notes same_room run records leads list =
-    let logs_all = leads.kept.all in
+    let logs_all = leads.kept.logs_are.all in
     let tasks_all = leads.tasks.all in
     let tasks_len = world.tasks.ok.0 in
     let there : task < length world.logs.items = omega (arith, below, logs_all, tasks_all, tasks_len) in

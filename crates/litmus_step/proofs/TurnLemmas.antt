@@ -1,43 +1,77 @@
 -- Steps, one after the other.
-use Rattle.std.proofs.Common.{◌≡◌, ◌↔◌, ◌≢◌, ◌⊎◌, ◌++◌, ◌∙◌, ◌<◌, ◌≤◌, ◌+◌, ◌-◌, ◌^◌, ◌∷◌, [], ℕ, List, Some, ap, arith, get_or, inl, inr, length, refl, replicate, slice_get, subst, sym}
+use Rattle.std.proofs.Common.{◌≡◌, ◌↔◌, ◌≢◌, ◌≤◌, ◌++◌, ◌∙◌, ◌<◌, ◌∷◌, [], ℕ, List, Some, ap, arith, get_or, inl, inr, length, refl, replicate, reverse, slice_get, subst, sym}
 use Rattle.std.proofs.lemmas.Bool.Decides.{eqb_tells}
-use Rattle.std.proofs.lemmas.Option.{slice_get-get_or, slice_get_cases, slice_get_read}
-use Rattle.run_lists.specs.Run.{Run}
-use Rattle.slot_table.specs.declared.records.Record.{Record}
-use Rattle.step_schedule.specs.Order as order
-use Rattle.step_schedule.specs.Order.{AreAsked, IsAsked}
+use Rattle.std.proofs.lemmas.List.{append-nil}
+use Rattle.std.proofs.lemmas.Option.{slice_get-get_or, slice_get_cases, slice_get_read, slice_get_within}
+use Rattle.litmus_step.proofs.FirstLemmas.{idle_has_ended, past as none_beyond}
 use Rattle.litmus_step.proofs.OrderLemmas.{asked_ended, asked_none, asked_one, asked_then}
-use Rattle.litmus_step.specs.Runs.{HasEnded, tasks_of}
-use Rattle.litmus_step.specs.Steps.{IsAtEnd, IsFree, IsMachine, IsOver, IsStuck, LeadsTo, MakesNoStep, StepsOn, Tells, tasks_in}
+use Rattle.litmus_step.specs.Runs.{HasEnded, IsStuck, tasks_of}
+use Rattle.litmus_step.specs.Steps.{IsMachine, IsOver, LeadsTo, Reaches, StepsOn, Tells, tasks_in}
 use Rattle.litmus_step.specs.Turns.{AllHaveEnded, Asked, NobodyIsStuck, known_of, point}
 use Rattle.litmus_step.specs.declared.world.Stepped.{Stepped}
 use Rattle.litmus_step.specs.declared.world.Stepped.TheVariants.{Ended, Moved, Stuck}
 use Rattle.litmus_step.specs.declared.world.World.{World}
-use Rattle.task_plan.specs.Counts.{up_to_last}
-use Rattle.task_run.specs.Leads as task_run
-use Rattle.task_run.specs.Says as says
+use Rattle.litmus_syntax.specs.Limits.{TaskKeepsLimits}
+use Rattle.run_lists.specs.Run.{Run, idle, task_of, task_setting}
+use Rattle.slot_table.specs.Records.{records_of}
+use Rattle.slot_table.specs.declared.records.Record.{Record}
+use Rattle.step_schedule.specs.Order as order
+use Rattle.step_schedule.specs.Order.{AreAsked, IsAsked}
 use Rattle.task_run.specs.declared.run.TaskRun.{TaskRun}
-use Rattle.written_order.specs.Standing.{Setting}
 use Rattle.written_order.specs.WrittenOrder.{SpellsAll}
-use Rattle.litmus_syntax.specs.Tree.{Block}
 
-pub nobody_at : (run : Run) (records : List Record) (world : World) → NobodyIsStuck world
+-- the records of a task reach its machine
+pub reaches : (run : Run) (records : List Record) (world : World) (task : ℕ) (machine : TaskRun)
+    → LeadsTo run records world → IsMachine world task machine
+    → Reaches (task_setting run task) (length (task_of run task).registers) (task_of run task).body
+    (reverse (records_of task records)) machine
+reaches run records world task machine leads stands =
+    let there : task < length world.tasks.items = slice_get_within world.tasks.items task machine stands in
+    let below : task < tasks_of run = subst (λ n. task < n) leads.tasks.all there in
+    let limits : TaskKeepsLimits run.program.variables (task_of run task) = leads.can.limits.each_task task idle below in
+    record {
+      leads = leads.tasks.each task machine stands;
+      written = leads.list.tasks task;
+      scopes = limits.body.scopes;
+      rises = limits.rises;
+    }
+
+-- a task that has made the steps of its whole text isn't stuck
+pub not_both : (run : Run) (records : List Record) (task : ℕ) → IsStuck run task records → HasEnded run task records → ⊥
+not_both run records task stuck ended = stuck.only [] (subst (SpellsAll _ _ _) (sym (append-nil _)) ended)
+
+-- none is stuck, by whatever list leads to the world
+pub nobody_at : (run : Run) (records : List Record) (world : World) → LeadsTo run records world → NobodyIsStuck world
     → order.NobodyIsStuck (known_of run) (tasks_of run) (point records world)
-nobody_at run records world nobody = λ task below stuck.
-    nobody task stuck.machine stuck.stands _ _ _ _ stuck.leads stuck.stuck
+nobody_at run records world leads nobody = λ task below stuck.
+    let there : task < length world.tasks.items = subst (λ n. task < n) (sym leads.tasks.all) below in
+    elim (slice_get_cases world.tasks.items task).1 [
+      | inl here ↦ nobody task here.0 here.2 _ _ _ _ (reaches run records world task here.0 leads here.2) stuck
+      | inr past ↦ absurd (omega (arith, there, past.0))
+    ]
 
 pub asked_nothing : (world : World) → Asked world [] world
 asked_nothing world = λ run records leads. (records, leads, asked_none (known_of run) (tasks_of run) (point records world))
 
+-- a task of the world is one of the run
+task_below : (run : Run) (records : List Record) (world : World) (task : ℕ) → LeadsTo run records world → task < tasks_in world
+    → task < tasks_of run
+task_below run records world task leads there =
+    let len = world.tasks.ok.0 in
+    let all = leads.tasks.all in
+    omega (arith, there, len, all)
+
 -- a task is asked once more
-pub asked_more : (first before after : World) (order : List ℕ) (task : ℕ) → Asked first order before → NobodyIsStuck before
+pub asked_more : (first before after : World) (order : List ℕ) (task : ℕ) → task < tasks_in before
+    → Asked first order before → NobodyIsStuck before
     → ((run : Run) (records : List Record) → LeadsTo run records before → StepsOn run records task before after)
     → Asked first (order ++ task ∷ []) after
-asked_more first before after order task asked nobody steps = λ run records leads.
+asked_more first before after order task there asked nobody steps = λ run records leads.
     let so_far = asked run records leads in
     let now = so_far.0 in
     let here = so_far.1 in
-    let free = nobody_at run now before nobody in
+    let below = task_below run now before task here there in
+    let free = nobody_at run now before here nobody in
     let then : (to : World) (more : List Record) → LeadsTo run more to → IsAsked (known_of run) task (point now before) (point more to)
     → (all : List Record) × LeadsTo run all to
     × AreAsked (known_of run) (tasks_of run) (point records first) (order ++ task ∷ []) (point all to) =
@@ -51,18 +85,18 @@ asked_more first before after order task asked nobody steps = λ run records lea
       | inl rests ↦ then after now (subst (LeadsTo run now) (sym rests.1) here)
           (inl (
             elim rests.0 [
-              | inl stuck ↦ absurd (nobody task stuck.machine stuck.stands _ _ _ _ stuck.leads stuck.stuck)
-              | inr ended ↦ ended
+              | inl ended ↦ ended
+              | inr stuck ↦ absurd (free task below stuck)
             ],
             ap (λ (w : World). point now w) rests.1,
           ))
       | inr moves ↦ then after (moves.1.made ∷ now) moves.1.leads
-          (inr ((λ ended. moves.0 (inr ended)), (moves.1.made, moves.1.own, refl, moves.1.leads)))
+          (inr ((λ ended. moves.0 (inl ended)), (moves.1.made, moves.1.own, refl, moves.1.leads)))
     ]
 
 -- a task that has ended is asked more often
 pub asked_in_vain : (first world : World) (order : List ℕ) (task times : ℕ) → Asked first order world → NobodyIsStuck world
-    → ((run : Run) (records : List Record) → LeadsTo run records world → IsAtEnd run records world task)
+    → ((run : Run) (records : List Record) → LeadsTo run records world → HasEnded run task records)
     → Asked first (order ++ replicate times task) world
 asked_in_vain first world order task times asked nobody ended = λ run records leads.
     let so_far = asked run records leads in (
@@ -70,7 +104,8 @@ asked_in_vain first world order task times asked nobody ended = λ run records l
       so_far.1,
       asked_then (known_of run) (tasks_of run) (point records first) (point so_far.0 world) (point so_far.0 world)
           order (replicate times task) so_far.2
-          (asked_ended (known_of run) (tasks_of run) (point so_far.0 world) task times (nobody_at run so_far.0 world nobody)
+          (asked_ended (known_of run) (tasks_of run) (point so_far.0 world) task times
+          (nobody_at run so_far.0 world so_far.1 nobody)
           (ended run so_far.0 so_far.1)),
     )
 
@@ -111,88 +146,32 @@ pub same_machine : (world : World) (task : ℕ) (here machine : TaskRun) → tas
 same_machine world task here machine below is stands =
     some_same here machine (sym (machine_at world task here below is) ∙ stands)
 
--- by what is told of the machine: whether the task has ended, and whether it is stuck
+-- by what is told of the machine: whether the task is stuck, and whether it has ended
 pub tells_stuck : (run : Run) (records : List Record) (world : World) (task : ℕ) (told : Stepped) (machine : TaskRun)
-    → LeadsTo run records world → IsMachine world task machine → Tells told machine
-    → told ≡ Stuck ↔ IsStuck run records world task
+    → LeadsTo run records world → IsMachine world task machine → Tells told machine → told ≡ Stuck ↔ IsStuck run task records
 tells_stuck run records world task Moved machine leads stands tells = (
   λ (no : Moved ≡ Stuck). absurd (cc),
-  λ stuck. absurd (subst IsFree (some_same machine stuck.machine (sym stands ∙ stuck.stands)) tells.0
-      _ _ _ _ stuck.leads stuck.stuck),
+  λ stuck. absurd (tells.0 _ _ _ _ (reaches run records world task machine leads stands) stuck),
 )
 tells_stuck run records world task Ended machine leads stands tells = (
   λ (no : Ended ≡ Stuck). absurd (cc),
-  λ stuck. absurd (subst IsFree (some_same machine stuck.machine (sym stands ∙ stuck.stands)) tells.0
-      _ _ _ _ stuck.leads stuck.stuck),
+  λ stuck. absurd (tells.0 _ _ _ _ (reaches run records world task machine leads stands) stuck),
 )
 tells_stuck run records world task Stuck machine leads stands tells =
-    let led = leads.tasks.each task machine stands in
-    (λ same. record { machine = machine; stands = stands; leads = led; stuck = tells _ _ _ _ led }, λ stuck. refl)
+    (λ same. tells _ _ _ _ (reaches run records world task machine leads stands), λ stuck. refl)
 
 pub tells_ended : (run : Run) (records : List Record) (world : World) (task : ℕ) (told : Stepped) (machine : TaskRun)
-    → LeadsTo run records world → IsMachine world task machine → Tells told machine
-    → told ≡ Ended ↔ ((¬ IsStuck run records world task) × IsAtEnd run records world task)
-tells_ended run records world task Moved machine leads stands tells =
-    let led = leads.tasks.each task machine stands in (
-      λ (no : Moved ≡ Ended). absurd (cc),
-      λ both. absurd (elim both.1 [
-        | inl spelled ↦ tells.1 _ _ _ _ led (inl spelled)
-        | inr stopped ↦ tells.1 _ _ _ _ led (inr (subst says.IsStopped (some_same stopped.machine machine (sym stopped.stands ∙ stands)) stopped.stopped))
-      ]),
-    )
+    → LeadsTo run records world → IsMachine world task machine → Tells told machine → told ≡ Ended ↔ HasEnded run task records
+tells_ended run records world task Moved machine leads stands tells = (
+  λ (no : Moved ≡ Ended). absurd (cc),
+  λ ended. absurd (tells.1 _ _ _ _ (reaches run records world task machine leads stands) ended),
+)
 tells_ended run records world task Ended machine leads stands tells =
-    let led = leads.tasks.each task machine stands in (
-      λ same. (
-        λ stuck. absurd (subst IsFree (some_same machine stuck.machine (sym stands ∙ stuck.stands)) tells.0 _ _ _ _ stuck.leads stuck.stuck),
-        elim (tells.1 _ _ _ _ led) [
-          | inl spelled ↦ inl spelled
-          | inr stopped ↦ inr (record { machine = machine; stands = stands; stopped = stopped })
-        ],
-      ),
-      λ both. refl,
-    )
-tells_ended run records world task Stuck machine leads stands tells =
-    let led = leads.tasks.each task machine stands in (
-      λ (no : Stuck ≡ Ended). absurd (cc),
-      λ both.
-          absurd (both.0 (record { machine = machine; stands = stands; leads = led; stuck = tells _ _ _ _ led })),
-    )
-
--- where the machine has no next step the task makes none
-pub no_step : (run : Run) (records : List Record) (world : World) (task : ℕ) (machine : TaskRun)
-    → (leads : LeadsTo run records world) → (stands : IsMachine world task machine)
-    → HasEnded run task records ⊎ (task_run.IsStuck (leads.tasks.each task machine stands) ⊎ says.IsStopped machine)
-    → MakesNoStep run records world task
-no_step run records world task machine leads stands why =
-    elim why [
-      | inl spelled ↦ inr (inl spelled)
-      | inr rest ↦ elim rest [
-        | inl stuck ↦ inl (record { machine = machine; stands = stands; leads = leads.tasks.each task machine stands; stuck = stuck })
-        | inr stopped ↦ inr (inr (record { machine = machine; stands = stands; stopped = stopped }))
-      ]
-    ]
-
--- where it has one the task makes one: whatever leads to the machine, this is why it would have none
-pub some_step : (run : Run) (records : List Record) (world : World) (task : ℕ) (machine : TaskRun)
-    → LeadsTo run records world → IsMachine world task machine
-    → ((s : Setting) (registers : ℕ) (body : Block) (all : List Record) → (led : task_run.Leads s registers body all machine)
-    → ¬ (SpellsAll s registers body all ⊎ (task_run.IsStuck led ⊎ says.IsStopped machine)))
-    → ¬ MakesNoStep run records world task
-some_step run records world task machine leads stands has none =
-    let led = leads.tasks.each task machine stands in
-    elim none [
-      | inl stuck ↦
-          let free : IsFree machine = λ s registers body all l vain. has s registers body all l (inr (inl vain)) in
-          subst IsFree (some_same machine stuck.machine (sym stands ∙ stuck.stands)) free _ _ _ _ stuck.leads stuck.stuck
-      | inr ended ↦ elim ended [
-        | inl spelled ↦ has _ _ _ _ led (inl spelled)
-        | inr stopped ↦ has _ _ _ _ led (inr (inr (subst says.IsStopped (some_same stopped.machine machine (sym stopped.stands ∙ stands)) stopped.stopped)))
-      ]
-    ]
-
--- a count that has had one more is no less
-pub no_less : (n m : ℕ) → n ≤ 2 ^ 64 - 1 → m ≡ up_to_last (n + 1) → n ≤ m
-no_less n m small is = rw is (omega (arith, small))
+    (λ same. tells.1 _ _ _ _ (reaches run records world task machine leads stands), λ ended. refl)
+tells_ended run records world task Stuck machine leads stands tells = (
+  λ (no : Stuck ≡ Ended). absurd (cc),
+  λ ended. absurd (not_both run records task (tells _ _ _ _ (reaches run records world task machine leads stands)) ended),
+)
 
 -- each task of the world has a machine
 pub some_machine : (world : World) (task : ℕ) (otherwise : TaskRun) → task < tasks_in world
@@ -205,18 +184,15 @@ some_machine world task otherwise below =
 pub ended_at : (world : World)
     → ((task : ℕ) (machine : TaskRun) → task < tasks_in world → IsMachine world task machine → IsOver machine)
     → AllHaveEnded world
-ended_at world over = λ run records leads task below.
+ended_at world over = λ run records leads task.
     let len = world.tasks.ok.0 in
-    let there : task < length world.tasks.items = omega (arith, below, len) in
+    let all = leads.tasks.all in
     elim (slice_get_cases world.tasks.items task).1 [
-      | inl here ↦ at_end run records task here.0 leads here.2 (over task here.0 below here.2)
-      | inr past ↦ absurd (omega (arith, there, past.0))
+      | inl here ↦
+          let there = here.1 in
+          over task here.0 (omega (arith, there, len)) here.2 _ _ _ _ (reaches run records world task here.0 leads here.2)
+      | inr past ↦
+          let beyond = past.0 in
+          idle_has_ended (task_setting run task) (task_of run task) (reverse (records_of task records))
+          (none_beyond run task (omega (arith, beyond, all))) (leads.list.tasks task)
     ]
-  where
-    at_end : (run : Run) (records : List Record) (task : ℕ) (machine : TaskRun) → LeadsTo run records world
-        → IsMachine world task machine → IsOver machine → IsAtEnd run records world task
-    at_end run records task machine leads stands is =
-        elim (is _ _ _ _ (leads.tasks.each task machine stands)) [
-          | inl spelled ↦ inl spelled
-          | inr stopped ↦ inr (record { machine = machine; stands = stands; stopped = stopped })
-        ]

@@ -26,15 +26,25 @@ pub record IsKept {run : Run} {records : List Record} (list : RunList run record
   pub notes : Notes list task noted
   pub keeps : Keeps accesses_kept watches_kept noted log
 
--- So it is of each task. The reports are the first of those that the list reports: all, as long as there is room.
-pub record AreKept {run : Run} {records : List Record} (list : RunList run records) (logs : List TaskLog)
-    (reports : List Report) (room : ℕ) : Type 0 where
+-- so it is of each task
+pub record AreLogs {run : Run} {records : List Record} (list : RunList run records) (logs : List TaskLog) : Type 0 where
   pub all : length logs ≡ tasks_of run
   pub each : (task : ℕ) (log : TaskLog) → slice_get logs task ≡ Some log → IsKept list task log
+
+-- The reports are the first of those that the list reports: all, as long as there is room, which there is for each
+-- watchpoint.
+pub record AreReported {run : Run} {records : List Record} (list : RunList run records) (reports : List Report)
+    (room : ℕ) : Type 0 where
   pub later : List Report
   pub reported : reports ++ later ≡ reports_of list
   pub full : (later ≡ []) ⊎ (room ≤ length reports)
   pub space : tasks_of run * watches_kept ≤ room
+
+-- what is kept of all tasks
+pub record AreKept {run : Run} {records : List Record} (list : RunList run records) (logs : List TaskLog)
+    (reports : List Report) (room : ℕ) : Type 0 where
+  pub logs_are : AreLogs list logs
+  pub reports_are : AreReported list reports room
 
 -- a step is noted in a log, and this is reported at it
 pub record IsNotedIn (before : TaskLog) (noted : Noted) (after : TaskLog) (report : Option Report) : Type 0 where

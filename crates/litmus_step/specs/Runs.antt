@@ -1,5 +1,5 @@
 -- The run of a program under some settings, and what is asked of a run.
-use Rattle.std.specs.Prelude.{◌<◌, ◌≤◌, ℕ, List, length, reverse}
+use Rattle.std.specs.Prelude.{◌<◌, ◌≤◌, ◌^◌, ℕ, List, length, reverse}
 use Rattle.access_types.specs.Sites.{AccessMap}
 use Rattle.litmus_syntax.specs.Limits.{KeepsLimits}
 use Rattle.litmus_syntax.specs.Views.{program_of}
@@ -11,6 +11,7 @@ use Rattle.slot_table.specs.declared.records.Record.{Record}
 use Rattle.spelled_texts.specs.Fits.{ArePlaced}
 use Rattle.litmus_step.specs.Settings.{rules_of}
 use Rattle.litmus_step.specs.declared.settings.Settings.{Settings}
+use Rattle.written_order.specs.Waits as waits
 use Rattle.written_order.specs.WrittenOrder.{SpellsAll}
 
 -- the run of a program under these settings, where tickets name these accesses
@@ -26,14 +27,21 @@ run_of program settings sites = record {
 abbrev pub tasks_of : Run → ℕ
 tasks_of run = length run.program.tasks
 
--- the program keeps the limits, its variables are placed for each task, and there are page slots
+-- the program keeps the limits, its variables are placed for each task, there are page slots, and a wait has an end
 pub record CanBeMade (run : Run) : Type 0 where
   pub limits : KeepsLimits run.program
   pub placed : (task : ℕ) → task < tasks_of run → ArePlaced (task_setting run task)
   pub slots : 3 ≤ run.rules.slots
+  pub turns : run.rules.turns < 2 ^ 64
 
 -- by its records in the list a task has made the steps of its whole text
 abbrev pub HasEnded : Run → ℕ → List Record → Type 0
 HasEnded run task records =
     SpellsAll (task_setting run task) (length (task_of run task).registers) (task_of run task).body
+    (reverse (records_of task records))
+
+-- by its records in the list a task is in a wait that had as many vain tries as are allowed
+abbrev pub IsStuck : Run → ℕ → List Record → Type 0
+IsStuck run task records =
+    waits.IsStuck (task_setting run task) (length (task_of run task).registers) (task_of run task).body
     (reverse (records_of task records))

@@ -1,18 +1,19 @@
 -- Which lists of steps lead to a world, and what a step of a task does to it.
-use Rattle.std.specs.Prelude.{◌≡◌, ◌⊎◌, ◌∷◌, ℕ, List, Some, slice_get, vec_capacity, vec_len}
-use Rattle.litmus_syntax.specs.Tree.{Block}
-use Rattle.run_lists.specs.Run.{Run}
-use Rattle.slot_table.specs.declared.records.Record.{Record}
-use Rattle.litmus_step.specs.Leads.{LeadsTask, LeadsToAll}
-use Rattle.litmus_step.specs.Runs.{HasEnded}
+use Rattle.std.specs.Prelude.{◌≡◌, ◌⊎◌, ◌≤◌, ◌^◌, ◌∷◌, ℕ, List, Some, slice_get, vec_capacity, vec_len}
+use Rattle.litmus_step.specs.Leads.{LeadsToAll}
+use Rattle.litmus_step.specs.Runs.{HasEnded, IsStuck}
 use Rattle.litmus_step.specs.declared.world.Stepped.{Stepped}
 use Rattle.litmus_step.specs.declared.world.Stepped.TheVariants.{Ended, Moved, Stuck}
 use Rattle.litmus_step.specs.declared.world.World.{World}
-use Rattle.task_run.specs.Leads as task_run
-use Rattle.task_run.specs.Says as says
+use Rattle.litmus_syntax.specs.Limits.{BlockScopes, block_rises}
+use Rattle.litmus_syntax.specs.Tree.{Block}
+use Rattle.run_lists.specs.Run.{Run}
+use Rattle.slot_table.specs.declared.records.Record.{Record}
+use Rattle.task_run.specs.Leads.{Leads}
 use Rattle.task_run.specs.declared.run.TaskRun.{TaskRun}
 use Rattle.written_order.specs.Standing.{Setting}
-use Rattle.written_order.specs.WrittenOrder.{SpellsAll}
+use Rattle.written_order.specs.Waits as waits
+use Rattle.written_order.specs.WrittenOrder.{SpellsAll, WrittenOrder}
 
 -- the list, the latest record first, is a run list and leads to the world
 abbrev pub LeadsTo : Run → List Record → World → Type 0
@@ -28,26 +29,9 @@ tasks_in world = vec_len world.tasks
 abbrev pub IsMachine : World → ℕ → TaskRun → Type 0
 IsMachine world task machine = slice_get world.tasks.items task ≡ Some machine
 
--- a wait of the task had as many vain tries as are allowed
-pub record IsStuck (run : Run) (records : List Record) (world : World) (task : ℕ) : Type 0 where
-  pub machine : TaskRun
-  pub stands : IsMachine world task machine
-  pub leads : LeadsTask run task records machine
-  pub stuck : task_run.IsStuck leads
-
--- what is due in the task needs more than its machine has room for
-pub record IsStopped (world : World) (task : ℕ) : Type 0 where
-  pub machine : TaskRun
-  pub stands : IsMachine world task machine
-  pub stopped : says.IsStopped machine
-
--- the task has made the steps of its whole text
-abbrev pub IsAtEnd : Run → List Record → World → ℕ → Type 0
-IsAtEnd run records world task = HasEnded run task records ⊎ IsStopped world task
-
--- the task makes no step more
-abbrev pub MakesNoStep : Run → List Record → World → ℕ → Type 0
-MakesNoStep run records world task = IsStuck run records world task ⊎ IsAtEnd run records world task
+-- the task makes no step more: it has made those of its whole text, or is stuck
+abbrev pub MakesNoStep : Run → List Record → ℕ → Type 0
+MakesNoStep run records task = HasEnded run task records ⊎ IsStuck run task records
 
 -- one record more of the task leads on
 pub record MovesOn (run : Run) (records : List Record) (task : ℕ) (after : World) : Type 0 where
@@ -59,30 +43,36 @@ pub record MovesOn (run : Run) (records : List Record) (task : ℕ) (after : Wor
 -- the task, leads on.
 abbrev pub StepsOn : Run → List Record → ℕ → World → World → Type 0
 StepsOn run records task before after =
-    (MakesNoStep run records before task × (after ≡ before))
-    ⊎ ((¬ MakesNoStep run records before task) × MovesOn run records task after)
+    (MakesNoStep run records task × (after ≡ before))
+    ⊎ ((¬ MakesNoStep run records task) × MovesOn run records task after)
 
--- whatever records lead to a machine, it is not in a wait with as many vain tries as are allowed
+-- records in the written order of a text that keeps the limits lead to a machine
+pub record Reaches (s : Setting) (registers : ℕ) (body : Block) (records : List Record) (machine : TaskRun) :
+    Type 0 where
+  pub leads : Leads s registers body records machine
+  pub written : WrittenOrder s registers body records
+  pub scopes : BlockScopes 0 body
+  pub rises : block_rises body ≤ 2 ^ 32
+
+-- whatever records reach a machine, they leave the task in no wait with as many vain tries as are allowed
 abbrev pub IsFree : TaskRun → Type 0
 IsFree machine = (s : Setting) (registers : ℕ) (body : Block) (records : List Record)
-    → (leads : task_run.Leads s registers body records machine) → ¬ task_run.IsStuck leads
+    → Reaches s registers body records machine → ¬ waits.IsStuck s registers body records
 
--- whatever records lead to it, it is in such a wait
+-- whatever records reach it, they leave the task in such a wait
 abbrev pub IsInVain : TaskRun → Type 0
 IsInVain machine = (s : Setting) (registers : ℕ) (body : Block) (records : List Record)
-    → (leads : task_run.Leads s registers body records machine) → task_run.IsStuck leads
+    → Reaches s registers body records machine → waits.IsStuck s registers body records
 
--- whatever records lead to it, they spell its whole text
+-- whatever records reach it, they spell the task's whole text
 abbrev pub IsOver : TaskRun → Type 0
 IsOver machine = (s : Setting) (registers : ℕ) (body : Block) (records : List Record)
-    → task_run.Leads s registers body records machine
-    → SpellsAll s registers body records ⊎ says.IsStopped machine
+    → Reaches s registers body records machine → SpellsAll s registers body records
 
--- whatever records lead to it, they don't
+-- whatever records reach it, they don't
 abbrev pub GoesOn : TaskRun → Type 0
 GoesOn machine = (s : Setting) (registers : ℕ) (body : Block) (records : List Record)
-    → task_run.Leads s registers body records machine
-    → ¬ (SpellsAll s registers body records ⊎ says.IsStopped machine)
+    → Reaches s registers body records machine → ¬ SpellsAll s registers body records
 
 -- what is told of a machine
 abbrev pub Tells : Stepped → TaskRun → Type 0

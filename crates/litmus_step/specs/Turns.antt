@@ -1,11 +1,12 @@
 -- What is known of the tasks of a world that a list leads to, and worlds to which tasks that are asked lead.
-use Rattle.std.specs.Prelude.{◌≡◌, ◌++◌, ◌<◌, ◌∷◌, ℕ, List}
+use Rattle.std.specs.Prelude.{◌≡◌, ◌++◌, ◌<◌, ◌≤◌, ◌+◌, ◌∷◌, ℕ, List, length}
 use Rattle.run_lists.specs.Run.{Run}
+use Rattle.run_lists.specs.RunList as run_lists
 use Rattle.slot_table.specs.declared.records.Record.{Record}
 use Rattle.step_schedule.specs.Order.{AreAsked, IsOrder, Tasks}
 use Rattle.step_schedule.specs.declared.schedule.Entry.{Entry}
-use Rattle.litmus_step.specs.Runs.{tasks_of}
-use Rattle.litmus_step.specs.Steps.{IsAtEnd, IsFree, IsMachine, IsStuck, LeadsTo, tasks_in}
+use Rattle.litmus_step.specs.Runs.{HasEnded, IsStuck, tasks_of}
+use Rattle.litmus_step.specs.Steps.{IsFree, IsMachine, LeadsTo, tasks_in}
 use Rattle.litmus_step.specs.declared.error.WorldError.{WorldError}
 use Rattle.litmus_step.specs.declared.error.WorldError.TheVariants as errors
 use Rattle.litmus_step.specs.declared.world.World.{World}
@@ -28,8 +29,8 @@ Moves run task before after =
 abbrev pub known_of : Run → Tasks Point
 known_of run = record {
   Moves = Moves run;
-  HasEnded = λ task at. IsAtEnd run at.records at.world task;
-  IsStuck = λ task at. IsStuck run at.records at.world task;
+  HasEnded = λ task at. HasEnded run task at.records;
+  IsStuck = λ task at. IsStuck run task at.records;
 }
 
 -- tasks were asked in this order: each list that leads to the world before, followed by records in this order, leads to
@@ -39,6 +40,11 @@ Asked before order after = (run : Run) (records : List Record) → LeadsTo run r
     → (more : List Record) × LeadsTo run more after
     × AreAsked (known_of run) (tasks_of run) (point records before) order (point more after)
 
+-- a list that is longer by so much, at least, leads to the world after
+abbrev pub LeadsFurther : ℕ → World → World → Type 0
+LeadsFurther count before after = (run : Run) (records : List Record) → LeadsTo run records before
+    → (more : List Record) × LeadsTo run more after × (length records + count ≤ length more)
+
 -- no task of the world is stuck
 abbrev pub NobodyIsStuck : World → Type 0
 NobodyIsStuck world = (task : ℕ) (machine : TaskRun) → IsMachine world task machine → IsFree machine
@@ -46,12 +52,12 @@ NobodyIsStuck world = (task : ℕ) (machine : TaskRun) → IsMachine world task 
 -- this one is, by whatever list leads to the world
 abbrev pub IsStuckAt : World → ℕ → Type 0
 IsStuckAt world task = (run : Run) (records : List Record) → LeadsTo run records world
-    → IsStuck run records world task
+    → IsStuck run task records
 
 -- all tasks have ended, by whatever list leads to the world
 abbrev pub AllHaveEnded : World → Type 0
 AllHaveEnded world = (run : Run) (records : List Record) → LeadsTo run records world
-    → (task : ℕ) → task < tasks_in world → IsAtEnd run records world task
+    → run_lists.AllHaveEnded run records
 
 -- the error is that a task is stuck, which is so now, once tasks were asked in this order or a beginning of it
 pub record StopsAt (before : World) (order : List ℕ) (after : World) (error : WorldError) : Type 0 where

@@ -11,6 +11,7 @@ ghost use Rattle.run_lists.specs.Run.{first_words};
 ghost use Rattle.litmus_step.specs.Kept.{accesses_kept, watches_kept};
 ghost use Rattle.litmus_step.specs.Leads.{LeadsTask, LeadsTasks};
 ghost use Rattle.litmus_step.specs.Runs.{run_of};
+ghost use Rattle.litmus_step.specs.Settings.{rules_of};
 ghost use Rattle.litmus_step.specs.declared.error.WorldError.TheVariants.{BadPlace, BadSlots, OutOfMemory};
 ghost use Rattle.task_log.specs.Keeps.{Keeps};
 ghost use Rattle.task_log.specs.declared.log.TaskLog.{TaskLog};
@@ -20,20 +21,21 @@ use crate::settings::Settings;
 use litmus_syntax::{Program, Task};
 use program_layout::Layout;
 use program_sites::sites_of;
+use setup_access::Rules;
 use slot_table::{PlainBoard, Shape};
 use std::alloc::Global;
 use task_log::TaskLog;
 use task_run::TaskRun;
 
 /// A task begins at most so many accesses.
-pub(crate) const ACCESSES: usize = 1024;
+pub const ACCESSES: usize = 1024;
 
 /// At so many accesses at most so many watchpoints are set up, and as many taken: by the check of each, and those of
 /// the scoped assertions in force, of which there are 8 at most.
-pub(crate) const WATCHES: usize = 9216;
+pub const WATCHES: usize = 9216;
 
 /// The words before the first step of a program.
-pub(crate) fn first_board(
+pub fn first_board(
     alloc: Global,
     program: &Program,
     settings: &Settings,
@@ -66,12 +68,14 @@ fn first_task<'a>(
     alloc: Global,
     program: &'a Program,
     settings: &Settings,
+    rules: &Rules,
     number: u32,
     task: &'a Task,
     cells: &[u64],
 ) -> Result<TaskRun<'a>, WorldError>
     requires limits { KeepsLimits (program_of program.now) }
     requires task { slice_get program.now.tasks number ≡ Some task.now }
+    requires rules { rules.now ≡ rules_of settings.now }
     requires cells { cells.now ≡ cells_of (places_of settings.now.places.items) program.now.variables }
     ensures led { IfOk result (λ machine. (sites : AccessMap) → AreSitesOf (program_of program.now) (places_of settings.now.places.items) sites
         → LeadsTask (run_of program.now settings.now sites) number [] machine) }
@@ -81,17 +85,18 @@ fn first_task<'a>(
 {
     let places = settings.places.as_slice();
     let sites = sites_of(alloc, program, places)?;
-    let rules = settings.rules();
-    Ok(TaskRun::new(alloc, program, number, task, &rules, places, cells, sites)?)
+    Ok(TaskRun::new(alloc, program, number, task, rules, places, cells, sites)?)
 }
 
 /// The tasks of a program before their first steps.
-pub(crate) fn first_tasks<'a>(
+pub fn first_tasks<'a>(
     alloc: Global,
     program: &'a Program,
     settings: &Settings,
+    rules: &Rules,
 ) -> Result<Vec<TaskRun<'a>>, WorldError>
-    requires { KeepsLimits (program_of program.now) }
+    requires limits { KeepsLimits (program_of program.now) }
+    requires rules { rules.now ≡ rules_of settings.now }
     ensures led { IfOk result (λ machines. (sites : AccessMap) → AreSitesOf (program_of program.now) (places_of settings.now.places.items) sites
         → LeadsTasks (run_of program.now settings.now sites) [] machines.items) }
     ensures bad_slots { IsErrOf result BadSlots → (settings.now.slots < 3 ⊎ 1024 < settings.now.slots) }
@@ -110,6 +115,7 @@ pub(crate) fn first_tasks<'a>(
             alloc,
             program,
             settings,
+            rules,
             number as u32,
             task,
             cells.as_slice(),
@@ -120,7 +126,7 @@ pub(crate) fn first_tasks<'a>(
 }
 
 /// What is kept of the steps of so many tasks before their first.
-pub(crate) fn first_logs(alloc: Global, tasks: usize) -> Result<Vec<TaskLog>, WorldError>
+pub fn first_logs(alloc: Global, tasks: usize) -> Result<Vec<TaskLog>, WorldError>
     ensures all { IfOk result (λ logs. length logs.items ≡ tasks) }
     ensures each { IfOk result (λ logs. (task : ℕ) (log : TaskLog) → slice_get logs.items task ≡ Some log → Keeps accesses_kept watches_kept [] log) }
     ensures bad_slots { IsErrOf result BadSlots → ⊥ }

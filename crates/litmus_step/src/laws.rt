@@ -1,6 +1,6 @@
 //! What is true of lists that lead to tasks over their words.
 
-ghost use Rattle.std.specs.Prelude.{◌≡◌, ◌+◌, ◌<◌, ◌≤◌, ◌∷◌, [], ℕ, List, Option, Some, length, slice_get, slice_set};
+ghost use Rattle.std.specs.Prelude.{◌≡◌, ◌+◌, ◌<◌, ◌≤◌, ◌^◌, ◌∷◌, [], ℕ, List, Option, Some, length, slice_get, slice_set};
 ghost use Rattle.access_types.specs.declared.report.Report.{Report};
 ghost use Rattle.litmus_meaning.specs.RunOfProgram.{RunOfProgram};
 ghost use Rattle.litmus_syntax.specs.Limits.{KeepsLimits};
@@ -23,7 +23,8 @@ ghost use Rattle.slot_table.specs.declared.step.Answer.{Answer};
 ghost use Rattle.slot_table.specs.declared.step.Step.{Step};
 ghost use Rattle.litmus_step.specs.Kept.{Added, AreKept, IsKept, IsNotedIn};
 ghost use Rattle.litmus_step.specs.Leads.{LeadsTask, LeadsToAll, MakesNextIn};
-ghost use Rattle.litmus_step.specs.Runs.{CanBeMade, tasks_of};
+ghost use Rattle.litmus_step.specs.Readers.{IsMeant};
+ghost use Rattle.litmus_step.specs.Runs.{CanBeMade, HasEnded, tasks_of};
 ghost use Rattle.litmus_step.specs.Steps.{LeadsTo};
 ghost use Rattle.litmus_step.specs.declared.world.World.{World};
 ghost use Rattle.task_log.specs.Counters.{Count};
@@ -36,6 +37,7 @@ ghost use Rattle.task_run.specs.Fell.{FellAt};
 ghost use Rattle.task_run.specs.Leads.{BeginsNext, LeadsOn, stands_at};
 ghost use Rattle.task_run.specs.Says.{Says};
 ghost use Rattle.task_run.specs.declared.run.TaskRun.{TaskRun};
+ghost use Rattle.written_order.specs.WrittenOrder.{stands_after};
 
 use run_histories::laws::run_lists_tell_runs_of_the_program;
 use run_logs::laws::{
@@ -43,14 +45,16 @@ use run_logs::laws::{
     one_more_is_noted,
 };
 use spelled_texts::laws::{texts_within_limits_are_spelled, variables_of_programs_are_placed};
+use standing_laws::laws::{ended_tasks_stand_at_the_end, machines_stand_where_the_records_tell};
 use task_laws::laws::an_answer_leads_on;
+use task_run::laws::no_task_stops;
 use written_tellings::steps_name_words_of_the_run;
 
-/// Law: a program within the limits, with places that fit its variables and at least three page slots, can be made
-/// steps of. The list without a step is a run list of it.
+/// Law: a program within the limits, with places that fit its variables, at least three page slots, and waits of less
+/// than 2^64 tries, can be made steps of. The list without a step is a run list of it.
 pub fn runs_begin()
     ensures can { (run : Run) (places : List Place) → KeepsLimits run.program → run.places ≡ places_of places
-        → AreFit run.program.variables places → 3 ≤ run.rules.slots → CanBeMade run }
+        → AreFit run.program.variables places → 3 ≤ run.rules.slots → run.rules.turns < 2 ^ 64 → CanBeMade run }
     ensures list { (run : Run) → CanBeMade run → AreSitesOf run.program run.places run.sites → RunList run [] }
 {
     variables_of_programs_are_placed();
@@ -106,6 +110,24 @@ pub fn logs_count_the_list()
         → CountsTasks list (tasks_of run) counters → CountsList list counters }
 {
     counters_of_tasks_add_up();
+}
+
+/// Law: where a task's records in the list lead to its machine, the machine's registers, and its calls that had nothing
+/// to end, are those after these records. Once they spell its whole text, what the task did and its registers are what
+/// the text means.
+pub fn machines_stand_where_the_list_does()
+    ensures registers { (run : Run) (records : List Record) (list : RunList run records) (task : ℕ) (machine : TaskRun)
+        → KeepsLimits run.program → (leads : LeadsTask run task records machine)
+        → (stands_at leads (list.tasks task).more).progress.registers ≡ (stands_after (list.tasks task)).progress.registers }
+    ensures unbalanced { (run : Run) (records : List Record) (list : RunList run records) (task : ℕ) (machine : TaskRun)
+        → KeepsLimits run.program → (leads : LeadsTask run task records machine)
+        → (stands_at leads (list.tasks task).more).unbalanced ≡ (stands_after (list.tasks task)).unbalanced }
+    ensures meant { (run : Run) (records : List Record) (list : RunList run records) (task : ℕ)
+        → HasEnded run task records → IsMeant list task }
+{
+    no_task_stops();
+    machines_stand_where_the_records_tell();
+    ended_tasks_stand_at_the_end();
 }
 
 /// Law: the history of each run list that leads to a world is that of a run of the program.

@@ -2,8 +2,9 @@
 #![tactic(auto)]
 
 pub mod error;
-mod first;
+pub mod first;
 pub mod laws;
+pub mod logs;
 mod readers;
 mod schedules;
 pub mod settings;

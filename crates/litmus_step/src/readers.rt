@@ -1,35 +1,100 @@
 //! What is read of a world.
 
-ghost use Rattle.std.specs.Prelude.{◌<◌, List};
+ghost use Rattle.std.specs.Prelude.{◌≡◌, ◌<◌, ◌≤◌, ◌*◌, All, IfErr, List, length};
+ghost use Rattle.litmus_step.specs.Kept.{watches_kept};
+ghost use Rattle.litmus_step.specs.Runs.{HasEnded, tasks_of};
+ghost use Rattle.run_headline.specs.Headline.{Headline};
+ghost use Rattle.run_histories.specs.Cells.{CellsHold, memory_after, run_cells};
+ghost use Rattle.run_histories.specs.Reported.{IsTrueReport};
+ghost use Rattle.run_lists.specs.Reports.{reports_of};
 ghost use Rattle.run_lists.specs.Run.{Run};
-ghost use Rattle.run_logs.specs.Totals.{CountsList};
+ghost use Rattle.run_lists.specs.Told.{history_of};
 ghost use Rattle.slot_table.specs.declared.records.Record.{Record};
 
 use crate::error::WorldError;
-use crate::laws::logs_count_the_list;
+use crate::laws::machines_stand_where_the_list_does;
+use crate::logs::{accesses_of, arms_of, counters_of, takes_of};
 use crate::world::World;
-use access_types::{Arm, Stamped, Take};
+use access_types::{Arm, Report, Sites, Stamped, Take};
+use run_headline::laws::the_headline_holds;
+use run_histories::laws::{cells_hold_the_content, reports_are_true};
 use task_log::Counters;
 use task_run::{After, Before};
 
 impl<'a> World<'a> {
-    ghost use Rattle.litmus_step.specs.Readers.{AreRegisters};
-    ghost use Rattle.litmus_step.specs.Steps.{LeadsTo, tasks_in};
+    ghost use Rattle.litmus_step.specs.Readers.{AreRegisters, IsBefore, IsMeant};
+    ghost use Rattle.run_logs.specs.Totals.{CountsList, IsUnbalanced};
+    ghost use Rattle.litmus_step.specs.Steps.{IsMachine, LeadsTo, tasks_in};
+    ghost use Rattle.task_run.specs.Points.{HasMade, Stepped, last_was};
+    ghost use Rattle.task_run.specs.declared.run.TaskRun.{TaskRun};
+
+    /// How many tasks there are.
+    pub fn tasks(&self) -> usize
+        ensures { result ≡ tasks_in self.now }
+    {
+        self.tasks.len()
+    }
+
+    /// How many steps were made, up to the largest number that there is.
+    pub fn steps(&self) -> u64
+        ensures { result ≡ self.now.steps }
+    {
+        self.steps
+    }
+
+    /// What was reported so far, in order.
+    pub fn reports(&self) -> &[Report]
+        ensures told { (run : Run) (records : List Record) → (leads : LeadsTo run records self.now)
+            → length (reports_of leads.list) ≤ tasks_of run * watches_kept → result.now ≡ reports_of leads.list }
+        ensures true_reports { (run : Run) (records : List Record) → (leads : LeadsTo run records self.now)
+            → All (IsTrueReport leads.list) result.now }
+        ensures headline { (run : Run) (records : List Record) → (leads : LeadsTo run records self.now) → Headline leads.list }
+    {
+        reports_are_true();
+        the_headline_holds();
+        self.reports.as_slice()
+    }
+
+    /// What the cells of memory hold.
+    pub fn memory(&self) -> &[u64]
+        ensures cells { result.now ≡ self.now.board.cells }
+        ensures content { (run : Run) (records : List Record) → (leads : LeadsTo run records self.now)
+            → CellsHold (run_cells run) (memory_after run (history_of leads.list)) result.now }
+    {
+        cells_hold_the_content();
+        self.board.cells()
+    }
+
+    /// The accesses that the program can make, by ticket.
+    pub fn sites(&self) -> &Sites
+        ensures { result.now ≡ self.now.sites }
+    {
+        &self.sites
+    }
+
+    /// The values of a task's registers, by number.
+    pub fn registers(&self, task: usize) -> &[u64]
+        requires { task < tasks_in self.now }
+        ensures list { (run : Run) (records : List Record) → (leads : LeadsTo run records self.now) → AreRegisters leads.list task result.now }
+        ensures meant { (run : Run) (records : List Record) → (leads : LeadsTo run records self.now) → HasEnded run task records
+            → IsMeant leads.list task }
+    {
+        machines_stand_where_the_list_does();
+        self.tasks[task].registers()
+    }
 
     /// How often each thing came of the checks of all tasks.
     pub fn counters(&self) -> Counters
         ensures { (run : Run) (records : List Record) → (leads : LeadsTo run records self.now) → CountsList leads.list result }
     {
-        logs_count_the_list();
-        let mut counters = Counters::new();
-        for log in &self.logs {
-            counters.add(&log.counters());
-        }
-        counters
+        counters_of(self.logs.as_slice())
     }
 
     /// How many calls of all tasks had nothing to end, up to the largest number that there is.
-    pub fn unbalanced(&self) -> u64 {
+    pub fn unbalanced(&self) -> u64
+        ensures { (run : Run) (records : List Record) → (leads : LeadsTo run records self.now) → IsUnbalanced leads.list result }
+    {
+        machines_stand_where_the_list_does();
         let mut unbalanced: u64 = 0;
         for run in &self.tasks {
             unbalanced = unbalanced.saturating_add(run.unbalanced());
@@ -37,44 +102,31 @@ impl<'a> World<'a> {
         unbalanced
     }
 
-    /// The values of a task's registers, by number.
-    pub fn registers(&self, task: usize) -> &[u64]
-        requires { task < tasks_in self.now }
-        ensures { (run : Run) (records : List Record) → LeadsTo run records self.now → AreRegisters run records self.now task result.now }
-    {
-        self.tasks[task].registers()
-    }
-
     /// The accesses that have ended, by task, and then in the order of their begins.
-    pub fn accesses(&self) -> Result<Vec<Stamped>, WorldError> {
-        let mut all = Vec::new(self.alloc);
-        for log in &self.logs {
-            all.extend_from_slice(log.accesses(self.alloc)?.as_slice())?;
-        }
-        Ok(all)
+    pub fn accesses(&self) -> Result<Vec<Stamped>, WorldError>
+        ensures errors { IfErr result (λ error. error ≡ WorldError.OutOfMemory) }
+    {
+        accesses_of(self.alloc, self.logs.as_slice())
     }
 
     /// The armings that are over, by task, and then in the order of their removes.
-    pub fn arms(&self) -> Result<Vec<Arm>, WorldError> {
-        let mut all = Vec::new(self.alloc);
-        for log in &self.logs {
-            all.extend_from_slice(log.arms())?;
-        }
-        Ok(all)
+    pub fn arms(&self) -> Result<Vec<Arm>, WorldError>
+        ensures errors { IfErr result (λ error. error ≡ WorldError.OutOfMemory) }
+    {
+        arms_of(self.alloc, self.logs.as_slice())
     }
 
     /// The takings that are over, by task, and then in the order of their tells.
-    pub fn takes(&self) -> Result<Vec<Take>, WorldError> {
-        let mut all = Vec::new(self.alloc);
-        for log in &self.logs {
-            all.extend_from_slice(log.takes())?;
-        }
-        Ok(all)
+    pub fn takes(&self) -> Result<Vec<Take>, WorldError>
+        ensures errors { IfErr result (λ error. error ≡ WorldError.OutOfMemory) }
+    {
+        takes_of(self.alloc, self.logs.as_slice())
     }
 
     /// What the next step of a task is.
     pub fn before(&self, task: usize) -> Before
         requires { task < tasks_in self.now }
+        ensures { (machine : TaskRun) → IsMachine self.now task machine → IsBefore machine result }
     {
         self.tasks[task].before()
     }
@@ -82,6 +134,8 @@ impl<'a> World<'a> {
     /// What the last step of a task was.
     pub fn after(&self, task: usize) -> After
         requires { task < tasks_in self.now }
+        ensures { (machine : TaskRun) → IsMachine self.now task machine → (steps : List Stepped) → HasMade steps machine
+            → result ≡ last_was steps }
     {
         self.tasks[task].after()
     }

@@ -1,18 +1,18 @@
 //! Worlds that are run to their end.
 
-ghost use Rattle.std.specs.Prelude.{◌≡◌, ◌≢◌, ◌<◌, ◌≤◌, ◌-◌, ◌+◌, ◌^◌, ◌↔◌, ◌⊎◌, ℕ, IfErr, IfOk, IsErrOf, IsTrue, OnOk, false, replicate, true};
+ghost use Rattle.std.specs.Prelude.{◌≡◌, ◌≢◌, ◌<◌, ◌↔◌, ◌⊎◌, ℕ, IfErr, IfOk, IsErrOf, IsTrue, OnOk, false, replicate, true};
 ghost use Rattle.std.specs.List.{range_with_len};
 ghost use Rattle.step_schedule.specs.Order.{asked_by, in_rounds};
 ghost use Rattle.step_schedule.specs.Schedule.{entries_of, names_stranger};
-ghost use Rattle.task_plan.specs.Counts.{up_to_last};
 
 use crate::error::WorldError;
 use crate::world::{Stepped, World};
+use step_bounds::laws::few_steps_are_made;
 use step_schedule::Schedule;
 
 impl<'a> World<'a> {
     ghost use Rattle.litmus_step.specs.Steps.{tasks_in};
-    ghost use Rattle.litmus_step.specs.Turns.{AllHaveEnded, Asked, IsStuckAt, NobodyIsStuck, RunsOn, StopsAt};
+    ghost use Rattle.litmus_step.specs.Turns.{AllHaveEnded, Asked, IsStuckAt, LeadsFurther, NobodyIsStuck, RunsOn, StopsAt};
 
     /// Makes the steps that the schedule says, and then one step of each task that has not ended, in
     /// turn, until all have.
@@ -25,7 +25,7 @@ impl<'a> World<'a> {
         ensures unmoved { IsErrOf result WorldError.BadSchedule → self.new ≡ self.old }
         ensures runs { result ≢ Err WorldError.BadSchedule → RunsOn self.old (entries_of schedule.now) self.new }
         ensures stuck { (task : ℕ) → result ≡ Err (WorldError.Stuck task) → (task < tasks_in self.new) × IsStuckAt self.new task }
-        ensures over { OnOk result (AllHaveEnded self.new ⊎ (self.new.steps ≡ 2 ^ 64 - 1)) }
+        ensures over { OnOk result (AllHaveEnded self.new) }
         ensures errors { IfErr result (λ error. (error ≡ WorldError.BadSchedule) ⊎ ((task : ℕ) × (error ≡ WorldError.Stuck task))) }
         ensures tasks { tasks_in self.new ≡ tasks_in self.old }
         ensures sites { self.new.sites ≡ self.old.sites }
@@ -85,16 +85,17 @@ impl<'a> World<'a> {
         Ok(())
     }
 
-    /// The tasks take turns, until all have ended.
+    /// The tasks take turns, until all have ended, which they do long before so many rounds: each round makes a step.
     fn rounds(&mut self) -> Result<(), WorldError>
         requires { NobodyIsStuck self.old }
         ensures asked { OnOk result ((rounds : ℕ) × Asked self.old (in_rounds (tasks_in self.old) rounds) self.new) }
-        ensures over { OnOk result (AllHaveEnded self.new ⊎ (self.new.steps ≡ 2 ^ 64 - 1)) }
+        ensures over { OnOk result (AllHaveEnded self.new) }
         ensures stops { IfErr result (λ error. (rounds : ℕ) × StopsAt self.old (in_rounds (tasks_in self.old) rounds) self.new error) }
         ensures tasks { tasks_in self.new ≡ tasks_in self.old }
         ensures sites { self.new.sites ≡ self.old.sites }
     {
-        for _round in 0..u64::MAX {
+        few_steps_are_made();
+        for _round in 0..u128::MAX {
             if !self.round()? {
                 return Ok(());
             }
@@ -107,7 +108,7 @@ impl<'a> World<'a> {
         requires { NobodyIsStuck self.old }
         ensures asked { OnOk result (Asked self.old (range_with_len 0 (tasks_in self.old)) self.new × NobodyIsStuck self.new) }
         ensures ended { result ≡ Ok false → AllHaveEnded self.new }
-        ensures counted { result ≡ Ok true → up_to_last (self.old.steps + 1) ≤ self.new.steps }
+        ensures further { result ≡ Ok true → LeadsFurther 1 self.old self.new }
         ensures stops { IfErr result (StopsAt self.old (range_with_len 0 (tasks_in self.old)) self.new) }
         ensures tasks { tasks_in self.new ≡ tasks_in self.old }
         ensures sites { self.new.sites ≡ self.old.sites }

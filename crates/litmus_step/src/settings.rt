@@ -1,6 +1,6 @@
 //! What a user sets for a run.
 
-ghost use Rattle.std.specs.Prelude.{◌≡◌};
+ghost use Rattle.std.specs.Prelude.{◌≡◌, ◌<◌, ◌^◌};
 
 use program_layout::Place;
 use setup_access::Rules;
@@ -29,12 +29,21 @@ pub struct Settings {
     pub places: Vec<Place>,
 }
 
+/// So many tries in vain, a number of 64 bits.
+fn counted(turns: u64) -> u64
+    ensures is { result ≡ turns }
+    ensures small { turns < 2 ^ 64 }
+{
+    turns
+}
+
 impl Settings {
     ghost use Rattle.litmus_step.specs.Settings.{rules_of};
 
     /// What checks go by.
     pub fn rules(&self) -> Rules
-        ensures { result ≡ rules_of self.now }
+        ensures are { result ≡ rules_of self.now }
+        ensures turns { self.now.turns < 2 ^ 64 }
     {
         Rules {
             slots: self.slots,
@@ -44,7 +53,7 @@ impl Settings {
             value_change_only: self.value_change_only,
             plain_writes_atomic: self.plain_writes_atomic,
             layout: self.layout,
-            turns: self.turns,
+            turns: counted(self.turns),
         }
     }
 }

@@ -1,18 +1,15 @@
 //! The world: all tasks of a program over one board.
 
-ghost use Rattle.std.specs.Prelude.{◌≡◌, ◌≢◌, ◌<◌, ◌≤◌, ◌+◌, ◌*◌, ◌↔◌, ◌⊎◌, [], ℕ, All, List, Option, Some, IfErr, IfOk, IsErrOf, length, slice_get, slice_set, vec_capacity, vec_len};
+ghost use Rattle.std.specs.Prelude.{◌≡◌, ◌≢◌, ◌<◌, ◌≤◌, ◌↔◌, ◌⊎◌, [], ℕ, List, Option, Some, IfErr, IfOk, IsErrOf, slice_get, slice_set, vec_capacity, vec_len};
 ghost use Rattle.litmus_syntax.specs.Limits.{KeepsLimits};
 ghost use Rattle.litmus_syntax.specs.Views.{program_of};
 ghost use Rattle.program_layout.specs.Places.{AreFit};
-ghost use Rattle.run_lists.specs.Reports.{reports_of};
 ghost use Rattle.run_lists.specs.Run.{Run};
 ghost use Rattle.slot_table.specs.declared.records.Record.{Record};
 ghost use Rattle.litmus_step.specs.Leads.{IsLedTo, MakesNextIn};
-ghost use Rattle.run_histories.specs.Reported.{IsTrueReport};
-ghost use Rattle.litmus_step.specs.Kept.{Added, IsNotedIn, watches_kept};
-ghost use Rattle.litmus_step.specs.Runs.{run_of, tasks_of};
+ghost use Rattle.litmus_step.specs.Kept.{Added, IsNotedIn};
+ghost use Rattle.litmus_step.specs.Runs.{HasEnded, IsStuck, run_of};
 ghost use Rattle.litmus_step.specs.declared.error.WorldError.TheVariants.{BadPlace, BadSlots, OutOfMemory};
-ghost use Rattle.task_plan.specs.Counts.{up_to_last};
 ghost use Rattle.task_run.specs.declared.run.TaskRun.{TaskRun};
 
 use crate::error::WorldError;
@@ -22,7 +19,6 @@ use crate::settings::Settings;
 use access_types::{Report, Sites};
 use litmus_syntax::Program;
 use program_sites::sites_of;
-use run_histories::laws::reports_are_true;
 use slot_table::{Board, PlainBoard, Step};
 use std::alloc::Global;
 use task_log::{Noted, TaskLog};
@@ -79,7 +75,7 @@ fn note(logs: &mut Vec<TaskLog>, reports: &mut Vec<Report>, task: usize, noted: 
 }
 
 impl<'a> World<'a> {
-    ghost use Rattle.litmus_step.specs.Steps.{IsAtEnd, IsMachine, IsStuck, LeadsTo, MovesOn, StepsOn, Tells, tasks_in};
+    ghost use Rattle.litmus_step.specs.Steps.{IsMachine, LeadsTo, MovesOn, StepsOn, Tells, tasks_in};
 
     /// A program before its first step. It takes all its room, and `step` and `run` take no memory.
     ///
@@ -100,7 +96,7 @@ impl<'a> World<'a> {
         runs_begin();
         steps_are_kept();
         let board = first_board(alloc, program, settings)?;
-        let tasks = first_tasks(alloc, program, settings)?;
+        let tasks = first_tasks(alloc, program, settings, &settings.rules())?;
         let count = program.tasks.as_slice().len();
         let logs = first_logs(alloc, count)?;
         let reports = Vec::with_capacity(alloc, count * WATCHES)?;
@@ -121,15 +117,13 @@ impl<'a> World<'a> {
         requires { task < tasks_in self.old }
         ensures steps { (run : Run) (records : List Record) → LeadsTo run records self.old → StepsOn run records task self.old self.new }
         ensures ended { (run : Run) (records : List Record) → LeadsTo run records self.new
-            → (result ≡ Stepped.Ended ↔ ((¬ IsStuck run records self.new task) × IsAtEnd run records self.new task)) }
+            → (result ≡ Stepped.Ended ↔ HasEnded run task records) }
         ensures stuck { (run : Run) (records : List Record) → LeadsTo run records self.new
-            → (result ≡ Stepped.Stuck ↔ IsStuck run records self.new task) }
+            → (result ≡ Stepped.Stuck ↔ IsStuck run task records) }
         ensures tells { (machine : TaskRun) → IsMachine self.new task machine → Tells result machine }
         ensures others { (other : ℕ) → task ≢ other → slice_get self.new.tasks.items other ≡ slice_get self.old.tasks.items other }
         ensures tasks { tasks_in self.new ≡ tasks_in self.old }
         ensures sites { self.new.sites ≡ self.old.sites }
-        ensures counted { self.old.steps ≤ self.new.steps }
-        ensures moved { result ≡ Stepped.Moved → self.new.steps ≡ up_to_last (self.old.steps + 1) }
     {
         let Some(step) = self.tasks[task].next() else {
             return self.state(task);
@@ -146,7 +140,6 @@ impl<'a> World<'a> {
         ensures others { (other : ℕ) → task ≢ other → slice_get self.new.tasks.items other ≡ slice_get self.old.tasks.items other }
         ensures tasks { tasks_in self.new ≡ tasks_in self.old }
         ensures sites { self.new.sites ≡ self.old.sites }
-        ensures counted { self.new.steps ≡ up_to_last (self.old.steps + 1) }
     {
         steps_lead_on();
         steps_are_kept();
@@ -176,45 +169,5 @@ impl<'a> World<'a> {
             Some(_) => Stepped::Moved,
             None => Stepped::Ended,
         }
-    }
-
-    /// How many tasks there are.
-    pub fn tasks(&self) -> usize
-        ensures { result ≡ tasks_in self.now }
-    {
-        self.tasks.len()
-    }
-
-    /// How many steps were made, up to the largest number that there is.
-    pub fn steps(&self) -> u64
-        ensures { result ≡ self.now.steps }
-    {
-        self.steps
-    }
-
-    /// What was reported so far, in order.
-    pub fn reports(&self) -> &[Report]
-        ensures items { result.now ≡ self.now.reports.items }
-        ensures told { (run : Run) (records : List Record) → (leads : LeadsTo run records self.now)
-            → length (reports_of leads.list) ≤ tasks_of run * watches_kept → result.now ≡ reports_of leads.list }
-        ensures true_reports { (run : Run) (records : List Record) → (leads : LeadsTo run records self.now)
-            → All (IsTrueReport leads.list) result.now }
-    {
-        reports_are_true();
-        self.reports.as_slice()
-    }
-
-    /// What the cells of memory hold.
-    pub fn memory(&self) -> &[u64]
-        ensures { result.now ≡ self.now.board.cells }
-    {
-        self.board.cells()
-    }
-
-    /// The accesses that the program can make, by ticket.
-    pub fn sites(&self) -> &Sites
-        ensures { result.now ≡ self.now.sites }
-    {
-        &self.sites
     }
 }

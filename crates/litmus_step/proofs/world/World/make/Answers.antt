@@ -30,7 +30,7 @@ pub note-requires : goal.note-requires
 note-requires c =
     ∥∥₁_elim c.args.self.now.led (hlevel props)
     (λ is.
-    let logs = is.leads.kept.all in
+    let logs = is.leads.kept.logs_are.all in
     let tasks = is.leads.tasks.all in
     let logs_len = c.args.self.now.logs.ok.0 in
     let tasks_len = c.args.self.now.tasks.ok.0 in

@@ -12,7 +12,8 @@ pub returns-clause-leads : goal.returns-clause-leads
 returns-clause-leads c =
     let run = run_of c.args.program.now c.args.settings.now c.in_ok-sites.sites in
     let are = rw c.as_slice.ensures.value at c.in_ok-sites.ensures.sites in
-    let can = c.runs_begin.ensures.can run c.args.settings.now.places.items c.requires refl c.in_ok-board.ensures.fit c.in_ok-board.ensures.slots.0 in
+    let can = c.runs_begin.ensures.can run c.args.settings.now.places.items c.requires refl c.in_ok-board.ensures.fit c.in_ok-board.ensures.slots.0
+    c.rules.ensures.turns in
     let list = c.runs_begin.ensures.list run can are in
     let count : length c.as_slice-count.result.now ≡ tasks_of run =
     ap length c.as_slice-count.ensures ∙ sym (length-map c.args.program.now.tasks task_of) in
@@ -26,7 +27,8 @@ pub invariant_of-result : goal.invariant_of-result
 invariant_of-result c =
     let run = run_of c.args.program.now c.args.settings.now c.in_ok-sites.sites in
     let are = rw c.as_slice.ensures.value at c.in_ok-sites.ensures.sites in
-    let can = c.runs_begin.ensures.can run c.args.settings.now.places.items c.requires refl c.in_ok-board.ensures.fit c.in_ok-board.ensures.slots.0 in
+    let can = c.runs_begin.ensures.can run c.args.settings.now.places.items c.requires refl c.in_ok-board.ensures.fit c.in_ok-board.ensures.slots.0
+    c.rules.ensures.turns in
     let list = c.runs_begin.ensures.list run can are in
     let count : length c.as_slice-count.result.now ≡ tasks_of run =
     ap length c.as_slice-count.ensures ∙ sym (length-map c.args.program.now.tasks task_of) in

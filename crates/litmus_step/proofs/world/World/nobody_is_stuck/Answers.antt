@@ -1,8 +1,8 @@
--- What is asked of a machine is so whatever records lead to it.
+-- What is asked of a machine is so whatever records reach it.
 use Rattle.std.proofs.Common.{◌≡◌, ◌∙◌, ◌<◌, arith, false, inl, inr, refl, subst, sym, true}
 use Rattle.std.proofs.lemmas.Bool.Decides.{eqb_tells}
 use Rattle.std.proofs.lemmas.Option.{slice_get_within}
-use Rattle.litmus_step.proofs.TurnLemmas.{machine_at, same_machine}
+use Rattle.litmus_step.proofs.TurnLemmas.{machine_at, reaches, same_machine}
 use Rattle.litmus_step.proofs.world.World.nobody_is_stuck.Goals as goal
 use Rattle.litmus_step.specs.Steps.{IsFree, IsMachine, tasks_in}
 
@@ -14,15 +14,15 @@ returns-then-stuck-clause-stuck c =
       refl,
       below,
       λ run records leads.
-          let led = leads.tasks.each c.loop-task.task c.index.result.now stands in
-          record { machine = c.index.result.now; stands = stands; leads = led; stuck = (c.stuck.ensures _ _ _ _ led).0 c.if-stuck.true },
+          let reach = reaches run records c.args.self.now c.loop-task.task c.index.result.now leads stands in
+          (c.stuck.ensures.records _ _ _ _ reach.leads reach.written reach.scopes reach.rises).0 c.if-stuck.true,
     )
 
 pub loop-task-preserved : goal.loop-task-preserved
 loop-task-preserved c = λ task machine within stands.
     let below : c.loop-task.task < tasks_in c.args.self.now = omega (arith, c.loop-task-test.true, c.len-task-end.ensures) in
-    let free : IsFree c.index.result.now = λ s registers body records leads stuck.
-    let is = (c.stuck.ensures s registers body records leads).1 stuck in
+    let free : IsFree c.index.result.now = λ s registers body records reach stuck.
+    let is = (c.stuck.ensures.records s registers body records reach.leads reach.written reach.scopes reach.rises).1 stuck in
     let no : true ≡ false = sym is ∙ c.if-stuck.false in cc in
     elim (eqb_tells c.loop-task.task task) [
       | inl same ↦ subst IsFree (same_machine c.args.self.now c.loop-task.task c.index.result.now machine below c.index.ensures

@@ -1,20 +1,22 @@
 -- One round more is made.
-use Rattle.std.proofs.Common.{◌≡◌, ◌∙◌, ◌≤◌, ◌+◌, suc, Ok, ap, arith, refl, subst}
+use Rattle.std.proofs.Common.{◌≡◌, ◌≤◌, ◌∙◌, ◌+◌, suc, Ok, ap, arith, refl, subst}
+use Rattle.std.proofs.Props.{props}
+use mathlib.Core.Logic.{∥∥₁_elim}
 use Rattle.std.proofs.lemmas.Result.{err_from_is_err_and}
 use Rattle.std.specs.List.{range_with_len}
 use Rattle.step_schedule.specs.Order.{in_rounds}
+use Rattle.litmus_step.proofs.FurtherLemmas.{further_both, further_none}
 use Rattle.litmus_step.proofs.RoundLemmas.{asked_along, stops_after}
 use Rattle.litmus_step.proofs.TurnLemmas.{asked_both, asked_nothing}
 use Rattle.litmus_step.proofs.world.World.rounds.Goals as goal
 use Rattle.litmus_step.specs.Steps.{tasks_in}
 use Rattle.litmus_step.specs.Turns.{Asked, StopsAt}
-use Rattle.task_plan.specs.Counts.{up_to_last}
 
 pub loop-round-init : goal.loop-round-init
 loop-round-init c = record {
   asked = asked_nothing c.args.self.now;
   nobody = c.requires;
-  counted = omega arith;
+  further = further_none c.args.self.now;
   tasks = refl;
   sites = refl;
 }
@@ -45,7 +47,6 @@ pub loop-round-preserved : goal.loop-round-preserved
 loop-round-preserved c =
     let tasks = tasks_in c.args.self.now in
     let more : suc c.loop-round._round ≡ c.loop-round._round + 1 = omega arith in
-    let counted : up_to_last (c.loop-round.self.steps + 1) ≤ c.round.new.self.steps = c.in_ok-round.ensures.counted (ap Ok c.if-not-branch.false) in
     record {
       asked = asked_along c.args.self.now c.round.new.self (in_rounds tasks (suc c.loop-round._round)) (in_rounds tasks (c.loop-round._round + 1))
           (ap (in_rounds tasks) more)
@@ -53,7 +54,18 @@ loop-round-preserved c =
           c.loop-round.invariant.asked
           (subst (λ n. Asked c.loop-round.self (range_with_len 0 n) c.round.new.self) c.loop-round.invariant.tasks c.in_ok-round.ensures.asked.0));
       nobody = c.in_ok-round.ensures.asked.1;
-      counted = omega (arith, counted, c.loop-round.invariant.counted, c.loop-round-test.true);
+      further = further_both c.args.self.now c.loop-round.self c.round.new.self c.loop-round._round 1 c.loop-round.invariant.further
+          (c.in_ok-round.ensures.further (ap Ok c.if-not-branch.false));
       tasks = c.round.ensures.tasks ∙ c.loop-round.invariant.tasks;
       sites = c.round.ensures.sites ∙ c.loop-round.invariant.sites;
     }
+
+-- so many rounds would be more steps than there are
+pub returns-clause-over : goal.returns-clause-over
+returns-clause-over c =
+    let none : 1 ≤ 0 = ∥∥₁_elim c.args.self.now.led (hlevel props) (λ is.
+    let far = c.loop-round.invariant.further is.run is.records is.leads in
+    let few = c.few_steps_are_made.ensures.all is.run far.0 far.1.can.limits far.1.can.turns far.1.list in
+    let many = far.2 in
+    omega (arith, few, many, c.loop-round-test.false, c.loop-round.auto._round-end)) in
+    absurd (omega (arith, none))

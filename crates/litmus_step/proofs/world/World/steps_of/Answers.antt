@@ -14,11 +14,12 @@ returns-in-Ended-clause-asked c =
     let nobody = nobody_after c.loop-made.self c.step.new.self c.args.task Ended c.loop-made.invariant.nobody c.step.ensures.others
     c.in-Ended.ensures.tells (λ (no : Ended ≡ Stuck). cc) in
     let asked = asked_more c.args.self.now c.loop-made.self c.step.new.self (replicate c.loop-made._made c.args.task) c.args.task
+    (omega (arith, c.requires.there, c.loop-made.invariant.tasks))
     c.loop-made.invariant.asked c.loop-made.invariant.nobody c.step.ensures.steps in (
       asked_along c.args.self.now c.step.new.self _ (replicate c.args.count c.args.task)
           (times_spelled c.args.task c.loop-made._made c.args.count c.loop-made-test.true)
           (asked_in_vain c.args.self.now c.step.new.self _ c.args.task (c.args.count - (c.loop-made._made + 1)) asked nobody
-          (λ run records leads. ((c.in-Ended.ensures.ended run records leads).0 refl).1)),
+          (λ run records leads. (c.in-Ended.ensures.ended run records leads).0 refl)),
       nobody,
     )
 
@@ -32,6 +33,7 @@ returns-in-Stuck-clause-stops c = record {
   later = _;
   spelled = times_spelled c.args.task c.loop-made._made c.args.count c.loop-made-test.true;
   asked = asked_more c.args.self.now c.loop-made.self c.step.new.self (replicate c.loop-made._made c.args.task) c.args.task
+      (omega (arith, c.requires.there, c.loop-made.invariant.tasks))
       c.loop-made.invariant.asked c.loop-made.invariant.nobody c.step.ensures.steps;
 }
 
@@ -47,6 +49,7 @@ pub loop-made-preserved : goal.loop-made-preserved
 loop-made-preserved c = record {
   asked = asked_along c.args.self.now c.step.new.self _ (replicate (c.loop-made._made + 1) c.args.task) (one_more c.loop-made._made c.args.task)
       (asked_more c.args.self.now c.loop-made.self c.step.new.self (replicate c.loop-made._made c.args.task) c.args.task
+      (omega (arith, c.requires.there, c.loop-made.invariant.tasks))
       c.loop-made.invariant.asked c.loop-made.invariant.nobody c.step.ensures.steps);
   nobody = nobody_after c.loop-made.self c.step.new.self c.args.task Moved c.loop-made.invariant.nobody c.step.ensures.others
       c.in-Moved.ensures.tells (λ (no : Moved ≡ Stuck). cc);
