@@ -15,6 +15,10 @@ use Rattle.report_text.specs.Truth.{AreOneBag, MayHit, MaySee, MayWatch, RaceByS
 use Rattle.watch_word.specs.Word.{watch_in}
 use Rattle.watch_word.specs.declared.layout.Layout.{Layout}
 
+-- the mask of an access is a number of 64 bits
+abbrev pub HasLowMask : Stamped → Type 0
+HasLowMask s = unwrap_or s.access.mask 0 < 2 ^ 64
+
 -- an access of a trace has bytes, ends after it began, and has the letters of its kind
 pub record AccessFits (s : Stamped) : Type 0 where
   pub limits : IsInLimits s.access

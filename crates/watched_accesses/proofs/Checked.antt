@@ -1,5 +1,5 @@
 -- What comes of checks is of accesses that have begun, and a verdict of one that is watched.
-use Rattle.std.proofs.Common.{◌+◌, ◌≡◌, ◌∙◌, ◌∷◌, ◌++◌, ◌||◌, [], ◌<◌, ℕ, Bool, true, false, IsTrue, List, Option, None, Some, MatchBool, MatchOption, ap, append-nil, append_assoc, arith, count_by, drop, if◌then◌else◌, inl, inr, refl, replicate, subst, suc, sym, zero}
+use Rattle.std.proofs.Common.{◌+◌, ◌⊎◌, length, length-append, ◌≡◌, ◌∙◌, ◌∷◌, ◌++◌, ◌||◌, [], ◌<◌, ℕ, Bool, true, false, IsTrue, List, Option, None, Some, MatchBool, MatchOption, ap, append-nil, append_assoc, arith, count_by, drop, if◌then◌else◌, inl, inr, refl, replicate, subst, suc, sym, zero}
 use Rattle.std.proofs.lemmas.List.Sums.{sum_by-cons}
 use Rattle.access_types.specs.Access as access
 use Rattle.access_types.specs.Marked.{CountsAfter}
@@ -115,6 +115,63 @@ closed_access a inside closed = λ b h. elim h [
     ]
   ]
 ]
+
+-- what stands at a split of two lists stands in one of them
+split_either : (xs ys p q : List Happening) (x : Happening) → xs ++ ys ≡ p ++ x ∷ q
+    → ((t : List Happening) × (xs ≡ p ++ x ∷ t)) ⊎ ((u : List Happening) × (p ≡ xs ++ u) × (ys ≡ u ++ x ∷ q))
+split_either [] ys p q x is = inr (p, refl, is)
+split_either (y ∷ xs) ys [] q x is =
+    let first : y ≡ x = cc in inl (xs, ap (λ (z : Happening). z ∷ xs) first)
+split_either (y ∷ xs) ys (z ∷ p) q x is =
+    let first : y ≡ z = cc in
+    let more : xs ++ ys ≡ p ++ x ∷ q = cc in
+    elim (split_either xs ys p q x more) [
+      | inl here ↦ inl (here.0, ap (λ (w : Happening). w ∷ xs) first ∙ ap (λ (l : List Happening). z ∷ l) here.1)
+      | inr there ↦ inr (there.0, ap (λ (w : Happening). w ∷ p) (sym first) ∙ ap (λ (l : List Happening). y ∷ l) there.1, there.2)
+    ]
+
+-- where an access ends it has begun before
+abbrev pub EndsLater : List Happening → Type 0
+EndsLater did = (p q : List Happening) (a : access.Access) → did ≡ p ++ happenings.End a ∷ q → Has p (happenings.Begin a)
+
+none_ended : (did : List Happening) (a : access.Access) → NoneEnds did → ¬ Has did (happenings.End a)
+none_ended [] a none h = h
+none_ended (first ∷ did) a none h = elim h [
+  | inl here ↦ subst (λ (x : Happening). ends.IsNoEnd x) here none.0
+  | inr more ↦ none_ended did a none.1 more
+]
+
+later_none : (did : List Happening) → NoneEnds did → EndsLater did
+later_none did none = λ p q a is. absurd (none_ended did a none (subst (λ (d : List Happening). Has d (happenings.End a)) (sym is)
+    (has_last p (happenings.End a ∷ q) (happenings.End a) (inl refl))))
+
+later_both : (first second : List Happening) → EndsLater first → EndsLater second → EndsLater (first ++ second)
+later_both first second h k = λ p q a is. elim (split_either first second p q (happenings.End a) is) [
+  | inl here ↦ h p here.0 a here.1
+  | inr there ↦ subst (λ (d : List Happening). Has d (happenings.Begin a)) (sym there.1) (has_last first there.0 (happenings.Begin a) (k there.0 q a there.2))
+]
+
+later_access : (a : access.Access) (inside : List Happening) → EndsLater inside → EndsLater (happenings.Begin a ∷ (inside ++ happenings.End a ∷ []))
+later_access a inside h = λ p q b is. by q b p is
+  where
+    last : (u q : List Happening) (b : access.Access) → happenings.End a ∷ [] ≡ u ++ happenings.End b ∷ q → a ≡ b
+    last [] q b is = cc
+    last (x ∷ u) q b is =
+        let long : 1 ≡ length (x ∷ (u ++ happenings.End b ∷ q)) = ap (λ (d : List Happening). length d) is in
+        let parts : length (u ++ happenings.End b ∷ q) ≡ length u + length (happenings.End b ∷ q) = length-append u (happenings.End b ∷ q) in
+        absurd (omega (arith, long, parts))
+
+    by : (q : List Happening) (b : access.Access) (p : List Happening) → happenings.Begin a ∷ (inside ++ happenings.End a ∷ []) ≡ p ++ happenings.End b ∷ q → Has p (happenings.Begin b)
+    by q b [] is = let no : happenings.Begin a ≡ happenings.End b = cc in absurd (subst (λ (x : Happening). ends.IsNoEnd x) no tt)
+    by q b (x ∷ p) is =
+        let first : happenings.Begin a ≡ x = cc in
+        let more : inside ++ happenings.End a ∷ [] ≡ p ++ happenings.End b ∷ q = cc in
+        elim (split_either inside (happenings.End a ∷ []) p q (happenings.End b) more) [
+          | inl here ↦ inr (h p here.0 b here.1)
+          | inr there ↦
+              let same : a ≡ b = last there.0 q b there.2 in
+              inl (sym first ∙ ap (λ (c : access.Access). happenings.Begin c) same)
+        ]
 
 -- as many end as begin
 pub counted : (p : Happening → Bool) (x : Happening) (did : List Happening) → count_by p (x ∷ did) ≡ (if p x then 1 else 0) + count_by p did
@@ -331,6 +388,7 @@ module _ (s : Setting) (end : Standing) where
   record Part (before : Standing) (records : List Record) (after : Standing) (rest : List Record) : Type 0 where
     begins : Begins before.progress.did after.progress.did
     closed : IsClosed begins.0
+    later : EndsLater begins.0
     even : count_by is_end begins.0 ≡ count_by is_begin begins.0
     fit : AllFit begins.0
     scopes : after.scopes ≡ before.scopes
@@ -344,6 +402,7 @@ module _ (s : Setting) (end : Standing) where
   plainly before after records rest did is none no_ends scopes same = record {
     begins = (did, is);
     closed = closed_none did none;
+    later = later_none did no_ends;
     even = even_none did none no_ends;
     fit = fit_none did none;
     scopes = scopes;
@@ -364,6 +423,7 @@ module _ (s : Setting) (end : Standing) where
       record {
         begins = (access_does a effect, did);
         closed = closed_access a (moments_of a effect) (closed_none (moments_of a effect) (none_of_effect a effect));
+        later = later_access a (moments_of a effect) (later_none (moments_of a effect) (ends.none_of_effect a effect));
         even = even_access a (moments_of a effect) (even_none (moments_of a effect) (none_of_effect a effect) (ends.none_of_effect a effect));
         fit = fit_access a (moments_of a effect) (fit_now before a h.begun h.begins) (fit_none (moments_of a effect) (none_of_effect a effect));
         scopes = ap (λ (st : Standing). st.scopes) h.comes_to ∙ operated_scopes a operation began h.checked effect h.done;
@@ -397,6 +457,7 @@ module _ (s : Setting) (end : Standing) where
       record {
         begins = (does_all, did);
         closed = closed_access a inner.begins.0 inner.closed;
+        later = later_access a inner.begins.0 inner.later;
         even = even_access a inner.begins.0 inner.even;
         fit = fit_access a inner.begins.0 (fit_now before a begun opens.begins) inner.fit;
         scopes = ap (λ (st : Standing). st.scopes) closes.comes_to;
@@ -428,6 +489,7 @@ module _ (s : Setting) (end : Standing) where
         q.begins.1 ∙ (ap (λ (d : List Happening). d ++ q.begins.0) p.begins.1 ∙ append_assoc before.progress.did p.begins.0 q.begins.0),
       );
       closed = closed_both p.begins.0 q.begins.0 p.closed q.closed;
+      later = later_both p.begins.0 q.begins.0 p.later q.later;
       even = even_both p.begins.0 q.begins.0 p.even q.even;
       fit = fit_both p.begins.0 q.begins.0 p.fit q.fit;
       scopes = q.scopes ∙ p.scopes;
@@ -482,3 +544,10 @@ pub all_even : (s : Setting) (registers : ℕ) (body : Block) (records : List Re
 all_even s registers body records whole =
     let part = by_block s (Part s whole.end) (kept_parts s whole.end) 0 body (at_first registers) records whole.end [] whole.steps in
     subst (λ (d : List Happening). count_by is_end d ≡ count_by is_begin d) (sym part.begins.1) part.even
+
+-- where an access ends it has begun before
+pub all_later : (s : Setting) (registers : ℕ) (body : Block) (records : List Record) (whole : SpellsAll s registers body records)
+    → EndsLater whole.end.progress.did
+all_later s registers body records whole =
+    let part = by_block s (Part s whole.end) (kept_parts s whole.end) 0 body (at_first registers) records whole.end [] whole.steps in
+    subst EndsLater (sym part.begins.1) part.later

@@ -56,7 +56,7 @@ clock_after words (steps.LockTry lock holder) = refl
 clock_after words (steps.LockStore lock) = refl
 clock_after words steps.Clock = refl
 
-one_more : (latest : Record) (earlier : List Record) → stamps_in (latest ∷ earlier) ≡ (if is_clock latest.step then 1 else 0) + stamps_in earlier
+pub one_more : (latest : Record) (earlier : List Record) → stamps_in (latest ∷ earlier) ≡ (if is_clock latest.step then 1 else 0) + stamps_in earlier
 one_more latest earlier = sum_by-cons (λ (made : Record). if is_clock made.step then 1 else 0) latest earlier
 
 fewer : (latest : Record) (earlier : List Record) → stamps_in (latest ∷ earlier) < 2 ^ 64 → stamps_in earlier < 2 ^ 64
@@ -93,13 +93,13 @@ answers_count first (one ∷ later) latest earlier start legal few is =
 -- ---- a task's own steps of the clock
 
 -- how many accesses begin and end among these
-abbrev turns : List Happening → ℕ
+abbrev pub turns : List Happening → ℕ
 turns did = count_by is_begin did + count_by is_end did
 
-turns_both : (first second : List Happening) → turns (first ++ second) ≡ turns first + turns second
+pub turns_both : (first second : List Happening) → turns (first ++ second) ≡ turns first + turns second
 turns_both first second = omega (arith, count_both is_begin first second, count_both is_end first second)
 
-turns_of_marks : (did : List Happening) → AreMarks did → turns did ≡ 0
+pub turns_of_marks : (did : List Happening) → AreMarks did → turns did ≡ 0
 turns_of_marks [] h = refl
 turns_of_marks (happenings.Begin a ∷ did) h = absurd h.0
 turns_of_marks (happenings.End a ∷ did) h = absurd h.0
@@ -111,7 +111,7 @@ turns_of_marks (happenings.Mark m ∷ did) h =
     omega (arith, counted is_begin (happenings.Mark m) did, counted is_end (happenings.Mark m) did, turns_of_marks did h.1)
 
 -- so many turns has this
-abbrev HasTurns : List Happening → ℕ → Type 0
+abbrev pub HasTurns : List Happening → ℕ → Type 0
 HasTurns did count = turns did ≡ count
 
 is_none : (did : List Happening) → did ≡ [] → HasTurns did 0
@@ -129,7 +129,7 @@ writes_none s cell old new did h = elim h.is [
   | inr both ↦ subst (λ d. HasTurns d 0) (sym both) refl
 ]
 
-event_turns : (s : tasks.Setting) (before : List Happening) (step : Step) (answer : Answer) (did : List Happening) → IsEvent s before step answer did
+pub event_turns : (s : tasks.Setting) (before : List Happening) (step : Step) (answer : Answer) (did : List Happening) → IsEvent s before step answer did
     → HasTurns did (if is_clock step then 1 else 0)
 event_turns s before (steps.Load index) answer did h = is_none did h
 event_turns s before (steps.Insert index word) answer did h = is_none did h
