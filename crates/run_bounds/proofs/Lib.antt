@@ -1,0 +1,4 @@
+pub mod Outcomes
+pub mod Watches
+pub mod Fallen
+pub mod Lists
