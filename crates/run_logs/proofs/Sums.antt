@@ -47,12 +47,12 @@ abbrev pub below : ℕ → List Record → List Record
 below tasks records = filter (λ made. nat_lt made.task tasks) records
 
 -- a record's task is one of those before a number, this one, or one after it
-data Place (task : ℕ) (made : Record) : Type 0 where
+pub data Place (task : ℕ) (made : Record) : Type 0 where
   comes_before : made.task < task → Place task made
   is_this : made.task ≡ task → Place task made
   comes_after : task < made.task → Place task made
 
-place : (task : ℕ) (made : Record) → Place task made
+pub place : (task : ℕ) (made : Record) → Place task made
 place task made = elim (leb_tells task made.task) [
   | inr less ↦ comes_before less.1
   | inl more ↦ elim (eqb_tells made.task task) [
@@ -251,7 +251,7 @@ module _ (run : Run) (all : List Record) (list : RunList run all) where
       ∙ nothing_spelled (task_setting run task) (length (task_of run task).registers) (task_of run task).body (reverse (records_of task all))
       (ap (λ (t : Task). t.body) idles) (list.tasks task)
 
-  within : (later earlier : List Record) (latest : Record) → all ≡ later ++ latest ∷ earlier → latest.task < tasks
+  pub within : (later earlier : List Record) (latest : Record) → all ≡ later ++ latest ∷ earlier → latest.task < tasks
   within later earlier latest is = elim (leb_tells tasks latest.task) [
     | inr less ↦ less.1
     | inl more ↦

@@ -74,7 +74,7 @@ made_step setter index word task (steps.Insert at its) (answers.Flag true) numbe
 ]
 made_step setter index word task step answer number before last made is same = same is
 
-made_last : (setter index word : ℕ) (records : List Record) → last_arming index records ≡ Some (record { setter = setter; word = word })
+pub made_last : (setter index word : ℕ) (records : List Record) → last_arming index records ≡ Some (record { setter = setter; word = word })
     → number_made setter index records ≡ last_arming_number index records
 made_last setter index word [] is = refl
 made_last setter index word (latest ∷ earlier) is =
@@ -82,13 +82,13 @@ made_last setter index word (latest ∷ earlier) is =
     (number_made setter index earlier) is (made_last setter index word earlier)
 
 -- who has an arming in hand is the setter of the last one at its index
-record IsItsSetter (index task : ℕ) (v : View) : Type 0 where
-  number : ℕ
-  word : ℕ
-  numbered : v.last.number ≡ Some number
-  arming : v.last.arming ≡ Some (record { setter = task; word = word })
+pub record IsItsSetter (index task : ℕ) (v : View) : Type 0 where
+  pub number : ℕ
+  pub word : ℕ
+  pub numbered : v.last.number ≡ Some number
+  pub arming : v.last.arming ≡ Some (record { setter = task; word = word })
 
-its_setter : (index task : ℕ) (v : View) (part : Part) → ((word : ℕ) → part ≢ Taken word) → Fits index v → v.part task ≡ Some part → IsItsSetter index task v
+pub its_setter : (index task : ℕ) (v : View) (part : Part) → ((word : ℕ) → part ≢ Taken word) → Fits index v → v.part task ≡ Some part → IsItsSetter index task v
 its_setter index task v part other (hears, inl idle) has = let none = idle.nobody task in absurd (cc)
 its_setter index task v part other (hears, inr (phase, h)) has =
     let it = is_setter index phase v h task part has other in record {
@@ -120,12 +120,12 @@ tells_none : (ticket : ℕ) (outcome : Outcome) → TellsOf ticket outcome → i
 tells_none ticket (outcomes.Told pair) is = refl
 tells_none ticket outcome is = absurd is
 
-untouched_is : (outcome : Outcome) → IsUntouched outcome → is_verdict outcome ≡ true
+pub untouched_is : (outcome : Outcome) → IsUntouched outcome → is_verdict outcome ≡ true
 untouched_is outcomes.Quiet is = refl
 untouched_is (outcomes.Unknown old new) is = refl
 untouched_is outcome is = absurd is
 
-answer_is : (outcome : Outcome) → is_answer outcome ≡ true → is_verdict outcome ≡ true
+pub answer_is : (outcome : Outcome) → is_answer outcome ≡ true → is_verdict outcome ≡ true
 answer_is (outcomes.Report pair seen) is = refl
 answer_is (outcomes.Dropped reason) is = refl
 answer_is outcome is = absurd (cc)
@@ -136,11 +136,11 @@ answers_so both (outcomes.Dropped reason) is = refl
 answers_so both outcome is = absurd is
 
 -- none of these is a verdict
-abbrev NoVerdict : List Outcome → Type 0
+abbrev pub NoVerdict : List Outcome → Type 0
 NoVerdict [] = Unit {0}
 NoVerdict (outcome ∷ others) = (is_verdict outcome ≡ false) × NoVerdict others
 
-none_fell : (fell : List Outcome) → fell ≡ [] → NoVerdict fell
+pub none_fell : (fell : List Outcome) → fell ≡ [] → NoVerdict fell
 none_fell fell is = subst NoVerdict (sym is) tt
 
 one_fell : (fell : List Outcome) (outcome : Outcome) → fell ≡ outcome ∷ [] → is_verdict outcome ≡ false → NoVerdict fell
@@ -151,16 +151,16 @@ most_fell Is none fell (inl empty) = none_fell fell empty
 most_fell Is none fell (inr one) = one_fell fell one.0 one.1 (none one.0 one.2)
 
 -- the verdict on an untouched watch falls
-record QuietFalls (step : Step) (answer : Answer) (fell : List Outcome) : Type 0 where
-  index : ℕ
-  step_is : step ≡ steps.Consume index
-  answer_is : answer ≡ answers.Flag true
-  outcome : Outcome
-  only : fell ≡ outcome ∷ []
-  untouched : IsUntouched outcome
+pub record QuietFalls (step : Step) (answer : Answer) (fell : List Outcome) : Type 0 where
+  pub index : ℕ
+  pub step_is : step ≡ steps.Consume index
+  pub answer_is : answer ≡ answers.Flag true
+  pub outcome : Outcome
+  pub only : fell ≡ outcome ∷ []
+  pub untouched : IsUntouched outcome
 
 -- what falls at a record: no verdict, that on an untouched watch, or that on one that was hit
-data FallsHere (hand : Option InHand) (step : Step) (answer : Answer) (fell : List Outcome) : Type 0 where
+pub data FallsHere (hand : Option InHand) (step : Step) (answer : Answer) (fell : List Outcome) : Type 0 where
   nothing_falls : NoVerdict fell → ((index : ℕ) → step ≡ steps.Consume index → answer ≢ answers.Flag true) → Unanswered hand step answer fell
       → FallsHere hand step answer fell
   quiet_falls : QuietFalls step answer fell → FallsHere hand step answer fell
@@ -187,21 +187,21 @@ unanswered hand (steps.Tell index ticket) answer fell h un =
     nothing_falls (one_fell fell h.0 h.1 (tells_none ticket h.0 h.2)) (λ at is. absurd (cc)) un
 unanswered hand step answer fell h un = nothing_falls (none_fell fell h) (λ at is yes. absurd (cc)) un
 
-falls_here : (hand : Option InHand) (step : Step) (answer : Answer) (fell : List Outcome) → Settles hand step answer fell → FallsHere hand step answer fell
+pub falls_here : (hand : Option InHand) (step : Step) (answer : Answer) (fell : List Outcome) → Settles hand step answer fell → FallsHere hand step answer fell
 falls_here hand step answer fell h = elim (fell_cases hand step answer fell h) [
   | inl un ↦ unanswered hand step answer fell h un
   | inr some ↦ hit_falls some
 ]
 
 -- the verdicts among what fell at a record
-abbrev verdicts_in : List OutcomeAt → List OutcomeAt
+abbrev pub verdicts_in : List OutcomeAt → List OutcomeAt
 verdicts_in came = filter (λ (one : OutcomeAt). is_verdict one.outcome) came
 
-no_verdicts : (at : ℕ) (arming : Option Armed) (here : List Fallen) → NoVerdict (outcomes_in here) → verdicts_in (map (outcome_at at arming) here) ≡ []
+pub no_verdicts : (at : ℕ) (arming : Option Armed) (here : List Fallen) → NoVerdict (outcomes_in here) → verdicts_in (map (outcome_at at arming) here) ≡ []
 no_verdicts at arming [] none = refl
 no_verdicts at arming (fallen ∷ here) none = rw none.0 (no_verdicts at arming here none.1)
 
-one_verdict : (at : ℕ) (arming : Option Armed) (fallen : Fallen) → is_verdict fallen.outcome ≡ true
+pub one_verdict : (at : ℕ) (arming : Option Armed) (fallen : Fallen) → is_verdict fallen.outcome ≡ true
     → verdicts_in (outcome_at at arming fallen ∷ []) ≡ outcome_at at arming fallen ∷ []
 one_verdict at arming fallen is = rw is refl
 
@@ -227,18 +227,18 @@ noted_none None finder none = refl
 noted_none (Some outcome) finder none = none_became outcome finder none.0
 
 -- what became of an arming, by the verdict
-record BecameSo (records : List Record) (index number setter : ℕ) (outcome : Outcome) (finder : ℕ) : Type 0 where
-  result : ArmOutcome
-  noted_so : became_of (Some outcome) finder ≡ Some result
-  is : Became records index number setter outcome result
+pub record BecameSo (records : List Record) (index number setter : ℕ) (outcome : Outcome) (finder : ℕ) : Type 0 where
+  pub result : ArmOutcome
+  pub noted_so : became_of (Some outcome) finder ≡ Some result
+  pub is : Became records index number setter outcome result
 
-untouched_so : (records : List Record) (index number setter : ℕ) (outcome : Outcome) (finder : ℕ) → IsUntouched outcome
+pub untouched_so : (records : List Record) (index number setter : ℕ) (outcome : Outcome) (finder : ℕ) → IsUntouched outcome
     → BecameSo records index number setter outcome finder
 untouched_so records index number setter outcomes.Quiet finder is = record { result = became_as.Quiet; noted_so = refl; is = refl }
 untouched_so records index number setter (outcomes.Unknown old new) finder is = record { result = became_as.Origin; noted_so = refl; is = refl }
 untouched_so records index number setter outcome finder is = absurd is
 
-hit_so : (records : List Record) (index number setter : ℕ) (outcome : Outcome) (finder : ℕ) → is_answer outcome ≡ true
+pub hit_so : (records : List Record) (index number setter : ℕ) (outcome : Outcome) (finder : ℕ) → is_answer outcome ≡ true
     → Contains (finders_told records) (meeting index number setter finder) → BecameSo records index number setter outcome finder
 hit_so records index number setter (outcomes.Report pair seen) finder is told =
     record { result = became_as.Hit finder results.Report; noted_so = refl; is = record { finder = finder; told = told; is = refl } }
@@ -264,11 +264,11 @@ same_arms (steps.LockStore lock) earlier before other = refl
 same_arms steps.Clock earlier before other = refl
 
 -- is the step a remove?
-data Removing (step : Step) : Type 0 where
+pub data Removing (step : Step) : Type 0 where
   of_index : (index : ℕ) → step ≡ steps.Remove index → Removing step
   of_none : ((index : ℕ) → step ≢ steps.Remove index) → Removing step
 
-removing : (step : Step) → Removing step
+pub removing : (step : Step) → Removing step
 removing (steps.Remove index) = of_index index refl
 removing (steps.Load index) = of_none (λ at is. cc)
 removing (steps.Insert index word) = of_none (λ at is. cc)
@@ -289,7 +289,7 @@ others_made : (here : Bool) (n : ℕ) (before : Option ℕ) → (if here && fals
 others_made true n before = refl
 others_made false n before = refl
 
-made_by_others : (task index maker : ℕ) (step : Step) (answer : Answer) (n : ℕ) (before : Option ℕ) → (maker == task) ≡ false
+pub made_by_others : (task index maker : ℕ) (step : Step) (answer : Answer) (n : ℕ) (before : Option ℕ) → (maker == task) ≡ false
     → number_made_after task index maker step answer n before ≡ before
 made_by_others task index maker (steps.Insert at word) (answers.Flag true) n before others =
     ap (λ (c : Bool). if (at == index) && c then Some n else before) others ∙ others_made (at == index) n before

@@ -1,0 +1,4 @@
+//! The armings, the takings and the reports of a run tell of the same.
+#![tactic(auto)]
+
+pub mod laws;
