@@ -1,15 +1,27 @@
 -- What is read of a world, by the list.
 use Rattle.std.proofs.Common.{◌≡◌, ◌≤◌, ◌<◌, ◌+◌, ◌^◌, ◌++◌, ℕ, suc, List, ap, arith, inl, inr, length, refl, reverse, subst, sym}
+use Rattle.std.proofs.lemmas.List.{reverse-reverse}
 use Rattle.std.proofs.lemmas.Option.{slice_get_cases}
 use Rattle.litmus_step.proofs.FirstLemmas.{past}
 use Rattle.litmus_syntax.specs.Limits.{BodyKeepsLimits, KeepsLimits, TaskKeepsLimits, block_rises}
 use Rattle.litmus_syntax.specs.Tree.{Task}
 use Rattle.run_lists.specs.Run.{Run, idle, task_of}
 use Rattle.run_lists.specs.RunList.{RunList}
+use Rattle.run_logs.specs.Lists.{ByTask}
+use Rattle.run_logs.specs.Noted.{AreNoted, Notes}
 use Rattle.run_logs.specs.Totals.{unbalanced_below}
+use Rattle.slot_table.specs.Records.{records_of}
 use Rattle.slot_table.specs.declared.records.Record.{Record}
+use Rattle.task_log.specs.declared.noted.Noted.{Noted}
 use Rattle.task_plan.specs.Counts.{up_to_last}
 use Rattle.written_order.specs.WrittenOrder.{stands_after}
+
+-- those of one task more follow on those of the tasks before it
+pub by_one_more : {X : Type 0} (Of : ℕ → List X → Type 0) (tasks : ℕ) (some one all : List X) → ByTask Of tasks some → Of tasks one
+    → all ≡ some ++ one → ByTask Of (tasks + 1) all
+by_one_more Of tasks some one all before own joined =
+    let next : suc tasks ≡ tasks + 1 = omega arith in
+    subst (λ n. ByTask Of n all) next (some, one, joined, before, own)
 
 -- a task's body keeps the limits, also that of one that the program hasn't
 pub body_keeps : (run : Run) (task : ℕ) → KeepsLimits run.program → BodyKeepsLimits (task_of run task).body
@@ -29,6 +41,12 @@ few_rises run task limits =
           let keeps : TaskKeepsLimits run.program.variables (task_of run task) = limits.each_task task idle there.1 in keeps.rises
       | inr beyond ↦ subst (λ (t : Task). block_rises t.body ≤ 2 ^ 32) (sym (past run task beyond.0)) (omega arith)
     ]
+
+-- what is noted of a task's own records is noted of them as they stand twice turned round
+pub noted_along : (run : Run) (records : List Record) (list : RunList run records) (task : ℕ) (noted : List Noted)
+    → Notes list task noted → AreNoted (list.tasks task) (reverse (reverse (records_of task records))) noted
+noted_along run records list task noted notes =
+    subst (λ (own : List Record). AreNoted (list.tasks task) own noted) (sym (reverse-reverse (records_of task records))) notes
 
 -- one task's calls that had nothing to end are added
 pub unbalanced_more : (run : Run) (records : List Record) (list : RunList run records) (task so_far one both : ℕ)

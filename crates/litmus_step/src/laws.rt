@@ -1,6 +1,8 @@
 //! What is true of lists that lead to tasks over their words.
 
-ghost use Rattle.std.specs.Prelude.{◌≡◌, ◌+◌, ◌<◌, ◌≤◌, ◌^◌, ◌∷◌, [], ℕ, List, Option, Some, length, slice_get, slice_set};
+ghost use Rattle.std.specs.Prelude.{◌≡◌, ◌+◌, ◌*◌, ◌<◌, ◌≤◌, ◌^◌, ◌∷◌, [], ℕ, List, Option, Some, length, slice_get, slice_set};
+ghost use Rattle.access_types.specs.Arms.{Arm};
+ghost use Rattle.access_types.specs.Takes.{Take};
 ghost use Rattle.access_types.specs.declared.report.Report.{Report};
 ghost use Rattle.litmus_meaning.specs.RunOfProgram.{RunOfProgram};
 ghost use Rattle.litmus_syntax.specs.Limits.{KeepsLimits};
@@ -10,6 +12,8 @@ ghost use Rattle.program_sites.specs.Sites.{AreSitesOf};
 ghost use Rattle.run_lists.specs.Run.{Run, task_setting};
 ghost use Rattle.run_lists.specs.RunList.{RunList};
 ghost use Rattle.run_lists.specs.Told.{history_of};
+ghost use Rattle.run_lists.specs.Reports.{reports_of};
+ghost use Rattle.run_logs.specs.Lists.{AreArmsOf, AreTakesOf};
 ghost use Rattle.run_logs.specs.Noted.{Notes};
 ghost use Rattle.run_logs.specs.Totals.{AddUp, CountsList, CountsTasks};
 ghost use Rattle.setup_access.specs.Parts.{made};
@@ -21,12 +25,13 @@ ghost use Rattle.slot_table.specs.Words.{Words};
 ghost use Rattle.slot_table.specs.declared.records.Record.{Record};
 ghost use Rattle.slot_table.specs.declared.step.Answer.{Answer};
 ghost use Rattle.slot_table.specs.declared.step.Step.{Step};
-ghost use Rattle.litmus_step.specs.Kept.{Added, AreKept, IsKept, IsNotedIn};
+ghost use Rattle.litmus_step.specs.Kept.{Added, AreKept, IsKept, IsNotedIn, watches_kept};
 ghost use Rattle.litmus_step.specs.Leads.{LeadsTask, LeadsToAll, MakesNextIn};
 ghost use Rattle.litmus_step.specs.Readers.{IsMeant};
 ghost use Rattle.litmus_step.specs.Runs.{CanBeMade, HasEnded, tasks_of};
 ghost use Rattle.litmus_step.specs.Steps.{LeadsTo};
 ghost use Rattle.litmus_step.specs.declared.world.World.{World};
+ghost use Rattle.task_log.specs.Arms.{arms_of, takes_of};
 ghost use Rattle.task_log.specs.Counters.{Count};
 ghost use Rattle.task_log.specs.Keeps.{Keeps};
 ghost use Rattle.task_log.specs.declared.counters.Counters.{Counters};
@@ -39,10 +44,11 @@ ghost use Rattle.task_run.specs.Says.{Says};
 ghost use Rattle.task_run.specs.declared.run.TaskRun.{TaskRun};
 ghost use Rattle.written_order.specs.WrittenOrder.{stands_after};
 
+use run_bounds::laws::{few_are_reported, few_watches_are_over};
 use run_histories::laws::run_lists_tell_runs_of_the_program;
 use run_logs::laws::{
-    a_log_reports_what_the_list_does, a_machine_says_what_is_noted, counters_of_tasks_add_up,
-    one_more_is_noted,
+    a_log_keeps_just_the_arms, a_log_keeps_just_the_takes, a_log_reports_what_the_list_does,
+    a_machine_says_what_is_noted, counters_of_tasks_add_up, one_more_is_noted,
 };
 use spelled_texts::laws::{texts_within_limits_are_spelled, variables_of_programs_are_placed};
 use standing_laws::laws::{ended_tasks_stand_at_the_end, machines_stand_where_the_records_tell};
@@ -110,6 +116,32 @@ pub fn logs_count_the_list()
         → CountsTasks list (tasks_of run) counters → CountsList list counters }
 {
     counters_of_tasks_add_up();
+}
+
+/// Law: what the log of a task gives of armings and takings is what the list has of the task.
+pub fn logs_give_what_the_list_has()
+    ensures arms { (run : Run) (records : List Record) (list : RunList run records) (task : ℕ) (log : TaskLog) (given : List Arm)
+        → KeepsLimits run.program → IsKept list task log
+        → ((accesses watches : ℕ) (own : List Noted) → Keeps accesses watches own log → length (arms_of own) ≤ watches
+        → given ≡ arms_of own)
+        → AreArmsOf list task given }
+    ensures takes { (run : Run) (records : List Record) (list : RunList run records) (task : ℕ) (log : TaskLog) (given : List Take)
+        → KeepsLimits run.program → IsKept list task log
+        → ((accesses watches : ℕ) (own : List Noted) → Keeps accesses watches own log → length (takes_of own) ≤ watches
+        → given ≡ takes_of own)
+        → AreTakesOf list task given }
+{
+    few_watches_are_over();
+    a_log_keeps_just_the_arms();
+    a_log_keeps_just_the_takes();
+}
+
+/// Law: there is room for what a run list reports.
+pub fn reports_have_room()
+    ensures { (run : Run) (records : List Record) → (list : RunList run records) → KeepsLimits run.program
+        → length (reports_of list) ≤ tasks_of run * watches_kept }
+{
+    few_are_reported();
 }
 
 /// Law: where a task's records in the list lead to its machine, the machine's registers, and its calls that had nothing

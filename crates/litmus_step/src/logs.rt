@@ -1,14 +1,16 @@
 //! What is kept of the steps of all tasks.
 
-ghost use Rattle.std.specs.Prelude.{◌≡◌, IfErr, List};
+ghost use Rattle.std.specs.Prelude.{◌≡◌, IfErr, IfOk, List};
 ghost use Rattle.litmus_step.specs.Kept.{AreLogs};
+ghost use Rattle.litmus_syntax.specs.Limits.{KeepsLimits};
 ghost use Rattle.run_lists.specs.Run.{Run};
 ghost use Rattle.run_lists.specs.RunList.{RunList};
+ghost use Rattle.run_logs.specs.Lists.{AreArms, AreTakes};
 ghost use Rattle.run_logs.specs.Totals.{CountsList};
 ghost use Rattle.slot_table.specs.declared.records.Record.{Record};
 
 use crate::error::WorldError;
-use crate::laws::logs_count_the_list;
+use crate::laws::{logs_count_the_list, logs_give_what_the_list_has};
 use access_types::{Arm, Stamped, Take};
 use std::alloc::Global;
 use task_log::{Counters, TaskLog};
@@ -38,8 +40,11 @@ pub fn accesses_of(alloc: Global, logs: &[TaskLog]) -> Result<Vec<Stamped>, Worl
 
 /// The armings that are over, by task, and then in the order of their removes.
 pub fn arms_of(alloc: Global, logs: &[TaskLog]) -> Result<Vec<Arm>, WorldError>
+    ensures all { (run : Run) (records : List Record) → (list : RunList run records) → KeepsLimits run.program → AreLogs list logs.now
+        → IfOk result (λ all. AreArms list all.items) }
     ensures errors { IfErr result (λ error. error ≡ WorldError.OutOfMemory) }
 {
+    logs_give_what_the_list_has();
     let mut all = Vec::new(alloc);
     for log in logs {
         all.extend_from_slice(log.arms())?;
@@ -49,8 +54,11 @@ pub fn arms_of(alloc: Global, logs: &[TaskLog]) -> Result<Vec<Arm>, WorldError>
 
 /// The takings that are over, by task, and then in the order of their tells.
 pub fn takes_of(alloc: Global, logs: &[TaskLog]) -> Result<Vec<Take>, WorldError>
+    ensures all { (run : Run) (records : List Record) → (list : RunList run records) → KeepsLimits run.program → AreLogs list logs.now
+        → IfOk result (λ all. AreTakes list all.items) }
     ensures errors { IfErr result (λ error. error ≡ WorldError.OutOfMemory) }
 {
+    logs_give_what_the_list_has();
     let mut all = Vec::new(alloc);
     for log in logs {
         all.extend_from_slice(log.takes())?;

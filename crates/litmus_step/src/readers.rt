@@ -1,8 +1,7 @@
 //! What is read of a world.
 
-ghost use Rattle.std.specs.Prelude.{◌≡◌, ◌<◌, ◌≤◌, ◌*◌, All, IfErr, List, length};
-ghost use Rattle.litmus_step.specs.Kept.{watches_kept};
-ghost use Rattle.litmus_step.specs.Runs.{HasEnded, tasks_of};
+ghost use Rattle.std.specs.Prelude.{◌≡◌, ◌<◌, All, IfErr, IfOk, List};
+ghost use Rattle.litmus_step.specs.Runs.{HasEnded};
 ghost use Rattle.run_headline.specs.Headline.{Headline};
 ghost use Rattle.run_histories.specs.Cells.{CellsHold, memory_after, run_cells};
 ghost use Rattle.run_histories.specs.Reported.{IsTrueReport};
@@ -12,7 +11,7 @@ ghost use Rattle.run_lists.specs.Told.{history_of};
 ghost use Rattle.slot_table.specs.declared.records.Record.{Record};
 
 use crate::error::WorldError;
-use crate::laws::machines_stand_where_the_list_does;
+use crate::laws::{machines_stand_where_the_list_does, reports_have_room};
 use crate::logs::{accesses_of, arms_of, counters_of, takes_of};
 use crate::world::World;
 use access_types::{Arm, Report, Sites, Stamped, Take};
@@ -23,6 +22,7 @@ use task_run::{After, Before};
 
 impl<'a> World<'a> {
     ghost use Rattle.litmus_step.specs.Readers.{AreRegisters, IsBefore, IsMeant};
+    ghost use Rattle.run_logs.specs.Lists.{AreArms, AreTakes};
     ghost use Rattle.run_logs.specs.Totals.{CountsList, IsUnbalanced};
     ghost use Rattle.litmus_step.specs.Steps.{IsMachine, LeadsTo, tasks_in};
     ghost use Rattle.task_run.specs.Points.{HasMade, Stepped, last_was};
@@ -44,12 +44,12 @@ impl<'a> World<'a> {
 
     /// What was reported so far, in order.
     pub fn reports(&self) -> &[Report]
-        ensures told { (run : Run) (records : List Record) → (leads : LeadsTo run records self.now)
-            → length (reports_of leads.list) ≤ tasks_of run * watches_kept → result.now ≡ reports_of leads.list }
+        ensures told { (run : Run) (records : List Record) → (leads : LeadsTo run records self.now) → result.now ≡ reports_of leads.list }
         ensures true_reports { (run : Run) (records : List Record) → (leads : LeadsTo run records self.now)
             → All (IsTrueReport leads.list) result.now }
         ensures headline { (run : Run) (records : List Record) → (leads : LeadsTo run records self.now) → Headline leads.list }
     {
+        reports_have_room();
         reports_are_true();
         the_headline_holds();
         self.reports.as_slice()
@@ -111,6 +111,8 @@ impl<'a> World<'a> {
 
     /// The armings that are over, by task, and then in the order of their removes.
     pub fn arms(&self) -> Result<Vec<Arm>, WorldError>
+        ensures all { (run : Run) (records : List Record) → (leads : LeadsTo run records self.now)
+            → IfOk result (λ all. AreArms leads.list all.items) }
         ensures errors { IfErr result (λ error. error ≡ WorldError.OutOfMemory) }
     {
         arms_of(self.alloc, self.logs.as_slice())
@@ -118,6 +120,8 @@ impl<'a> World<'a> {
 
     /// The takings that are over, by task, and then in the order of their tells.
     pub fn takes(&self) -> Result<Vec<Take>, WorldError>
+        ensures all { (run : Run) (records : List Record) → (leads : LeadsTo run records self.now)
+            → IfOk result (λ all. AreTakes leads.list all.items) }
         ensures errors { IfErr result (λ error. error ≡ WorldError.OutOfMemory) }
     {
         takes_of(self.alloc, self.logs.as_slice())

@@ -8,10 +8,11 @@ use Rattle.run_histories.specs.Reported.{IsTrueReport}
 use Rattle.run_lists.specs.Reports.{reports_of}
 
 pub returns-clause-told : goal.returns-clause-told
-returns-clause-told c = λ run records leads few.
+returns-clause-told c = λ run records leads.
     let told = leads.kept.reports_are in
     rw c.as_slice.ensures.value (all_reported c.args.self.now.reports.items told.later (reports_of leads.list) (tasks_of run * watches_kept)
-    (vec_capacity c.args.self.now.reports) told.reported told.full told.space few)
+    (vec_capacity c.args.self.now.reports) told.reported told.full told.space
+    (c.reports_have_room.ensures run records leads.list leads.can.limits))
 
 pub returns-clause-true_reports : goal.returns-clause-true_reports
 returns-clause-true_reports c = λ run records leads.

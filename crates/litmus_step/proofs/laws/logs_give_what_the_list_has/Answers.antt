@@ -1,0 +1,24 @@
+-- By what a log keeps and the list's own words for it.
+use Rattle.std.proofs.Common.{length, reverse, subst, sym}
+use Rattle.litmus_step.proofs.ReaderLemmas.{body_keeps, noted_along}
+use Rattle.litmus_step.proofs.laws.logs_give_what_the_list_has.Goals as goal
+use Rattle.litmus_step.specs.Kept.{accesses_kept, watches_kept}
+use Rattle.run_lists.specs.Run.{task_of, task_setting}
+use Rattle.run_logs.specs.Lists.{AreArmsOf, AreTakesOf}
+use Rattle.slot_table.specs.Records.{records_of}
+
+pub returns-clause-arms : goal.returns-clause-arms
+returns-clause-arms c = λ run records list task log given limits kept gives.
+    let few = c.few_watches_are_over.ensures.arms (task_setting run task) (length (task_of run task).registers) (task_of run task).body
+    (reverse (records_of task records)) kept.noted (body_keeps run task limits) (list.tasks task)
+    (noted_along run records list task kept.noted kept.notes) in
+    subst (AreArmsOf list task) (sym (gives accesses_kept watches_kept kept.noted kept.keeps few))
+    (c.a_log_keeps_just_the_arms.ensures run records list task kept.noted kept.notes)
+
+pub returns-clause-takes : goal.returns-clause-takes
+returns-clause-takes c = λ run records list task log given limits kept gives.
+    let few = c.few_watches_are_over.ensures.takes (task_setting run task) (length (task_of run task).registers) (task_of run task).body
+    (reverse (records_of task records)) kept.noted (body_keeps run task limits) (list.tasks task)
+    (noted_along run records list task kept.noted kept.notes) in
+    subst (AreTakesOf list task) (sym (gives accesses_kept watches_kept kept.noted kept.keeps few))
+    (c.a_log_keeps_just_the_takes.ensures run records list task kept.noted kept.notes)
