@@ -1,2 +1,4 @@
 pub mod Pairing
 pub mod Own
+pub mod Tallies
+pub mod Bags

@@ -8,7 +8,7 @@ use Rattle.run_lists.specs.RunList.{RunList}
 use Rattle.run_lists.specs.Told.{OutcomeAt, outcomes_of}
 use Rattle.run_logs.specs.Lists.{AreArmsBy, verdicts_by}
 use Rattle.run_logs.proofs.Settling.{HandSays, HitSays, Known, Match, PartSays, Pending, Settled}
-use Rattle.run_bags.proofs.Pairing.{Paired, all_paired}
+use Rattle.run_bags.proofs.Pairing.{all_paired}
 use Rattle.run_verdicts.specs.Watches.{IfVerdict}
 use Rattle.slot.specs.Pair.{Halves}
 use Rattle.slot_table.specs.Discipline.{heard, in_hand}

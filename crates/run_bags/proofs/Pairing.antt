@@ -1,7 +1,7 @@
 -- Each arming that a task has removed has its own verdict, in the order of both.
-use Rattle.std.proofs.Common.{◌≡◌, ◌≢◌, ◌∙◌, ◌⊎◌, ◌<◌, ◌+◌, ◌==◌, ◌++◌, ◌∷◌, if◌then◌else◌, [], inl, inr, ℕ, suc, All, Bool, true, false, Contains, IsTrue, List, MatchBool, None, Option, Some, ap, append_assoc, arith, filter}
+use Rattle.std.proofs.Common.{◌≡◌, ◌≢◌, ◌∙◌, ◌==◌, ◌++◌, ◌∷◌, if◌then◌else◌, [], inl, inr, ℕ, All, Bool, true, false, Contains, List, MatchBool, None, Option, Some, ap, append_assoc, arith}
 use Rattle.std.proofs.Common.{length, map, refl, reverse, subst, sym}
-use Rattle.std.specs.Option.{option_map, option_or}
+use Rattle.std.specs.Option.{option_map}
 use Rattle.std.proofs.lemmas.Bool.{eq-eqb}
 use Rattle.std.proofs.lemmas.Bool.Decides.{eqb_tells}
 use Rattle.std.proofs.lemmas.List.{append-nil}
