@@ -1,5 +1,5 @@
 -- The accesses of a task end in the other order than they begin.
-use Rattle.std.proofs.Common.{◌≡◌, ◌∙◌, ◌⊎◌, ◌++◌, ◌∷◌, [], inl, inr, ℕ, zero, suc, Bool, true, false, List, None, Option, Some, ap, append_assoc, drop, refl, replicate, subst, sym}
+use Rattle.std.proofs.Common.{◌≡◌, ◌∙◌, ◌++◌, ◌∷◌, [], ℕ, zero, suc, List, None, Option, Some, ap, append_assoc, drop, refl, replicate, subst, sym}
 use Rattle.std.proofs.lemmas.List.{append-nil}
 use Rattle.access_types.specs.Access.{Access}
 use Rattle.access_types.specs.declared.history.Happening.{Happening}
@@ -8,7 +8,6 @@ use Rattle.access_types.specs.declared.history.Mark.{Mark}
 use Rattle.litmus_meaning.specs.Task as meaning
 use Rattle.litmus_syntax.specs.Tree.{Block}
 use Rattle.memory_operation.specs.Effects.{moments_of, read_moments, write_moments}
-use Rattle.memory_operation.specs.Operations.{Operates}
 use Rattle.memory_operation.specs.declared.effect.Effect.{Effect}
 use Rattle.memory_operation.specs.declared.operation.Operation.{Operation}
 use Rattle.memory_operation.specs.declared.operation.Operation.TheVariants as operations

@@ -1,6 +1,6 @@
 -- What is decided of an access when it begins is what the history decides of it.
-use Rattle.std.proofs.Common.{◌≡◌, ◌↔◌, ◌∙◌, ◌==◌, ◌<◌, ◌≤◌, ◌+◌, ◌++◌, ◌∷◌, [], inl, inr, ℕ, suc, All, Bool, true, false, IsTrue, List, None, Option, Some, ap, append_assoc, arith}
-use Rattle.std.proofs.Common.{cond, count_by, length, map, refl, reverse, slice_get, subst, sym, take}
+use Rattle.std.proofs.Common.{◌≡◌, ◌↔◌, ◌∙◌, ◌==◌, ◌<◌, ◌+◌, ◌++◌, ◌∷◌, [], inl, inr, ℕ, All, Bool, true, false, IsTrue, List, None, Option, Some, ap, append_assoc, arith}
+use Rattle.std.proofs.Common.{cond, count_by, length, refl, reverse, slice_get, subst, sym, take}
 use Rattle.std.specs.List.{cons_option, filter_map, list_any}
 use Rattle.std.proofs.lemmas.Bool.{and_right, eq-eqb}
 use Rattle.std.proofs.lemmas.Bool.Decides.{eqb_tells}
@@ -10,7 +10,6 @@ use Rattle.access_types.specs.Access.{Access}
 use Rattle.access_types.specs.History.{History, beginning, happenings_of}
 use Rattle.access_types.specs.Marked as spec
 use Rattle.access_types.specs.Marked.{BeginsAfter, CountedAsMarked, CountsAfter, EndsRaised, IsWithinNext, Silenced, begins_countable, is_countable_begin, is_disable, is_enable, is_next, marks_of, next_mark}
-use Rattle.access_types.specs.Stamped.{Stamped}
 use Rattle.access_types.specs.declared.history.Happening.{Happening}
 use Rattle.access_types.specs.declared.history.Happening.TheVariants as happenings
 use Rattle.access_types.specs.declared.history.Mark.{Mark}

@@ -1,5 +1,5 @@
 -- Each end of an access in a list is that of an access that its task's log keeps.
-use Rattle.std.proofs.Common.{◌≡◌, ◌∙◌, ◌⊎◌, ◌==◌, ◌<◌, ◌+◌, ◌++◌, ◌∷◌, if◌then◌else◌, [], inl, inr, ℕ, zero, suc, Bool, true, false, Contains, List, None, Option, Some, ap, append_assoc, arith, length, refl, subst, sym}
+use Rattle.std.proofs.Common.{◌≡◌, ◌∙◌, ◌<◌, ◌++◌, ◌∷◌, if◌then◌else◌, [], inl, inr, ℕ, zero, suc, Bool, true, false, Contains, List, None, Option, Some, ap, append_assoc, arith, length, refl, subst, sym}
 use Rattle.std.specs.List.{cons_option, filter_map, list_any}
 use Rattle.std.specs.Prelude.{is_none}
 use Rattle.std.proofs.lemmas.Bool.Decides.{eqb_tells}

@@ -1,18 +1,16 @@
 -- What is noted of records is noted of the same records at the beginning of more.
-use Rattle.std.proofs.Common.{◌≡◌, ◌≢◌, ◌<◌, ◌≤◌, ◌∙◌, ◌++◌, ◌∷◌, [], ℕ, suc, List, Option, None, Some, ap, append_assoc, arith, length, map, refl, reverse, subst, sym}
-use Rattle.std.specs.Option.{option_to_list}
+use Rattle.std.proofs.Common.{◌≡◌, ◌≢◌, ◌<◌, ◌≤◌, ◌∙◌, ◌++◌, ◌∷◌, [], ℕ, List, ap, append_assoc, arith, length, map, refl, reverse, subst, sym}
 use Rattle.std.proofs.lemmas.Bool.{ne_eqb}
 use Rattle.std.proofs.lemmas.List.{length-reverse, reverse-append}
 use Rattle.access_types.specs.declared.history.Happening.{Happening}
 use Rattle.litmus_meaning.specs.Task as meaning
 use Rattle.litmus_syntax.specs.Tree.{Block}
-use Rattle.run_lists.specs.Run.{Run, task_of, task_setting}
+use Rattle.run_lists.specs.Run.{Run}
 use Rattle.run_lists.specs.RunList.{RunList}
 use Rattle.run_lists.specs.Told.{made_by}
 use Rattle.run_lists.proofs.OwnLasts.{own_latest}
 use Rattle.run_logs.specs.Noted.{AreNoted, IsBegun, IsNoted, Notes}
 use Rattle.setup_access.specs.Check.{Fallen}
-use Rattle.setup_access.specs.declared.begun.Begun.{Begun}
 use Rattle.setup_access.specs.declared.outcome.Outcome.{Outcome}
 use Rattle.slot_table.specs.Records.{records_of}
 use Rattle.slot_table.specs.declared.records.Record.{Record}

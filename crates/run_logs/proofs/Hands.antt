@@ -1,5 +1,5 @@
 -- What a task with an arming in hand has last set up and named is of this arming.
-use Rattle.std.proofs.Common.{◌≡◌, ◌∙◌, ◌==◌, ◌∷◌, [], inl, inr, ℕ, Bool, true, false, List, None, Option, Some, ap, refl, subst, sym}
+use Rattle.std.proofs.Common.{◌≡◌, ◌∷◌, [], inl, inr, ℕ, true, false, List, None, Option, Some, refl, subst, sym}
 use Rattle.std.specs.Option.{option_or}
 use Rattle.std.proofs.lemmas.Bool.{eq-eqb}
 use Rattle.run_logs.proofs.Naming.{last_name}

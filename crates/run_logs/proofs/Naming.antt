@@ -1,5 +1,5 @@
 -- After a watch of an access its task has last named itself by the access's ticket.
-use Rattle.std.proofs.Common.{◌≡◌, ◌∙◌, ◌<◌, ◌++◌, ◌∷◌, [], inl, inr, ℕ, Bool, true, false, List, MatchBool, None, Option, Some, ap, append_assoc, refl, reverse, subst, sym}
+use Rattle.std.proofs.Common.{◌≡◌, ◌∙◌, ◌++◌, ◌∷◌, [], inl, inr, ℕ, Bool, true, false, List, MatchBool, None, Option, Some, ap, append_assoc, refl, reverse, subst, sym}
 use Rattle.std.proofs.lemmas.List.{reverse-append}
 use Rattle.std.specs.Option.{option_or}
 use Rattle.access_types.specs.Access.{Access}
@@ -8,7 +8,6 @@ use Rattle.litmus_syntax.specs.Tree.{Block}
 use Rattle.run_lists.proofs.CheckFacts.{back}
 use Rattle.run_logs.specs.Noted.{AreNoted}
 use Rattle.setup_access.specs.Found.{Hears, finder_half}
-use Rattle.setup_access.specs.Records.{MakesFlag}
 use Rattle.setup_access.specs.Setting.{Setting, slot_of, try_order}
 use Rattle.setup_access.specs.Setup.{Arms, Judged, Judges, SetsUp, TriesInsert, WatchesAt}
 use Rattle.setup_access.specs.Values.{LoadsFrom, both_values, source_of}
@@ -19,7 +18,7 @@ use Rattle.setup_access.proofs.DisciplineLemmas.{on_flag, on_halves, on_word}
 use Rattle.slot.specs.Pair.{Halves}
 use Rattle.slot_table.specs.declared.records.Record.{Record}
 use Rattle.slot_table.specs.declared.step.Step.{Step}
-use Rattle.slot_table.specs.declared.step.Step.TheVariants.{CellLoad, Consume, Insert, Name, PairLoad}
+use Rattle.slot_table.specs.declared.step.Step.TheVariants.{CellLoad, Consume, PairLoad}
 use Rattle.task_log.specs.Noted.{last_of, named, named_by}
 use Rattle.task_log.specs.declared.noted.Noted.{Noted}
 use Rattle.written_order.specs.Standing as tasks

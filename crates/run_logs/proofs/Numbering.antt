@@ -1,9 +1,8 @@
 -- The armings that a log keeps are numbered by access, and its takings are those that its task told.
-use Rattle.std.proofs.Common.{◌≡◌, ◌∙◌, ◌==◌, ◌++◌, ◌∷◌, ◌⊎◌, [], inl, inr, ℕ, Bool, true, false, List, None, Option, Some, ap, append_assoc, count_by, map, refl, subst, sym}
+use Rattle.std.proofs.Common.{◌≡◌, ◌∙◌, ◌==◌, ◌++◌, ◌∷◌, ◌⊎◌, [], inl, inr, ℕ, List, Option, ap, count_by, map, refl, subst, sym}
 use Rattle.std.proofs.lemmas.Bool.Decides.{eqb_tells}
 use Rattle.std.proofs.lemmas.List.{append-nil, map-append}
 use Rattle.access_types.specs.Arms.{Arm}
-use Rattle.access_types.specs.Takes.{Take}
 use Rattle.litmus_syntax.specs.Tree.{Block}
 use Rattle.run_lists.proofs.OwnLasts.{own_latest}
 use Rattle.run_logs.specs.Noted.{AreNoted}

@@ -1,5 +1,5 @@
 -- Of the same records one list is noted, and no other.
-use Rattle.std.proofs.Common.{◌≡◌, ◌↔◌, ◌∙◌, ◌<◌, ◌∷◌, [], ℕ, Bool, true, false, IsTrue, List, None, Option, Some, ap, length, refl, subst, sym}
+use Rattle.std.proofs.Common.{◌≡◌, ◌↔◌, ◌∙◌, ◌<◌, ◌∷◌, [], ℕ, Bool, IsTrue, List, None, Option, Some, ap, length, refl, subst, sym}
 use Rattle.std.specs.Coded.{le_prop}
 use Rattle.std.specs.Option.{option_to_list}
 use Rattle.access_types.specs.Access.{Access}
@@ -7,7 +7,7 @@ use Rattle.access_types.specs.Marked.{CountsAfter, EndsRaised, is_disable, is_en
 use Rattle.access_types.specs.declared.history.Happening.{Happening}
 use Rattle.litmus_syntax.specs.Tree.{Block}
 use Rattle.run_lists.specs.Told.{moments_of}
-use Rattle.run_logs.specs.Noted.{AreNoted, IsBegun, IsNoted, begun_in}
+use Rattle.run_logs.specs.Noted.{AreNoted, IsBegun, IsNoted}
 use Rattle.setup_access.specs.declared.begun.Begun.{Begun}
 use Rattle.setup_access.specs.declared.outcome.Outcome.{Outcome}
 use Rattle.slot_table.specs.declared.records.Record.{Record}

@@ -1,8 +1,8 @@
 -- What comes of a task's checks is of its own accesses.
-use Rattle.std.proofs.Common.{◌≡◌, ◌++◌, ◌||◌, ◌∷◌, [], ℕ, Bool, true, false, List, MatchBool, refl, subst, sym}
+use Rattle.std.proofs.Common.{◌≡◌, ◌++◌, ◌||◌, ◌∷◌, [], ℕ, Bool, true, false, List, MatchBool, subst, sym}
 use Rattle.litmus_syntax.specs.Tree.{Block}
-use Rattle.setup_access.specs.Check.{Check, ChecksAll, ChecksBegun, ChecksOnce, Close, Fallen, Pass, Passes, Rechecks, fallen_of, left_to_check}
-use Rattle.setup_access.specs.Own.{AreOwn, IsOwn}
+use Rattle.setup_access.specs.Check.{Check, ChecksBegun, Close, Fallen, Passes, Rechecks, left_to_check}
+use Rattle.setup_access.specs.Own.{AreOwn}
 use Rattle.setup_access.specs.Setting as checks
 use Rattle.setup_access.specs.declared.begun.Begun.{Begun}
 use Rattle.setup_access.proofs.DisciplineLemmas.{on_word}

@@ -1,7 +1,6 @@
 -- The armings that a log keeps are those that its task removed.
-use Rattle.std.proofs.Common.{◌≡◌, ◌∙◌, ◌==◌, ◌++◌, ◌∷◌, [], inl, inr, ℕ, Bool, true, false, List, None, Option, Some, ap, append_assoc, map, refl, subst, sym, unwrap_or}
+use Rattle.std.proofs.Common.{◌≡◌, ◌∙◌, ◌++◌, ◌∷◌, [], inl, inr, ℕ, List, Option, Some, ap, map, refl, subst, sym, unwrap_or}
 use Rattle.std.specs.Option.{option_or}
-use Rattle.std.proofs.lemmas.Bool.{eq-eqb}
 use Rattle.std.proofs.lemmas.Bool.Decides.{eqb_tells}
 use Rattle.std.proofs.lemmas.List.{append-nil, map-append}
 use Rattle.access_types.specs.Arms.{Arm}
@@ -9,13 +8,12 @@ use Rattle.litmus_syntax.specs.Tree.{Block}
 use Rattle.run_lists.proofs.OwnLasts.{own_latest, own_name, own_word}
 use Rattle.run_logs.specs.Noted.{AreNoted}
 use Rattle.run_logs.specs.Removed.{Removed, as_removed, removed_at, removed_by}
-use Rattle.run_logs.proofs.Hands.{AreOf, IsNamed, PartSays, Says, all_say, in_part, last_word}
+use Rattle.run_logs.proofs.Hands.{AreOf, IsNamed, Says, all_say, in_part, last_word}
 use Rattle.run_logs.proofs.Naming.{last_name, names_noted}
 use Rattle.slot_table.specs.Armings.{Arming, last_arming, named_at}
-use Rattle.slot_table.specs.Discipline.{Allows, Discipline, HasPart, in_hand}
+use Rattle.slot_table.specs.Discipline.{Allows, in_hand}
 use Rattle.slot_table.specs.Records.{records_of}
-use Rattle.slot_table.specs.declared.discipline.Part.{Part}
-use Rattle.slot_table.specs.declared.discipline.Part.TheVariants.{Cleared, Taken}
+use Rattle.slot_table.specs.declared.discipline.Part.TheVariants.{Cleared}
 use Rattle.slot_table.specs.declared.records.Record.{Record}
 use Rattle.slot_table.specs.declared.step.Answer.{Answer}
 use Rattle.slot_table.specs.declared.step.Step.{Step}
@@ -25,7 +23,7 @@ use Rattle.slot_table.proofs.Moves.{is_setter}
 use Rattle.slot_table.proofs.Phases.{Fits, View}
 use Rattle.slot_table.proofs.Steps.{here_part}
 use Rattle.task_log.specs.Arms.{arm_removed, arms_at, arms_of, setter_named}
-use Rattle.task_log.specs.Noted.{armed, armed_by, last_of, named}
+use Rattle.task_log.specs.Noted.{armed, armed_by, last_of}
 use Rattle.task_log.specs.declared.noted.Noted.{Noted}
 use Rattle.written_order.specs.Standing.{Setting}
 use Rattle.written_order.specs.WrittenOrder.{WrittenOrder}

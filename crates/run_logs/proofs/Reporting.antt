@@ -1,11 +1,10 @@
 -- What a log reports at a step is what the run list reports with the record.
-use Rattle.std.proofs.Common.{◌≡◌, ◌∙◌, ◌<◌, ◌≤◌, ◌+◌, ◌==◌, ◌++◌, ◌∷◌, [], inl, inr, ℕ, suc, All, Bool, Contains, IsTrue, List, None, Option, Some, ap, append_assoc, arith, false, filter, true}
+use Rattle.std.proofs.Common.{◌≡◌, ◌∙◌, ◌+◌, ◌==◌, ◌++◌, ◌∷◌, [], ℕ, suc, All, Bool, Contains, List, None, Option, Some, ap, append_assoc, arith, false, filter, true}
 use Rattle.std.proofs.Common.{length, map, refl, reverse, subst, sym, unwrap_or}
 use Rattle.std.specs.List.{cons_option, filter_map}
 use Rattle.std.specs.Option.{option_or, option_to_list}
 use Rattle.std.proofs.lemmas.List.{length-append, length-reverse, reverse-append}
 use Rattle.std.proofs.lemmas.List.Elements.{All-contains, Contains-append_right, filter_map-append}
-use Rattle.access_types.specs.Access.{Access}
 use Rattle.access_types.specs.Ticket.{ticket_number}
 use Rattle.access_types.specs.declared.report.Report.{Report}
 use Rattle.access_types.specs.declared.report.Report.TheVariants as reports
@@ -25,7 +24,6 @@ use Rattle.run_verdicts.specs.Watches.{IfVerdict, IsOfWatch, is_verdict}
 use Rattle.setup_access.specs.Check.{Fallen}
 use Rattle.setup_access.specs.declared.outcome.Outcome.{Outcome}
 use Rattle.setup_access.specs.declared.outcome.Outcome.TheVariants as outcomes
-use Rattle.slot.specs.Pair.{Halves}
 use Rattle.slot_table.specs.Discipline.{in_hand}
 use Rattle.slot_table.specs.Records.{records_of}
 use Rattle.slot_table.specs.declared.discipline.InHand.{InHand}
@@ -34,7 +32,7 @@ use Rattle.slot_table.specs.declared.step.Answer.{Answer}
 use Rattle.slot_table.specs.declared.step.Step.{Step}
 use Rattle.slot_table.specs.declared.step.Step.TheVariants as steps
 use Rattle.task_log.specs.Arms.{setter_named}
-use Rattle.task_log.specs.Noted.{last_of, named, named_by}
+use Rattle.task_log.specs.Noted.{named_by}
 use Rattle.task_log.specs.Reports as logs
 use Rattle.task_log.specs.declared.noted.Noted.{Noted}
 use Rattle.written_order.specs.Standing.{checks_of}

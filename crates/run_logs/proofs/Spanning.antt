@@ -1,5 +1,5 @@
 -- The accesses that a log keeps began and ended at their stamps.
-use Rattle.std.proofs.Common.{◌≡◌, ◌∙◌, ◌⊎◌, ◌==◌, ◌<◌, ◌≤◌, ◌+◌, ◌++◌, ◌∷◌, [], inl, inr, ℕ, suc, All, Bool, true, false, List, None, Option, Some, ap, append_assoc, arith}
+use Rattle.std.proofs.Common.{◌≡◌, ◌∙◌, ◌+◌, ◌++◌, ◌∷◌, [], inl, inr, ℕ, suc, All, Bool, true, false, List, None, Option, Some, ap, append_assoc, arith}
 use Rattle.std.proofs.Common.{cond, count_by, length, refl, reverse, subst, sym}
 use Rattle.std.specs.List.{cons_option, filter_map, list_any}
 use Rattle.std.specs.Prelude.{is_none}

@@ -1,5 +1,5 @@
 -- The counts of tasks add up to those of the list.
-use Rattle.std.proofs.Common.{◌≡◌, ◌≢◌, ◌∙◌, ◌<◌, ◌≤◌, ◌+◌, ◌==◌, ◌++◌, ◌∷◌, [], inl, inr, ℕ, zero, suc, Bool, true, false, List, None, Option, Some, ap, append_assoc, arith, cond, count_by, filter, length, map}
+use Rattle.std.proofs.Common.{◌≡◌, ◌≢◌, ◌∙◌, ◌<◌, ◌≤◌, ◌+◌, ◌==◌, ◌++◌, ◌∷◌, [], inl, inr, ℕ, zero, suc, Bool, false, List, None, Option, Some, ap, append_assoc, arith, cond, count_by, filter, length, map}
 use Rattle.std.proofs.Common.{nat_lt, refl, reverse, slice_index_or, subst, sym}
 use Rattle.std.specs.Option.{option_to_list}
 use Rattle.std.proofs.lemmas.Bool.{eq-eqb, le-ltb, lt-ltb, ne_eqb}
@@ -9,7 +9,7 @@ use Rattle.std.proofs.lemmas.List.Sums.{sum_by-cons}
 use Rattle.litmus_syntax.specs.Tree.{Block, Task}
 use Rattle.litmus_syntax.specs.Tree as tree
 use Rattle.run_lists.specs.Run.{Run, idle, task_of, task_setting}
-use Rattle.run_lists.specs.RunList.{InWrittenOrder, RunList}
+use Rattle.run_lists.specs.RunList.{RunList}
 use Rattle.run_lists.specs.Told.{Armed, OutcomeAt, armed_by, came_next, made_by, outcome_at, outcomes_by}
 use Rattle.run_lists.proofs.OwnLasts.{own_latest, own_split}
 use Rattle.run_logs.specs.Noted.{AreNoted, IsNoted, NotesBy}

@@ -1,13 +1,12 @@
 -- The takings that a log keeps are those over which its task told.
-use Rattle.std.proofs.Common.{◌≡◌, ◌≢◌, ◌∙◌, ◌==◌, ◌++◌, ◌∷◌, if◌then◌else◌, [], inl, inr, ℕ, All, Bool, Contains, List, None, Option, Some, ap, append_assoc, arith, false, length, map, refl, reverse, subst, sym, true}
-use Rattle.std.specs.Option.{option_to_list}
+use Rattle.std.proofs.Common.{◌≡◌, ◌∙◌, ◌++◌, ◌∷◌, if◌then◌else◌, [], inl, inr, ℕ, All, Bool, Contains, List, Option, Some, ap, append_assoc, arith, length, map, refl, reverse, subst, sym}
 use Rattle.std.proofs.lemmas.Bool.{eq-eqb}
 use Rattle.std.proofs.lemmas.Bool.Decides.{eqb_tells}
 use Rattle.std.proofs.lemmas.List.{append-nil}
 use Rattle.std.proofs.lemmas.List.Elements.{All-contains, Contains-append_left, Contains-append_right}
 use Rattle.access_types.specs.Takes.{Take}
 use Rattle.access_types.specs.Ticket.{ticket_number}
-use Rattle.run_lists.specs.Run.{Run, first_cells, locks_of}
+use Rattle.run_lists.specs.Run.{Run}
 use Rattle.run_lists.specs.RunList.{RunList}
 use Rattle.run_lists.specs.Told.{Armed, OutcomeAt, armed_by, came_next, made_by, outcome_at, outcomes_by, outcomes_of}
 use Rattle.run_lists.proofs.OwnLasts.{hears_at, own_latest}
@@ -24,7 +23,6 @@ use Rattle.setup_access.specs.Check.{Fallen}
 use Rattle.setup_access.specs.declared.outcome.Outcome.{Outcome}
 use Rattle.setup_access.specs.declared.outcome.Outcome.TheVariants as outcomes
 use Rattle.slot.specs.Pair.{Halves}
-use Rattle.slot_table.specs.Armings.{last_arming_number}
 use Rattle.slot_table.specs.Discipline.{heard, in_hand}
 use Rattle.slot_table.specs.Hearings.{EachHearsTheOther, HearsTheOther}
 use Rattle.slot_table.specs.Meetings.{Meeting, told_by, told_to}

@@ -1,10 +1,10 @@
 -- What a machine says of its next step is what the task's records tell of that step.
-use Rattle.std.proofs.Common.{◌≡◌, ◌≢◌, ◌↔◌, ◌∙◌, ◌<◌, ◌≤◌, ◌+◌, ◌-◌, ◌==◌, ◌++◌, ◌∷◌, ◌⊎◌, [], inl, inr, ℕ, suc, Bool, true, false, IsTrue, List, MatchBool, None, Option, Some, ap, append_assoc}
+use Rattle.std.proofs.Common.{◌≡◌, ◌↔◌, ◌∙◌, ◌<◌, ◌≤◌, ◌+◌, ◌==◌, ◌++◌, ◌∷◌, [], inl, inr, ℕ, suc, Bool, true, false, IsTrue, List, MatchBool, None, Option, Some, ap, append_assoc}
 use Rattle.std.proofs.Common.{arith, drop, length, map, refl, subst, sym}
 use Rattle.std.specs.List.{filter}
 use Rattle.std.specs.Option.{option_to_list}
 use Rattle.std.proofs.lemmas.Bool.{ne_eqb}
-use Rattle.std.proofs.lemmas.Bool.Decides.{eqb_tells, leb_tells}
+use Rattle.std.proofs.lemmas.Bool.Decides.{leb_tells}
 use Rattle.std.proofs.lemmas.List.{append-nil, length-append}
 use Rattle.std.proofs.lemmas.List.Elements.{filter-append}
 use Rattle.access_types.specs.Access as access
@@ -39,8 +39,7 @@ use Rattle.slot_table.specs.declared.records.Record.{Record}
 use Rattle.slot_table.specs.declared.step.Answer.{Answer}
 use Rattle.slot_table.specs.declared.step.Step.{Step}
 use Rattle.slot_table.specs.declared.step.Step.TheVariants.{Clock}
-use Rattle.task_log.specs.declared.noted.Noted.{Noted}
-use Rattle.task_run.specs.Fell.{FallsBefore, FallsInPart, FellAt}
+use Rattle.task_run.specs.Fell.{FallsInPart, FellAt}
 use Rattle.task_run.specs.Leads.{BeginsNext, Leads, stands_at}
 use Rattle.task_run.specs.Part.{Part, PartLeft, closes, locks, makes, opens, over, stops, unlocks}
 use Rattle.task_run.specs.Says.{Says}
@@ -51,7 +50,7 @@ use Rattle.text_walk.specs.declared.walk.Walk.{Walk}
 use Rattle.written_order.specs.Access.{Makes, operated}
 use Rattle.written_order.specs.Standing.{BeginsNow, Point, Setting, Standing, checks_of, doing, point_by}
 use Rattle.written_order.specs.Told.{did_by, did_next, fell_next, to_come}
-use Rattle.written_order.specs.WrittenOrder.{OpensScope, StepsOfBlock, WrittenOrder, at_first, first_point}
+use Rattle.written_order.specs.WrittenOrder.{StepsOfBlock, WrittenOrder, at_first, first_point}
 use Rattle.written_tellings.proofs.Falling.{AllUpTo, IsFalling, falling_way}
 use Rattle.written_tellings.proofs.SureOperations.{add_later, clocks}
 

@@ -1,11 +1,10 @@
 -- What a machine is before a step of isn't over before it.
-use Rattle.std.proofs.Common.{◌≡◌, ◌∙◌, ◌<◌, ◌≤◌, ◌+◌, ◌++◌, ◌∷◌, [], inl, inr, ℕ, suc, true, false, Bool, List, None, Option, Some, ap, append_assoc, arith, length, refl, subst, sym}
+use Rattle.std.proofs.Common.{◌≡◌, ◌∙◌, ◌≤◌, ◌+◌, ◌++◌, ◌∷◌, [], inl, inr, ℕ, suc, true, false, Bool, List, Option, Some, ap, append_assoc, arith, length, refl, subst, sym}
 use Rattle.std.proofs.lemmas.List.{append-nil, length-append}
 use Rattle.access_run.specs.Access.{MakesAccess}
-use Rattle.access_run.specs.Leads.{AccessLeads, AccessOnlyStep, AccessSays, StageLeads, StageSays}
+use Rattle.access_run.specs.Leads.{AccessOnlyStep, StageLeads, StageSays}
 use Rattle.access_run.specs.Moved.{FramedChecks, moved}
 use Rattle.access_run.specs.Whole.{NoneWhole}
-use Rattle.access_run.specs.declared.access.AccessRun.{AccessRun}
 use Rattle.access_run.specs.declared.stage.Stage.{Stage}
 use Rattle.access_run.specs.declared.stage.Stage.TheVariants as own_stages
 use Rattle.access_run.proofs.CheckFronts.{check, close, framed_checks, makes_access}
@@ -34,11 +33,10 @@ use Rattle.setup_access.proofs.NextLemmas as nexts
 use Rattle.slot_table.specs.declared.records.Record.{Record}
 use Rattle.slot_table.specs.declared.step.Answer.TheVariants as answers
 use Rattle.slot_table.specs.declared.step.Step.{Step}
-use Rattle.slot_table.specs.declared.step.Step.TheVariants.{Clock, LockStore, LockTry}
-use Rattle.task_run.specs.Agrees.{Agrees, IsIn}
+use Rattle.slot_table.specs.declared.step.Step.TheVariants.{LockStore, LockTry}
+use Rattle.task_run.specs.Agrees.{IsIn}
 use Rattle.task_run.specs.Part.{Part, closes, locks, makes, opens, over, stops, unlocks}
 use Rattle.task_run.specs.Says as says_of
-use Rattle.task_run.specs.declared.machine.Machine.{Machine}
 use Rattle.task_run.specs.declared.run.TaskRun.{TaskRun}
 use Rattle.task_run.specs.declared.stage.Stage.TheVariants as stages
 use Rattle.task_run.specs.declared.stage.Stage as machine_stages

@@ -1,12 +1,11 @@
 -- Each arming that a task removes has its verdict: the last that fell for the task is on this arming.
-use Rattle.std.proofs.Common.{◌≡◌, ◌≢◌, ◌∙◌, ◌⊎◌, ◌<◌, ◌+◌, ◌==◌, ◌&&◌, ◌++◌, ◌∷◌, if◌then◌else◌, [], inl, inr, ℕ, suc, All, Bool, true, false, Contains, IsTrue, List, MatchBool, None, Option, Some, ap, append_assoc, arith, filter}
+use Rattle.std.proofs.Common.{◌≡◌, ◌≢◌, ◌∙◌, ◌+◌, ◌==◌, ◌&&◌, ◌++◌, ◌∷◌, if◌then◌else◌, [], inl, inr, ℕ, suc, All, Bool, true, false, Contains, List, MatchBool, None, Option, Some, ap, append_assoc, arith, filter}
 use Rattle.std.proofs.Common.{length, map, refl, reverse, subst, sym, unwrap_or}
 use Rattle.std.specs.Option.{option_map, option_or, option_to_list}
 use Rattle.std.proofs.lemmas.Bool.{eq-eqb}
 use Rattle.std.proofs.lemmas.Bool.Decides.{eqb_tells}
 use Rattle.std.proofs.lemmas.List.{append-nil, length-append}
 use Rattle.std.proofs.lemmas.List.Elements.{All-contains, Contains-append_left, Contains-append_right}
-use Rattle.access_types.specs.Access.{Access}
 use Rattle.access_types.specs.Arms.{Arm}
 use Rattle.access_types.specs.Ticket.{ticket_number}
 use Rattle.access_types.specs.declared.arms.ArmOutcome.{ArmOutcome}
@@ -17,18 +16,18 @@ use Rattle.run_lists.specs.Run.{Run, first_cells, locks_of, task_of, task_settin
 use Rattle.run_lists.specs.RunList.{RunList}
 use Rattle.run_lists.specs.Told.{Armed, OutcomeAt, armed_by, armed_in, came_next, made_by, outcome_at, outcomes_by, outcomes_of}
 use Rattle.run_lists.proofs.OwnLasts.{finder_told, own_latest, own_name, still_told}
-use Rattle.run_logs.specs.Lists.{AreArmsAt, AreArmsBy, Became, IsArm, IsHit, verdicts_by}
+use Rattle.run_logs.specs.Lists.{AreArmsAt, AreArmsBy, Became, IsArm, verdicts_by}
 use Rattle.run_logs.specs.Noted.{AreNoted, IsNoted, Notes}
 use Rattle.run_logs.proofs.Hands.{IsNamed, Says, all_say, in_part, last_word}
 use Rattle.run_logs.proofs.Naming.{last_name, names_noted, watch_named}
 use Rattle.run_logs.proofs.Owns.{AllOfTask, whole_own}
 use Rattle.run_logs.proofs.Removals.{AtRemove, at_remove, of_task, some_is, words_noted}
 use Rattle.run_logs.proofs.Reporting.{left_of}
-use Rattle.run_logs.proofs.Settling.{HandSays, HitSays, IsSilent, Known, Match, Pending, Settled, Suits, after, in_hand_says, match_with, carried, silently, unheard_settled}
+use Rattle.run_logs.proofs.Settling.{HandSays, HitSays, Known, Pending, Settled, Suits, in_hand_says, match_with, carried, silently, unheard_settled}
 use Rattle.run_verdicts.specs.Settles.{AnswersTo, IsUntouched, IsUnwatched, One, OneAtMost, Settles, TellsOf, hears_finder}
 use Rattle.run_verdicts.specs.Watches.{IfVerdict, IsOfWatch, is_verdict}
 use Rattle.run_verdicts.proofs.Counts.{Answered, NoAnswer, Unanswered, fell_cases}
-use Rattle.run_verdicts.proofs.Falls.{ClearsNext, outcomes_in}
+use Rattle.run_verdicts.proofs.Falls.{outcomes_in}
 use Rattle.run_verdicts.proofs.Lists.{SettledAt, settled_at}
 use Rattle.setup_access.specs.Check.{Fallen}
 use Rattle.setup_access.specs.declared.outcome.Outcome.{Outcome}
@@ -36,7 +35,7 @@ use Rattle.setup_access.specs.declared.outcome.Outcome.TheVariants as outcomes
 use Rattle.slot.specs.Pair.{Halves}
 use Rattle.slot_table.specs.Armings.{Arming, armed_after, last_arming, last_arming_number, named_at, number_after, number_made, number_made_after}
 use Rattle.slot_table.specs.Discipline.{Allows, hand_after, heard, heard_after, in_hand}
-use Rattle.slot_table.specs.Meetings.{Meeting, finders_told}
+use Rattle.slot_table.specs.Meetings.{finders_told}
 use Rattle.slot_table.specs.Records.{records_of}
 use Rattle.slot_table.specs.Roles.{part_of}
 use Rattle.slot_table.specs.declared.discipline.InHand.{InHand}
@@ -53,12 +52,10 @@ use Rattle.slot_table.proofs.Moves.{is_setter, some_same}
 use Rattle.slot_table.proofs.Phases.{Fits, View, meeting}
 use Rattle.slot_table.proofs.Steps.{here_part}
 use Rattle.task_log.specs.Arms.{arm_removed, arms_at, arms_of, setter_named}
-use Rattle.task_log.specs.Noted.{armed, became, became_of, dropped, finder_heard, last_of, named, named_by}
+use Rattle.task_log.specs.Noted.{armed, became, became_of, dropped, finder_heard, last_of}
 use Rattle.task_log.specs.declared.noted.Noted.{Noted}
-use Rattle.value_filter.specs.declared.verdict.Reason.{Reason}
-use Rattle.written_order.specs.Standing.{Setting, checks_of}
+use Rattle.written_order.specs.Standing.{checks_of}
 use Rattle.written_order.specs.Told.{fell_next, to_come}
-use Rattle.written_order.specs.WrittenOrder.{WrittenOrder}
 
 -- the number of the last arming at an index is that of its setter's own last one there
 made_step : (setter index word task : ℕ) (step : Step) (answer : Answer) (number : ℕ) (before : Option Arming) (last made : Option ℕ)
