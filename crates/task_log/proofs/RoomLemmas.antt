@@ -1,5 +1,5 @@
 -- What a task keeps grows with its steps, and there is room for it as long as all of it fits.
-use Rattle.std.proofs.Common.{◌≡◌, ◌+◌, ◌<◌, ◌≤◌, ◌++◌, ◌∙◌, ℕ, zero, suc, Global, Vec, Bool, true, false, List, [], ◌∷◌, None, Option, Some, ap, arith, cond, length, refl, subst, sym}
+use Rattle.std.proofs.Common.{◌≡◌, ◌+◌, ◌<◌, ◌≤◌, ◌++◌, ℕ, suc, Global, Vec, true, false, List, [], ◌∷◌, None, Option, Some, ap, arith, cond, length, refl}
 use Rattle.std.proofs.lemmas.List.{length-append}
 use Rattle.std.specs.List.{list_any}
 use Rattle.std.specs.Prelude.{vec_capacity, vec_len}
@@ -8,9 +8,9 @@ use Rattle.access_types.specs.Takes.{Take}
 use Rattle.setup_access.specs.declared.begun.Begun.{Begun}
 use Rattle.setup_access.specs.declared.outcome.Outcome.{Outcome}
 use Rattle.slot_table.specs.declared.step.Answer.{Answer}
-use Rattle.slot_table.specs.declared.step.Answer.TheVariants.{Done, Flag, Halves, Word}
+use Rattle.slot_table.specs.declared.step.Answer.TheVariants.{Word}
 use Rattle.slot_table.specs.declared.step.Step.{Step}
-use Rattle.slot_table.specs.declared.step.Step.TheVariants.{CellExchange, CellLoad, Clear, Clock, Consume, Insert, Load, LockStore, LockTry, Name, PairLoad, Remove, Tell, TryConsume}
+use Rattle.slot_table.specs.declared.step.Step.TheVariants.{Clock, Remove, Tell}
 use Rattle.task_log.specs.Arms.{arm_removed, arms_at, setter_told, takes_at}
 use Rattle.task_log.specs.Keeps.{HasRoomToRemove, HasRoomToTell}
 use Rattle.task_log.specs.Touches.{HasRoomToBegin, end_newest, goes_on, touches_at}

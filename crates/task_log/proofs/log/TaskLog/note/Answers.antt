@@ -1,5 +1,5 @@
-use Rattle.std.proofs.Common.{◌≡◌, ◌≤◌, ◌∙◌, ap, arith, length, subst, sym}
-use Rattle.std.specs.Prelude.{vec_capacity, vec_len}
+use Rattle.std.proofs.Common.{◌≤◌, ◌∙◌, ap, arith, length, subst, sym}
+use Rattle.std.specs.Prelude.{vec_capacity}
 use Rattle.task_log.proofs.RoomLemmas.{arms_grow, room_to_begin, room_to_remove, room_to_tell, takes_grow, touches_grow}
 use Rattle.task_log.specs.Arms.{arms_at, arms_of, takes_at, takes_of}
 use Rattle.task_log.specs.Counters.{Count}
