@@ -1,5 +1,6 @@
 -- The list without a step is one of each run.
-use Rattle.std.proofs.Common.{◌≡◌, ◌≤◌, ◌<◌, ◌^◌, ◌∙◌, ◌∷◌, ◌++◌, [], ℕ, zero, suc, Bool, List, Option, None, Some, IsSomeAnd, ap, arith, count_by, get_or, inl, inr, length, map, refl, slice_get, subst, sym}
+use Rattle.std.proofs.Common.{◌≡◌, ◌≤◌, ◌<◌, ◌^◌, ◌∙◌, ◌∷◌, ◌++◌, [], ℕ, zero, suc, Bool, List, Option, None, Some, IsSomeAnd, ap, arith}
+use Rattle.std.proofs.Common.{count_by, get_or, inl, inr, length, map, refl, slice_get, subst, sym}
 use Rattle.std.proofs.lemmas.Option.{get_or_from_slice_get, slice_get_cases}
 use mathlib.Core.Path.{fun_ext}
 use Rattle.std.specs.FinMap as finite
@@ -92,9 +93,11 @@ in_order spelled run can task =
 of_task : (run : Run) (a : Access) → IsOfProgram run a → sites.IsOfProgram run.program run.places a
 of_task run a of =
     elim (slice_get_cases run.program.tasks a.task).1 [
-      | inl there ↦ is_there run a (slice_get run.program.tasks a.task) there.0 there.2 (subst (λ (t : Task). IsOfText (setting_of run.program run.places a.task) t.body a)
+      | inl there ↦ is_there run a (slice_get run.program.tasks a.task) there.0 there.2
+          (subst (λ (t : Task). IsOfText (setting_of run.program run.places a.task) t.body a)
           (get_or_from_slice_get run.program.tasks a.task there.0 idle there.2) of)
-      | inr beyond ↦ absurd (no_site (subst (λ (t : Task). IsOfText (setting_of run.program run.places a.task) t.body a) (past run a.task beyond.0) of))
+      | inr beyond ↦ absurd (no_site (subst (λ (t : Task). IsOfText (setting_of run.program run.places a.task) t.body a)
+          (past run a.task beyond.0) of))
     ]
   where
     is_there : (r : Run) (b : Access) (found : Option Task) (task : Task) → found ≡ Some task
@@ -179,11 +182,13 @@ pub first_leads : (program : CodeProgram) (settings : Settings) (number : ℕ) (
 first_leads program settings number task own sites machine is are_own are leads =
     subst (λ (t : Task). task_run.Leads (task_setting (run_of program settings sites) number) (length t.registers) t.body [] machine)
     (sym (at_map syntax_task_of program.tasks number task idle is))
-    (subst (λ (m : AccessMap). task_run.Leads (task_setting (run_of program settings m) number) (length task.registers) (block_of task.body.items) [] machine)
+    (subst (λ (m : AccessMap). task_run.Leads (task_setting (run_of program settings m) number) (length task.registers)
+    (block_of task.body.items) [] machine)
     (same_sites (program_of program) (places_of settings.places.items) own sites are_own are) leads)
 
 -- a variable is a lock by the one word as by the other
-pub same_locks : (variables : List Variable) → count_by lays.is_lock variables ≡ count_by (λ (v : Variable). standing.is_lock v.contents) variables
+pub same_locks : (variables : List Variable)
+    → count_by lays.is_lock variables ≡ count_by (λ (v : Variable). standing.is_lock v.contents) variables
 same_locks variables = ap (λ (p : Variable → Bool). count_by p variables) (fun_ext (λ (v : Variable). same v.contents))
   where
     same : (contents : Contents) → lays.holds_lock contents ≡ standing.is_lock contents

@@ -1,5 +1,5 @@
 -- Worlds to which longer lists lead.
-use Rattle.std.proofs.Common.{◌≡◌, ◌↔◌, ◌+◌, ◌∷◌, ℕ, List, arith, inl, inr, length, subst, sym}
+use Rattle.std.proofs.Common.{◌≡◌, ◌↔◌, ◌+◌, ◌∷◌, ℕ, List, arith, inl, inr, subst, sym}
 use Rattle.litmus_step.specs.Runs.{HasEnded, IsStuck}
 use Rattle.litmus_step.specs.Steps.{LeadsTo, StepsOn}
 use Rattle.litmus_step.specs.Turns.{LeadsFurther}

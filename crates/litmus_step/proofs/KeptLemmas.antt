@@ -1,5 +1,6 @@
 -- With one step more all is kept still.
-use Rattle.std.proofs.Common.{◌≡◌, ◌≢◌, ◌⊎◌, ◌++◌, ◌∙◌, ◌<◌, ◌≤◌, ◌+◌, ◌∷◌, [], ℕ, List, Option, None, Some, All, ap, append_assoc, arith, inl, inr, length, refl, set, slice_get, subst, sym}
+use Rattle.std.proofs.Common.{◌≡◌, ◌≢◌, ◌⊎◌, ◌++◌, ◌∙◌, ◌<◌, ◌≤◌, ◌+◌, ◌∷◌, [], ℕ, List, Option, None, Some, All, ap, append_assoc, arith}
+use Rattle.std.proofs.Common.{inl, inr, length, refl, set, slice_get, subst, sym}
 use Rattle.std.proofs.lemmas.List.{append-nil, length-append, length-set}
 use Rattle.std.proofs.Math.ListN.{get_or-append}
 use Rattle.std.specs.Option.{option_to_list}
@@ -94,7 +95,8 @@ all_of_front P reports later all reported each = front reports (subst (All P) (s
         subst P (get_or-append rs later d k below) (of k d longer)
 
 pub kept_more : OneMoreIsNoted → OthersAreNoted → OneMoreIsReported → (run : Run) (latest : Record) (earlier : List Record)
-    (one : RunList run earlier) (other : RunList run (latest ∷ earlier)) (logs : List TaskLog) (reports after_reports : List Report) (room : ℕ)
+    (one : RunList run earlier) (other : RunList run (latest ∷ earlier)) (logs : List TaskLog) (reports after_reports : List Report)
+    (room : ℕ)
     (log after : TaskLog) (noted : Noted) (report : Option Report)
     → AreKept one logs reports room → slice_get logs latest.task ≡ Some log → latest.task < length logs
     → IsNoted (other.tasks latest.task) (made_by latest.task earlier) latest noted
@@ -107,7 +109,8 @@ kept_more one_more others_noted reported_more run latest earlier one other logs 
     let grown = more_reports report room reports after_reports (reports_of one) (reports_of other)
     (record { later = told.later; reported = told.reported; full = told.full })
     (reported_more run latest earlier so_far.noted noted one other so_far.notes is_noted
-    ∙ ap (λ (r : Option Report). reports_of one ++ option_to_list r) (sym (in_log.reported accesses_kept watches_kept so_far.noted so_far.keeps)))
+    ∙ ap (λ (r : Option Report). reports_of one ++ option_to_list r)
+    (sym (in_log.reported accesses_kept watches_kept so_far.noted so_far.keeps)))
     added in
     record {
       logs_are = record {

@@ -1,5 +1,6 @@
 -- A world after one step more, by what is changed in it.
-use Rattle.std.proofs.Common.{Option, ap, inl, inr, ◌∙◌, ◌≡◌, ◌<◌, ◌≤◌, ◌+◌, ◌*◌, ◌∷◌, [], ℕ, List, Some, length, vec_capacity, arith, get_or, refl, set, slice_get, subst, sym}
+use Rattle.std.proofs.Common.{Option, ap, inl, inr, ◌∙◌, ◌≡◌, ◌<◌, ◌≤◌, ◌+◌, ◌*◌, ◌∷◌, [], ℕ, List, Some, length, vec_capacity, arith}
+use Rattle.std.proofs.Common.{get_or, refl, set, slice_get, subst, sym}
 use Rattle.run_lists.specs.Run.{Run, first_words, task_setting}
 use Rattle.run_lists.specs.RunList.{RunList}
 use Rattle.setup_access.specs.Parts.{made}
@@ -60,11 +61,13 @@ pub world_leads : StepsLead → (world : World) (task : ℕ) (step : Step) (answ
     → (run : Run) (records : List Record) → LeadsTo run records world
     → ((list : RunList run (made task step answer ∷ records)) → AreKept list logs reports room)
     → LeadsToAll run (made task step answer ∷ records) words (set world.tasks.items task after) steps logs reports room
-world_leads lead world task step answer here after words steps logs reports room next below is answers as_answered left counted on run records leads keeps =
+world_leads lead world task step answer here after words steps logs reports room next below is answers as_answered left counted on run
+    records leads keeps =
     let same = same_machine world task here next.machine below is next.stands in
     leads_alike run (made task step answer ∷ records) (step_line world.board step).after words (set world.tasks.items task after)
     (up_to_last (world.steps + 1)) steps logs reports room left counted
-    (lead run records world.board world.tasks.items world.steps world.logs.items logs world.reports.items reports (vec_capacity world.reports) room
+    (lead run records world.board world.tasks.items world.steps world.logs.items logs world.reports.items reports
+    (vec_capacity world.reports) room
     task step answer after leads next answers as_answered
     (subst (λ (machine : TaskRun). LeadsOn machine after answer) same on) keeps)
 
@@ -91,7 +94,8 @@ first_kept none run list logs reports room all each empty space = record {
 -- where a task's log notes the step that its machine makes, what is kept is what the list says still
 abbrev pub StepsKeep : Type 0
 StepsKeep = (run : Run) (records : List Record) (task : ℕ) (old : TaskRun) (step : Step) (answer : Answer) (begins : Option Begun)
-    (fell : Option Outcome) (logs : List TaskLog) (reports more_reports : List Report) (room : ℕ) (log after : TaskLog) (report : Option Report)
+    (fell : Option Outcome) (logs : List TaskLog) (reports more_reports : List Report) (room : ℕ) (log after : TaskLog)
+    (report : Option Report)
     → (one : RunList run records) → (other : RunList run (made task step answer ∷ records))
     → (leads : LeadsTask run task records old) → Says old step
     → ((later : List Record) → BeginsNext (task_setting run task) leads.part (stands_at leads later) leads.mine begins)
@@ -113,14 +117,16 @@ NotesStep world task noted logs reports = (log : TaskLog) → slice_get world.lo
     → (after : TaskLog) × (report : Option Report) × IsNotedIn log noted after report × (logs ≡ set world.logs.items task after)
     × Added report (vec_capacity world.reports) world.reports.items reports
 
-pub noted_more : StepsKeep → (world : World) (task : ℕ) (step : Step) (answer : Answer) (old : TaskRun) (begins : Option Begun) (fell : Option Outcome)
+pub noted_more : StepsKeep
+    → (world : World) (task : ℕ) (step : Step) (answer : Answer) (old : TaskRun) (begins : Option Begun) (fell : Option Outcome)
     (logs : List TaskLog) (reports : List Report) (room : ℕ)
     → task < tasks_in world → IsMachine world task old → Says old step → SaysBegin old begins → FellAt old fell answer
     → NotesStep world task (record { step = step; answer = answer; begins = begins; outcome = fell }) logs reports
     → room ≡ vec_capacity world.reports
     → (run : Run) (records : List Record) → LeadsTo run records world → (list : RunList run (made task step answer ∷ records))
     → AreKept list logs reports room
-noted_more keep world task step answer old begins fell logs reports room below stands says begun fallen notes same_room run records leads list =
+noted_more keep world task step answer old begins fell logs reports room below stands says begun fallen notes same_room run records leads
+    list =
     let logs_all = leads.kept.logs_are.all in
     let tasks_all = leads.tasks.all in
     let tasks_len = world.tasks.ok.0 in

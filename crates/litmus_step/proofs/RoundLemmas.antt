@@ -1,5 +1,6 @@
 -- Tasks that are asked often, and in rounds.
-use Rattle.std.proofs.Common.{◌≡◌, ◌≢◌, ◌++◌, ◌∙◌, ◌<◌, ◌+◌, ◌-◌, ◌∷◌, [], ℕ, zero, suc, List, Result, Ok, Err, IfErr, OnOk, ap, append_assoc, arith, drop, get_or, length, refl, replicate, slice_get, subst, sym, take}
+use Rattle.std.proofs.Common.{◌≡◌, ◌≢◌, ◌++◌, ◌∙◌, ◌<◌, ◌+◌, ◌-◌, ◌∷◌, [], ℕ, zero, suc, List, Result, Ok, Err, IfErr, OnOk, ap}
+use Rattle.std.proofs.Common.{append_assoc, arith, drop, get_or, length, refl, replicate, slice_get, subst, sym, take}
 use Rattle.std.specs.List.{range_with_len}
 use Rattle.std.proofs.lemmas.Grind.{flat_map-append}
 use Rattle.std.proofs.lemmas.List.{append-nil, take-append-drop, take_more}
@@ -49,7 +50,8 @@ range_split from zero more =
 range_split from (suc n) more =
     let here : from + suc n ≡ (from + 1) + n = omega arith in
     let all : suc (n + more) ≡ suc n + more = omega arith in
-    ap (λ (rest : List ℕ). from ∷ rest) (ap (λ at. range_with_len (from + 1) n ++ range_with_len at more) here ∙ range_split (from + 1) n more)
+    ap (λ (rest : List ℕ). from ∷ rest) (ap (λ at. range_with_len (from + 1) n ++ range_with_len at more) here
+    ∙ range_split (from + 1) n more)
     ∙ ap (λ m. range_with_len from m) all
 
 -- those that are asked in a round up to one, and the rest
@@ -103,7 +105,8 @@ pub entries_more : (entries : List Entry) (at : ℕ) (otherwise : Entry) → at 
     → asked_by (take at entries) ++ replicate (get_or entries at otherwise).steps (get_or entries at otherwise).task
     ≡ asked_by (take (at + 1) entries)
 entries_more entries at otherwise below =
-    let one : asked_by (get_or entries at otherwise ∷ []) ≡ replicate (get_or entries at otherwise).steps (get_or entries at otherwise).task = append-nil _ in
+    let one : asked_by (get_or entries at otherwise ∷ []) ≡ replicate (get_or entries at otherwise).steps
+    (get_or entries at otherwise).task = append-nil _ in
     ap (λ (last : List ℕ). asked_by (take at entries) ++ last) (sym one)
     ∙ sym (flat_map-append (λ (entry : Entry). replicate entry.steps entry.task) (take at entries) (get_or entries at otherwise ∷ []))
     ∙ ap asked_by (sym (take_more entries at otherwise below))

@@ -1,5 +1,6 @@
 -- One record more of a task leads on.
-use Rattle.std.proofs.Common.{◌≡◌, ◌≢◌, ◌<◌, ◌≤◌, ◌+◌, ◌++◌, ◌∙◌, ◌∷◌, [], ℕ, zero, suc, List, Some, All, ap, arith, inl, inr, length, refl, reverse, set, slice_get, subst, sym}
+use Rattle.std.proofs.Common.{◌≡◌, ◌≢◌, ◌<◌, ◌≤◌, ◌+◌, ◌++◌, ◌∙◌, ◌∷◌, [], ℕ, zero, suc, List, Some, All, ap, arith, inl, inr, length}
+use Rattle.std.proofs.Common.{refl, reverse, set, slice_get, subst, sym}
 use Rattle.std.proofs.lemmas.Bool.{eq-eqb, ne_eqb}
 use Rattle.std.proofs.lemmas.Bool.Decides.{eqb_tells}
 use Rattle.std.proofs.lemmas.List.{length-set, reverse-append, reverse-reverse}
@@ -119,7 +120,8 @@ module _ (leads_on : AnAnswerLeadsOn) (names : StepsNameWords) where
       (last_of_all (λ (r : Record). Names (first_words run) r.step) own (made task step some.0) all)
 
   -- the step of a machine that a list leads to names a word
-  pub names_word : (run : Run) (records : List Record) (words : Words) (machines : List TaskRun) (steps : ℕ) (logs : List TaskLog) (reports : List Report) (room task : ℕ) (step : Step)
+  pub names_word : (run : Run) (records : List Record) (words : Words) (machines : List TaskRun) (steps : ℕ) (logs : List TaskLog)
+      (reports : List Report) (room task : ℕ) (step : Step)
       → LeadsToAll run records words machines steps logs reports room → MakesNextIn machines task step → Names words step
   names_word run records words machines steps logs reports room task step leads next =
       let there : task < length machines = slice_get_within machines task next.machine next.stands in
@@ -137,7 +139,8 @@ module _ (leads_on : AnAnswerLeadsOn) (names : StepsNameWords) where
       → ((list : RunList run (made task step answer ∷ records)) → AreKept list more_logs more_reports more_room)
       → LeadsToAll run (made task step answer ∷ records) (step_line words step).after (set machines task after)
       (up_to_last (steps + 1)) more_logs more_reports more_room
-  leads_more run records words machines steps logs more_logs reports more_reports room more_room task step answer after leads next answers is on keeps =
+  leads_more run records words machines steps logs more_logs reports more_reports room more_room task step answer after leads next
+      answers is on keeps =
       let latest = made task step answer in
       let there : task < length machines = slice_get_within machines task next.machine next.stands in
       let below : task < tasks_of run = subst (λ n. task < n) leads.tasks.all there in
@@ -178,10 +181,12 @@ module _ (leads_on : AnAnswerLeadsOn) (names : StepsNameWords) where
               → LeadsTask run t (latest ∷ records) machine) task
               (λ machine stands. let is_after = same_some _ _ (sym (set_here machines task after there) ∙ stands) in
               subst (LeadsTask run task (latest ∷ records)) is_after
-              (subst (λ (all : List Record). task_run.Leads (task_setting run task) (length (task_of run task).registers) (task_of run task).body all after)
+              (subst (λ (all : List Record). task_run.Leads (task_setting run task) (length (task_of run task).registers)
+              (task_of run task).body all after)
               (sym (own_reversed task latest records refl)) (on _ _ _ _ step led next.makes.says)))
               (λ other apart machine stands.
-              subst (λ (all : List Record). task_run.Leads (task_setting run other) (length (task_of run other).registers) (task_of run other).body all machine)
+              subst (λ (all : List Record). task_run.Leads (task_setting run other) (length (task_of run other).registers)
+              (task_of run other).body all machine)
               (ap reverse (sym (others_first other latest records apart)))
               (leads.tasks.each other machine (sym (set_other machines task other after apart) ∙ stands)));
         };

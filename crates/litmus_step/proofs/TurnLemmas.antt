@@ -1,5 +1,6 @@
 -- Steps, one after the other.
-use Rattle.std.proofs.Common.{◌≡◌, ◌↔◌, ◌≢◌, ◌≤◌, ◌++◌, ◌∙◌, ◌<◌, ◌∷◌, [], ℕ, List, Some, ap, arith, get_or, inl, inr, length, refl, replicate, reverse, slice_get, subst, sym}
+use Rattle.std.proofs.Common.{◌≡◌, ◌↔◌, ◌≢◌, ◌++◌, ◌∙◌, ◌<◌, ◌∷◌, [], ℕ, List, Some, ap, arith, get_or, inl, inr, length, refl}
+use Rattle.std.proofs.Common.{replicate, reverse, slice_get, subst, sym}
 use Rattle.std.proofs.lemmas.Bool.Decides.{eqb_tells}
 use Rattle.std.proofs.lemmas.List.{append-nil}
 use Rattle.std.proofs.lemmas.Option.{slice_get-get_or, slice_get_cases, slice_get_read, slice_get_within}

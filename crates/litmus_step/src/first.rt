@@ -77,7 +77,8 @@ fn first_task<'a>(
     requires task { slice_get program.now.tasks number ≡ Some task.now }
     requires rules { rules.now ≡ rules_of settings.now }
     requires cells { cells.now ≡ cells_of (places_of settings.now.places.items) program.now.variables }
-    ensures led { IfOk result (λ machine. (sites : AccessMap) → AreSitesOf (program_of program.now) (places_of settings.now.places.items) sites
+    ensures led { IfOk result (λ machine. (sites : AccessMap)
+        → AreSitesOf (program_of program.now) (places_of settings.now.places.items) sites
         → LeadsTask (run_of program.now settings.now sites) number [] machine) }
     ensures bad_slots { IsErrOf result BadSlots → (settings.now.slots < 3 ⊎ 1024 < settings.now.slots) }
     ensures bad_place { IsErrOf result BadPlace → AreFit program.now.variables settings.now.places.items → ⊥ }
@@ -97,7 +98,8 @@ pub fn first_tasks<'a>(
 ) -> Result<Vec<TaskRun<'a>>, WorldError>
     requires limits { KeepsLimits (program_of program.now) }
     requires rules { rules.now ≡ rules_of settings.now }
-    ensures led { IfOk result (λ machines. (sites : AccessMap) → AreSitesOf (program_of program.now) (places_of settings.now.places.items) sites
+    ensures led { IfOk result (λ machines. (sites : AccessMap)
+        → AreSitesOf (program_of program.now) (places_of settings.now.places.items) sites
         → LeadsTasks (run_of program.now settings.now sites) [] machines.items) }
     ensures bad_slots { IsErrOf result BadSlots → (settings.now.slots < 3 ⊎ 1024 < settings.now.slots) }
     ensures bad_place { IsErrOf result BadPlace → AreFit program.now.variables settings.now.places.items → ⊥ }
@@ -128,7 +130,8 @@ pub fn first_tasks<'a>(
 /// What is kept of the steps of so many tasks before their first.
 pub fn first_logs(alloc: Global, tasks: usize) -> Result<Vec<TaskLog>, WorldError>
     ensures all { IfOk result (λ logs. length logs.items ≡ tasks) }
-    ensures each { IfOk result (λ logs. (task : ℕ) (log : TaskLog) → slice_get logs.items task ≡ Some log → Keeps accesses_kept watches_kept [] log) }
+    ensures each { IfOk result (λ logs. (task : ℕ) (log : TaskLog)
+        → slice_get logs.items task ≡ Some log → Keeps accesses_kept watches_kept [] log) }
     ensures bad_slots { IsErrOf result BadSlots → ⊥ }
     ensures bad_place { IsErrOf result BadPlace → ⊥ }
     ensures errors { IfErr result (λ error. (error ≡ BadSlots) ⊎ ((error ≡ BadPlace) ⊎ (error ≡ OutOfMemory))) }

@@ -2,6 +2,7 @@
 
 ghost use Rattle.std.specs.Prelude.{◌≡◌, ◌+◌, ◌*◌, ◌<◌, ◌≤◌, ◌^◌, ◌∷◌, [], ℕ, List, Option, Some, length, slice_get, slice_set};
 ghost use Rattle.access_types.specs.Arms.{Arm};
+ghost use Rattle.access_types.specs.Stamped.{Stamped};
 ghost use Rattle.access_types.specs.Takes.{Take};
 ghost use Rattle.access_types.specs.declared.report.Report.{Report};
 ghost use Rattle.litmus_meaning.specs.RunOfProgram.{RunOfProgram};
@@ -13,7 +14,7 @@ ghost use Rattle.run_lists.specs.Run.{Run, task_setting};
 ghost use Rattle.run_lists.specs.RunList.{RunList};
 ghost use Rattle.run_lists.specs.Told.{history_of};
 ghost use Rattle.run_lists.specs.Reports.{reports_of};
-ghost use Rattle.run_logs.specs.Lists.{AreArmsOf, AreTakesOf};
+ghost use Rattle.run_logs.specs.Lists.{AreAccessesOf, AreArmsOf, AreTakesOf};
 ghost use Rattle.run_logs.specs.Noted.{Notes};
 ghost use Rattle.run_logs.specs.Totals.{AddUp, CountsList, CountsTasks};
 ghost use Rattle.setup_access.specs.Parts.{made};
@@ -34,6 +35,7 @@ ghost use Rattle.litmus_step.specs.declared.world.World.{World};
 ghost use Rattle.task_log.specs.Arms.{arms_of, takes_of};
 ghost use Rattle.task_log.specs.Counters.{Count};
 ghost use Rattle.task_log.specs.Keeps.{Keeps};
+ghost use Rattle.task_log.specs.Touches.{accesses_of, touches_of};
 ghost use Rattle.task_log.specs.declared.counters.Counters.{Counters};
 ghost use Rattle.task_log.specs.declared.log.TaskLog.{TaskLog};
 ghost use Rattle.task_log.specs.declared.noted.Noted.{Noted};
@@ -46,9 +48,11 @@ ghost use Rattle.written_order.specs.WrittenOrder.{stands_after};
 
 use run_bounds::laws::{few_are_reported, few_watches_are_over};
 use run_histories::laws::run_lists_tell_runs_of_the_program;
+use run_kept::laws::a_log_keeps_just_the_accesses;
 use run_logs::laws::{
     a_log_keeps_just_the_arms, a_log_keeps_just_the_takes, a_log_reports_what_the_list_does,
-    a_machine_says_what_is_noted, counters_of_tasks_add_up, one_more_is_noted,
+    a_machine_says_what_is_noted, counters_of_tasks_add_up, few_accesses_are_noted,
+    one_more_is_noted,
 };
 use spelled_texts::laws::{texts_within_limits_are_spelled, variables_of_programs_are_placed};
 use standing_laws::laws::{ended_tasks_stand_at_the_end, machines_stand_where_the_records_tell};
@@ -73,7 +77,8 @@ pub fn steps_lead_on()
     ensures names { (run : Run) (records : List Record) (words : Words) (machines : List TaskRun) (steps : ℕ) (logs : List TaskLog)
         (reports : List Report) (room task : ℕ) (step : Step) → LeadsToAll run records words machines steps logs reports room
         → MakesNextIn machines task step → Names words step }
-    ensures leads { (run : Run) (records : List Record) (words : Words) (machines : List TaskRun) (steps : ℕ) (logs more_logs : List TaskLog)
+    ensures leads { (run : Run) (records : List Record) (words : Words) (machines : List TaskRun) (steps : ℕ)
+        (logs more_logs : List TaskLog)
         (reports more_reports : List Report) (room more_room task : ℕ) (step : Step)
         (answer : Answer) (after : TaskRun) → LeadsToAll run records words machines steps logs reports room
         → (next : MakesNextIn machines task step)
@@ -91,7 +96,8 @@ pub fn steps_lead_on()
 pub fn steps_are_kept()
     ensures none { (run : Run) (list : RunList run []) → (task : ℕ) → Notes list task [] }
     ensures more { (run : Run) (records : List Record) (task : ℕ) (old : TaskRun) (step : Step) (answer : Answer) (begins : Option Begun)
-        (fell : Option Outcome) (logs : List TaskLog) (reports more_reports : List Report) (room : ℕ) (log after : TaskLog) (report : Option Report)
+        (fell : Option Outcome) (logs : List TaskLog) (reports more_reports : List Report) (room : ℕ) (log after : TaskLog)
+        (report : Option Report)
         → (one : RunList run records) → (other : RunList run (made task step answer ∷ records))
         → (leads : LeadsTask run task records old) → Says old step
         → ((later : List Record) → BeginsNext (task_setting run task) leads.part (stands_at leads later) leads.mine begins)
@@ -108,18 +114,25 @@ pub fn steps_are_kept()
 
 /// Law: the counters of a world's logs, added one after the other, are those of each list that leads to it.
 pub fn logs_count_the_list()
-    ensures none { (run : Run) (records : List Record) (list : RunList run records) (counters : Counters) → Count [] counters → CountsTasks list 0 counters }
+    ensures none { (run : Run) (records : List Record) (list : RunList run records) (counters : Counters)
+        → Count [] counters → CountsTasks list 0 counters }
     ensures more { (run : Run) (records : List Record) (list : RunList run records) (task : ℕ) (log : TaskLog) (some one both : Counters)
         → IsKept list task log → CountsTasks list task some
-        → ((accesses watches : ℕ) (own : List Noted) → Keeps accesses watches own log → Count own one) → AddUp some one both → CountsTasks list (task + 1) both }
+        → ((accesses watches : ℕ) (own : List Noted) → Keeps accesses watches own log → Count own one)
+        → AddUp some one both → CountsTasks list (task + 1) both }
     ensures all { (run : Run) (records : List Record) (list : RunList run records) (counters : Counters)
         → CountsTasks list (tasks_of run) counters → CountsList list counters }
 {
     counters_of_tasks_add_up();
 }
 
-/// Law: what the log of a task gives of armings and takings is what the list has of the task.
+/// Law: what the log of a task gives of accesses, armings and takings is what the list has of the task.
 pub fn logs_give_what_the_list_has()
+    ensures accesses { (run : Run) (records : List Record) (list : RunList run records) (task : ℕ) (log : TaskLog) (given : List Stamped)
+        → KeepsLimits run.program → IsKept list task log
+        → ((accesses watches : ℕ) (own : List Noted) → Keeps accesses watches own log → length (touches_of own) ≤ accesses
+        → given ≡ accesses_of own)
+        → AreAccessesOf list task given }
     ensures arms { (run : Run) (records : List Record) (list : RunList run records) (task : ℕ) (log : TaskLog) (given : List Arm)
         → KeepsLimits run.program → IsKept list task log
         → ((accesses watches : ℕ) (own : List Noted) → Keeps accesses watches own log → length (arms_of own) ≤ watches
@@ -131,7 +144,9 @@ pub fn logs_give_what_the_list_has()
         → given ≡ takes_of own)
         → AreTakesOf list task given }
 {
+    few_accesses_are_noted();
     few_watches_are_over();
+    a_log_keeps_just_the_accesses();
     a_log_keeps_just_the_arms();
     a_log_keeps_just_the_takes();
 }

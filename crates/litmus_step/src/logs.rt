@@ -5,7 +5,7 @@ ghost use Rattle.litmus_step.specs.Kept.{AreLogs};
 ghost use Rattle.litmus_syntax.specs.Limits.{KeepsLimits};
 ghost use Rattle.run_lists.specs.Run.{Run};
 ghost use Rattle.run_lists.specs.RunList.{RunList};
-ghost use Rattle.run_logs.specs.Lists.{AreArms, AreTakes};
+ghost use Rattle.run_logs.specs.Lists.{AreAccesses, AreArms, AreTakes};
 ghost use Rattle.run_logs.specs.Totals.{CountsList};
 ghost use Rattle.slot_table.specs.declared.records.Record.{Record};
 
@@ -29,8 +29,11 @@ pub fn counters_of(logs: &[TaskLog]) -> Counters
 
 /// The accesses that have ended, by task, and then in the order of their begins.
 pub fn accesses_of(alloc: Global, logs: &[TaskLog]) -> Result<Vec<Stamped>, WorldError>
+    ensures all { (run : Run) (records : List Record) → (list : RunList run records) → KeepsLimits run.program → AreLogs list logs.now
+        → IfOk result (λ all. AreAccesses list all.items) }
     ensures errors { IfErr result (λ error. error ≡ WorldError.OutOfMemory) }
 {
+    logs_give_what_the_list_has();
     let mut all = Vec::new(alloc);
     for log in logs {
         all.extend_from_slice(log.accesses(alloc)?.as_slice())?;

@@ -22,7 +22,7 @@ use task_run::{After, Before};
 
 impl<'a> World<'a> {
     ghost use Rattle.litmus_step.specs.Readers.{AreRegisters, IsBefore, IsMeant};
-    ghost use Rattle.run_logs.specs.Lists.{AreArms, AreTakes};
+    ghost use Rattle.run_logs.specs.Lists.{AreAccesses, AreArms, AreTakes};
     ghost use Rattle.run_logs.specs.Totals.{CountsList, IsUnbalanced};
     ghost use Rattle.litmus_step.specs.Steps.{IsMachine, LeadsTo, tasks_in};
     ghost use Rattle.task_run.specs.Points.{HasMade, Stepped, last_was};
@@ -75,7 +75,8 @@ impl<'a> World<'a> {
     /// The values of a task's registers, by number.
     pub fn registers(&self, task: usize) -> &[u64]
         requires { task < tasks_in self.now }
-        ensures list { (run : Run) (records : List Record) → (leads : LeadsTo run records self.now) → AreRegisters leads.list task result.now }
+        ensures list { (run : Run) (records : List Record) → (leads : LeadsTo run records self.now)
+            → AreRegisters leads.list task result.now }
         ensures meant { (run : Run) (records : List Record) → (leads : LeadsTo run records self.now) → HasEnded run task records
             → IsMeant leads.list task }
     {
@@ -104,6 +105,8 @@ impl<'a> World<'a> {
 
     /// The accesses that have ended, by task, and then in the order of their begins.
     pub fn accesses(&self) -> Result<Vec<Stamped>, WorldError>
+        ensures all { (run : Run) (records : List Record) → (leads : LeadsTo run records self.now)
+            → IfOk result (λ all. AreAccesses leads.list all.items) }
         ensures errors { IfErr result (λ error. error ≡ WorldError.OutOfMemory) }
     {
         accesses_of(self.alloc, self.logs.as_slice())

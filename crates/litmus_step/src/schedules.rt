@@ -1,6 +1,6 @@
 //! Worlds that are run to their end.
 
-ghost use Rattle.std.specs.Prelude.{◌≡◌, ◌≢◌, ◌<◌, ◌↔◌, ◌⊎◌, ℕ, IfErr, IfOk, IsErrOf, IsTrue, OnOk, false, replicate, true};
+ghost use Rattle.std.specs.Prelude.{◌≡◌, ◌≢◌, ◌<◌, ◌↔◌, ◌⊎◌, ℕ, IfErr, IsErrOf, IsTrue, OnOk, false, replicate, true};
 ghost use Rattle.std.specs.List.{range_with_len};
 ghost use Rattle.step_schedule.specs.Order.{asked_by, in_rounds};
 ghost use Rattle.step_schedule.specs.Schedule.{entries_of, names_stranger};
@@ -41,7 +41,8 @@ impl<'a> World<'a> {
     /// `Stuck`: some task is.
     fn nobody_is_stuck(&self) -> Result<(), WorldError>
         ensures free { OnOk result (NobodyIsStuck self.now) }
-        ensures stuck { IfErr result (λ error. (task : ℕ) × (error ≡ WorldError.Stuck task) × (task < tasks_in self.now) × IsStuckAt self.now task) }
+        ensures stuck { IfErr result (λ error. (task : ℕ) × (error ≡ WorldError.Stuck task) × (task < tasks_in self.now)
+            × IsStuckAt self.now task) }
     {
         for task in 0..self.tasks.len() {
             if self.tasks[task].stuck() {

@@ -10,7 +10,9 @@ pub loop-preserved : goal.loop-preserved
 loop-preserved c = record {
   made = omega (arith, c.push_reserved.ensures.len, c.loop.invariant.made);
   room = omega (arith, c.push_reserved.ensures.capacity, c.loop.invariant.room);
-  each = subst (λ (items : List TaskLog). (task : ℕ) (log : TaskLog) → slice_get items task ≡ Some log → Keeps accesses_kept watches_kept [] log)
+  each = subst (λ (items : List TaskLog). (task : ℕ) (log : TaskLog)
+      → slice_get items task ≡ Some log → Keeps accesses_kept watches_kept [] log)
       (sym c.push_reserved.ensures.items)
-      (each_push (λ task log. Keeps accesses_kept watches_kept [] log) c.loop.logs.items c.in_ok-new.field-0 c.loop.invariant.each c.in_ok-new.ensures);
+      (each_push (λ task log. Keeps accesses_kept watches_kept [] log) c.loop.logs.items c.in_ok-new.field-0 c.loop.invariant.each
+      c.in_ok-new.ensures);
 }

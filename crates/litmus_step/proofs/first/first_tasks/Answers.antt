@@ -15,8 +15,10 @@ loop-number-preserved c =
       made = omega (arith, c.push_reserved.ensures.len, c.loop-number.invariant.made);
       led = λ sites are.
           let run = run_of c.args.program.now c.args.settings.now sites in
-          let number : c.loop-number.number ≡ length c.loop-number.machines.items = sym c.loop-number.invariant.made ∙ c.loop-number.machines.ok.0 in
-          subst (λ (items : List TaskRun). (task : ℕ) (machine : TaskRun) → slice_get items task ≡ Some machine → LeadsTask run task [] machine)
+          let number : c.loop-number.number ≡ length c.loop-number.machines.items = sym c.loop-number.invariant.made
+          ∙ c.loop-number.machines.ok.0 in
+          subst (λ (items : List TaskRun). (task : ℕ) (machine : TaskRun)
+          → slice_get items task ≡ Some machine → LeadsTask run task [] machine)
           (sym c.push_reserved.ensures.items)
           (each_push (λ task machine. LeadsTask run task [] machine) c.loop-number.machines.items c.in_ok-machine.machine
           (c.loop-number.invariant.led sites are)

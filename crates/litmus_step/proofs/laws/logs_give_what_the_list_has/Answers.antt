@@ -4,8 +4,16 @@ use Rattle.litmus_step.proofs.ReaderLemmas.{body_keeps, noted_along}
 use Rattle.litmus_step.proofs.laws.logs_give_what_the_list_has.Goals as goal
 use Rattle.litmus_step.specs.Kept.{accesses_kept, watches_kept}
 use Rattle.run_lists.specs.Run.{task_of, task_setting}
-use Rattle.run_logs.specs.Lists.{AreArmsOf, AreTakesOf}
+use Rattle.run_logs.specs.Lists.{AreAccessesOf, AreArmsOf, AreTakesOf}
 use Rattle.slot_table.specs.Records.{records_of}
+
+pub returns-clause-accesses : goal.returns-clause-accesses
+returns-clause-accesses c = λ run records list task log given limits kept gives.
+    let few = c.few_accesses_are_noted.ensures.limits (task_setting run task) (length (task_of run task).registers) (task_of run task).body
+    (reverse (records_of task records)) kept.noted (list.tasks task) (noted_along run records list task kept.noted kept.notes)
+    (body_keeps run task limits) in
+    subst (AreAccessesOf list task) (sym (gives accesses_kept watches_kept kept.noted kept.keeps few))
+    (c.a_log_keeps_just_the_accesses.ensures run records list task kept.noted limits kept.notes)
 
 pub returns-clause-arms : goal.returns-clause-arms
 returns-clause-arms c = λ run records list task log given limits kept gives.

@@ -7,7 +7,8 @@ pub returns-clause-none : goal.returns-clause-none
 returns-clause-none c = c.one_more_is_noted.ensures.none
 
 pub returns-clause-more : goal.returns-clause-more
-returns-clause-more c = λ run records task old step answer begins fell logs reports more_reports room log after report one other leads says begun fallen
+returns-clause-more c =
+    λ run records task old step answer begins fell logs reports more_reports room log after report one other leads says begun fallen
     kept stands there in_log added.
     let latest = made task step answer in
     kept_more c.one_more_is_noted.ensures.list c.one_more_is_noted.ensures.others c.a_log_reports_what_the_list_does.ensures

@@ -12,7 +12,8 @@ pub loop-log-preserved : goal.loop-log-preserved
 loop-log-preserved c = λ run records list logs.
     let all = c.args.logs.now in
     let stands = slice_get_read all (length all) c.loop-log.log-index c.log-item.result refl c.loop-log-test.true c.log-item.is in
-    c.logs_count_the_list.ensures.more run records list c.loop-log.log-index c.log-item.result c.loop-log.counters c.counters.result c.add.new.self
+    c.logs_count_the_list.ensures.more run records list c.loop-log.log-index c.log-item.result c.loop-log.counters c.counters.result
+    c.add.new.self
     (logs.each c.loop-log.log-index c.log-item.result stands) (c.loop-log.invariant run records list logs) c.counters.ensures (record {
       arms = c.add.ensures.arms;
       quiet = c.add.ensures.quiet;

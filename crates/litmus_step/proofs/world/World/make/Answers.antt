@@ -22,7 +22,8 @@ step-answer-requires c =
 
 pub answer-requires : goal.answer-requires
 answer-requires c =
-    let same = same_machine c.args.self.now c.args.task c.index_mut.result.now c.requires.next.machine c.requires.there c.index_mut.ensures.value
+    let same = same_machine c.args.self.now c.args.task c.index_mut.result.now c.requires.next.machine c.requires.there
+    c.index_mut.ensures.value
     c.requires.next.stands in
     (c.args.step, subst (λ (machine : TaskRun). Says machine c.args.step) (sym same) c.requires.next.makes.says, c.step-answer.ensures.kind)
 
@@ -38,23 +39,30 @@ note-requires c =
 
 pub invariant_of-self : goal.invariant_of-self
 invariant_of-self c =
-    let same = same_machine c.args.self.now c.args.task c.index.result.now c.requires.next.machine c.requires.there c.index.ensures c.requires.next.stands in
-    let same_mut = same_machine c.args.self.now c.args.task c.index_mut.result.now c.requires.next.machine c.requires.there c.index_mut.ensures.value
+    let same = same_machine c.args.self.now c.args.task c.index.result.now c.requires.next.machine c.requires.there c.index.ensures
+    c.requires.next.stands in
+    let same_mut = same_machine c.args.self.now c.args.task c.index_mut.result.now c.requires.next.machine c.requires.there
+    c.index_mut.ensures.value
     c.requires.next.stands in
     let there = slice_get_within c.args.self.now.tasks.items c.args.task c.requires.next.machine c.requires.next.stands in
     record {
       led = ∥∥₁_map c.args.self.now.led (λ is. record {
         run = is.run;
         records = made c.args.task c.args.step c.step-answer.result ∷ is.records;
-        leads = (world_leads c.steps_lead_on.ensures.leads c.args.self.now c.args.task c.args.step c.step-answer.result c.index_mut.result.now
+        leads = (world_leads c.steps_lead_on.ensures.leads c.args.self.now c.args.task c.args.step c.step-answer.result
+            c.index_mut.result.now
             c.answer.new.self c.step-answer.new.self c.saturating_add-self.result c.note.new.logs.items c.note.new.reports.items
             (vec_capacity c.note.new.reports) c.requires.next c.requires.there c.index_mut.ensures.value
             c.step-answer.ensures.kind c.step-answer.ensures.answer c.step-answer.ensures.after c.saturating_add-self.ensures
             c.answer.ensures.leads is.run is.records is.leads
-            (noted_more c.steps_are_kept.ensures.more c.args.self.now c.args.task c.args.step c.step-answer.result c.requires.next.machine c.begins-begins.result
-            c.fell-outcome.result c.note.new.logs.items c.note.new.reports.items (vec_capacity c.note.new.reports) c.requires.there c.requires.next.stands
-            c.requires.next.makes.says (subst (λ (machine : TaskRun). SaysBegin machine c.begins-begins.result) same c.begins-begins.ensures)
-            (fell_in c.args.self.now.tasks.items c.args.task c.requires.next.machine c.index_mut.result.now c.answer.new.self c.index-2.result.now
+            (noted_more c.steps_are_kept.ensures.more c.args.self.now c.args.task c.args.step c.step-answer.result
+            c.requires.next.machine c.begins-begins.result
+            c.fell-outcome.result c.note.new.logs.items c.note.new.reports.items
+            (vec_capacity c.note.new.reports) c.requires.there c.requires.next.stands
+            c.requires.next.makes.says
+            (subst (λ (machine : TaskRun). SaysBegin machine c.begins-begins.result) same c.begins-begins.ensures)
+            (fell_in c.args.self.now.tasks.items c.args.task c.requires.next.machine c.index_mut.result.now c.answer.new.self
+            c.index-2.result.now
             c.fell-outcome.result c.step-answer.result there same_mut c.index-2.ensures c.fell-outcome.ensures c.answer.ensures.fell)
             c.note.ensures.noted c.note.ensures.room is.run is.records is.leads));
       });
@@ -62,8 +70,10 @@ invariant_of-self c =
 
 pub returns-clause-moves : goal.returns-clause-moves
 returns-clause-moves c =
-    let same = same_machine c.args.self.now c.args.task c.index.result.now c.requires.next.machine c.requires.there c.index.ensures c.requires.next.stands in
-    let same_mut = same_machine c.args.self.now c.args.task c.index_mut.result.now c.requires.next.machine c.requires.there c.index_mut.ensures.value
+    let same = same_machine c.args.self.now c.args.task c.index.result.now c.requires.next.machine c.requires.there c.index.ensures
+    c.requires.next.stands in
+    let same_mut = same_machine c.args.self.now c.args.task c.index_mut.result.now c.requires.next.machine c.requires.there
+    c.index_mut.ensures.value
     c.requires.next.stands in
     let there = slice_get_within c.args.self.now.tasks.items c.args.task c.requires.next.machine c.requires.next.stands in
     λ run records leads. record {
@@ -74,10 +84,13 @@ returns-clause-moves c =
           (vec_capacity c.note.new.reports) c.requires.next c.requires.there c.index_mut.ensures.value
           c.step-answer.ensures.kind c.step-answer.ensures.answer c.step-answer.ensures.after c.saturating_add-self.ensures
           c.answer.ensures.leads run records leads
-          (noted_more c.steps_are_kept.ensures.more c.args.self.now c.args.task c.args.step c.step-answer.result c.requires.next.machine c.begins-begins.result
-          c.fell-outcome.result c.note.new.logs.items c.note.new.reports.items (vec_capacity c.note.new.reports) c.requires.there c.requires.next.stands
+          (noted_more c.steps_are_kept.ensures.more c.args.self.now c.args.task c.args.step c.step-answer.result c.requires.next.machine
+          c.begins-begins.result
+          c.fell-outcome.result c.note.new.logs.items c.note.new.reports.items
+          (vec_capacity c.note.new.reports) c.requires.there c.requires.next.stands
           c.requires.next.makes.says (subst (λ (machine : TaskRun). SaysBegin machine c.begins-begins.result) same c.begins-begins.ensures)
-          (fell_in c.args.self.now.tasks.items c.args.task c.requires.next.machine c.index_mut.result.now c.answer.new.self c.index-2.result.now
+          (fell_in c.args.self.now.tasks.items c.args.task c.requires.next.machine c.index_mut.result.now c.answer.new.self
+          c.index-2.result.now
           c.fell-outcome.result c.step-answer.result there same_mut c.index-2.ensures c.fell-outcome.ensures c.answer.ensures.fell)
           c.note.ensures.noted c.note.ensures.room run records leads));
     }

@@ -1,5 +1,5 @@
 -- By the law on cells.
-use Rattle.std.proofs.Common.{[], ap, refl, subst}
+use Rattle.std.proofs.Common.{[], refl}
 use Rattle.litmus_step.proofs.world.World.memory.Goals as goal
 
 pub returns-clause-content : goal.returns-clause-content

@@ -12,27 +12,33 @@ pub returns-clause-leads : goal.returns-clause-leads
 returns-clause-leads c =
     let run = run_of c.args.program.now c.args.settings.now c.in_ok-sites.sites in
     let are = rw c.as_slice.ensures.value at c.in_ok-sites.ensures.sites in
-    let can = c.runs_begin.ensures.can run c.args.settings.now.places.items c.requires refl c.in_ok-board.ensures.fit c.in_ok-board.ensures.slots.0
+    let can = c.runs_begin.ensures.can run c.args.settings.now.places.items c.requires refl c.in_ok-board.ensures.fit
+    c.in_ok-board.ensures.slots.0
     c.rules.ensures.turns in
     let list = c.runs_begin.ensures.list run can are in
     let count : length c.as_slice-count.result.now ≡ tasks_of run =
     ap length c.as_slice-count.ensures ∙ sym (length-map c.args.program.now.tasks task_of) in
-    let space : tasks_of run * watches_kept ≤ vec_capacity c.in_ok-reports.reports = omega (arith, count, c.in_ok-reports.ensures.capacity) in
-    first_world run c.in_ok-board.board c.in_ok-tasks.tasks.items c.in_ok-logs.logs.items c.in_ok-reports.reports.items (vec_capacity c.in_ok-reports.reports)
+    let space : tasks_of run * watches_kept ≤ vec_capacity c.in_ok-reports.reports =
+    omega (arith, count, c.in_ok-reports.ensures.capacity) in
+    first_world run c.in_ok-board.board c.in_ok-tasks.tasks.items c.in_ok-logs.logs.items c.in_ok-reports.reports.items
+    (vec_capacity c.in_ok-reports.reports)
     can list (c.in_ok-board.ensures.words c.in_ok-sites.sites) (c.in_ok-tasks.ensures.led c.in_ok-sites.sites are)
-    (first_kept c.steps_are_kept.ensures.none run list c.in_ok-logs.logs.items c.in_ok-reports.reports.items (vec_capacity c.in_ok-reports.reports)
+    (first_kept c.steps_are_kept.ensures.none run list c.in_ok-logs.logs.items c.in_ok-reports.reports.items
+    (vec_capacity c.in_ok-reports.reports)
     (c.in_ok-logs.ensures.all ∙ count) c.in_ok-logs.ensures.each c.in_ok-reports.ensures.items space)
 
 pub invariant_of-result : goal.invariant_of-result
 invariant_of-result c =
     let run = run_of c.args.program.now c.args.settings.now c.in_ok-sites.sites in
     let are = rw c.as_slice.ensures.value at c.in_ok-sites.ensures.sites in
-    let can = c.runs_begin.ensures.can run c.args.settings.now.places.items c.requires refl c.in_ok-board.ensures.fit c.in_ok-board.ensures.slots.0
+    let can = c.runs_begin.ensures.can run c.args.settings.now.places.items c.requires refl c.in_ok-board.ensures.fit
+    c.in_ok-board.ensures.slots.0
     c.rules.ensures.turns in
     let list = c.runs_begin.ensures.list run can are in
     let count : length c.as_slice-count.result.now ≡ tasks_of run =
     ap length c.as_slice-count.ensures ∙ sym (length-map c.args.program.now.tasks task_of) in
-    let space : tasks_of run * watches_kept ≤ vec_capacity c.in_ok-reports.reports = omega (arith, count, c.in_ok-reports.ensures.capacity) in
+    let space : tasks_of run * watches_kept ≤ vec_capacity c.in_ok-reports.reports =
+    omega (arith, count, c.in_ok-reports.ensures.capacity) in
     record {
       led = merely (record {
         run = run;
@@ -40,7 +46,8 @@ invariant_of-result c =
         leads = first_world run c.in_ok-board.board c.in_ok-tasks.tasks.items c.in_ok-logs.logs.items c.in_ok-reports.reports.items
             (vec_capacity c.in_ok-reports.reports)
             can list (c.in_ok-board.ensures.words c.in_ok-sites.sites) (c.in_ok-tasks.ensures.led c.in_ok-sites.sites are)
-            (first_kept c.steps_are_kept.ensures.none run list c.in_ok-logs.logs.items c.in_ok-reports.reports.items (vec_capacity c.in_ok-reports.reports)
+            (first_kept c.steps_are_kept.ensures.none run list c.in_ok-logs.logs.items c.in_ok-reports.reports.items
+            (vec_capacity c.in_ok-reports.reports)
             (c.in_ok-logs.ensures.all ∙ count) c.in_ok-logs.ensures.each c.in_ok-reports.ensures.items space);
       });
     }

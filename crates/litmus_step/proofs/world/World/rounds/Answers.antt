@@ -40,7 +40,8 @@ returns-then-not-branch-clause-asked c =
       suc c.loop-round._round,
       asked_both c.args.self.now c.loop-round.self c.round.new.self (in_rounds tasks c.loop-round._round) (range_with_len 0 tasks)
           c.loop-round.invariant.asked
-          (subst (λ n. Asked c.loop-round.self (range_with_len 0 n) c.round.new.self) c.loop-round.invariant.tasks c.in_ok-round.ensures.asked.0),
+          (subst (λ n. Asked c.loop-round.self (range_with_len 0 n) c.round.new.self)
+          c.loop-round.invariant.tasks c.in_ok-round.ensures.asked.0),
     )
 
 pub loop-round-preserved : goal.loop-round-preserved
@@ -48,11 +49,13 @@ loop-round-preserved c =
     let tasks = tasks_in c.args.self.now in
     let more : suc c.loop-round._round ≡ c.loop-round._round + 1 = omega arith in
     record {
-      asked = asked_along c.args.self.now c.round.new.self (in_rounds tasks (suc c.loop-round._round)) (in_rounds tasks (c.loop-round._round + 1))
+      asked = asked_along c.args.self.now c.round.new.self (in_rounds tasks (suc c.loop-round._round))
+          (in_rounds tasks (c.loop-round._round + 1))
           (ap (in_rounds tasks) more)
           (asked_both c.args.self.now c.loop-round.self c.round.new.self (in_rounds tasks c.loop-round._round) (range_with_len 0 tasks)
           c.loop-round.invariant.asked
-          (subst (λ n. Asked c.loop-round.self (range_with_len 0 n) c.round.new.self) c.loop-round.invariant.tasks c.in_ok-round.ensures.asked.0));
+          (subst (λ n. Asked c.loop-round.self (range_with_len 0 n) c.round.new.self)
+          c.loop-round.invariant.tasks c.in_ok-round.ensures.asked.0));
       nobody = c.in_ok-round.ensures.asked.1;
       further = further_both c.args.self.now c.loop-round.self c.round.new.self c.loop-round._round 1 c.loop-round.invariant.further
           (c.in_ok-round.ensures.further (ap Ok c.if-not-branch.false));

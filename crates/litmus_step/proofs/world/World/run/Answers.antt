@@ -17,7 +17,8 @@ returns-in_err-nobody_is_stuck-clause-stuck c = λ task is.
 
 pub returns-in_err-entries-clause-runs : goal.returns-in_err-entries-clause-runs
 returns-in_err-entries-clause-runs c = λ other.
-    runs_in_entries c.args.self.now c.entries.new.self (entries_of c.args.schedule.now) c.in_err-entries.field-0.0 c.in_err-entries.ensures.stops
+    runs_in_entries c.args.self.now c.entries.new.self
+    (entries_of c.args.schedule.now) c.in_err-entries.field-0.0 c.in_err-entries.ensures.stops
 
 pub returns-in_err-entries-clause-stuck : goal.returns-in_err-entries-clause-stuck
 returns-in_err-entries-clause-stuck c = λ task is.

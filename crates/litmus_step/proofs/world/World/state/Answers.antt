@@ -16,7 +16,8 @@ returns-in-Some c = λ machine stands.
     let is = (c.stuck.ensures.records s registers body records reach.leads reach.written reach.scopes reach.rises).1 stuck in
     let no : true ≡ false = sym is ∙ c.if-stuck.false in cc in
     let goes_on : GoesOn c.index-2.result.now = λ s registers body records reach spelled.
-    let none = (c.in-Some.ensures.over s registers body records reach.leads reach.written reach.scopes reach.rises).1 (inl spelled) in cc in (
+    let none = (c.in-Some.ensures.over s registers body records reach.leads reach.written reach.scopes reach.rises).1
+    (inl spelled) in cc in (
       subst IsFree (same_machine c.args.self.now c.args.task c.index.result.now machine c.requires c.index.ensures stands) free,
       subst GoesOn (same_machine c.args.self.now c.args.task c.index-2.result.now machine c.requires c.index-2.ensures stands) goes_on,
     )

@@ -13,12 +13,14 @@ returns-in_default-clause-steps c = λ run records leads.
 pub returns-in_default-clause-ended : goal.returns-in_default-clause-ended
 returns-in_default-clause-ended c = λ run records leads.
     let stands = machine_at c.args.self.now c.args.task c.index.result.now c.requires c.index.ensures in
-    tells_ended run records c.args.self.now c.args.task c.state.result c.index.result.now leads stands (c.state.ensures c.index.result.now stands)
+    tells_ended run records c.args.self.now c.args.task c.state.result c.index.result.now leads stands
+    (c.state.ensures c.index.result.now stands)
 
 pub returns-in_default-clause-stuck : goal.returns-in_default-clause-stuck
 returns-in_default-clause-stuck c = λ run records leads.
     let stands = machine_at c.args.self.now c.args.task c.index.result.now c.requires c.index.ensures in
-    tells_stuck run records c.args.self.now c.args.task c.state.result c.index.result.now leads stands (c.state.ensures c.index.result.now stands)
+    tells_stuck run records c.args.self.now c.args.task c.state.result c.index.result.now leads stands
+    (c.state.ensures c.index.result.now stands)
 
 pub make-requires-clause-next : goal.make-requires-clause-next
 make-requires-clause-next c = record {

@@ -47,7 +47,8 @@ returns-clause-asked c =
 
 pub loop-made-preserved : goal.loop-made-preserved
 loop-made-preserved c = record {
-  asked = asked_along c.args.self.now c.step.new.self _ (replicate (c.loop-made._made + 1) c.args.task) (one_more c.loop-made._made c.args.task)
+  asked = asked_along c.args.self.now c.step.new.self _ (replicate (c.loop-made._made + 1) c.args.task)
+      (one_more c.loop-made._made c.args.task)
       (asked_more c.args.self.now c.loop-made.self c.step.new.self (replicate c.loop-made._made c.args.task) c.args.task
       (omega (arith, c.requires.there, c.loop-made.invariant.tasks))
       c.loop-made.invariant.asked c.loop-made.invariant.nobody c.step.ensures.steps);

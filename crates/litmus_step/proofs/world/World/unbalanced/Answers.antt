@@ -20,6 +20,7 @@ loop-run-preserved c = λ run records leads.
 
 pub returns : goal.returns
 returns c = λ run records leads.
-    let over : c.loop-run.run-index ≡ length c.deref-run-items.result.now = omega (arith, c.loop-run-test.false, c.loop-run.auto.run-index-end) in
+    let over : c.loop-run.run-index ≡ length c.deref-run-items.result.now =
+    omega (arith, c.loop-run-test.false, c.loop-run.auto.run-index-end) in
     subst (λ n. c.loop-run.unbalanced ≡ unbalanced_below leads.list n)
     (over ∙ ap length c.deref-run-items.ensures.value ∙ leads.tasks.all) (c.loop-run.invariant run records leads)
