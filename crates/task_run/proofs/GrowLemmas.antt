@@ -13,7 +13,7 @@ use Rattle.memory_operation.specs.declared.operation.Operation.{Operation}
 use Rattle.memory_operation.specs.declared.operation.Operation.TheVariants as operations
 use Rattle.setup_access.specs.declared.begun.Begun.{Begun}
 use Rattle.slot_table.specs.declared.records.Record.{Record}
-use Rattle.text_walk.specs.Left.{BlocksLeft, BodyLeft, Closes, ClosesNewest, EndLeft, NothingLeft, OpenLeft, OutsideLeft, Then, TurnsLeft, WalkLeft}
+use Rattle.text_walk.specs.Left.{BlocksLeft, BodyLeft, Closes, ClosesNewest, EndLeft, NothingLeft, OpenLeft, OutsideLeft, Then, WalkLeft}
 use Rattle.text_walk.specs.declared.block.AtEnd.{AtEnd}
 use Rattle.text_walk.specs.declared.block.AtEnd.TheVariants as ends
 use Rattle.text_walk.specs.declared.block.Choice.{Choice}

@@ -1,11 +1,10 @@
 -- As many scoped assertions are in force as what a task did leaves in force: after what it computes, and after each part.
 use native.Mathlib.Omega.{arith}
-use Rattle.std.proofs.Common.{◌≡◌, ◌∙◌, ◌+◌, ◌-◌, ◌++◌, ℕ, zero, suc, Bool, true, false, List, [], ◌∷◌, None, Option, Some, ap, append_assoc, drop, length, refl, replicate, subst, sym}
-use Rattle.std.proofs.lemmas.List.{append-nil, length-append}
+use Rattle.std.proofs.Common.{◌≡◌, ◌∙◌, ◌+◌, ◌-◌, ◌++◌, ℕ, Bool, true, false, List, [], ◌∷◌, None, Option, Some, ap, length, refl, subst, sym}
+use Rattle.std.proofs.lemmas.List.{length-append}
 use Rattle.access_types.specs.Access as access
 use Rattle.access_types.specs.declared.history.Happening.{Happening}
 use Rattle.access_types.specs.declared.history.Happening.TheVariants as happenings
-use Rattle.access_types.specs.declared.history.Mark.{Mark}
 use Rattle.litmus_meaning.specs.Task as meaning
 use Rattle.memory_operation.specs.Effects.{moments_of, read_moments, write_moments}
 use Rattle.memory_operation.specs.declared.effect.Effect.{Effect}

@@ -46,7 +46,7 @@ use Rattle.text_bounds.proofs.Scopes.{one_more}
 use Rattle.text_bounds.specs.Passes.{PassesALimit, disables, nest_opens, scopes}
 use Rattle.text_bounds.specs.Scopes.{in_force, is_scoped}
 use Rattle.task_run.proofs.GrowLemmas.{GoesOn, begins_on, choice_grows, makes_grow, opens_grow, walk_grows}
-use Rattle.text_walk.specs.Left.{DueLeft, WalkLeft}
+use Rattle.text_walk.specs.Left.{DueLeft}
 use Rattle.text_walk.specs.declared.due.Due.TheVariants as dues
 use Rattle.text_walk.specs.declared.walk.Walk.{Walk}
 use Rattle.written_order.proofs.WayLemmas.{Begins}

@@ -1,5 +1,5 @@
 -- The access is the one that is planned: as many began at its site before as are kept.
-use Rattle.std.proofs.Common.{◌≡◌, ◌∙◌, ◌<◌, ap, arith, count_by, length, subst, sym}
+use Rattle.std.proofs.Common.{◌∙◌, ◌<◌, ap, arith, count_by, length, subst, sym}
 use Rattle.access_types.specs.Access.{IsInLimits}
 use Rattle.litmus_meaning.specs.Task.{begins_at}
 use Rattle.task_plan.specs.Plans.{planned_access}

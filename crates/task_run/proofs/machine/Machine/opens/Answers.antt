@@ -4,7 +4,6 @@ use Rattle.std.proofs.Common.{◌<◌, ◌≢◌, ◌∙◌, [], None, Some, ap,
 use Rattle.litmus_meaning.specs.Task.{access_now}
 use Rattle.task_run.proofs.BeginLemmas.{begins_opening, proper}
 use Rattle.task_run.proofs.machine.Machine.opens.Goals as goal
-use Rattle.access_types.specs.Access.{Access}
 use Rattle.task_run.proofs.StopLemmas.{opening_never, opening_stops}
 use Rattle.task_run.specs.Due.{PartBegins}
 use Rattle.task_run.specs.Stands.{Stands}

@@ -1,5 +1,5 @@
 -- No step follows in a part of the text exactly where the part is stuck.
-use Rattle.std.proofs.Common.{◌≡◌, ◌≢◌, ◌∙◌, ◌↔◌, Bool, IsNone, IsTrue, Option, false, inl, inr, not, refl, sym, true}
+use Rattle.std.proofs.Common.{◌≡◌, ◌≢◌, ◌∙◌, ◌↔◌, Bool, IsNone, IsTrue, Option, false, inr, not, refl, sym, true}
 use Rattle.std.specs.Option.{is_some}
 use Rattle.slot_table.specs.declared.step.Step.{Step}
 use Rattle.task_run.proofs.NextLemmas.{over_spelled, over_stuck, stopped_stuck}
