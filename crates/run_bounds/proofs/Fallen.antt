@@ -1,16 +1,15 @@
 -- What is noted and reported of a task is no more than the outcomes that fall.
-use Rattle.std.proofs.Common.{◌≡◌, ◌∙◌, ◌<◌, ◌≤◌, ◌+◌, ◌-◌, ◌*◌, ◌==◌, ◌++◌, ◌∷◌, ◌⊎◌, [], inl, inr, ℕ, zero, suc, Bool, true, false, List, None, Option, Some, ap, arith, cond, count_by, length, map, refl, reverse, subst, sym}
-use Rattle.std.specs.List.{cons_option, filter, filter_map}
+use Rattle.std.proofs.Common.{◌≡◌, ◌∙◌, ◌≤◌, ◌+◌, ◌-◌, ◌==◌, ◌++◌, ◌∷◌, ◌⊎◌, [], inl, inr, ℕ, zero, suc, Bool, true, false, List, None, Option, Some, ap, arith, cond, count_by, length, refl, sym}
+use Rattle.std.specs.List.{filter}
 use Rattle.std.specs.Option.{option_to_list}
 use Rattle.std.proofs.lemmas.Bool.{eq-eqb, ne_eqb}
 use Rattle.std.proofs.lemmas.Bool.Decides.{eqb_tells}
-use Rattle.std.proofs.lemmas.List.{length-append, length-map, length-reverse}
+use Rattle.std.proofs.lemmas.List.{length-append, length-map}
 use Rattle.access_types.specs.Arms.{Arm}
 use Rattle.access_types.specs.Takes.{Take}
-use Rattle.access_types.specs.declared.report.Report.{Report}
 use Rattle.litmus_syntax.specs.Tree.{Block}
-use Rattle.run_logs.specs.Noted.{AreNoted, IsNoted}
-use Rattle.run_logs.proofs.Sums.{counted, counted_both, of_record, of_step}
+use Rattle.run_logs.specs.Noted.{AreNoted}
+use Rattle.run_logs.proofs.Sums.{counted, of_step}
 use Rattle.run_bounds.proofs.Watches.{is_remove, is_tell}
 use Rattle.setup_access.specs.Check.{Fallen}
 use Rattle.setup_access.specs.declared.outcome.Outcome.{Outcome}

@@ -1,7 +1,7 @@
 -- What is reported of a run is no more than the outcomes of its tasks.
-use Rattle.std.proofs.Common.{◌≡◌, ◌∙◌, ◌<◌, ◌≤◌, ◌+◌, ◌*◌, ◌==◌, ◌++◌, ◌∷◌, [], inl, inr, ℕ, zero, suc, Bool, true, false, List, None, Option, Some, ap, arith, cond, count_by, length, map, refl, reverse, slice_index_or, subst, sym}
+use Rattle.std.proofs.Common.{◌≡◌, ◌∙◌, ◌<◌, ◌≤◌, ◌+◌, ◌*◌, ◌++◌, ◌∷◌, [], inl, inr, ℕ, zero, suc, Bool, true, false, List, None, Option, Some, ap, arith, cond, count_by, length, refl, reverse}
 use Rattle.std.specs.List.{cons_option, filter_map}
-use Rattle.std.proofs.lemmas.Bool.Decides.{eqb_tells, leb_tells}
+use Rattle.std.proofs.lemmas.Bool.Decides.{eqb_tells}
 use Rattle.std.proofs.lemmas.List.{length-append, length-map, length-reverse}
 use Rattle.std.proofs.lemmas.List.Elements.{All-get_or}
 use Rattle.std.proofs.Math.Nat.{suc-mul}
@@ -9,14 +9,13 @@ use Rattle.access_types.specs.declared.report.Report.{Report}
 use Rattle.litmus_syntax.specs.Limits.{BodyKeepsLimits, KeepsLimits, TaskKeepsLimits}
 use Rattle.run_lists.specs.Reports as lists
 use Rattle.run_lists.specs.Reports.{reports_of}
-use Rattle.run_lists.specs.Run.{Run, idle, task_of, task_setting}
+use Rattle.run_lists.specs.Run.{Run, idle, task_of}
 use Rattle.run_lists.specs.RunList.{RunList}
-use Rattle.run_lists.specs.Told.{Armed, OutcomeAt, armed_by, came_next, made_by, outcome_at, outcomes_by, outcomes_of}
+use Rattle.run_lists.specs.Told.{OutcomeAt, armed_by, came_next, made_by, outcome_at, outcomes_of}
 use Rattle.run_lists.proofs.OwnLasts.{own_latest}
 use Rattle.run_logs.specs.Totals.{outcomes_below}
 use Rattle.run_logs.proofs.Sums.{all_came, came_of, counted, no_outcome_below, one_task_came}
 use Rattle.run_bounds.proofs.Fallen.{few_fell, fell_by}
-use Rattle.setup_access.specs.Check.{Fallen}
 use Rattle.setup_access.specs.declared.outcome.Outcome.{Outcome}
 use Rattle.slot_table.specs.Records.{records_of}
 use Rattle.slot_table.specs.declared.records.Record.{Record}

@@ -1,6 +1,6 @@
 -- A part of a text adds at most nine outcomes for each access of which its statements make one.
-use Rattle.std.proofs.Common.{◌≡◌, ◌∙◌, ◌≤◌, ◌+◌, ◌*◌, ◌==◌, ◌||◌, ◌++◌, ◌∷◌, [], inl, inr, ℕ, zero, suc, Bool, true, false, IsTrue, List, MatchBool, Option, None, Some, ap, arith, length, not, refl, subst, sym, if◌then◌else◌}
-use Rattle.std.proofs.Math.Nat.{mul-one, mul-zero, mul_assoc, one-mul, suc-mul, zero-mul}
+use Rattle.std.proofs.Common.{◌≡◌, ◌∙◌, ◌≤◌, ◌+◌, ◌*◌, ◌==◌, ◌||◌, ◌++◌, ◌∷◌, [], inl, inr, ℕ, zero, suc, Bool, true, false, List, MatchBool, Option, None, Some, ap, arith, length, not, refl, subst, sym, if◌then◌else◌}
+use Rattle.std.proofs.Math.Nat.{mul-one, mul-zero, mul_assoc, one-mul, suc-mul}
 use Rattle.std.proofs.lemmas.List.{length-append}
 use native.Mathlib.Nat.{mul-add}
 use Rattle.access_types.specs.Access as access
@@ -9,7 +9,7 @@ use Rattle.access_types.specs.declared.history.Happening.TheVariants as happenin
 use Rattle.access_types.specs.declared.history.Mark.{Mark}
 use Rattle.access_types.specs.declared.history.Mark.TheVariants as marks
 use Rattle.access_types.specs.declared.kind.Kind.{Kind}
-use Rattle.litmus_meaning.specs.Calls.{Scoped, scoped_access, scoped_assertion}
+use Rattle.litmus_meaning.specs.Calls.{Scoped, scoped_assertion}
 use Rattle.litmus_meaning.specs.Loads.{load_in}
 use Rattle.litmus_meaning.specs.Meaning.{Chooses, after_condition}
 use Rattle.litmus_meaning.specs.Task.{has_lock}

@@ -1,5 +1,5 @@
 -- The begins of a task's accesses rise.
-use Rattle.std.proofs.Common.{◌≡◌, ◌∙◌, ◌<◌, ◌≤◌, ◌+◌, ◌==◌, ◌++◌, ◌∷◌, [], inl, inr, ℕ, suc, All, Bool, true, false, List, None, Option, Some, ap, append_assoc, arith, cond, count_by, map, refl, subst, sym, if◌then◌else◌}
+use Rattle.std.proofs.Common.{◌≡◌, ◌∙◌, ◌<◌, ◌≤◌, ◌+◌, ◌++◌, ◌∷◌, [], inl, inr, ℕ, suc, All, Bool, true, false, List, None, Option, Some, ap, append_assoc, arith, cond, map, refl, subst, sym, if◌then◌else◌}
 use Rattle.std.specs.List.{AllPairs, cons_option, filter_map, list_any}
 use Rattle.std.proofs.lemmas.Bool.Decides.{eqb_tells}
 use Rattle.std.proofs.lemmas.List.{map-append}
@@ -10,7 +10,7 @@ use Rattle.access_types.specs.Stamped.{Stamped}
 use Rattle.run_lists.specs.Run.{Run}
 use Rattle.run_lists.specs.RunList.{RunList}
 use Rattle.run_lists.proofs.OwnLasts.{own_latest}
-use Rattle.run_logs.specs.Noted.{AreNoted, IsNoted, Notes}
+use Rattle.run_logs.specs.Noted.{AreNoted, Notes}
 use Rattle.setup_access.specs.declared.begun.Begun.{Begun}
 use Rattle.slot_table.specs.Records.{records_of}
 use Rattle.slot_table.specs.declared.records.Record.{Record}

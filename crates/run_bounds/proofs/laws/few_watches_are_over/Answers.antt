@@ -1,17 +1,15 @@
 -- Each arming that is over has its verdict, and each taking its telling.
-use Rattle.std.proofs.Common.{◌≡◌, ◌∙◌, ◌≤◌, ◌+◌, ◌++◌, ℕ, [], List, ap, arith, count_by, length, reverse, subst, sym}
+use Rattle.std.proofs.Common.{◌≡◌, ◌∙◌, ◌+◌, ◌++◌, ℕ, [], List, arith, length, reverse, subst, sym}
 use Rattle.std.proofs.lemmas.List.{length-append, length-reverse}
 use Rattle.litmus_syntax.specs.Tree.{Block}
 use Rattle.run_bounds.proofs.Fallen.{few_fell, few_reported_in, so_many_arms, so_many_takes}
 use Rattle.run_bounds.proofs.Watches.{count_reverse, few_removes, few_tells, is_remove, is_tell}
 use Rattle.run_lists.proofs.CheckFacts.{back}
-use Rattle.run_logs.specs.Noted.{AreNoted}
 use Rattle.run_logs.proofs.Naming.{back_is}
-use Rattle.run_logs.proofs.Sums.{counted_both, of_record, of_step, steps_noted}
+use Rattle.run_logs.proofs.Sums.{counted_both, of_record, steps_noted}
 use Rattle.run_verdicts.proofs.Texts.{whole_falls}
 use Rattle.slot_table.specs.Discipline.{Discipline}
 use Rattle.slot_table.specs.declared.records.Record.{Record}
-use Rattle.task_log.specs.declared.noted.Noted.{Noted}
 use Rattle.written_order.specs.Standing.{Setting}
 use Rattle.written_order.specs.WrittenOrder.{SpellsAll, WrittenOrder}
 use Rattle.std.proofs.lemmas.List.{append-nil}

@@ -1,7 +1,6 @@
 -- By the records of the task.
-use Rattle.std.proofs.Common.{ℕ, List, reverse, subst, sym, ◌<◌, length}
+use Rattle.std.proofs.Common.{ℕ, List, reverse, subst, sym}
 use Rattle.std.proofs.lemmas.List.{reverse-reverse}
-use Rattle.litmus_syntax.specs.Limits.{KeepsLimits}
 use Rattle.run_bounds.proofs.Lists.{keeps_body}
 use Rattle.run_lists.specs.Run.{Run}
 use Rattle.run_lists.specs.RunList.{RunList}
