@@ -20,10 +20,10 @@ terminal_there tokens.Unclosed other = (unclosed, refl)
 terminal_there tokens.End other = absurd (other refl)
 
 -- a token is that which was read
-abbrev Matches : Spot → Placed → Type 0
+abbrev pub Matches : Spot → Placed → Type 0
 Matches spot token = (terminal_of spot.token ≡ Some token.terminal) × (spot.at ≡ token.at)
 
-AreSpots-push : (spots : List Spot) (read : List Placed) (spot : Spot) (token : Placed)
+pub AreSpots-push : (spots : List Spot) (read : List Placed) (spot : Spot) (token : Placed)
     → AreSpots spots read → Matches spot token → AreSpots (spots ++ spot ∷ []) (read ++ token ∷ [])
 AreSpots-push [] [] spot token are is = (is.0, (is.1, tt))
 AreSpots-push [] (t ∷ read) spot token are is = absurd are

@@ -1,7 +1,8 @@
 //! The tokens of a text, and the place among them that its parser has come to.
 
-ghost use Rattle.std.specs.Prelude.{◌≡◌, ◌≤◌, ◌<◌, ◌-◌, ◌^◌, length, IfOk, IsSome, IsTrue, OnOk, false};
-ghost use Rattle.litmus_cursor.specs.Spots.{AreTokensFrom};
+ghost use Rattle.std.specs.Prelude.{◌≡◌, ◌≤◌, ◌<◌, ◌-◌, ◌^◌, List, length, IfOk, IsSome, IsTrue, OnOk, false};
+ghost use Rattle.litmus_lex.specs.Tokens.{Placed};
+ghost use Rattle.litmus_cursor.specs.Spots.{AreSpots, AreTokensFrom};
 ghost use Rattle.litmus_cursor.specs.declared.cursor.Refusal.TheVariants.{OutOfMemory};
 
 use crate::words::{Word, word_of};
@@ -58,7 +59,8 @@ pub struct Spot<'a> {
 /// The tokens of a text from a place on, without the end.
 pub fn tokens(alloc: Global, text: &[u8], start: Place) -> Result<Vec<Spot<'_>>, AllocError>
     requires { start.at ≤ length text.now }
-    ensures { IfOk result (λ spots. AreTokensFrom text.now start spots.items) }
+    ensures spelled { IfOk result (λ spots. AreTokensFrom text.now start spots.items) }
+    ensures found { IfOk result (λ spots. (found : List Placed) × AreSpots spots.items found) }
 {
     let mut spots = Vec::new(alloc);
     let mut place = start;

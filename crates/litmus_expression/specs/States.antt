@@ -1,5 +1,5 @@
 -- What a reader of a process's body has: what is left, what names mean, and how much of the limits is used.
-use Rattle.std.specs.Prelude.{ℕ, List, Bool, map}
+use Rattle.std.specs.Prelude.{ℕ, List, [], Bool, map}
 use Rattle.litmus_cursor.specs.Front.{now, others, symbols_left}
 use Rattle.litmus_cursor.specs.Words.{Symbol}
 use Rattle.litmus_expression.specs.declared.process.Parameter as coded
@@ -26,6 +26,10 @@ state_of p = record {
   statements = p.statements;
   repeats = p.repeats;
 }
+
+-- where the body of a process begins to be read: nothing of it is counted
+abbrev pub entering : List Parameter → List Symbol → State
+entering parameters symbols = record { symbols = symbols; parameters = parameters; names = []; statements = 0; repeats = 0 }
 
 -- the state with these symbols left
 abbrev pub with_left : State → List Symbol → State

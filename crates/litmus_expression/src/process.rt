@@ -211,11 +211,12 @@ impl<'a> Process<'a> {
     ghost use Rattle.litmus_expression.specs.NameReader as reader;
     ghost use Rattle.litmus_expression.specs.PlaceReader as places;
     ghost use Rattle.litmus_expression.specs.Places.{place_of};
-    ghost use Rattle.litmus_expression.specs.States.{parameter_of, state_of};
+    ghost use Rattle.litmus_expression.specs.States.{entering, parameter_of, state_of};
 
     /// A process of which the parameters are read.
     pub fn new(alloc: Global, cursor: Cursor<'a>, parameters: Vec<Parameter<'a>>) -> Process<'a>
-        ensures { result.cursor ≡ cursor.entry }
+        ensures cursor { result.cursor ≡ cursor.entry }
+        ensures begins { state_of result ≡ entering (map parameter_of parameters.entry.items) (symbols_left cursor.entry) }
     {
         Process {
             alloc,

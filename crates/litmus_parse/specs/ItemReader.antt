@@ -1,14 +1,15 @@
 -- Reading items of the initialization block: what the parser's functions answer, apart from which refusal it is.
-use Rattle.std.specs.Prelude.{ℕ, List, Option, Some, None, is_some, if◌then◌else◌}
-use Rattle.litmus_lex.specs.declared.sign.Sign.TheVariants.{Assign}
+use Rattle.std.specs.Prelude.{ℕ, suc, List, [], Option, Some, None, is_some, length, if◌then◌else◌}
+use Rattle.litmus_lex.specs.declared.sign.Sign.TheVariants.{OpenBrace, CloseBrace, Semicolon, Assign}
 use Rattle.litmus_cursor.specs.declared.words.VariableType.{VariableType}
-use Rattle.litmus_cursor.specs.Front.{◌>>=◌, first, identifier_at, is_sign, others, symbols_left}
+use Rattle.litmus_cursor.specs.Front.{◌>>=◌, first, identifier_at, is_sign, others, symbols_left, take_sign}
 use Rattle.litmus_cursor.specs.Words.{Symbol}
 use Rattle.litmus_expression.specs.NameReader.{index_of}
 use Rattle.litmus_expression.specs.Names.{Names}
 use Rattle.litmus_parse.specs.declared.initialization.Header.{Header}
 use Rattle.litmus_parse.specs.Entries.{Entry, changed, grown, named_item, table_of, valued}
 use Rattle.litmus_parse.specs.HeaderReader.{behind_type, type_at, value_at}
+use Rattle.litmus_parse.specs.Turns.{Turn, again, done, going}
 use Rattle.litmus_parse.specs.VariableReader.{is_lock_type, names_of, number_at}
 
 -- what stands before the bodies: what is left, and what is known of variables
@@ -58,3 +59,29 @@ item_of type h = variable_in h >>= λ v. noted_in type v.0 v.1 >>= λ u. given_i
 -- `[vtype] NAME [= value]`
 unfoldable pub item_at : Heading → Option Heading
 item_at h = item_of (type_at (first h.symbols)) (record h { symbols = behind_type (type_at (first h.symbols)) h.symbols })
+
+-- the symbol that is next is taken
+abbrev pub past : Heading → Heading
+past h = record h { symbols = others h.symbols }
+
+-- what follows an item: `;` and maybe more, or the `}`
+abbrev pub behind_item : Heading → Option (Turn Heading Heading)
+behind_item h =
+    if is_sign Semicolon (first h.symbols)
+    then Some (again (past h))
+    else (take_sign CloseBrace h.symbols >>= λ symbols. Some (done (record h { symbols = symbols })))
+
+abbrev pub items_by : Heading → Option (Turn Heading Heading)
+items_by h = if is_sign CloseBrace (first h.symbols) then Some (done (past h)) else (item_at h >>= λ u. behind_item u)
+
+-- items joined by `;`, with a last `;` or none, and the `}`
+unfoldable pub items_at : Heading → Option Heading
+items_at h = going items_by (suc (length h.symbols)) h
+
+-- the initialization block
+unfoldable pub initialization_at : Heading → Option Heading
+initialization_at h = take_sign OpenBrace h.symbols >>= λ symbols. items_at (record h { symbols = symbols })
+
+-- where nothing is known of any variable
+abbrev pub unnamed : List Symbol → Heading
+unnamed symbols = record { symbols = symbols; names = []; table = [] }

@@ -8,3 +8,9 @@ pub mod ConditionReader
 pub mod VariableReader
 pub mod Entries
 pub mod ItemReader
+pub mod Turns
+pub mod ParameterReader
+pub mod ProcessReader
+pub mod PropositionReader
+pub mod Told
+pub mod TextReader

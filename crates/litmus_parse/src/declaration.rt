@@ -1,17 +1,21 @@
 //! The variables of a text: what its items and parameters say of them.
 
-ghost use Rattle.std.specs.Prelude.{◌≡◌, [], OnOk, Some, false, get_or, is_some, position};
+ghost use Rattle.std.specs.Prelude.{◌≡◌, [], All, IfErr, IfOk, OnOk, Some, true, false, get_or, if◌then◌else◌, is_some, map, position};
+ghost use Rattle.std.specs.Str.{IsUtf8};
+ghost use Rattle.litmus_cursor.specs.declared.cursor.Refusal.TheVariants.{OutOfMemory};
 ghost use Rattle.litmus_cursor.specs.Front.{Answers};
 ghost use Rattle.litmus_cursor.specs.Words.{is_same};
 ghost use Rattle.litmus_expression.specs.NameReader.{index_of};
 ghost use Rattle.litmus_parse.specs.Entries as entries;
 ghost use Rattle.litmus_parse.specs.Entries.{entry_of, table_of};
+ghost use Rattle.litmus_parse.specs.Mentions.{contents_of};
+ghost use Rattle.litmus_parse.specs.TextReader as texts;
 ghost use Rattle.litmus_parse.specs.VariableReader as reader;
 ghost use Rattle.litmus_parse.specs.VariableReader.{locks_of, names_of};
 
 use litmus_cursor::{Excess, Refusal, VariableType};
 use litmus_syntax::{Contents, Name, Variable};
-use std::alloc::{AllocError, Global};
+use std::alloc::Global;
 
 /// How many variables a program can have.
 pub const VARIABLES: usize = 32;
@@ -161,35 +165,78 @@ impl<'a> Declared<'a> {
     }
 
     /// The variable that it is in the end.
-    pub fn variable(&self, alloc: Global) -> Result<Variable, AllocError> {
+    pub fn variable(&self, alloc: Global) -> Result<Variable, Refusal>
+        ensures ok { IfOk result (λ variable. variable ≡ texts.variable_in self.now.name.now (entry_of self.now)) }
+        ensures err { IfErr result (λ refusal. IsUtf8 self.now.name.now → refusal ≡ OutOfMemory) }
+    {
         let value = self.value.unwrap_or(0);
+        let variable_type = self.variable_type.unwrap_or(VariableType::Int);
         Ok(Variable {
             name: name_of(alloc, self.name)?,
-            contents: contents(self.variable_type.unwrap_or(VariableType::Int), value),
+            contents: contents(variable_type, value),
         })
     }
 }
 
 /// A value cut to the size of a type.
-fn contents(variable_type: VariableType, value: u64) -> Contents {
-    let [a, b, c, d, e, f, g, h] = value.to_le_bytes();
+fn contents(variable_type: VariableType, value: u64) -> Contents
+    ensures { result ≡ contents_of variable_type value }
+{
     match variable_type {
-        VariableType::Char => Contents::Char(i8::from_le_bytes([a])),
-        VariableType::Short => Contents::Short(i16::from_le_bytes([a, b])),
-        VariableType::Int => Contents::Int(i32::from_le_bytes([a, b, c, d])),
-        VariableType::Long => Contents::Long(i64::from_le_bytes([a, b, c, d, e, f, g, h])),
-        VariableType::Atomic => Contents::Atomic(i32::from_le_bytes([a, b, c, d])),
+        VariableType::Char => Contents::Char(((value % 0x100) as u8).cast_signed()),
+        VariableType::Short => Contents::Short(((value % 0x1_0000) as u16).cast_signed()),
+        VariableType::Int => Contents::Int(((value % 0x1_0000_0000) as u32).cast_signed()),
+        VariableType::Long => Contents::Long(value.cast_signed()),
+        VariableType::Atomic => Contents::Atomic(((value % 0x1_0000_0000) as u32).cast_signed()),
         VariableType::Lock => Contents::Lock,
     }
 }
 
-/// A name, of ASCII bytes.
-pub fn name_of(alloc: Global, bytes: &[u8]) -> Result<Name, AllocError> {
-    let mut text = String::new(alloc);
-    for byte in bytes {
-        text.push(char::from(*byte))?;
+/// The name that bytes are. Those of a text are ASCII.
+pub fn name_of(alloc: Global, bytes: &[u8]) -> Result<Name, Refusal>
+    ensures ok { IfOk result (λ name. name ≡ bytes.now) }
+    ensures err { IfErr result (λ refusal. IsUtf8 bytes.now → refusal ≡ OutOfMemory) }
+{
+    let Ok(text) = str::from_utf8(bytes) else {
+        return Err(Refusal::Syntax { at: 0 });
+    };
+    Ok(Name::from_string(String::from_str(alloc, text)?))
+}
+
+/// The lesser of two places, where there are such.
+fn earlier(first: Option<usize>, second: Option<usize>) -> Option<usize>
+    ensures { is_some result ≡ (if is_some first then true else is_some second) }
+{
+    match (first, second) {
+        (Some(one), Some(other)) => Some(one.min(other)),
+        (Some(one), None) => Some(one),
+        (None, other) => other,
     }
-    Ok(Name::from_string(text))
+}
+
+/// The first place where a variable has a second type, now that all parameters are known.
+fn first_contradiction(mut variables: &[Declared<'_>]) -> Option<usize>
+    ensures { is_some result ≡ texts.has_contradiction (map entry_of variables.entry.now) }
+{
+    let mut first = None;
+    while let [declared, rest @ ..] = variables {
+        first = earlier(first, declared.contradiction());
+        variables = rest;
+    }
+    first
+}
+
+/// The variables that these are in the end.
+fn variables_of(alloc: Global, mut all: &[Declared<'_>]) -> Result<Vec<Variable>, Refusal>
+    ensures ok { IfOk result (λ variables. variables.items
+        ≡ texts.variables_in (map reader.name_of all.entry.now) (map entry_of all.entry.now)) }
+{
+    let mut variables = Vec::new(alloc);
+    while let [declared, rest @ ..] = all {
+        variables.push(declared.variable(alloc)?)?;
+        all = rest;
+    }
+    Ok(variables)
 }
 
 /// The place of a name, among variables.
@@ -305,19 +352,16 @@ impl<'a> Declarations<'a> {
     }
 
     /// The first place where a variable has a second type, now that all parameters are known.
-    pub fn contradiction(&self) -> Option<usize> {
-        self.variables
-            .iter()
-            .filter_map(|declared| declared.contradiction())
-            .min()
+    pub fn contradiction(&self) -> Option<usize>
+        ensures { is_some result ≡ texts.has_contradiction (table_of self.now) }
+    {
+        first_contradiction(&self.variables)
     }
 
     /// The variables that they are in the end.
-    pub fn variables(&self, alloc: Global) -> Result<Vec<Variable>, AllocError> {
-        let mut variables = Vec::new(alloc);
-        for declared in &self.variables {
-            variables.push(declared.variable(alloc)?)?;
-        }
-        Ok(variables)
+    pub fn variables(&self, alloc: Global) -> Result<Vec<Variable>, Refusal>
+        ensures ok { IfOk result (λ variables. variables.items ≡ texts.variables_in (names_of self.now) (table_of self.now)) }
+    {
+        variables_of(alloc, &self.variables)
     }
 }

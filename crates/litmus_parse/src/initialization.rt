@@ -1,11 +1,13 @@
 //! The initialization block, and the headers of processes.
 
-ghost use Rattle.std.specs.Prelude.{◌≡◌, ◌≤◌, ◌<◌, IsTrue, OnOk};
+ghost use Rattle.std.specs.Prelude.{◌≡◌, ◌≤◌, ◌<◌, [], IsTrue, OnOk, map};
 ghost use Rattle.litmus_cursor.specs.Cursor.{count_left};
 ghost use Rattle.litmus_cursor.specs.Front.{Answers, first, symbols_left};
 ghost use Rattle.litmus_parse.specs.HeaderReader as reader;
 ghost use Rattle.litmus_parse.specs.ItemReader as items;
+ghost use Rattle.litmus_expression.specs.States.{parameter_of};
 ghost use Rattle.litmus_parse.specs.ItemReader.{heading_of};
+ghost use Rattle.litmus_parse.specs.ParameterReader as reading;
 
 use crate::declaration::Declarations;
 use litmus_cursor::{Cursor, Refusal, VariableType, Word};
@@ -31,15 +33,18 @@ pub struct Header<'a> {
 
 impl<'a> Header<'a> {
     /// `{` items joined by `;`, and a last `;` or none, `}`.
-    pub fn initialization(&mut self) -> Result<(), Refusal> {
+    #[tactic(auto, using(crate::proofs::Unrolled::items_unroll), unfolding(crate::specs::ItemReader::initialization_at))]
+    pub fn initialization(&mut self) -> Result<(), Refusal>
+        ensures reads { Answers result (λ _. heading_of self.new) (items.initialization_at (heading_of self.old)) }
+    {
         self.cursor.take(Sign::OpenBrace)?;
-        while !self.cursor.is_at(Sign::CloseBrace) {
+        while !self.cursor.accept(Sign::CloseBrace) {
             self.item()?;
             if !self.cursor.accept(Sign::Semicolon) {
-                break;
+                return self.cursor.take(Sign::CloseBrace);
             }
         }
-        self.cursor.take(Sign::CloseBrace)
+        Ok(())
     }
 
     /// `[vtype] NAME [= value]`
@@ -179,44 +184,79 @@ impl<'a> Header<'a> {
     }
 
     /// `(` parameters joined by `,`, or none, `)`.
+    #[tactic(auto, unfolding(crate::specs::ParameterReader::parameters_at))]
     pub fn parameters(&mut self) -> Result<Vec<Parameter<'a>>, Refusal>
-        ensures { OnOk result (count_left self.new.cursor < count_left self.old.cursor) }
+        ensures moves { OnOk result (count_left self.new.cursor < count_left self.old.cursor) }
+        ensures reads { Answers result (λ parameters. (map parameter_of parameters.items, heading_of self.new))
+            (reading.parameters_at (heading_of self.old)) }
     {
-        let mut parameters = Vec::new(self.alloc);
         self.cursor.take(Sign::OpenParen)?;
         if self.cursor.accept(Sign::CloseParen) {
-            return Ok(parameters);
+            return Ok(Vec::new(self.alloc));
         }
-        parameters.push(self.parameter(&parameters)?)?;
-        while self.cursor.accept(Sign::Comma) {
-            parameters.push(self.parameter(&parameters)?)?;
+        self.listed()
+    }
+
+    /// Parameters joined by `,`, and the `)`.
+    #[tactic(auto, using(crate::proofs::Unrolled::listed_unrolls))]
+    fn listed(&mut self) -> Result<Vec<Parameter<'a>>, Refusal>
+        ensures moves { OnOk result (count_left self.new.cursor < count_left self.old.cursor) }
+        ensures reads { Answers result (λ parameters. (map parameter_of parameters.items, heading_of self.new))
+            (reading.listed_at ([], heading_of self.old)) }
+    {
+        let mut parameters = Vec::new(self.alloc);
+        loop {
+            let parameter = self.parameter(&parameters)?;
+            parameters.push(parameter)?;
+            if !self.cursor.accept(Sign::Comma) {
+                self.cursor.take(Sign::CloseParen)?;
+                return Ok(parameters);
+            }
         }
-        self.cursor.take(Sign::CloseParen)?;
-        Ok(parameters)
     }
 
     /// `vtype * NAME`, which is no parameter of the process yet.
+    #[tactic(auto, unfolding(crate::specs::ParameterReader::parameter_at))]
     fn parameter(&mut self, before: &[Parameter<'a>]) -> Result<Parameter<'a>, Refusal>
-        ensures { OnOk result (count_left self.new.cursor < count_left self.old.cursor) }
+        ensures moves { OnOk result (count_left self.new.cursor < count_left self.old.cursor) }
+        ensures reads { Answers result (λ parameter. (parameter_of parameter, heading_of self.new))
+            (reading.parameter_at (map parameter_of before.now) (heading_of self.old)) }
     {
         let Some(variable_type) = self.accept_type() else {
             return Err(self.cursor.offence());
         };
         self.cursor.take(Sign::Star)?;
+        self.parameter_of_type(before, variable_type)
+    }
+
+    /// The refusal of the next token where the name of a parameter may stand. A second `*` is unsupported.
+    fn parameter_offence(&self) -> Refusal {
         if self.cursor.is_at(Sign::Star) {
-            return Err(self.cursor.unsupported());
+            self.cursor.unsupported()
+        } else {
+            self.cursor.offence()
         }
-        let Token::Name(name) = self.cursor.token() else {
-            return Err(self.cursor.offence());
+    }
+
+    /// NAME of a parameter of a type.
+    #[tactic(auto, unfolding(crate::specs::ParameterReader::parameter_of_type))]
+    fn parameter_of_type(
+        &mut self,
+        before: &[Parameter<'a>],
+        variable_type: VariableType,
+    ) -> Result<Parameter<'a>, Refusal>
+        ensures moves { OnOk result (count_left self.new.cursor < count_left self.old.cursor) }
+        ensures reads { Answers result (λ parameter. (parameter_of parameter, heading_of self.new))
+            (reading.parameter_of_type (map parameter_of before.now) variable_type (heading_of self.old)) }
+    {
+        let Some(name) = self.cursor.identifier() else {
+            return Err(self.parameter_offence());
         };
-        let variable = self.variable()?;
+        let variable = self.declarations.number(name)?;
         let at = self.cursor.at();
         self.declarations
             .name_parameter(variable, variable_type, at)?;
-        if before
-            .iter()
-            .any(|parameter| parameter.variable == variable)
-        {
+        if has_variable(before, variable) {
             return Err(self.cursor.offence());
         }
         self.cursor.advance();
@@ -226,4 +266,17 @@ impl<'a> Header<'a> {
             variable_type,
         })
     }
+}
+
+/// Whether one of the parameters is the variable.
+fn has_variable(mut parameters: &[Parameter<'_>], variable: usize) -> bool
+    ensures { result ≡ reading.has_variable (map parameter_of parameters.entry.now) variable }
+{
+    while let [parameter, rest @ ..] = parameters {
+        if parameter.variable == variable {
+            return true;
+        }
+        parameters = rest;
+    }
+    false
 }

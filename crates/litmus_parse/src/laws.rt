@@ -1,16 +1,19 @@
 //! What is true of the readers of whole texts and the grammar.
 
-ghost use Rattle.std.specs.Prelude.{◌≡◌, ◌↔◌, ◌≤◌, ℕ, List, Some, length};
+ghost use Rattle.std.specs.Prelude.{◌≡◌, ◌↔◌, ◌≤◌, ℕ, All, List, Some, length};
+ghost use Rattle.litmus_syntax.specs.Tree as tree;
 ghost use Rattle.litmus_syntax.specs.declared.proposition.Quantifier.{Quantifier};
 ghost use Rattle.litmus_cursor.specs.Front.{take_signed};
 ghost use Rattle.litmus_cursor.specs.Words.{Symbol};
-ghost use Rattle.litmus_syntax.specs.Limits.{variables_limit};
+ghost use Rattle.litmus_syntax.specs.Limits.{BodyKeepsLimits, variables_limit};
 ghost use Rattle.litmus_expression.specs.Followed.{Differ};
 ghost use Rattle.litmus_expression.specs.Names.{Names, Numbered};
 ghost use Rattle.litmus_parse.specs.ConditionReader.{quantifier_at};
 ghost use Rattle.litmus_parse.specs.Conditions.{Quantifies};
+ghost use Rattle.litmus_parse.specs.Grammar.{Grammar};
 ghost use Rattle.litmus_parse.specs.HeaderReader.{value_at};
 ghost use Rattle.litmus_parse.specs.Headers.{Signed, Value};
+ghost use Rattle.litmus_parse.specs.TextReader.{program_at};
 ghost use Rattle.litmus_parse.specs.VariableReader.{number_at};
 
 /// Law: what is read as a number, with a sign or without, or as an initial value, is what is spelled as one.
@@ -30,4 +33,10 @@ pub fn quantifiers_are_read_as_they_are_spelled()
 pub fn variables_are_numbered_as_they_appear()
     ensures { (names later : Names) (name : List ℕ) (number : ℕ) → Differ names → length names ≤ variables_limit
         → Numbered variables_limit names name number later ↔ (number_at names name ≡ Some (number, later)) }
+{}
+
+/// Law: what is read as a text behind its head is spelled so, where its bodies keep their limits.
+pub fn what_is_read_as_a_text_is_spelled()
+    ensures { (name : List ℕ) (symbols : List Symbol) (program : tree.Program) → program_at name symbols ≡ Some program
+        → All (λ task. BodyKeepsLimits task.body) program.tasks → (program.name ≡ name) × Grammar symbols program }
 {}

@@ -1,8 +1,19 @@
 //! Whole litmus texts.
 
-ghost use Rattle.std.specs.Prelude.{◌≡◌, ◌≢◌, ◌≤◌, ◌<◌, ◌↔◌, length, Any, IfOk, IsTrue, IsErrOf, OnOk};
-ghost use Rattle.litmus_syntax.specs.Limits.{KeepsLimits};
-ghost use Rattle.litmus_syntax.specs.Views.{program_of};
+ghost use Rattle.std.specs.Prelude.{◌≡◌, ◌≢◌, ◌≤◌, ◌<◌, ◌↔◌, ℕ, Some, length, map, vec_len, All, Any, IfErr, IfOk, IsTrue, IsErrOf, OnOk};
+ghost use Rattle.std.specs.Str.{IsUtf8};
+ghost use Rattle.litmus_syntax.specs.Limits.{KeepsLimits, tasks_limit};
+ghost use Rattle.litmus_syntax.specs.Views.{block_of, program_of, task_of};
+ghost use Rattle.litmus_cursor.specs.Cursor.{count_left};
+ghost use Rattle.litmus_cursor.specs.Front.{Answers, first, now, symbols_left};
+ghost use Rattle.litmus_cursor.specs.declared.cursor.Refusal.TheVariants.{OutOfMemory};
+ghost use Rattle.litmus_expression.specs.States.{parameter_of, state_of};
+ghost use Rattle.litmus_parse.specs.Grammar.{SpellsProgram, variable_of};
+ghost use Rattle.litmus_parse.specs.Grammar.{task_of as reads_task};
+ghost use Rattle.litmus_parse.specs.Headers.{process_name};
+ghost use Rattle.litmus_parse.specs.ItemReader.{heading_of};
+ghost use Rattle.litmus_parse.specs.ProcessReader.{is_process, process_at, process_of, processes_at, seen, unbegun};
+ghost use Rattle.litmus_parse.specs.TextReader.{bodies_of, course_of, program_at};
 ghost use Rattle.litmus_parse.specs.Text.{file_bytes, IsTextByte};
 
 use crate::condition::Condition;
@@ -10,8 +21,8 @@ use crate::declaration::{Declarations, name_of};
 use crate::initialization::Header;
 use litmus_body::read_block;
 use litmus_cursor::{Cursor, Excess, Refusal, tokens};
-use litmus_expression::{Process, Surroundings};
-use litmus_lex::{Token, line_of, read_head};
+use litmus_expression::{Parameter, Process, Surroundings};
+use litmus_lex::{line_of, read_head};
 use litmus_syntax::{Limit, Name, ParseError, Program, Sequence, Statement, Task};
 use std::alloc::{AllocError, Global};
 
@@ -21,12 +32,6 @@ pub const FILE_BYTES: usize = 65536;
 /// How many tasks a program can have.
 pub const TASKS: usize = 16;
 
-/// The names of processes, and of one that is one too many.
-const HEADERS: [&str; 17] = [
-    "P0", "P1", "P2", "P3", "P4", "P5", "P6", "P7", "P8", "P9", "P10", "P11", "P12", "P13", "P14",
-    "P15", "P16",
-];
-
 /// Reads a litmus text.
 ///
 /// First the size of the text is looked at, then its bytes; then the first token that offends decides.
@@ -35,6 +40,7 @@ pub fn parse(alloc: Global, text: &[u8]) -> Result<Program, ParseError>
     ensures not_ascii { IsErrOf result ParseError.NotAscii ↔
         ((length text.now ≤ file_bytes) × Any (λ byte. ¬ IsTextByte byte) text.now) }
     ensures keeps_limits { IfOk result (λ program. KeepsLimits (program_of program)) }
+    ensures spelled { IfOk result (λ program. SpellsProgram text.now (program_of program)) }
 {
     if text.len() > FILE_BYTES {
         return Err(ParseError::Limit(Limit::File));
@@ -92,9 +98,13 @@ fn limit_of(excess: Excess) -> Limit
 
 /// Reads the whole text, from left to right.
 fn read(alloc: Global, text: &[u8]) -> Result<Program, Refusal>
-    ensures { IfOk result (λ program. KeepsLimits (program_of program)) }
+    ensures keeps_limits { IfOk result (λ program. KeepsLimits (program_of program)) }
+    ensures spelled { length text.now ≤ file_bytes → All IsTextByte text.now → IfOk result (λ program. SpellsProgram text.now (program_of program)) }
 {
-    let head = read_head(text).map_err(|at| Refusal::Syntax { at })?;
+    let head = match read_head(text) {
+        Ok(head) => head,
+        Err(at) => return Err(Refusal::Syntax { at }),
+    };
     let spots = tokens(alloc, text, head.after)?;
     let cursor = Cursor::new(&spots, text.len());
     program(alloc, name_of(alloc, head.name)?, cursor)
@@ -102,7 +112,22 @@ fn read(alloc: Global, text: &[u8]) -> Result<Program, Refusal>
 
 /// Reads the tokens of a text whose test has the name.
 fn program(alloc: Global, name: Name, cursor: Cursor<'_>) -> Result<Program, Refusal>
-    ensures { IfOk result (λ program. KeepsLimits (program_of program)) }
+    ensures keeps_limits { IfOk result (λ program. KeepsLimits (program_of program)) }
+    ensures reads { IfOk result (λ program. program_at name (symbols_left cursor.entry) ≡ Some (program_of program)) }
+{
+    let end = Refusal::Syntax { at: cursor.at() };
+    let program = whole(alloc, name, cursor)?;
+    // Each limit and each type is looked at where it is read. That all are kept is known by this look at the whole.
+    if !program.keeps_limits() {
+        return Err(end);
+    }
+    Ok(program)
+}
+
+/// Reads the tokens of a text whose test has the name, where each limit is looked at as it is passed.
+#[tactic(auto, using(crate::proofs::Tables::locks_are), unfolding(crate::specs::TextReader::program_at))]
+fn whole(alloc: Global, name: Name, cursor: Cursor<'_>) -> Result<Program, Refusal>
+    ensures reads { IfOk result (λ program. program_at name (symbols_left cursor.entry) ≡ Some (program_of program)) }
 {
     let mut header = Header {
         alloc,
@@ -122,18 +147,13 @@ fn program(alloc: Global, name: Name, cursor: Cursor<'_>) -> Result<Program, Ref
     if let Some(at) = condition.declarations.contradiction() {
         return Err(Refusal::Unsupported { at });
     }
-    let program = Program {
+    Ok(Program {
         name,
         variables: Sequence::from_vec(condition.declarations.variables(alloc)?),
         tasks: Sequence::from_vec(tasks(alloc, &condition.processes, bodies)?),
         quantifier,
         condition: proposition,
-    };
-    // Each limit and each type is looked at where it is read. That all are kept is known by this look at the whole.
-    if !program.keeps_limits() {
-        return Err(condition.cursor.offence());
-    }
-    Ok(program)
+    })
 }
 
 /// The processes of a text, with their bodies.
@@ -143,24 +163,60 @@ struct Processes<'a> {
     bodies: Vec<Vec<Statement>>,
 }
 
+/// The name of the process of a number, and of one that is one too many.
+fn process_name(number: usize) -> &'static [u8]
+    requires { number ≤ tasks_limit }
+    ensures { result.now ≡ process_name number }
+{
+    match number {
+        0 => b"P0",
+        1 => b"P1",
+        2 => b"P2",
+        3 => b"P3",
+        4 => b"P4",
+        5 => b"P5",
+        6 => b"P6",
+        7 => b"P7",
+        8 => b"P8",
+        9 => b"P9",
+        10 => b"P10",
+        11 => b"P11",
+        12 => b"P12",
+        13 => b"P13",
+        14 => b"P14",
+        15 => b"P15",
+        _ => b"P16",
+    }
+}
+
+/// Whether the name of the process of a number is next.
+fn is_at_process(cursor: &Cursor<'_>, number: usize) -> bool
+    requires { number ≤ tasks_limit }
+    ensures exact { result ≡ is_process number (first (symbols_left cursor.now)) }
+    ensures some { IsTrue result → 0 < count_left cursor.now }
+{
+    match cursor.identifier() {
+        Some(name) => name == process_name(number),
+        None => false,
+    }
+}
+
 /// Reads processes, as long as the next one begins.
-fn read_processes<'a>(header: &mut Header<'a>) -> Result<Processes<'a>, Refusal> {
+fn read_processes<'a>(header: &mut Header<'a>) -> Result<Processes<'a>, Refusal>
+    ensures sized { IfOk result (λ found. vec_len found.processes ≡ vec_len found.bodies) }
+    ensures reads { Answers result (course_of header.new) (processes_at (unbegun (heading_of header.old))) }
+{
     let alloc = header.alloc;
     let mut processes = Vec::new(alloc);
     let mut bodies = Vec::new(alloc);
-    for name in HEADERS {
-        if header.cursor.token() != Token::Name(name.as_bytes()) {
-            break;
-        }
+    while is_at_process(&header.cursor, processes.len()) {
         if processes.len() == TASKS {
             return Err(Refusal::Limit(Excess::Tasks));
         }
         header.cursor.advance();
-        let mut process = Process::new(alloc, header.cursor, header.parameters()?);
-        process.cursor = header.cursor;
-        bodies.push(read_block(&mut process, Surroundings::new())?)?;
-        header.cursor = process.cursor;
+        let (process, body) = read_process(header)?;
         processes.push(process)?;
+        bodies.push(body)?;
     }
     if processes.is_empty() {
         return Err(header.cursor.offence());
@@ -168,32 +224,70 @@ fn read_processes<'a>(header: &mut Header<'a>) -> Result<Processes<'a>, Refusal>
     Ok(Processes { processes, bodies })
 }
 
-/// The tasks that the processes are in the end.
+/// Reads a process behind its name.
+#[tactic(auto, unfolding(crate::specs::ProcessReader::process_at))]
+fn read_process<'a>(header: &mut Header<'a>) -> Result<(Process<'a>, Vec<Statement>), Refusal>
+    ensures moves { OnOk result (count_left header.new.cursor < count_left header.old.cursor) }
+    ensures reads { Answers result (λ read. ((state_of read.0, block_of read.1.items), heading_of header.new))
+        (process_at (heading_of header.old)) }
+{
+    let parameters = header.parameters()?;
+    let mut process = Process::new(header.alloc, header.cursor, parameters);
+    let body = read_block(&mut process, Surroundings::new())?;
+    header.cursor = process.cursor;
+    Ok((process, body))
+}
+
+/// The tasks that processes are in the end, each with its body.
 fn tasks(
     alloc: Global,
-    processes: &[Process<'_>],
-    bodies: Vec<Vec<Statement>>,
-) -> Result<Vec<Task>, AllocError> {
+    mut processes: &[Process<'_>],
+    mut bodies: Vec<Vec<Statement>>,
+) -> Result<Vec<Task>, Refusal>
+    requires { length processes.now ≡ vec_len bodies }
+    ensures { IfOk result (λ tasks. map task_of tasks.items
+        ≡ map reads_task (seen (map state_of processes.entry.now) (bodies_of bodies.items))) }
+{
     let mut tasks = Vec::new(alloc);
-    for (process, body) in processes.iter().zip(bodies) {
+    while let [process, rest @ ..] = processes {
+        let body = bodies.remove(0);
         tasks.push(task(alloc, process, body)?)?;
+        processes = rest;
     }
     Ok(tasks)
 }
 
 /// The task that a process is in the end.
-fn task(alloc: Global, process: &Process<'_>, body: Vec<Statement>) -> Result<Task, AllocError> {
-    let mut parameters = Vec::new(alloc);
-    for parameter in &process.parameters {
-        parameters.push(parameter.variable)?;
-    }
-    let mut registers = Vec::new(alloc);
-    for register in &process.registers {
-        registers.push(name_of(alloc, register)?)?;
-    }
+fn task(alloc: Global, process: &Process<'_>, body: Vec<Statement>) -> Result<Task, Refusal>
+    ensures ok { IfOk result (λ task. task_of task ≡ reads_task (process_of (state_of process.now) (block_of body.items))) }
+{
     Ok(Task {
-        parameters: Sequence::from_vec(parameters),
-        registers: Sequence::from_vec(registers),
+        parameters: Sequence::from_vec(variables_of(alloc, &process.parameters)?),
+        registers: Sequence::from_vec(names_of(alloc, &process.registers)?),
         body,
     })
+}
+
+/// The variables of parameters, each by its number.
+fn variables_of(alloc: Global, mut parameters: &[Parameter<'_>]) -> Result<Vec<usize>, AllocError>
+    ensures { IfOk result (λ variables. variables.items ≡ map variable_of (map parameter_of parameters.entry.now)) }
+{
+    let mut variables = Vec::new(alloc);
+    while let [parameter, rest @ ..] = parameters {
+        variables.push(parameter.variable)?;
+        parameters = rest;
+    }
+    Ok(variables)
+}
+
+/// The names that are spelled by bytes.
+fn names_of(alloc: Global, mut all: &[&[u8]]) -> Result<Vec<Name>, Refusal>
+    ensures ok { IfOk result (λ names. names.items ≡ map now all.entry.now) }
+{
+    let mut names = Vec::new(alloc);
+    while let [bytes, rest @ ..] = all {
+        names.push(name_of(alloc, bytes)?)?;
+        all = rest;
+    }
+    Ok(names)
 }

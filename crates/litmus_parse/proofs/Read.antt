@@ -1,0 +1,74 @@
+-- A text that is read is spelled so, with its head.
+use Rattle.std.proofs.Common.{◌≡◌, ◌∙◌, ◌≤◌, ◌<◌, ℕ, List, [], ◌∷◌, Some, length, map, get_or, refl, sym, ap, subst, arith}
+use Rattle.std.specs.Prelude.{All, Err, IfOk, Ok, Result}
+use Rattle.litmus_syntax.specs.Views.{program_of}
+use Rattle.litmus_syntax.specs.declared.program.Program.{Program}
+use Rattle.litmus_cursor.specs.declared.cursor.Refusal.{Refusal}
+use Rattle.litmus_lex.specs.declared.token.Part.{Part}
+use Rattle.litmus_lex.specs.declared.token.Part.TheVariants.{Init}
+use Rattle.litmus_lex.specs.declared.token.Place.{Place}
+use Rattle.litmus_lex.specs.declared.token.Token.{Token}
+use Rattle.litmus_lex.specs.declared.token.Token.TheVariants as tokens
+use Rattle.litmus_lex.specs.Head.{IsHead}
+use Rattle.litmus_lex.specs.Token.{Terminal, terminal_of}
+use Rattle.litmus_lex.specs.Tokens.{Placed, TokensAt}
+use Rattle.litmus_syntax.specs.Limits.{BodyKeepsLimits, KeepsLimits, file_bytes}
+use Rattle.litmus_syntax.specs.Tree as tree
+use Rattle.litmus_cursor.specs.declared.cursor.Spot.{Spot}
+use Rattle.litmus_cursor.specs.Front.{symbol_of_spot, symbol_of_token}
+use Rattle.litmus_cursor.specs.Spots.{AreSpots, AreTokensFrom}
+use Rattle.litmus_cursor.specs.Words.{Symbol, symbol_of}
+use Rattle.litmus_expression.proofs.Taken.{same_given}
+use Rattle.litmus_parse.specs.Grammar.{Grammar, SpellsProgram, symbol_at}
+use Rattle.litmus_parse.specs.Text.{IsTextByte}
+use Rattle.litmus_parse.specs.TextReader.{program_at}
+use Rattle.litmus_parse.proofs.Texts.{text_read}
+
+terminal_symbol : (token : Token) (t : Terminal) → terminal_of token ≡ Some t → symbol_of t ≡ symbol_of_token token
+terminal_symbol (tokens.Name bytes) t e = ap (λ (u : Terminal). symbol_of u) (sym (same_given _ t e))
+terminal_symbol (tokens.Number value) t e = ap (λ (u : Terminal). symbol_of u) (sym (same_given _ t e))
+terminal_symbol (tokens.Sign s) t e = ap (λ (u : Terminal). symbol_of u) (sym (same_given _ t e))
+terminal_symbol tokens.TooLarge t e = ap (λ (u : Terminal). symbol_of u) (sym (same_given _ t e))
+terminal_symbol tokens.Stray t e = ap (λ (u : Terminal). symbol_of u) (sym (same_given _ t e))
+terminal_symbol tokens.Unclosed t e = ap (λ (u : Terminal). symbol_of u) (sym (same_given _ t e))
+terminal_symbol tokens.End t e = absurd cc
+
+-- spots have the symbols of their tokens
+pub spots_symbols : (spots : List Spot) (found : List Placed) → AreSpots spots found → map symbol_of_spot spots ≡ map symbol_at found
+spots_symbols [] [] are = refl
+spots_symbols [] (t ∷ found) are = absurd are
+spots_symbols (s ∷ spots) [] are = absurd are
+spots_symbols (s ∷ spots) (t ∷ found) are =
+    ap (λ (y : Symbol). y ∷ map symbol_of_spot spots) (sym (terminal_symbol s.token t.terminal are.0))
+    ∙ ap (λ (l : List Symbol). symbol_at t ∷ l) (spots_symbols spots found are.1.1)
+
+bodies_keep : (p : tree.Program) → KeepsLimits p → All (λ (t : tree.Task). BodyKeepsLimits t.body) p.tasks
+bodies_keep p keeps = λ k d lt. (keeps.each_task k d lt).body
+
+pub text_is_spelled : (text : List ℕ) (place : Place) (name : List ℕ) (spots : List Spot) (p : tree.Program) → length text ≤ file_bytes → All IsTextByte text
+    → place.part ≡ Init → IsHead text name place.at → AreTokensFrom text place spots → ((found : List Placed) × AreSpots spots found)
+    → program_at name (map symbol_of_spot spots) ≡ Some p → KeepsLimits p → SpellsProgram text p
+text_is_spelled text place name spots p size bytes init head are found read keeps =
+    let whole = text_read name (map symbol_of_spot spots) p read (bodies_keep p keeps) in
+    record {
+      tokens = found.0;
+      size = size;
+      bytes = bytes;
+      lexed = record {
+        at = place.at;
+        head = subst (λ (n : List ℕ). IsHead text n place.at) (sym whole.0) head;
+        body = subst (λ (part : Part). TokensAt text part place.at found.0) init ((are found.0).1 found.1);
+      };
+      parsed = subst (λ (l : List Symbol). Grammar l p) (spots_symbols spots found.0 found.1) whole.1;
+    }
+
+-- what a text is read as, if it is read
+pub result_is_spelled : (text : List ℕ) (place : Place) (title name : List ℕ) (spots left : List Spot) (result : Result Program Refusal)
+    → length text ≤ file_bytes → All IsTextByte text → place.part ≡ Init → IsHead text title place.at → AreTokensFrom text place spots
+    → ((found : List Placed) × AreSpots spots found) → name ≡ title → left ≡ spots
+    → IfOk result (λ p. program_at name (map symbol_of_spot left) ≡ Some (program_of p)) → IfOk result (λ p. KeepsLimits (program_of p))
+    → IfOk result (λ p. SpellsProgram text (program_of p))
+result_is_spelled text place title name spots left (Ok p) size bytes init head are found named stand reads keeps =
+    text_is_spelled text place name spots (program_of p) size bytes init (subst (λ (n : List ℕ). IsHead text n place.at) (sym named) head) are found
+    (subst (λ (l : List Spot). program_at name (map symbol_of_spot l) ≡ Some (program_of p)) stand reads) keeps
+result_is_spelled text place title name spots left (Err refusal) size bytes init head are found named stand reads keeps = tt

@@ -1,0 +1,80 @@
+-- Reading whole texts behind their heads: what the parser's functions answer, apart from which refusal it is.
+use Rattle.std.specs.Prelude.{ℕ, List, [], ◌∷◌, Option, Some, None, Bool, true, false, map, unwrap_or, Vec, if◌then◌else◌}
+use Rattle.litmus_syntax.specs.declared.statement.Statement.{Statement}
+use Rattle.std.specs.Global.{Global}
+use Rattle.litmus_syntax.specs.Tree as tree
+use Rattle.litmus_syntax.specs.Views.{block_of}
+use Rattle.litmus_syntax.specs.declared.program.Variable.{Variable}
+use Rattle.litmus_syntax.specs.declared.proposition.Quantifier.{Quantifier}
+use Rattle.litmus_cursor.specs.declared.words.VariableType.TheVariants.{Int}
+use Rattle.litmus_cursor.specs.Front.{◌>>=◌}
+use Rattle.litmus_cursor.specs.Words.{Symbol}
+use Rattle.litmus_expression.specs.Names.{Names}
+use Rattle.litmus_expression.specs.States.{State, state_of}
+use Rattle.litmus_parse.specs.declared.initialization.Header.{Header}
+use Rattle.litmus_parse.specs.declared.text.Processes.{Processes}
+use Rattle.litmus_parse.specs.ConditionReader.{quantifier_at}
+use Rattle.litmus_parse.specs.Entries.{Entry, has_two_types}
+use Rattle.litmus_parse.specs.Grammar.{task_of}
+use Rattle.litmus_parse.specs.ItemReader.{heading_of, initialization_at, unnamed}
+use Rattle.litmus_parse.specs.Mentions.{contents_of}
+use Rattle.litmus_parse.specs.ProcessReader.{Course, processes_at, seen, unbegun}
+use Rattle.litmus_parse.specs.PropositionReader.{whole_at}
+use Rattle.litmus_parse.specs.VariableReader.{is_lock_type}
+
+-- the bodies of processes
+abbrev pub bodies_of : List (Vec Statement Global) → List tree.Block
+bodies_of bodies = map (λ (body : Vec Statement Global). block_of body.items) bodies
+
+-- how far the text is read behind its processes
+abbrev pub course_of : Header → Processes → Course
+course_of header found = record {
+  heading = heading_of header;
+  states = map state_of found.processes.items;
+  bodies = bodies_of found.bodies.items;
+}
+
+-- the variable that a name is in the end
+abbrev pub variable_in : List ℕ → Entry → Variable
+variable_in name e = record { name = name; contents = contents_of (unwrap_or e.type Int) (unwrap_or e.value 0) }
+
+-- the variables that names are, each with its entry
+abbrev pub variables_in : Names → List Entry → List Variable
+variables_in [] table = []
+variables_in (name ∷ names) [] = []
+variables_in (name ∷ names) (e ∷ table) = variable_in name e ∷ variables_in names table
+
+-- whether a variable has two types
+abbrev pub has_contradiction : List Entry → Bool
+has_contradiction [] = false
+has_contradiction (e ∷ table) = if has_two_types e then true else has_contradiction table
+
+abbrev pub is_lock_entry : Entry → Bool
+is_lock_entry e = is_lock_type e.type
+
+-- whether each variable is a lock
+abbrev pub locks_in : List Entry → List Bool
+locks_in table = map is_lock_entry table
+
+-- the program that was read, if no variable has two types
+abbrev pub ended : (name : List ℕ) → Course → Quantifier → tree.Proposition × List State → Option tree.Program
+ended name c quantifier x =
+    if has_contradiction c.heading.table
+    then None
+    else Some (record {
+      name = name;
+      variables = variables_in c.heading.names c.heading.table;
+      tasks = map task_of (seen x.1 c.bodies);
+      quantifier = quantifier;
+      condition = x.0;
+    })
+
+-- the condition, and what was read in all
+abbrev pub condition_at : (name : List ℕ) → Course → Option tree.Program
+condition_at name c =
+    quantifier_at c.heading.symbols >>= λ q. whole_at c.heading.names (locks_in c.heading.table) q.1 c.states >>= λ x. ended name c q.0 x
+
+-- the program of a test's name and the symbols behind the head
+unfoldable pub program_at : (name : List ℕ) → List Symbol → Option tree.Program
+program_at name symbols =
+    initialization_at (unnamed symbols) >>= λ h. processes_at (unbegun h) >>= λ c. condition_at name c
