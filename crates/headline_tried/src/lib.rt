@@ -6,6 +6,12 @@
 pub mod armings;
 pub mod changes;
 pub mod headline;
+#[cfg(test)]
+mod lists;
 pub mod meetings;
+#[cfg(test)]
+mod orders;
+#[cfg(test)]
+mod rows;
 
 pub use headline::{Armed, Came, Told, holds};
