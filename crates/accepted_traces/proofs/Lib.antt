@@ -1,3 +1,10 @@
 pub mod Sections
 pub mod Size
 pub mod Spans
+pub mod Ended
+pub mod Watches
+pub mod Arms
+pub mod Hits
+pub mod OneVerdict
+pub mod Reports
+pub mod Final

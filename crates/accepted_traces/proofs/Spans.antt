@@ -52,7 +52,7 @@ two_splits [] (y ∷ r) a b q t is = inr (inl (r, cc))
 two_splits (y ∷ p) [] a b q t is = inr (inr (p, let back : p ++ a ∷ q ≡ t = cc in sym back))
 two_splits (y ∷ p) (z ∷ r) a b q t is = two_splits p r a b q t (cc)
 
-split_of : {X : Type 0} (xs ys p q : List X) (x : X) → xs ++ ys ≡ p ++ x ∷ q
+pub split_of : {X : Type 0} (xs ys p q : List X) (x : X) → xs ++ ys ≡ p ++ x ∷ q
     → ((t : List X) × (xs ≡ p ++ x ∷ t)) ⊎ ((u : List X) × (p ≡ xs ++ u) × (ys ≡ u ++ x ∷ q))
 split_of [] ys p q x is = inr (p, refl, is)
 split_of (y ∷ xs) ys [] q x is = let first : y ≡ x = cc in inl (xs, ap (λ z. z ∷ xs) first)
@@ -79,7 +79,7 @@ pairs_before R own u later s is pairs = λ k d below.
     let it = here k (length u) d below (omega (arith, length-append u (s ∷ later))) in
     subst (λ y. R (slice_index_or u k d) y) (at_middle u later s d) (subst (λ x. R x (slice_index_or (u ++ s ∷ later) (length u) d)) (at_front u (s ∷ later) k d below) it)
 
-clock_step : (step : Step) → is_clock step ≡ true → step ≡ steps.Clock
+pub clock_step : (step : Step) → is_clock step ≡ true → step ≡ steps.Clock
 clock_step (steps.Load index) is = absurd cc
 clock_step (steps.Insert index word) is = absurd cc
 clock_step (steps.TryConsume index word) is = absurd cc
@@ -146,7 +146,7 @@ module _ (run : Run) (records : List Record) (list : RunList run records) (each 
         let one : answers.Word stamp ≡ answers.Word (stamps_in h.earlier) = sym h.answer ∙ stamps h.later h.earlier h.latest h.split at_clock in cc
 
   -- a later step of the clock has a higher stamp
-  rises : (task other : ℕ) (x y : Happening) (one two : ℕ) → IsTurn x → IsTurn y → (h : HappensAt list task x one) (k : HappensAt list other y two)
+  pub rises : (task other : ℕ) (x y : Happening) (one two : ℕ) → IsTurn x → IsTurn y → (h : HappensAt list task x one) (k : HappensAt list other y two)
       → (between : List Record) → k.earlier ≡ between ++ h.latest ∷ h.earlier → one < two
   rises task other x y one two turn_x turn_y h k between is =
       let clock : is_clock h.latest.step ≡ true = ap is_clock (at_clock task x one turn_x h) in

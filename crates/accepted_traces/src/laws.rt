@@ -1,23 +1,36 @@
 //! What is true of the trace of a run.
 
-ghost use Rattle.std.specs.Prelude.{◌≡◌, ◌++◌, ◌∷◌, ℕ, All, List};
+ghost use Rattle.std.specs.Prelude.{◌≤◌, ◌≡◌, ◌++◌, ◌∷◌, ℕ, All, List};
 ghost use Rattle.access_types.specs.Arms.{Arm};
 ghost use Rattle.access_types.specs.Stamped.{Stamped};
 ghost use Rattle.access_types.specs.Takes.{Take};
 ghost use Rattle.access_types.specs.declared.report.Report.{Report};
 ghost use Rattle.accepted_traces.specs.Parts.{AccessFits, AreOther, AreParts, HasLowMask};
+ghost use Rattle.accepted_traces.specs.Traces.{AreOf};
 ghost use Rattle.litmus_syntax.specs.Limits.{KeepsLimits};
 ghost use Rattle.report_text.specs.Faults.{IsTrueTrace};
 ghost use Rattle.report_text.specs.TraceText.{second, written_lines, written_trace};
 ghost use Rattle.run_lists.specs.Run.{Run};
-ghost use Rattle.run_lists.specs.RunList.{RunList};
+ghost use Rattle.run_lists.specs.Reports.{reports_of};
+ghost use Rattle.run_lists.specs.RunList.{AllHaveEnded, RunList};
 ghost use Rattle.run_logs.specs.Lists.{AreAccesses};
 ghost use Rattle.slot_table.specs.declared.records.Record.{Record};
 ghost use Rattle.watch_word.specs.declared.layout.Layout.{Layout};
 
 use litmus_meaning::laws::tickets_have_room;
-use run_verdicts::laws::records_tell_their_events;
-use watched_accesses::laws::stamps_tell_the_order;
+use run_bags::laws::{armings_have_their_own_verdicts, the_bags_are_equal};
+use run_bounds::laws::few_are_reported;
+use run_histories::laws::{reports_are_true, unknown_origins_changed};
+use run_lists::laws::{reports_name_two_sides, run_lists_keep_the_discipline};
+use run_verdicts::laws::{
+    answers_are_on_a_watch_and_a_find, records_tell_their_events, verdicts_are_on_watches,
+};
+use slot_table::laws::heard_is_told;
+use watch_word::words_read_back;
+use watched_accesses::laws::{
+    accesses_of_ended_tasks_have_ended, accesses_that_begin_fit, stamps_tell_the_order,
+    watched_accesses_are_unmarked_and_heard,
+};
 
 /// Law: what is written of the parts of one true trace is a true trace, of these lines, and no longer than a trace may be.
 pub fn parts_make_a_true_trace()
@@ -39,4 +52,39 @@ pub fn accesses_of_runs_fit()
     records_tell_their_events();
     stamps_tell_the_order();
     tickets_have_room();
+}
+
+/// Law: once all tasks of a run list have ended its accesses, armings, takings and reports are the parts of one true trace.
+/// So the trace that is written of them is true: each access has its own ticket and stamps, each arming, taking and report
+/// names accesses of the trace that may have made it, and the three tell of the same.
+pub fn traces_of_ended_runs_are_true()
+    ensures parts { (run : Run) (records : List Record) (list : RunList run records) → KeepsLimits run.program
+        → 3 ≤ run.rules.slots → run.rules.slots ≤ 1024 → AllHaveEnded run records
+        → (accesses : List Stamped) (arms : List Arm) (takes : List Take) → AreOf list accesses arms takes
+        → AreParts run.rules.slots run.rules.layout accesses arms takes (reports_of list) }
+    ensures is_true { (run : Run) (records : List Record) (list : RunList run records) → KeepsLimits run.program
+        → 3 ≤ run.rules.slots → run.rules.slots ≤ 1024 → AllHaveEnded run records
+        → (accesses : List Stamped) (arms : List Arm) (takes : List Take) → AreOf list accesses arms takes
+        → IsTrueTrace (written_trace run.rules.slots run.rules.layout accesses arms takes (reports_of list))
+        (second run.rules.slots run.rules.layout) (written_lines accesses arms takes (reports_of list)) }
+{
+    parts_make_a_true_trace();
+    accesses_of_runs_fit();
+    tickets_have_room();
+    records_tell_their_events();
+    stamps_tell_the_order();
+    accesses_that_begin_fit();
+    accesses_of_ended_tasks_have_ended();
+    watched_accesses_are_unmarked_and_heard();
+    run_lists_keep_the_discipline();
+    reports_name_two_sides();
+    heard_is_told();
+    verdicts_are_on_watches();
+    answers_are_on_a_watch_and_a_find();
+    words_read_back();
+    reports_are_true();
+    unknown_origins_changed();
+    armings_have_their_own_verdicts();
+    the_bags_are_equal();
+    few_are_reported();
 }

@@ -235,6 +235,7 @@ begun_fits run records list below a begins =
       below = few;
       limits = it.0.in_limits;
       has_bytes = it.1;
+      mask = it.0.mask;
       is_of = of_text (task_setting run t).text (task_of run t).body _ written.whole.end.progress means (length at.0) a
           (subst (λ (d : List Happening). slice_get d (length at.0) ≡ Some (happenings.Begin a)) (sym at.2) (there at.0 at.1 (happenings.Begin a)));
     }

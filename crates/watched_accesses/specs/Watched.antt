@@ -1,5 +1,5 @@
 -- Which accesses set watchpoints up, and which hit them.
-use Rattle.std.specs.Prelude.{◌≡◌, ◌<◌, IsTrue, List, length}
+use Rattle.std.specs.Prelude.{◌≡◌, ◌≢◌, ◌<◌, IsTrue, List, Some, length}
 use Rattle.access_types.specs.Access.{Access, IsInLimits}
 use Rattle.access_types.specs.Marked.{CountedAsMarked, Silenced}
 use Rattle.run_lists.specs.Run.{IsOfProgram, Run}
@@ -26,9 +26,11 @@ IfWatched list came = IsTrue (is_verdict came.outcome) → MayBeWatched list cam
 abbrev pub IfTold : {run : Run} {records : List Record} → RunList run records → OutcomeAt → Type 0
 IfTold list came = (pair : Halves) → came.outcome ≡ outcomes.Told pair → ¬ Silenced (history_of list) came.access
 
--- the access is one of the text of its task, which the program has; it is within the limits of accesses, and has bytes
+-- the access is one of the text of its task, which the program has; it is within the limits of accesses, has bytes, and
+-- has no mask without a bit
 pub record FitsItsTask (run : Run) (a : Access) : Type 0 where
   pub below : a.task < length run.program.tasks
   pub limits : IsInLimits a
   pub has_bytes : 0 < a.size
+  pub mask : a.mask ≢ Some 0
   pub is_of : IsOfProgram run a

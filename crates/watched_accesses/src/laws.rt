@@ -33,7 +33,7 @@ pub fn accesses_of_ended_tasks_have_ended()
 }
 
 /// Law: each access that begins in the history of a run list is one of the text of its task, within the limits of
-/// accesses, and has bytes.
+/// accesses, has bytes, and has no mask without a bit.
 pub fn accesses_that_begin_fit()
     ensures { (run : Run) (records : List Record) → (list : RunList run records)
         → (a : Access) → Contains (history_of list) (beginning a) → FitsItsTask run a }

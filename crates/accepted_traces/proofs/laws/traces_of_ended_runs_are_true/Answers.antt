@@ -1,0 +1,58 @@
+-- part by part
+use Rattle.accepted_traces.proofs.Final.{arm_fits, takes_fit}
+use Rattle.accepted_traces.proofs.Reports.{reports_fit}
+use Rattle.litmus_meaning.specs.RunOfProgram.{setting_of}
+use Rattle.run_lists.specs.Run.{first_cells, idle, locks_of, task_of}
+use Rattle.std.proofs.Common.{arith}
+use Rattle.accepted_traces.proofs.laws.traces_of_ended_runs_are_true.Goals as goal
+
+pub returns-clause-parts : goal.returns-clause-parts
+returns-clause-parts c = λ run records list keeps some most ended accesses arms takes are.
+    let each = c.records_tell_their_events.ensures.each run records list in
+    let first = c.records_tell_their_events.ensures.first run records list in
+    let stamps = c.stamps_tell_the_order.ensures.answers run records list keeps in
+    let few = c.stamps_tell_the_order.ensures.few run records list keeps in
+    let fit = c.accesses_that_begin_fit.ensures run records list in
+    let over = c.accesses_of_ended_tasks_have_ended.ensures run records list ended in
+    let rules = c.run_lists_keep_the_discipline.ensures.keeps run records list in
+    let watched = c.watched_accesses_are_unmarked_and_heard.ensures.setters run records list in
+    let told = c.watched_accesses_are_unmarked_and_heard.ensures.finders run records list in
+    let once = c.heard_is_told.ensures.once run.rules.slots (locks_of run) (first_cells run) records rules in
+    let takings = c.the_bags_are_equal.ensures.takings run records list arms takes ended are.arms_are are.takes_are in
+    let tasks = keeps.tasks in
+    let reports = c.few_are_reported.ensures run records list keeps in
+    record {
+      few_slots = some;
+      slots_limit = most;
+      each_access = c.accesses_of_runs_fit.ensures.each run records list keeps accesses are.accesses_are are.masks;
+      others = c.accesses_of_runs_fit.ensures.others run records list keeps accesses are.accesses_are;
+      each_arm = λ earlier later arm is.
+          arm_fits run records list each stamps few first accesses are.accesses_are fit over
+          (λ task below. c.tickets_have_room.ensures.tickets (setting_of run.program run.places task) (task_of run task).body (keeps.each_task task idle below).body)
+          (λ a begins. (fit a begins).mask) once told watched rules (c.verdicts_are_on_watches.ensures run records list)
+          (c.answers_are_on_a_watch_and_a_find.ensures run records list) c.words_read_back.ensures
+          (λ later_ earlier_ task armings. c.armings_have_their_own_verdicts.ensures run records later_ earlier_ list task armings)
+          arms earlier later arm are.arms_are is;
+      each_take = takes_fit run records list each stamps few first accesses are.accesses_are fit over
+          (λ task below. c.tickets_have_room.ensures.tickets (setting_of run.program run.places task) (task_of run task).body (keeps.each_task task idle below).body)
+          (λ a begins. (fit a begins).mask) once told watched rules (c.verdicts_are_on_watches.ensures run records list)
+          (c.answers_are_on_a_watch_and_a_find.ensures run records list) c.words_read_back.ensures
+          (λ later_ earlier_ task armings. c.armings_have_their_own_verdicts.ensures run records later_ earlier_ list task armings)
+          arms takes are.arms_are some takings;
+      each_report = reports_fit run records list each stamps few first accesses are.accesses_are (λ a begins. (fit a begins).below) over
+          (λ task below. c.tickets_have_room.ensures.tickets (setting_of run.program run.places task) (task_of run task).body (keeps.each_task task idle below).body)
+          (λ a begins. (fit a begins).mask) watched (c.reports_name_two_sides.ensures run records list)
+          (c.unknown_origins_changed.ensures.watched run records list) (c.reports_are_true.ensures.outcomes run records list);
+      takings = takings;
+      races = c.the_bags_are_equal.ensures.races run records list arms ended are.arms_are;
+      origins = c.the_bags_are_equal.ensures.origins run records list arms ended are.arms_are;
+      few_accesses = are.few_accesses;
+      few_arms = are.few_arms;
+      few_takes = are.few_takes;
+      few_reports = omega (arith, reports, tasks);
+    }
+
+pub returns-clause-is_true : goal.returns-clause-is_true
+returns-clause-is_true c = λ run records list keeps some most ended accesses arms takes are.
+    c.parts_make_a_true_trace.ensures run.rules.slots run.rules.layout accesses arms takes _
+    (returns-clause-parts c run records list keeps some most ended accesses arms takes are)
