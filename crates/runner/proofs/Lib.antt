@@ -1,0 +1,2 @@
+pub mod DoneWith
+pub mod LedLemmas
