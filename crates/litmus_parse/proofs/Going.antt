@@ -1,5 +1,5 @@
 -- A reader that takes symbols with each part reads the same however many parts it may read, if these suffice.
-use Rattle.std.proofs.Common.{◌≡◌, ◌∙◌, ℕ, zero, suc, ◌<◌, ◌≤◌, Option, Some, None, refl, arith}
+use Rattle.std.proofs.Common.{◌≡◌, ℕ, zero, suc, ◌<◌, ◌≤◌, Option, Some, refl, arith}
 use Rattle.litmus_cursor.specs.Front.{◌>>=◌}
 use Rattle.litmus_expression.proofs.Fewer.{at_last, behind_it}
 use Rattle.litmus_expression.proofs.Unrolled.{then_same}
@@ -21,13 +21,15 @@ module _ {A B : Type 0} (size : A → ℕ) (step : A → Option (Turn A B)) (sho
 
   pub going_unrolls : (a : A) → going step (suc (size a)) a ≡ (step a >>= λ t. turned (λ u. going step (suc (size u)) u) t)
   unfolding going
-  going_unrolls a = then_same (step a) (λ t. turned (going step (size a)) t) (λ t. turned (λ u. going step (suc (size u)) u) t) (λ t e. one t e)
+  going_unrolls a = then_same (step a) (λ t. turned (going step (size a)) t) (λ t. turned (λ u. going step (suc (size u)) u) t)
+      (λ t e. one t e)
     where
       one : (t : Turn A B) → step a ≡ Some t → turned (going step (size a)) t ≡ turned (λ u. going step (suc (size u)) u) t
       one (again u) e = let lt = short a u e in going_same (size a) (suc (size u)) u (omega arith) (omega arith)
       one (done b) e = refl
 
-one_at_most : {A B : Type 0} (size : A → ℕ) (left : B → ℕ) (step : A → Option (Turn A B)) → ((a u : A) → step a ≡ Some (again u) → size u < size a)
+one_at_most : {A B : Type 0} (size : A → ℕ) (left : B → ℕ) (step : A → Option (Turn A B))
+    → ((a u : A) → step a ≡ Some (again u) → size u < size a)
     → ((a : A) (b : B) → step a ≡ Some (done b) → left b ≤ size a) → (f : ℕ) (a : A) (b : B)
     → ((u : A) → going step f u ≡ Some b → left b ≤ size u)
     → (t : Turn A B) → step a ≡ Some t → turned (going step f) t ≡ Some b → left b ≤ size a
@@ -38,7 +40,8 @@ one_at_most size left step short ends f a b later (again u) is e =
 one_at_most size left step short ends f a b later (done c) is e = at_last c (λ d. left d ≤ size a) b e (ends a c is)
 
 -- what is left behind the last part is no more than before the first
-pub going_at_most : {A B : Type 0} (size : A → ℕ) (left : B → ℕ) (step : A → Option (Turn A B)) → ((a u : A) → step a ≡ Some (again u) → size u < size a)
+pub going_at_most : {A B : Type 0} (size : A → ℕ) (left : B → ℕ) (step : A → Option (Turn A B))
+    → ((a u : A) → step a ≡ Some (again u) → size u < size a)
     → ((a : A) (b : B) → step a ≡ Some (done b) → left b ≤ size a) → (f : ℕ) (a : A) (b : B) → going step f a ≡ Some b → left b ≤ size a
 unfolding going
 going_at_most size left step short ends zero a b e = absurd cc

@@ -1,16 +1,13 @@
 -- What is read as an item is spelled as one, and is noted; and the other way round.
-use Rattle.std.proofs.Common.{◌≡◌, ◌∙◌, ℕ, zero, suc, ◌<◌, ◌++◌, List, [], ◌∷◌, Bool, true, false, cond, Option, Some, None, length, refl, sym, ap, subst, arith}
+use Rattle.std.proofs.Common.{◌≡◌, ◌∙◌, ℕ, zero, suc, ◌<◌, List, [], ◌∷◌, Bool, false, cond, Option, Some, None, length, refl, sym, ap}
+use Rattle.std.proofs.Common.{subst, arith}
 use Rattle.std.specs.Prelude.{is_some, set, slice_get}
-use Rattle.std.proofs.lemmas.Option.{slice_get-get_or, slice_get_past, slice_get_within}
-use Rattle.std.proofs.lemmas.List.{length-set}
 use Rattle.litmus_lex.specs.declared.sign.Sign.TheVariants.{Assign}
 use Rattle.litmus_cursor.specs.declared.words.VariableType.{VariableType}
-use Rattle.litmus_cursor.specs.declared.words.VariableType.TheVariants.{Lock}
 use Rattle.litmus_cursor.specs.declared.words.Word.TheVariants as words
 use Rattle.litmus_cursor.specs.Front.{◌>>=◌, first, identifier_at, is_sign, others}
-use Rattle.litmus_cursor.specs.Words.{Symbol, word, identifier, number, sign, fault}
+use Rattle.litmus_cursor.specs.Words.{Symbol, word, identifier, sign}
 use Rattle.litmus_expression.specs.NameReader.{index_of}
-use Rattle.litmus_expression.specs.Names.{Names}
 use Rattle.litmus_expression.proofs.Fewer.{at_last, behind_it, either_way, unless_it}
 use Rattle.litmus_expression.proofs.Taken.{front, is_sign_is, same_given}
 use Rattle.litmus_parse.specs.Entries.{Entry, changed, changed_from, grown, named_item, valued}
@@ -19,9 +16,9 @@ use Rattle.litmus_parse.specs.Headers as grammar
 use Rattle.litmus_parse.specs.Headers.{Item, Value}
 use Rattle.litmus_parse.specs.ItemReader.{Heading, behind_name, given_in, item_at, item_of, named_in, noted_in, variable_in}
 use Rattle.litmus_parse.specs.Mentions.{Mention, item}
-use Rattle.litmus_parse.specs.Told.{Noted, told, told_item}
+use Rattle.litmus_parse.specs.Told.{Noted, told_item}
 use Rattle.litmus_parse.specs.VariableReader.{is_lock_type, number_at}
-use Rattle.litmus_parse.proofs.Values.{value_read, value_spelled}
+use Rattle.litmus_parse.proofs.Values.{value_spelled}
 
 -- ---- symbols
 
@@ -52,23 +49,27 @@ set_all table n k (Some l) = ap (λ (t : List Entry). Some t) (set_twice table n
 
 module _ (f g h : Entry → Option Entry) (same : (e : Entry) → h e ≡ (f e >>= g)) (table : List Entry) (n : ℕ) where
   made : (e : Entry) (u : Option Entry) (between after : List Entry) → slice_get table n ≡ Some e → f e ≡ u
-      → (u >>= λ k. Some (set table n k)) ≡ Some between → changed g between n ≡ Some after → (h e >>= λ k. Some (set table n k)) ≡ Some after
+      → (u >>= λ k. Some (set table n k)) ≡ Some between → changed g between n ≡ Some after → (h e >>= λ k. Some (set table n k))
+      ≡ Some after
   unfolding changed
   made e None between after is makes one two = absurd cc
   made e (Some k) between after is makes one two =
       let mid : set table n k ≡ between = same_given (set table n k) between one in
       let there : slice_get between n ≡ Some k = subst (λ (t : List Entry). slice_get t n ≡ Some k) mid (set_there table n e k is) in
-      let second : (g k >>= λ l. Some (set between n l)) ≡ Some after = ap (λ (o : Option Entry). changed_from g between n o) (sym there) ∙ two in
+      let second : (g k >>= λ l. Some (set between n l)) ≡ Some after = ap (λ (o : Option Entry). changed_from g between n o) (sym there)
+      ∙ two in
       ap (λ (o : Option Entry). o >>= λ l. Some (set table n l)) (same e ∙ ap (λ (o : Option Entry). o >>= g) makes)
       ∙ sym (set_all table n k (g k))
       ∙ subst (λ (t : List Entry). (g k >>= λ l. Some (set t n l)) ≡ Some after) (sym mid) second
 
   -- two changes of one entry are one
-  pub changed_twice : (between after : List Entry) → changed f table n ≡ Some between → changed g between n ≡ Some after → changed h table n ≡ Some after
+  pub changed_twice : (between after : List Entry) → changed f table n ≡ Some between → changed g between n ≡ Some after
+      → changed h table n ≡ Some after
   unfolding changed
   changed_twice between after one two = from (slice_get table n) refl one
     where
-      from : (o : Option Entry) → slice_get table n ≡ o → changed_from f table n o ≡ Some between → changed_from h table n (slice_get table n) ≡ Some after
+      from : (o : Option Entry) → slice_get table n ≡ o → changed_from f table n o ≡ Some between
+          → changed_from h table n (slice_get table n) ≡ Some after
       from None is one =
           let mid : table ≡ between = same_given table between one in
           let there : slice_get between n ≡ None = subst (λ (t : List Entry). slice_get t n ≡ None) mid is in
@@ -128,7 +129,8 @@ module _ (type : Option VariableType) (g u : Heading) (name : List ℕ) (next : 
         noted = record {
           number = n.0;
           numbered = numbered;
-          changes = changed_twice (named_item type) (valued v.0 (is_some type)) (told_item type (Some v.0)) (told_given type v.0 no_lock) grew n.0 t after notes gives;
+          changes = changed_twice (named_item type) (valued v.0 (is_some type)) (told_item type (Some v.0))
+              (told_given type v.0 no_lock) grew n.0 t after notes gives;
         };
       })))))
       (λ none e.
@@ -140,8 +142,10 @@ module _ (type : Option VariableType) (g u : Heading) (name : List ℕ) (next : 
         noted = record { number = n.0; numbered = numbered; changes = notes };
       }))
 
-  behind_number : (n : ℕ × List (List ℕ)) (o : Option (List Entry)) → number_at g.names name ≡ Some n → changed (named_item type) grew n.0 ≡ o
-      → ((o >>= λ t. Some (record { symbols = g.symbols; names = n.1; table = t })) >>= λ w. given_in type n.0 (behind_name w)) ≡ Some u → Body type g u
+  behind_number : (n : ℕ × List (List ℕ)) (o : Option (List Entry)) → number_at g.names name ≡ Some n → changed (named_item type) grew n.0
+      ≡ o
+      → ((o >>= λ t. Some (record { symbols = g.symbols; names = n.1; table = t })) >>= λ w. given_in type n.0 (behind_name w)) ≡ Some u
+      → Body type g u
   behind_number n None numbered notes e = absurd cc
   behind_number n (Some t) numbered notes e = behind_noted n t numbered notes e
 
@@ -150,7 +154,8 @@ module _ (type : Option VariableType) (g u : Heading) (name : List ℕ) (next : 
   with_number n = (n.0, record { symbols = g.symbols; names = n.1; table = grew })
 
   behind_named : (o : Option (ℕ × List (List ℕ))) → number_at g.names name ≡ o
-      → ((o >>= λ n. Some (with_number n)) >>= λ v. noted_in type v.0 v.1 >>= λ w. given_in type v.0 (behind_name w)) ≡ Some u → Body type g u
+      → ((o >>= λ n. Some (with_number n)) >>= λ v. noted_in type v.0 v.1 >>= λ w. given_in type v.0 (behind_name w)) ≡ Some u
+      → Body type g u
   unfolding noted_in
   behind_named None is e = absurd cc
   behind_named (Some n) is e = behind_number n (changed (named_item type) grew n.0) is refl e
@@ -159,7 +164,8 @@ body_named : (type : Option VariableType) (g u : Heading) (o : Option (List ℕ)
     → (named_in g o >>= λ v. noted_in type v.0 v.1 >>= λ w. given_in type v.0 (behind_name w)) ≡ Some u → Body type g u
 body_named type g u None is e = absurd cc
 body_named type g u (Some name) is e =
-    behind_named type g u name (front g.symbols (identifier name) (identifier_is (first g.symbols) name is) (λ never. cc)) (number_at g.names name) refl e
+    behind_named type g u name (front g.symbols (identifier name) (identifier_is (first g.symbols) name is) (λ never. cc))
+    (number_at g.names name) refl e
 
 pub body_read : (type : Option VariableType) (g u : Heading) → item_of type g ≡ Some u → Body type g u
 unfolding variable_in
@@ -171,7 +177,8 @@ pub record ReadsItem (h u : Heading) : Type 0 where
   pub spelled : Item h.symbols mention u.symbols
   pub noted : Noted mention h.names h.table u.names u.table
 
-untyped_item : (g u : Heading) (value : Option ℕ) (name : List ℕ) → g.symbols ≡ identifier name ∷ others g.symbols → Given (others g.symbols) value u.symbols
+untyped_item : (g u : Heading) (value : Option ℕ) (name : List ℕ) → g.symbols ≡ identifier name ∷ others g.symbols
+    → Given (others g.symbols) value u.symbols
     → Item g.symbols (record { name = name; said = item None value }) u.symbols
 untyped_item g u None name next given =
     subst (λ (l : List Symbol). Item l (record { name = name; said = item None None }) u.symbols)
@@ -180,27 +187,36 @@ untyped_item g u (Some v) name next given =
     subst (λ (l : List Symbol). Item l (record { name = name; said = item None (Some v) }) u.symbols)
     (sym (next ∙ ap (λ (l : List Symbol). identifier name ∷ l) given.1)) (grammar.given given.2)
 
-typed_item : (type : VariableType) (h : List Symbol) (g u : Heading) (value : Option ℕ) (name : List ℕ) → h ≡ word (words.Type type) ∷ g.symbols
+typed_item : (type : VariableType) (h : List Symbol) (g u : Heading) (value : Option ℕ) (name : List ℕ) → h
+    ≡ word (words.Type type) ∷ g.symbols
     → g.symbols ≡ identifier name ∷ others g.symbols → Given (others g.symbols) value u.symbols
     → Item h (record { name = name; said = item (Some type) value }) u.symbols
 typed_item type h g u None name opens next given =
     subst (λ (l : List Symbol). Item l (record { name = name; said = item (Some type) None }) u.symbols)
-    (sym (opens ∙ ap (λ (l : List Symbol). word (words.Type type) ∷ l) (next ∙ ap (λ (l : List Symbol). identifier name ∷ l) given))) grammar.typed
+    (sym (opens ∙ ap (λ (l : List Symbol). word (words.Type type) ∷ l)
+    (next ∙ ap (λ (l : List Symbol). identifier name ∷ l) given))) grammar.typed
 typed_item type h g u (Some v) name opens next given =
     subst (λ (l : List Symbol). Item l (record { name = name; said = item (Some type) (Some v) }) u.symbols)
-    (sym (opens ∙ ap (λ (l : List Symbol). word (words.Type type) ∷ l) (next ∙ ap (λ (l : List Symbol). identifier name ∷ l) given.1))) (grammar.typed_given given.2)
+    (sym (opens ∙ ap (λ (l : List Symbol). word (words.Type type) ∷ l) (next ∙ ap (λ (l : List Symbol). identifier name ∷ l) given.1)))
+    (grammar.typed_given given.2)
 
-item_from : (h u : Heading) (o : Option VariableType) → type_at (first h.symbols) ≡ o → item_of o (record h { symbols = behind_type o h.symbols }) ≡ Some u
+item_from : (h u : Heading) (o : Option VariableType) → type_at (first h.symbols) ≡ o
+    → item_of o (record h { symbols = behind_type o h.symbols }) ≡ Some u
     → ReadsItem h u
 item_from h u None is e =
     let b = body_read None h u e in
-    record { mention = record { name = b.name; said = item None b.value }; spelled = untyped_item h u b.value b.name b.begins b.given; noted = b.noted }
+    record {
+      mention = record { name = b.name; said = item None b.value };
+      spelled = untyped_item h u b.value b.name b.begins b.given;
+      noted = b.noted;
+    }
 item_from h u (Some type) is e =
     let g : Heading = record h { symbols = others h.symbols } in
     let b = body_read (Some type) g u e in
     record {
       mention = record { name = b.name; said = item (Some type) b.value };
-      spelled = typed_item type h.symbols g u b.value b.name (front h.symbols (word (words.Type type)) (type_is (first h.symbols) type is) (λ never. cc)) b.begins b.given;
+      spelled = typed_item type h.symbols g u b.value b.name (front h.symbols (word (words.Type type)) (type_is (first h.symbols) type is)
+          (λ never. cc)) b.begins b.given;
       noted = b.noted;
     }
 

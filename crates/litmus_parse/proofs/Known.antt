@@ -1,6 +1,7 @@
 -- What mentions make of what is known of a name is what the grammar says of it.
-use Rattle.std.proofs.Common.{inl, inr, ◌≡◌, ◌≢◌, ◌⊎◌, ◌∙◌, ◌++◌, ◌==◌, ℕ, List, [], ◌∷◌, Bool, true, false, cond, Option, Some, None, refl, sym, ap, subst}
-use Rattle.std.specs.Prelude.{Contains, is_some, unwrap_or}
+use Rattle.std.proofs.Common.{inl, inr, ◌≡◌, ◌≢◌, ◌⊎◌, ◌∙◌, ◌++◌, ◌==◌, ℕ, List, [], ◌∷◌, Bool, true, false, cond, Option, Some, None, refl}
+use Rattle.std.proofs.Common.{sym, ap, subst}
+use Rattle.std.specs.Prelude.{Contains, unwrap_or}
 use Rattle.std.proofs.lemmas.Bool.{eqb-true}
 use Rattle.litmus_cursor.specs.declared.words.VariableType.{VariableType}
 use Rattle.litmus_cursor.specs.declared.words.VariableType.TheVariants.{Char, Short, Int, Long, Atomic, Lock}
@@ -9,9 +10,10 @@ use Rattle.litmus_cursor.specs.Words.{is_same}
 use Rattle.litmus_expression.proofs.Fewer.{at_last, behind_it, either_way, unless_it}
 use Rattle.litmus_expression.proofs.Named.{among, in_front, in_none, in_rest, is_itself, same_name}
 use Rattle.litmus_expression.proofs.Taken.{same_given}
-use Rattle.litmus_parse.specs.Entries.{Entry, fresh, given, has_two_types, lock_given, named_item, named_parameter, named_typed, named_untyped, noted, odd_type, settled, settled_from, type_number, valued}
+use Rattle.litmus_parse.specs.Entries.{Entry, fresh, given, has_two_types, lock_given, named_parameter, named_typed, named_untyped, noted}
+use Rattle.litmus_parse.specs.Entries.{odd_type, settled, settled_from, type_number, valued}
 use Rattle.litmus_parse.specs.Mentions.{HasType, Mention, Said, Says, item, last_value, parameter, value_after}
-use Rattle.litmus_parse.specs.Told.{all_told, told, told_item, told_of}
+use Rattle.litmus_parse.specs.Told.{all_told, told, told_of}
 use Rattle.litmus_parse.specs.VariableReader.{is_lock_type}
 
 -- ---- one mention
@@ -134,7 +136,8 @@ typed_step t e f s =
     })))
 
 -- a type with a value
-valued_step : (t : VariableType) (v : ℕ) (e f : Entry) → t ≢ Lock → Step (item (Some t) None) e f → Step (item (Some t) (Some v)) e (given v true f)
+valued_step : (t : VariableType) (v : ℕ) (e f : Entry) → t ≢ Lock → Step (item (Some t) None) e f
+    → Step (item (Some t) (Some v)) e (given v true f)
 valued_step t v e f no_lock s = record {
   of = (s.of, no_lock);
   keeps = record { type = s.keeps.type; untyped = s.keeps.untyped; given = s.keeps.given };
@@ -167,10 +170,12 @@ parameter_step t e f s =
 
 step : (s : Said) (e f : Entry) → told s e ≡ Some f → Step s e f
 step (item None None) e f is = at_last (named_untyped e) (λ (g : Entry). Step (item None None) e g) f is (untyped_step e)
-step (item None (Some v)) e f is = at_last (given v false (named_untyped e)) (λ (g : Entry). Step (item None (Some v)) e g) f is (given_step e v)
+step (item None (Some v)) e f is = at_last (given v false (named_untyped e)) (λ (g : Entry). Step (item None (Some v)) e g) f is
+    (given_step e v)
 step (item (Some t) None) e f is = typed_step t e f is
 step (item (Some t) (Some v)) e f is =
-    unless_it (is_lock_type (Some t)) (named_typed t e >>= λ g. valued v true g) (λ (g : Entry). Step (item (Some t) (Some v)) e g) f is (λ no_lock is.
+    unless_it (is_lock_type (Some t)) (named_typed t e >>= λ g. valued v true g) (λ (g : Entry). Step (item (Some t) (Some v)) e g) f is
+    (λ no_lock is.
     behind_it (named_typed t e) (λ g. valued v true g) (λ (g : Entry). Step (item (Some t) (Some v)) e g) f is (λ g typed is.
     at_last (given v true g) (λ (g : Entry). Step (item (Some t) (Some v)) e g) f is
     (valued_step t v e g (λ lock. not_both (is_lock_type (Some t)) (lock_true t lock) no_lock) (typed_step t e g typed))))
@@ -196,13 +201,15 @@ keeps_on e f g one two = record {
 abbrev mention : List ℕ → Said → Mention
 mention name said = record { name = name; said = said }
 
-parameter_said : (s : Said) (f g : Entry) (m : Mention) (name : List ℕ) (mentions : List Mention) → m ≡ mention name s → Keeps f g → Parameters s f
+parameter_said : (s : Said) (f g : Entry) (m : Mention) (name : List ℕ) (mentions : List Mention) → m ≡ mention name s → Keeps f g
+    → Parameters s f
     → (t : VariableType) × Says (m ∷ mentions) name (parameter t) × (g.type ≡ Some t)
 parameter_said (item type value) f g m name mentions is keeps none = absurd none
 parameter_said (parameter t) f g m name mentions is keeps type =
     (t, subst (λ (x : Mention). Contains (m ∷ mentions) x) is (in_front m mentions), keeps.type t type)
 
-made_here : (m : Mention) (mentions : List Mention) (name : List ℕ) (e f g : Entry) → m.name ≡ name → Step m.said e f → Made mentions name f g
+made_here : (m : Mention) (mentions : List Mention) (name : List ℕ) (e f g : Entry) → m.name ≡ name → Step m.said e f
+    → Made mentions name f g
     → is_same m.name name ≡ true → Made (m ∷ mentions) name e g
 made_here m mentions name e f g named s later same = record {
   of = λ said says. among m (mention name said) mentions (Of said g) says
@@ -229,7 +236,8 @@ made_later m mentions name e g other later = record {
       (λ rest. later.of said rest);
   keeps = later.keeps;
   odd = later.odd;
-  value = ap (λ (b : Bool). last_value mentions name (cond b (value_after m.said (unwrap_or e.value 0)) (unwrap_or e.value 0))) other ∙ later.value;
+  value = ap (λ (b : Bool). last_value mentions name (cond b (value_after m.said (unwrap_or e.value 0)) (unwrap_or e.value 0))) other
+      ∙ later.value;
   parameters = λ is. elim (later.parameters is) [
     | inl before ↦ inl before
     | inr there ↦ inr (there.0, in_rest m (mention name (parameter there.0)) mentions there.1, there.2)
@@ -279,7 +287,8 @@ no_item : (s : Said) (f : Entry) → IsItem s → Parameters s f → ⊥
 no_item (item type value) f is here = here
 no_item (parameter type) f is here = is
 
-still_none : (s : Said) (e f : Entry) (b : Bool) → IsItem s → told s e ≡ Some f → e.is_parameter ≡ false → f.is_parameter ≡ b → f.is_parameter ≡ false
+still_none : (s : Said) (e f : Entry) (b : Bool) → IsItem s → told s e ≡ Some f → e.is_parameter ≡ false → f.is_parameter ≡ b
+    → f.is_parameter ≡ false
 still_none s e f false is tells none_is now = now
 still_none s e f true is tells none_is now =
     elim ((step s e f tells).parameters now) [
@@ -290,7 +299,8 @@ still_none s e f true is tells none_is now =
 item_stays : (s : Said) (e f : Entry) → IsItem s → told s e ≡ Some f → e.is_parameter ≡ false → f.is_parameter ≡ false
 item_stays s e f is tells none_is = still_none s e f f.is_parameter is tells none_is refl
 
-items_stay : (mentions : List Mention) (name : List ℕ) (e g : Entry) → AreItems mentions → all_told mentions name e ≡ Some g → e.is_parameter ≡ false
+items_stay : (mentions : List Mention) (name : List ℕ) (e g : Entry) → AreItems mentions → all_told mentions name e ≡ Some g
+    → e.is_parameter ≡ false
     → g.is_parameter ≡ false
 items_stay [] name e g are is none_is = subst (λ (h : Entry). h.is_parameter ≡ false) (same_given e g is) none_is
 items_stay (m ∷ mentions) name e g are is none_is =
@@ -322,7 +332,8 @@ parameter_free : (s : Said) (e f : Entry) → IsParameter s → told s e ≡ Som
 parameter_free (item type value) e f is tells = absurd is
 parameter_free (parameter t) e f is tells = named_free t e f tells
 
-parameters_free : (mentions : List Mention) (name : List ℕ) (e g : Entry) → AreParameters mentions → all_told mentions name e ≡ Some g → Free e → Free g
+parameters_free : (mentions : List Mention) (name : List ℕ) (e g : Entry) → AreParameters mentions → all_told mentions name e ≡ Some g
+    → Free e → Free g
 parameters_free [] name e g are is free = subst Free (same_given e g is) free
 parameters_free (m ∷ mentions) name e g are is free =
     behind_it (told_of name m e) (λ f. all_told mentions name f) Free g is (λ f one is.
@@ -335,7 +346,8 @@ told_parts : (one two : List Mention) (name : List ℕ) (e g : Entry) → all_to
     → (f : Entry) × (all_told one name e ≡ Some f) × (all_told two name f ≡ Some g)
 told_parts [] two name e g is = (e, refl, is)
 told_parts (m ∷ one) two name e g is =
-    behind_it (told_of name m e) (λ f. all_told (one ++ two) name f) (λ (h : Entry). (f : Entry) × (all_told (m ∷ one) name e ≡ Some f) × (all_told two name f ≡ Some h)) g is
+    behind_it (told_of name m e) (λ f. all_told (one ++ two) name f)
+    (λ (h : Entry). (f : Entry) × (all_told (m ∷ one) name e ≡ Some f) × (all_told two name f ≡ Some h)) g is
     (λ h first is.
     let rest = told_parts one two name h g is in
     (rest.0, ap (λ (o : Option Entry). o >>= λ k. all_told one name k) first ∙ rest.1, rest.2))

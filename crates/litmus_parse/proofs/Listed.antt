@@ -1,5 +1,6 @@
 -- What is read as parameters is spelled as such.
-use Rattle.std.proofs.Common.{◌≡◌, ◌∙◌, ◌+◌, ◌++◌, ◌<◌, ◌≤◌, ◌==◌, ℕ, zero, suc, List, [], ◌∷◌, Bool, true, false, cond, Option, Some, None, length, map, refl, sym, ap, subst, append_assoc, arith}
+use Rattle.std.proofs.Common.{◌≡◌, ◌∙◌, ◌++◌, ◌==◌, ℕ, zero, suc, List, [], ◌∷◌, Bool, true, false, cond, Option, Some, None, length, map}
+use Rattle.std.proofs.Common.{refl, sym, ap, subst, append_assoc}
 use Rattle.std.specs.Prelude.{Contains}
 use Rattle.std.proofs.lemmas.Bool.{eqb-false}
 use Rattle.litmus_lex.specs.declared.sign.Sign.TheVariants.{OpenParen, CloseParen, Comma, Star}
@@ -12,16 +13,14 @@ use Rattle.litmus_expression.specs.Names.{Names, Numbered, Parameter}
 use Rattle.litmus_expression.proofs.Fewer.{at_last, behind_it, either_way}
 use Rattle.litmus_expression.proofs.Named.{among, in_front, in_none, in_rest}
 use Rattle.litmus_expression.proofs.Taken.{front, is_sign_is, same_given, sign_taken}
-use Rattle.litmus_parse.specs.Entries.{Entry}
 use Rattle.litmus_parse.specs.Headers as grammar
 use Rattle.litmus_parse.specs.Headers.{Listed, Parameters, mention_of, name_of, parameter_of}
 use Rattle.litmus_parse.specs.ItemReader.{Heading, past}
-use Rattle.litmus_parse.specs.Mentions.{Mention}
-use Rattle.litmus_parse.specs.ParameterReader.{behind_paren, behind_parameter, has_variable, listed_at, listed_by, parameter_at, parameters_at}
-use Rattle.litmus_parse.specs.Told.{all_told, told_of}
-use Rattle.litmus_parse.specs.Turns.{Turn, again, done, going, turned}
+use Rattle.litmus_parse.specs.ParameterReader.{behind_paren, behind_parameter, has_variable, listed_at, listed_by, parameter_at}
+use Rattle.litmus_parse.specs.ParameterReader.{parameters_at}
+use Rattle.litmus_parse.specs.Turns.{again, done, going, turned}
 use Rattle.litmus_parse.proofs.Parameters.{ReadsParameter, parameter_read}
-use Rattle.litmus_parse.proofs.Spelled.{Said, first_false, not_both, nothing_said, one_told, rest_false}
+use Rattle.litmus_parse.proofs.Spelled.{Said, first_false, nothing_said, one_told, rest_false}
 use Rattle.litmus_parse.proofs.Tidy.{Tells, Tidy, entry_in, keeps_number, noted_tells}
 use Rattle.litmus_parse.proofs.Unrolled.{Listing}
 
@@ -60,14 +59,17 @@ pub record ReadsListed (x y : Listing) : Type 0 where
   pub apart : (p : Parameter) → Contains x.0 p → ¬ Contains (map name_of later) p.name
   pub differ : Differ (map name_of later)
 
-variable_there : (before : List Parameter) (variable : ℕ) → has_variable before variable ≡ false → (p : Parameter) → Contains before p → ¬ (p.variable ≡ variable)
+variable_there : (before : List Parameter) (variable : ℕ) → has_variable before variable ≡ false → (p : Parameter) → Contains before p
+    → ¬ (p.variable ≡ variable)
 variable_there [] variable none p there same = in_none p there
 variable_there (q ∷ before) variable none p there same =
     among q p before ⊥ there
-    (λ is. eqb-false q.variable variable (first_false (q.variable == variable) (has_variable before variable) none) (ap (λ (r : Parameter). r.variable) is ∙ same))
+    (λ is. eqb-false q.variable variable (first_false (q.variable == variable) (has_variable before variable) none)
+    (ap (λ (r : Parameter). r.variable) is ∙ same))
     (λ rest. variable_there before variable (rest_false (q.variable == variable) (has_variable before variable) none) p rest same)
 
-module _ (x : Listing) (p : Parameter × Heading) (r : ReadsParameter x.0 x.1 p) (tidy : Tidy x.1.names x.1.table) (stand : Stand x.0 x.1.names) where
+module _ (x : Listing) (p : Parameter × Heading) (r : ReadsParameter x.0 x.1 p) (tidy : Tidy x.1.names x.1.table)
+    (stand : Stand x.0 x.1.names) where
   abbrev tells_it : Tells (mention_of p.0) x.1.names x.1.table r.noted.number p.1.names p.1.table
   tells_it = noted_tells (mention_of p.0) x.1.names p.1.names x.1.table p.1.table r.noted tidy
 
@@ -91,12 +93,14 @@ module _ (x : Listing) (p : Parameter × Heading) (r : ReadsParameter x.0 x.1 p)
       before_or_last x.0 p.0 q (index_of p.1.names q.name ≡ Some q.variable) there (λ inside. stay q inside)
       (λ is. subst (λ (s : Parameter). index_of p.1.names s.name ≡ Some s.variable) is found)
 
-  last_listed : (symbols : List Symbol) → p.1.symbols ≡ sign CloseParen ∷ symbols → ReadsListed x (x.0 ++ p.0 ∷ [], record p.1 { symbols = symbols })
+  last_listed : (symbols : List Symbol) → p.1.symbols ≡ sign CloseParen ∷ symbols
+      → ReadsListed x (x.0 ++ p.0 ∷ [], record p.1 { symbols = symbols })
   last_listed symbols closes = record {
     later = p.0 ∷ [];
     whole = refl;
     spelled = subst (λ (l : List Symbol). Listed x.1.names l (p.0 ∷ []) symbols p.1.names)
-        (sym (r.begins ∙ ap (λ (l : List Symbol). word (words.Type p.0.type) ∷ sign Star ∷ identifier p.0.name ∷ l) closes)) (grammar.last numbered);
+        (sym (r.begins ∙ ap (λ (l : List Symbol). word (words.Type p.0.type) ∷ sign Star ∷ identifier p.0.name ∷ l) closes))
+        (grammar.last numbered);
     said = record {
       tidy = tells_it.tidy;
       tells = λ name. one_told (mention_of p.0) [] name (entry_in x.1.names x.1.table name) (entry_in p.1.names p.1.table name)
@@ -117,7 +121,8 @@ module _ (x : Listing) (p : Parameter × Heading) (r : ReadsParameter x.0 x.1 p)
             (grammar.more numbered later.spelled alone);
         said = record {
           tidy = later.said.tidy;
-          tells = λ name. one_told (mention_of p.0) (map mention_of later.later) name (entry_in x.1.names x.1.table name) (entry_in p.1.names p.1.table name)
+          tells = λ name. one_told (mention_of p.0) (map mention_of later.later) name (entry_in x.1.names x.1.table name)
+              (entry_in p.1.names p.1.table name)
               (entry_in y.1.names y.1.table name) (tells_it.tells name) (later.said.tells name);
         };
         apart = λ q there inside. among p.0.name q.name (map name_of later.later) ⊥ inside (λ is. own_name q there is)
@@ -129,18 +134,23 @@ module _ (x : Listing) (p : Parameter × Heading) (r : ReadsParameter x.0 x.1 p)
   now = (x.0 ++ p.0 ∷ [], p.1)
 
   closed_listed : (f : ℕ) (y : Listing) (o : Option (List Symbol)) → take_sign CloseParen p.1.symbols ≡ o
-      → ((o >>= λ l. Some (done (x.0 ++ p.0 ∷ [], record p.1 { symbols = l }))) >>= λ t. turned (going listed_by f) t) ≡ Some y → ReadsListed x y
+      → ((o >>= λ l. Some (done (x.0 ++ p.0 ∷ [], record p.1 { symbols = l }))) >>= λ t. turned (going listed_by f) t) ≡ Some y
+      → ReadsListed x y
   closed_listed f y None is e = absurd cc
   closed_listed f y (Some l) is e =
-      subst (λ (z : Listing). ReadsListed x z) (same_given (x.0 ++ p.0 ∷ [], record p.1 { symbols = l }) y e) (last_listed l (sign_taken CloseParen p.1.symbols l is))
+      subst (λ (z : Listing). ReadsListed x z) (same_given (x.0 ++ p.0 ∷ [], record p.1 { symbols = l }) y e)
+      (last_listed l (sign_taken CloseParen p.1.symbols l is))
 
   listed_behind : (f : ℕ) (y : Listing)
-      → (Tidy p.1.names p.1.table → Stand (x.0 ++ p.0 ∷ []) p.1.names → going listed_by f (x.0 ++ p.0 ∷ [], past p.1) ≡ Some y → ReadsListed (x.0 ++ p.0 ∷ [], past p.1) y)
+      → (Tidy p.1.names p.1.table → Stand (x.0 ++ p.0 ∷ []) p.1.names → going listed_by f (x.0 ++ p.0 ∷ [], past p.1) ≡ Some y
+      → ReadsListed (x.0 ++ p.0 ∷ [], past p.1) y)
       → (b : Bool) → is_sign Comma (first p.1.symbols) ≡ b
-      → (cond b (Some (again (x.0 ++ p.0 ∷ [], past p.1))) (take_sign CloseParen p.1.symbols >>= λ l. Some (done (x.0 ++ p.0 ∷ [], record p.1 { symbols = l })))
+      → (cond b (Some (again (x.0 ++ p.0 ∷ [], past p.1))) (take_sign CloseParen p.1.symbols >>= λ l. Some
+      (done (x.0 ++ p.0 ∷ [], record p.1 { symbols = l })))
       >>= λ t. turned (going listed_by f) t) ≡ Some y → ReadsListed x y
   listed_behind f y later true is e =
-      more_listed y (front p.1.symbols (sign Comma) (is_sign_is Comma (first p.1.symbols) is) (λ never. cc)) (later tells_it.tidy stand_on e)
+      more_listed y (front p.1.symbols (sign Comma) (is_sign_is Comma (first p.1.symbols) is) (λ never. cc))
+      (later tells_it.tidy stand_on e)
   listed_behind f y later false none e = closed_listed f y (take_sign CloseParen p.1.symbols) refl e
 
 listed_from : (f : ℕ) (x y : Listing) → Tidy x.1.names x.1.table → Stand x.0 x.1.names
@@ -149,7 +159,8 @@ listed_from : (f : ℕ) (x y : Listing) → Tidy x.1.names x.1.table → Stand x
     → ((o >>= λ p. behind_parameter (x.0 ++ p.0 ∷ [], p.1)) >>= λ t. turned (going listed_by f) t) ≡ Some y → ReadsListed x y
 listed_from f x y tidy stand later None is e = absurd cc
 listed_from f x y tidy stand later (Some p) is e =
-    listed_behind x p (parameter_read x.0 x.1 p is) tidy stand f y (λ t s e. later (x.0 ++ p.0 ∷ [], past p.1) t s e) (is_sign Comma (first p.1.symbols)) refl e
+    listed_behind x p (parameter_read x.0 x.1 p is) tidy stand f y (λ t s e. later (x.0 ++ p.0 ∷ [], past p.1) t s e)
+    (is_sign Comma (first p.1.symbols)) refl e
 
 listed_going : (f : ℕ) (x y : Listing) → Tidy x.1.names x.1.table → Stand x.0 x.1.names → going listed_by f x ≡ Some y → ReadsListed x y
 unfolding going
@@ -172,7 +183,8 @@ listed_whole h y tidy e = listed_going (suc (length h.symbols)) ([], h) y tidy (
 pub parameters_read : (h : Heading) (y : Listing) → Tidy h.names h.table → parameters_at h ≡ Some y → ReadsParameters h y
 unfolding parameters_at
 parameters_read h y tidy e =
-    behind_it (take_sign OpenParen h.symbols) (λ l. behind_paren (record h { symbols = l })) (λ (z : Listing). ReadsParameters h z) y e (λ l opens e.
+    behind_it (take_sign OpenParen h.symbols) (λ l. behind_paren (record h { symbols = l })) (λ (z : Listing). ReadsParameters h z) y e
+    (λ l opens e.
     either_way (is_sign CloseParen (first l)) (Some ([], past (record h { symbols = l }))) (listed_at ([], record h { symbols = l }))
     (λ (z : Listing). ReadsParameters h z) y e
     (λ none e. at_last ([], past (record h { symbols = l })) (λ (z : Listing). ReadsParameters h z) y e (record {
@@ -189,6 +201,7 @@ parameters_read h y tidy e =
       inside = l;
       opens = sign_taken OpenParen h.symbols l opens;
       spelled = grammar.some (subst (λ (ps : List Parameter). Listed h.names l ps y.1.symbols y.1.names) (sym r.whole) r.spelled);
-      said = subst (λ (ps : List Parameter). Said (map mention_of ps) h y.1) (sym r.whole) (record { tidy = r.said.tidy; tells = r.said.tells });
+      said = subst (λ (ps : List Parameter). Said (map mention_of ps) h y.1) (sym r.whole)
+          (record { tidy = r.said.tidy; tells = r.said.tells });
       differ = subst (λ (ps : List Parameter). Differ (map name_of ps)) (sym r.whole) r.differ;
     }))

@@ -1,5 +1,6 @@
 -- A name's number is the one that the grammar gives it.
-use Rattle.std.proofs.Common.{◌≡◌, ◌∙◌, ◌==◌, ◌++◌, ℕ, ◌<◌, ◌≤◌, List, [], ◌∷◌, Bool, false, cond, Option, Some, None, length, refl, ap, arith, eq-eqb}
+use Rattle.std.proofs.Common.{◌≡◌, ◌∙◌, ◌==◌, ◌++◌, ℕ, ◌<◌, ◌≤◌, List, [], ◌∷◌, Bool, false, cond, Option, Some, None, length, refl, ap}
+use Rattle.std.proofs.Common.{arith, eq-eqb}
 use Rattle.std.proofs.lemmas.Bool.{eqb-true}
 use Rattle.litmus_expression.specs.Followed.{Differ}
 use Rattle.litmus_expression.specs.NameReader.{index_of}
@@ -22,9 +23,11 @@ numbered_is : (names : Names) (name : List ℕ) (o : Option ℕ) (x : ℕ × Nam
 numbered_is names name (Some n) x few is e = at_last (n, names) (IsNumbered names name) x e (known (index_there names name n is))
 numbered_is names name None x few is e =
     unless_it (length names == 32) (Some (length names, names ++ name ∷ [])) (IsNumbered names name) x e (λ free e.
-    at_last (length names, names ++ name ∷ []) (IsNumbered names name) x e (new (index_nowhere names name is) (below (length names) free few)))
+    at_last (length names, names ++ name ∷ []) (IsNumbered names name) x e
+    (new (index_nowhere names name is) (below (length names) free few)))
 
-pub number_spelled : (names : Names) (name : List ℕ) (x : ℕ × Names) → length names ≤ 32 → number_at names name ≡ Some x → Numbered 32 names name x.0 x.1
+pub number_spelled : (names : Names) (name : List ℕ) (x : ℕ × Names) → length names ≤ 32 → number_at names name ≡ Some x
+    → Numbered 32 names name x.0 x.1
 unfolding number_at
 number_spelled names name x few e = numbered_is names name (index_of names name) x few refl e
 

@@ -1,25 +1,24 @@
 -- Readers of processes are given by their parts, and each process takes symbols.
-use Rattle.std.proofs.Common.{◌≡◌, ◌++◌, ◌<◌, ◌≤◌, ◌==◌, ◌+◌, ◌*◌, ℕ, suc, List, [], ◌∷◌, Bool, true, false, cond, Option, Some, None, Vec, Global, length, map, refl, ap, ◌∙◌, arith}
+use Rattle.std.proofs.Common.{◌≡◌, ◌++◌, ◌<◌, ◌≤◌, ◌==◌, ◌+◌, ◌*◌, ℕ, suc, List, [], ◌∷◌, Bool, true, false, cond, Option, Some, None, Vec}
+use Rattle.std.proofs.Common.{Global, length, map, refl, ap, ◌∙◌, arith}
 use Rattle.std.proofs.lemmas.Bool.{ne_eqb}
 use Rattle.litmus_lex.specs.declared.sign.Sign.TheVariants.{CloseParen, Comma, OpenParen}
 use Rattle.litmus_syntax.specs.Tree as tree
 use Rattle.litmus_syntax.specs.Views.{block_of}
-use Rattle.litmus_cursor.specs.Front.{◌>>=◌, first, is_sign, others, take_sign}
-use Rattle.litmus_cursor.specs.Words.{Symbol}
+use Rattle.litmus_cursor.specs.Front.{◌>>=◌, first, is_sign, take_sign}
 use Rattle.litmus_expression.specs.declared.process.Process as coded
-use Rattle.litmus_expression.specs.Names.{Parameter}
 use Rattle.litmus_expression.specs.Places.{outermost}
 use Rattle.litmus_expression.specs.States.{State, entering, state_of}
 use Rattle.litmus_expression.proofs.Fewer.{TakesSome, at_last, behind_it, either_way, unless_it}
 use Rattle.litmus_expression.proofs.Taken.{sign_fewer}
-use Rattle.litmus_body.specs.StatementReader.{block_at, deep}
+use Rattle.litmus_body.specs.StatementReader.{block_at}
 use Rattle.litmus_body.proofs.Shorter.{deep_shorter}
 use Rattle.litmus_parse.specs.ItemReader.{Heading, past}
 use Rattle.litmus_parse.specs.ParameterReader.{behind_paren, behind_parameter, listed_at, listed_by, parameter_at, parameters_at}
 use Rattle.litmus_parse.specs.ProcessReader.{Course, and_process, is_process, process_at, process_with, processes_at, processes_by}
 use Rattle.litmus_parse.specs.TextReader.{bodies_of}
 use Rattle.litmus_syntax.specs.declared.statement.Statement.{Statement}
-use Rattle.litmus_parse.specs.Turns.{Turn, again, done, going, turned}
+use Rattle.litmus_parse.specs.Turns.{Turn, again, done, turned}
 use Rattle.litmus_parse.proofs.Going.{going_at_most, going_unrolls}
 use Rattle.litmus_parse.proofs.Parameters.{parameter_fewer, parameter_read}
 use Rattle.litmus_parse.proofs.Unrolled.{Listing, left_listed, listed_short, others_at_most}
@@ -38,7 +37,8 @@ listed_ends x t e =
     (take_sign CloseParen p.1.symbols >>= λ l. Some (done (x.0 ++ p.0 ∷ [], record p.1 { symbols = l })))
     (Ends x) t e
     (λ more e. at_last (again (x.0 ++ p.0 ∷ [], past p.1)) (Ends x) t e tt)
-    (λ last e. behind_it (take_sign CloseParen p.1.symbols) (λ l. Some (done (x.0 ++ p.0 ∷ [], record p.1 { symbols = l }))) (Ends x) t e (λ l closed e.
+    (λ last e. behind_it (take_sign CloseParen p.1.symbols) (λ l. Some (done (x.0 ++ p.0 ∷ [], record p.1 { symbols = l }))) (Ends x) t e
+    (λ l closed e.
     at_last (done (x.0 ++ p.0 ∷ [], record p.1 { symbols = l })) (Ends x) t e
     (let fewer = sign_fewer CloseParen p.1.symbols l closed in omega arith))))
 
@@ -50,7 +50,8 @@ listed_at_most x y e =
 pub parameters_fewer : (h : Heading) (x : Listing) → parameters_at h ≡ Some x → left_listed x < length h.symbols
 unfolding parameters_at
 parameters_fewer h x e =
-    behind_it (take_sign OpenParen h.symbols) (λ l. behind_paren (record h { symbols = l })) (λ (y : Listing). left_listed y < length h.symbols) x e (λ l opens e.
+    behind_it (take_sign OpenParen h.symbols) (λ l. behind_paren (record h { symbols = l }))
+    (λ (y : Listing). left_listed y < length h.symbols) x e (λ l opens e.
     let lt = sign_fewer OpenParen h.symbols l opens in
     either_way (is_sign CloseParen (first l)) (Some ([], past (record h { symbols = l }))) (listed_at ([], record h { symbols = l }))
     (λ (y : Listing). left_listed y < length h.symbols) x e
@@ -87,7 +88,8 @@ Goes c (done d) = Unit {0}
 
 processes_go : (c : Course) (t : Turn Course Course) → processes_by c ≡ Some t → Goes c t
 processes_go c t e =
-    either_way (is_process (length c.states) (first c.heading.symbols)) (and_process c) (cond (length c.states == 0) None (Some (done c))) (Goes c) t e
+    either_way (is_process (length c.states) (first c.heading.symbols)) (and_process c) (cond (length c.states == 0) None (Some (done c)))
+    (Goes c) t e
     (λ begins e.
     unless_it (length c.states == 16) (process_at (past c.heading) >>= λ p.
     Some (again (record { heading = p.1; states = c.states ++ p.0.0 ∷ []; bodies = c.bodies ++ p.0.1 ∷ [] }))) (Goes c) t e (λ few e.
@@ -113,7 +115,8 @@ states_more [] p = refl
 states_more (q ∷ ps) p = ap (λ (l : List State). state_of q ∷ l) (states_more ps p)
 
 -- one more body
-pub bodies_more : (bs : List (Vec Statement Global)) (b : Vec Statement Global) → bodies_of (bs ++ b ∷ []) ≡ bodies_of bs ++ block_of b.items ∷ []
+pub bodies_more : (bs : List (Vec Statement Global)) (b : Vec Statement Global) → bodies_of (bs ++ b ∷ [])
+    ≡ bodies_of bs ++ block_of b.items ∷ []
 bodies_more [] b = refl
 bodies_more (a ∷ bs) b = ap (λ (l : List tree.Block). block_of a.items ∷ l) (bodies_more bs b)
 
@@ -123,7 +126,8 @@ module _ (c : Course) (n : ℕ) (read : length c.states ≡ n) where
       → processes_at c ≡ (cond b (and_process c) (cond (length c.states == 0) None (Some (done c))) >>= λ t. turned processes_at t)
   begun b is =
       processes_unroll c
-      ∙ ap (λ (k : ℕ). cond (is_process k (first c.heading.symbols)) (and_process c) (cond (length c.states == 0) None (Some (done c))) >>= λ t. turned processes_at t) read
+      ∙ ap (λ (k : ℕ). cond (is_process k (first c.heading.symbols)) (and_process c)
+      (cond (length c.states == 0) None (Some (done c))) >>= λ t. turned processes_at t) read
       ∙ ap (λ (d : Bool). cond d (and_process c) (cond (length c.states == 0) None (Some (done c))) >>= λ t. turned processes_at t) is
 
   abbrev grew : Process → Course
@@ -132,7 +136,8 @@ module _ (c : Course) (n : ℕ) (read : length c.states ≡ n) where
   abbrev one_more : Bool → Option Process → Option Course
   one_more full o = cond full None (o >>= λ p. Some (again (grew p))) >>= λ t. turned processes_at t
 
-  more : (full : Bool) (o : Option Process) → is_process n (first c.heading.symbols) ≡ true → (n == 16) ≡ full → process_at (past c.heading) ≡ o
+  more : (full : Bool) (o : Option Process) → is_process n (first c.heading.symbols) ≡ true → (n == 16) ≡ full
+      → process_at (past c.heading) ≡ o
       → processes_at c ≡ one_more full o
   more full o is many e =
       begun true is

@@ -1,21 +1,21 @@
 -- What is read as processes is spelled as such.
-use Rattle.std.proofs.Common.{◌≡◌, ◌∙◌, ◌+◌, ◌++◌, ◌<◌, ◌≤◌, ◌==◌, ℕ, zero, suc, List, [], ◌∷◌, Bool, true, false, cond, Option, Some, None, length, map, refl, sym, ap, subst, append_assoc, arith}
+use Rattle.std.proofs.Common.{◌≡◌, ◌∙◌, ◌++◌, ◌<◌, ◌≤◌, ◌==◌, ℕ, zero, suc, List, [], ◌∷◌, Bool, true, false, cond, Option, Some, None}
+use Rattle.std.proofs.Common.{length, map, refl, sym, ap, subst, append_assoc, arith}
 use Rattle.std.specs.Prelude.{flat_map}
 use Rattle.std.proofs.lemmas.Bool.{eqb-false}
 use Rattle.std.proofs.lemmas.List.{length-append}
-use Rattle.litmus_lex.specs.declared.sign.Sign.TheVariants.{OpenBrace, OpenParen}
+use Rattle.litmus_lex.specs.declared.sign.Sign.TheVariants.{OpenParen}
 use Rattle.litmus_syntax.specs.Limits.{BodyKeepsLimits}
 use Rattle.litmus_syntax.specs.Tree as tree
 use Rattle.litmus_cursor.specs.Front.{◌>>=◌, first, identifier_at, others}
-use Rattle.litmus_cursor.specs.Words.{Symbol, identifier, is_same, sign}
-use Rattle.litmus_expression.specs.Names.{Names, Parameter}
+use Rattle.litmus_cursor.specs.Words.{Symbol, identifier, sign}
+use Rattle.litmus_expression.specs.Names.{Parameter}
 use Rattle.litmus_expression.specs.Places.{outermost}
 use Rattle.litmus_expression.specs.States.{State, entering}
 use Rattle.litmus_expression.proofs.Fewer.{at_last, behind_it}
 use Rattle.litmus_expression.proofs.Named.{same_name}
 use Rattle.litmus_expression.proofs.Taken.{front, same_given}
 use Rattle.litmus_body.specs.StatementReader.{block_at}
-use Rattle.litmus_body.specs.Statements.{Statements}
 use Rattle.statement_laws.specs.Reads.{ReadsWhole}
 use Rattle.statement_laws.proofs.Sound.{whole_reads}
 use Rattle.litmus_parse.specs.Grammar.{mentions_of}
@@ -24,9 +24,10 @@ use Rattle.litmus_parse.specs.Headers.{IsProcess, Parameters, Process, Processes
 use Rattle.litmus_parse.specs.ItemReader.{Heading, past}
 use Rattle.litmus_parse.specs.Mentions.{Mention}
 use Rattle.litmus_parse.specs.ParameterReader.{parameters_at}
-use Rattle.litmus_parse.specs.ProcessReader.{Course, and_process, is_called, is_process, process_at, process_of, process_with, processes_at, processes_by, seen}
+use Rattle.litmus_parse.specs.ProcessReader.{Course, and_process, is_called, is_process, process_at, process_of, process_with, processes_at}
+use Rattle.litmus_parse.specs.ProcessReader.{processes_by, seen}
 use Rattle.litmus_parse.specs.Told.{all_told, told_of}
-use Rattle.litmus_parse.specs.Turns.{Turn, again, done, going, turned}
+use Rattle.litmus_parse.specs.Turns.{again, done, going, turned}
 use Rattle.litmus_parse.specs.Entries.{Entry}
 use Rattle.litmus_parse.proofs.Items.{identifier_is}
 use Rattle.litmus_parse.proofs.Listed.{ReadsParameters, parameters_read}
@@ -51,13 +52,15 @@ process_read h x tidy e =
     behind_it (parameters_at h) (λ p. process_with p) (λ (y : Found). ReadsProcess h y) x e (λ p is e.
     behind_it (block_at outermost (entering p.0 p.1.symbols)) (λ b. Some ((b.1, b.0), record p.1 { symbols = b.1.symbols }))
     (λ (y : Found). ReadsProcess h y) x e (λ b body e.
-    at_last _ (λ (y : Found). ReadsProcess h y) x e (one h p b (parameters_read h p tidy is) (whole_reads (entering p.0 p.1.symbols) b refl body))))
+    at_last _ (λ (y : Found). ReadsProcess h y) x e (one h p b (parameters_read h p tidy is)
+    (whole_reads (entering p.0 p.1.symbols) b refl body))))
   where
     one : (h : Heading) (p : Listing) (b : tree.Block × State) → ReadsParameters h p → ReadsWhole (entering p.0 p.1.symbols) b
         → ReadsProcess h ((b.1, b.0), record p.1 { symbols = b.1.symbols })
     one h p b r w = record {
       spelled = λ task keeps.
-          subst (λ (l : List Symbol). IsProcess task h.names (identifier (process_name task) ∷ l) (process_of b.1 b.0) b.1.symbols p.1.names) (sym r.opens)
+          subst (λ (l : List Symbol). IsProcess task h.names (identifier (process_name task) ∷ l)
+          (process_of b.1 b.0) b.1.symbols p.1.names) (sym r.opens)
           (subst (λ (ps : List Parameter). IsProcess task h.names (identifier (process_name task) ∷ sign OpenParen ∷ r.inside)
           (record { parameters = ps; registers = b.1.names; body = b.0 }) b.1.symbols p.1.names) (sym w.parameters)
           (grammar.process (subst (λ (l : List Symbol). Parameters h.names r.inside p.0 l p.1.names) w.opens r.spelled) w.spelled keeps));
@@ -113,27 +116,34 @@ pub told_both : (one two : List Mention) (name : List ℕ) (e f g : Entry) → a
 told_both [] two name e f g first later = subst (λ (h : Entry). all_told two name h ≡ Some g) (sym (same_given e f first)) later
 told_both (m ∷ one) two name e f g first later =
     behind_it (told_of name m e) (λ h. all_told one name h) (λ (k : Entry). k ≡ f → all_told (m ∷ (one ++ two)) name e ≡ Some g) f first
-    (λ h is first here. ap (λ (o : Option Entry). o >>= λ k. all_told (one ++ two) name k) is ∙ told_both one two name h f g first later) refl
+    (λ h is first here. ap (λ (o : Option Entry). o >>= λ k. all_told (one ++ two) name k) is
+    ∙ told_both one two name h f g first later) refl
 
 mentions_same : (ps : List Parameter) (s : State) (b : tree.Block) → s.parameters ≡ ps → mentions_of (process_of s b) ≡ map mention_of ps
 mentions_same ps s b is = ap (λ (l : List Parameter). map mention_of l) is
 
 module _ (c d : Course) (p : Found) (tidy : Tidy c.heading.names c.heading.table) (few : length c.states < 16)
-    (begins : c.heading.symbols ≡ identifier (process_name (length c.states)) ∷ others c.heading.symbols) (r : ReadsProcess (past c.heading) p) where
+    (begins : c.heading.symbols ≡ identifier (process_name (length c.states)) ∷ others c.heading.symbols)
+    (r : ReadsProcess (past c.heading) p) where
   process_first : (later : List Pair) → Reads (grew c p) later d → BodyKeepsLimits p.0.1 → AllKeep later
       → Processes (length c.states) c.heading.names c.heading.symbols (map proc (p.0 ∷ later)) d.heading.symbols d.heading.names
   process_first [] rest keeps all =
       let is : IsProcess (length c.states) c.heading.names c.heading.symbols (proc p.0) p.1.symbols p.1.names =
-      subst (λ (l : List Symbol). IsProcess (length c.states) c.heading.names l (proc p.0) p.1.symbols p.1.names) (sym begins) (r.spelled (length c.states) keeps) in
+      subst (λ (l : List Symbol). IsProcess (length c.states) c.heading.names l (proc p.0) p.1.symbols p.1.names) (sym begins)
+      (r.spelled (length c.states) keeps) in
       let same = rest.none refl in
-      subst (λ (e : Course). Processes (length c.states) c.heading.names c.heading.symbols (proc p.0 ∷ []) e.heading.symbols e.heading.names) same
+      subst (λ (e : Course). Processes (length c.states) c.heading.names c.heading.symbols
+      (proc p.0 ∷ []) e.heading.symbols e.heading.names) same
       (grammar.last few is)
   process_first (x ∷ later) rest keeps all =
       let is : IsProcess (length c.states) c.heading.names c.heading.symbols (proc p.0) p.1.symbols p.1.names =
-      subst (λ (l : List Symbol). IsProcess (length c.states) c.heading.names l (proc p.0) p.1.symbols p.1.names) (sym begins) (r.spelled (length c.states) keeps) in
-      let count : length (c.states ++ p.0.0 ∷ []) ≡ suc (length c.states) = (let n = length-append c.states (p.0.0 ∷ []) in omega (arith, n)) in
+      subst (λ (l : List Symbol). IsProcess (length c.states) c.heading.names l (proc p.0) p.1.symbols p.1.names) (sym begins)
+      (r.spelled (length c.states) keeps) in
+      let count : length (c.states ++ p.0.0 ∷ []) ≡ suc (length c.states) =
+      (let n = length-append c.states (p.0.0 ∷ []) in omega (arith, n)) in
       grammar.more few is
-      (subst (λ (n : ℕ). Processes n p.1.names p.1.symbols (map proc (x ∷ later)) d.heading.symbols d.heading.names) count (rest.spelled all))
+      (subst (λ (n : ℕ). Processes n p.1.names p.1.symbols (map proc (x ∷ later)) d.heading.symbols d.heading.names) count
+      (rest.spelled all))
 
   one_more : (later : List Pair) → Reads (grew c p) later d → Reads c (p.0 ∷ later) d
   one_more later rest = record {
@@ -144,7 +154,8 @@ module _ (c d : Course) (p : Found) (tidy : Tidy c.heading.names c.heading.table
     said = record {
       tidy = rest.said.tidy;
       tells = λ name. told_both (map mention_of p.0.0.parameters) (flat_map mentions_of (map proc later)) name
-          (entry_in c.heading.names c.heading.table name) (entry_in p.1.names p.1.table name) (entry_in d.heading.names d.heading.table name)
+          (entry_in c.heading.names c.heading.table name) (entry_in p.1.names p.1.table name)
+          (entry_in d.heading.names d.heading.table name)
           (r.said.tells name) (rest.said.tells name);
     };
     some = λ zero none. absurd cc;
@@ -205,11 +216,14 @@ no_more f c d tidy false some e =
 
 processes_from : (f : ℕ) (c d : Course) → Tidy c.heading.names c.heading.table → length c.states ≤ 16 → Later f d
     → (b : Bool) → is_process (length c.states) (first c.heading.symbols) ≡ b
-    → (cond b (and_process c) (cond (length c.states == 0) None (Some (done c))) >>= λ t. turned (going processes_by f) t) ≡ Some d → Follow c d
-processes_from f c d tidy most later true is e = process_behind f c d tidy most later is (length c.states == 16) refl (process_at (past c.heading)) refl e
+    → (cond b (and_process c) (cond (length c.states == 0) None (Some (done c))) >>= λ t. turned (going processes_by f) t) ≡ Some d
+    → Follow c d
+processes_from f c d tidy most later true is e = process_behind f c d tidy most later is (length c.states == 16) refl
+    (process_at (past c.heading)) refl e
 processes_from f c d tidy most later false none e = no_more f c d tidy (length c.states == 0) refl e
 
-processes_going : (f : ℕ) (c d : Course) → Tidy c.heading.names c.heading.table → length c.states ≤ 16 → going processes_by f c ≡ Some d → Follow c d
+processes_going : (f : ℕ) (c d : Course) → Tidy c.heading.names c.heading.table → length c.states ≤ 16 → going processes_by f c ≡ Some d
+    → Follow c d
 unfolding going
 processes_going zero c d tidy most e = absurd cc
 processes_going (suc f) c d tidy most e =

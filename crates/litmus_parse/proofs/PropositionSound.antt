@@ -1,10 +1,12 @@
 -- What the readers of propositions read is spelled so.
-use Rattle.std.proofs.Common.{◌≡◌, ◌≢◌, ◌∙◌, ℕ, zero, suc, ◌+◌, ◌-◌, ◌*◌, ◌<◌, ◌≤◌, ◌==◌, nat_lt, List, [], ◌∷◌, Bool, true, false, cond, get_or, Option, Some, None, length, refl, sym, ap, subst, arith}
+use Rattle.std.proofs.Common.{◌≡◌, ◌∙◌, ℕ, zero, suc, ◌+◌, ◌-◌, ◌*◌, ◌<◌, ◌≤◌, ◌==◌, nat_lt, List, [], ◌∷◌, Bool, true, false, cond, get_or}
+use Rattle.std.proofs.Common.{Option, Some, None, length, refl, sym, ap, subst, arith}
 use Rattle.std.specs.Prelude.{set, slice_get}
 use Rattle.std.proofs.lemmas.Bool.{eqb-false, eqb-true, ltb-true}
 use Rattle.std.proofs.lemmas.List.{length-set}
 use Rattle.litmus_lex.specs.declared.sign.Sign.{Sign}
-use Rattle.litmus_lex.specs.declared.sign.Sign.TheVariants.{OpenParen, CloseParen, OpenBracket, CloseBracket, Colon, Assign, Tilde, Conjunction, Disjunction}
+use Rattle.litmus_lex.specs.declared.sign.Sign.TheVariants.{OpenParen, CloseParen, OpenBracket, CloseBracket, Colon, Assign, Tilde}
+use Rattle.litmus_lex.specs.declared.sign.Sign.TheVariants.{Conjunction, Disjunction}
 use Rattle.litmus_syntax.specs.Limits.{connectives}
 use Rattle.litmus_syntax.specs.Tree as tree
 use Rattle.litmus_cursor.specs.declared.words.Word.TheVariants as words
@@ -23,8 +25,10 @@ use Rattle.litmus_parse.specs.Conditions.{Atom, Conjoined, Disjoined, IsKnown, N
 use Rattle.litmus_parse.specs.Headers.{Process, Signed}
 use Rattle.litmus_parse.specs.Mentions.{Mention}
 use Rattle.litmus_parse.specs.ProcessReader.{process_of, seen}
-use Rattle.litmus_parse.specs.PropositionReader.{Asked, Readers, asked_behind, asked_past, at_the_end, atom_at, behind_bracket, by, deep, disjunction_at, idle, inside_by, is_false, is_true}
-use Rattle.litmus_parse.specs.PropositionReader.{numbered_or_not, register_atom, register_in, register_with, take_connective, variable_atom, variable_or_bracket, whole_at}
+use Rattle.litmus_parse.specs.PropositionReader.{Asked, Readers, asked_behind, asked_past, at_the_end, atom_at, behind_bracket, by, deep}
+use Rattle.litmus_parse.specs.PropositionReader.{disjunction_at, idle, inside_by, is_false, is_true}
+use Rattle.litmus_parse.specs.PropositionReader.{numbered_or_not, register_atom, register_in, register_with, take_connective, variable_atom}
+use Rattle.litmus_parse.specs.PropositionReader.{whole_at}
 use Rattle.litmus_parse.specs.VariableReader.{known_named, known_variable, unless_lock}
 use Rattle.litmus_parse.proofs.Items.{identifier_is}
 use Rattle.litmus_parse.proofs.PropositionUnrolled.{Found, false_is, true_is}
@@ -65,10 +69,12 @@ few_set (t ∷ states) (suc task) s few le = (few.0, few_set states task s few.1
 
 -- ---- numbers and registers
 
-value_reads : (symbols : List Symbol) (v : ℕ × List Symbol) → given_value symbols ≡ Some v → (l : List Symbol) × (symbols ≡ sign Assign ∷ l) × Signed l v.0 v.1
+value_reads : (symbols : List Symbol) (v : ℕ × List Symbol) → given_value symbols ≡ Some v → (l : List Symbol)
+    × (symbols ≡ sign Assign ∷ l) × Signed l v.0 v.1
 unfolding given_value
 value_reads symbols v e =
-    behind_it (take_sign Assign symbols) (λ l. take_signed l) (λ (w : ℕ × List Symbol). (l : List Symbol) × (symbols ≡ sign Assign ∷ l) × Signed l w.0 w.1) v e
+    behind_it (take_sign Assign symbols) (λ l. take_signed l) (λ (w : ℕ × List Symbol). (l : List Symbol) × (symbols ≡ sign Assign ∷ l)
+    × Signed l w.0 w.1) v e
     (λ l given e. (l, sign_taken Assign symbols l given, signed_spelled l v e))
 
 -- REG of a process in its place
@@ -84,17 +90,20 @@ record ReadsIn (task : ℕ) (a : Asked) (bodies : List tree.Block) (x : ℕ × A
   sized : length x.1.states ≡ length a.states
   operators : x.1.operators ≡ a.operators
 
-register_taken : (task : ℕ) (a : Asked) (bodies : List tree.Block) (s : State) (x : ℕ × Asked) → AllFew a.states → slice_get a.states task ≡ Some s
+register_taken : (task : ℕ) (a : Asked) (bodies : List tree.Block) (s : State) (x : ℕ × Asked) → AllFew a.states → slice_get a.states task
+    ≡ Some s
     → register_with task a s ≡ Some x → ReadsIn task a bodies x
 unfolding take_register
 register_taken task a bodies s x few there e =
     behind_it (register_at (with_left s a.symbols) >>= λ y. Some (y.0, after y.1))
     (λ r. Some (r.0, record a { symbols = r.1.symbols; states = set a.states task r.1 })) (ReadsIn task a bodies) x e (λ r taken e.
-    behind_it (register_at (with_left s a.symbols)) (λ y. Some (y.0, after y.1)) (λ (q : ℕ × State). r ≡ q → ReadsIn task a bodies x) r taken (λ y is taken.
+    behind_it (register_at (with_left s a.symbols)) (λ y. Some (y.0, after y.1))
+    (λ (q : ℕ × State). r ≡ q → ReadsIn task a bodies x) r taken (λ y is taken.
     at_last (y.0, after y.1) (λ (q : ℕ × State). r ≡ q → ReadsIn task a bodies x) r taken (λ same.
     let g = register_reads (with_left s a.symbols) y (few_there a.states task s few there) is in
     let b = get_or bodies task tree.empty in
-    at_last _ (ReadsIn task a bodies) x (subst (λ (q : ℕ × State). Some (q.0, record a { symbols = q.1.symbols; states = set a.states task q.1 }) ≡ Some x) same e)
+    at_last _ (ReadsIn task a bodies) x (subst (λ (q : ℕ × State). Some
+    (q.0, record a { symbols = q.1.symbols; states = set a.states task q.1 }) ≡ Some x) same e)
     (record {
       process = process_of s b;
       name = g.name;
@@ -103,16 +112,19 @@ register_taken task a bodies s x few there e =
       next = g.next ∙ ap (λ (l : List Symbol). identifier g.name ∷ others l) (sym g.symbols);
       is = g.is;
       after = seen_set a.states bodies task (after y.1)
-          ∙ ap (λ (ps : List Parameter). set (seen a.states bodies) task (record { parameters = ps; registers = y.1.names; body = b })) g.parameters;
+          ∙ ap (λ (ps : List Parameter). set (seen a.states bodies) task
+          (record { parameters = ps; registers = y.1.names; body = b })) g.parameters;
       few = few_set a.states task (after y.1) few g.within;
       sized = length-set a.states task (after y.1);
       operators = refl;
     }))) refl)
 
-register_in_reads : (task : ℕ) (a : Asked) (bodies : List tree.Block) (x : ℕ × Asked) → AllFew a.states → register_in task a ≡ Some x → ReadsIn task a bodies x
+register_in_reads : (task : ℕ) (a : Asked) (bodies : List tree.Block) (x : ℕ × Asked) → AllFew a.states → register_in task a ≡ Some x
+    → ReadsIn task a bodies x
 unfolding register_in
 register_in_reads task a bodies x few e =
-    behind_it (slice_get a.states task) (λ s. register_with task a s) (ReadsIn task a bodies) x e (λ s there e. register_taken task a bodies s x few there e)
+    behind_it (slice_get a.states task) (λ s. register_with task a s) (ReadsIn task a bodies) x e
+    (λ s there e. register_taken task a bodies s x few there e)
 
 -- ---- variables
 
@@ -122,7 +134,8 @@ record ReadsKnown (names : Names) (locks : List Bool) (symbols : List Symbol) (x
   stands : slice_get names x.0 ≡ Some name
   no_lock : get_or locks x.0 false ≡ false
 
-known_of : (names : Names) (locks : List Bool) (symbols : List Symbol) (name : List ℕ) (o : Option ℕ) (x : ℕ × List Symbol) → symbols ≡ identifier name ∷ others symbols
+known_of : (names : Names) (locks : List Bool) (symbols : List Symbol) (name : List ℕ) (o : Option ℕ) (x : ℕ × List Symbol) → symbols
+    ≡ identifier name ∷ others symbols
     → index_of names name ≡ o → unless_lock locks symbols o ≡ Some x → ReadsKnown names locks symbols x
 known_of names locks symbols name None x next is e = absurd cc
 known_of names locks symbols name (Some v) x next is e =
@@ -130,13 +143,16 @@ known_of names locks symbols name (Some v) x next is e =
     at_last (v, others symbols) (ReadsKnown names locks symbols) x e
     (record { name = name; next = next; stands = index_there names name v is; no_lock = no_lock }))
 
-known_named_reads : (names : Names) (locks : List Bool) (symbols : List Symbol) (o : Option (List ℕ)) (x : ℕ × List Symbol) → identifier_at (first symbols) ≡ o
+known_named_reads : (names : Names) (locks : List Bool) (symbols : List Symbol) (o : Option (List ℕ)) (x : ℕ × List Symbol)
+    → identifier_at (first symbols) ≡ o
     → known_named names locks symbols o ≡ Some x → ReadsKnown names locks symbols x
 known_named_reads names locks symbols None x is e = absurd cc
 known_named_reads names locks symbols (Some name) x is e =
-    known_of names locks symbols name (index_of names name) x (front symbols (identifier name) (identifier_is (first symbols) name is) (λ never. cc)) refl e
+    known_of names locks symbols name (index_of names name) x (front symbols (identifier name) (identifier_is (first symbols) name is)
+    (λ never. cc)) refl e
 
-known_reads : (names : Names) (locks : List Bool) (symbols : List Symbol) (x : ℕ × List Symbol) → known_variable names locks symbols ≡ Some x
+known_reads : (names : Names) (locks : List Bool) (symbols : List Symbol) (x : ℕ × List Symbol) → known_variable names locks symbols
+    ≡ Some x
     → ReadsKnown names locks symbols x
 unfolding known_variable
 known_reads names locks symbols x e = known_named_reads names locks symbols (identifier_at (first symbols)) x refl e
@@ -152,7 +168,8 @@ number_at (sign t) rest n e = absurd cc
 number_at fault rest n e = absurd cc
 
 module _ (mentions : List Mention) (names : Names) (locks : List Bool) (bodies : List tree.Block)
-    (is_known : (v : ℕ) (name : List ℕ) → slice_get names v ≡ Some name → get_or locks v false ≡ false → IsKnown mentions names name v) where
+    (is_known : (v : ℕ) (name : List ℕ) → slice_get names v ≡ Some name → get_or locks v false ≡ false
+    → IsKnown mentions names name v) where
   record ReadsAtom (a : Asked) (x : Found) : Type 0 where
     spelled : Atom mentions names (seen a.states bodies) a.symbols x.0 x.1.symbols (seen x.1.states bodies)
     counted : connectives x.0 + x.1.operators ≡ a.operators
@@ -165,7 +182,8 @@ module _ (mentions : List Mention) (names : Names) (locks : List Bool) (bodies :
   register_atom_reads task a x few next e =
       behind_it (take_sign Colon (others a.symbols)) (λ l. register_in task (asked_behind a l) >>= λ r. given_value r.1.symbols >>= λ v.
       Some (tree.register_is task r.0 v.0, asked_behind r.1 v.1)) (ReadsAtom a) x e (λ l colon e.
-      behind_it (register_in task (asked_behind a l)) (λ r. given_value r.1.symbols >>= λ v. Some (tree.register_is task r.0 v.0, asked_behind r.1 v.1))
+      behind_it (register_in task (asked_behind a l)) (λ r. given_value r.1.symbols >>= λ v. Some
+      (tree.register_is task r.0 v.0, asked_behind r.1 v.1))
       (ReadsAtom a) x e (λ r is e.
       behind_it (given_value r.1.symbols) (λ v. Some (tree.register_is task r.0 v.0, asked_behind r.1 v.1)) (ReadsAtom a) x e (λ v value e.
       at_last _ (ReadsAtom a) x e
@@ -176,8 +194,10 @@ module _ (mentions : List Mention) (names : Names) (locks : List Bool) (bodies :
       ∙ ap (λ (j : List Symbol). number task ∷ j) (sign_taken Colon (others a.symbols) l colon
       ∙ ap (λ (j : List Symbol). sign Colon ∷ j) (g.next ∙ ap (λ (j : List Symbol). identifier g.name ∷ j) w.1)) in
       record {
-        spelled = subst (λ (j : List Symbol). Atom mentions names (seen a.states bodies) j (tree.register_is task r.0 v.0) v.1 (seen r.1.states bodies)) (sym whole)
-            (subst (λ (ps : List Process). Atom mentions names (seen a.states bodies) (number task ∷ sign Colon ∷ identifier g.name ∷ sign Assign ∷ w.0)
+        spelled = subst (λ (j : List Symbol). Atom mentions names (seen a.states bodies) j (tree.register_is task r.0 v.0) v.1
+            (seen r.1.states bodies)) (sym whole)
+            (subst (λ (ps : List Process). Atom mentions names (seen a.states bodies)
+            (number task ∷ sign Colon ∷ identifier g.name ∷ sign Assign ∷ w.0)
             (tree.register_is task r.0 v.0) v.1 ps) (sym g.after) (grammar.register_is g.there g.is w.2));
         counted = omega (arith, g.operators);
         few = g.few;
@@ -194,20 +214,24 @@ module _ (mentions : List Mention) (names : Names) (locks : List Bool) (bodies :
       (let k = known_reads names locks a.symbols v known in
       let g = value_reads v.1 w value in
       record {
-        spelled = subst (λ (j : List Symbol). Atom mentions names (seen a.states bodies) j (tree.variable_is v.0 w.0) w.1 (seen a.states bodies))
-            (sym (k.next ∙ ap (λ (j : List Symbol). identifier k.name ∷ j) g.1)) (grammar.variable_is (is_known v.0 k.name k.stands k.no_lock) g.2);
+        spelled = subst (λ (j : List Symbol). Atom mentions names (seen a.states bodies) j (tree.variable_is v.0 w.0) w.1
+            (seen a.states bodies))
+            (sym (k.next ∙ ap (λ (j : List Symbol). identifier k.name ∷ j) g.1))
+            (grammar.variable_is (is_known v.0 k.name k.stands k.no_lock) g.2);
         counted = omega arith;
         few = few;
         sized = refl;
       })))
 
-  bracketed_reads : (a : Asked) (x : Found) → AllFew a.states → is_sign OpenBracket (first a.symbols) ≡ true → variable_atom names locks true (asked_past a) ≡ Some x
+  bracketed_reads : (a : Asked) (x : Found) → AllFew a.states → is_sign OpenBracket (first a.symbols) ≡ true
+      → variable_atom names locks true (asked_past a) ≡ Some x
       → ReadsAtom a x
   unfolding variable_atom
   bracketed_reads a x few opens e =
       behind_it (known_variable names locks (others a.symbols)) (λ v. behind_bracket true v.1 >>= λ l. given_value l >>= λ w.
       Some (tree.variable_is v.0 w.0, asked_behind a w.1)) (ReadsAtom a) x e (λ v known e.
-      behind_it (take_sign CloseBracket v.1) (λ l. given_value l >>= λ w. Some (tree.variable_is v.0 w.0, asked_behind a w.1)) (ReadsAtom a) x e (λ l closes e.
+      behind_it (take_sign CloseBracket v.1) (λ l. given_value l >>= λ w. Some (tree.variable_is v.0 w.0, asked_behind a w.1))
+      (ReadsAtom a) x e (λ l closes e.
       behind_it (given_value l) (λ w. Some (tree.variable_is v.0 w.0, asked_behind a w.1)) (ReadsAtom a) x e (λ w value e.
       at_last _ (ReadsAtom a) x e
       (let k = known_reads names locks (others a.symbols) v known in
@@ -217,17 +241,20 @@ module _ (mentions : List Mention) (names : Names) (locks : List Bool) (bodies :
       ∙ ap (λ (j : List Symbol). sign OpenBracket ∷ j) (k.next ∙ ap (λ (j : List Symbol). identifier k.name ∷ j)
       (sign_taken CloseBracket v.1 l closes ∙ ap (λ (j : List Symbol). sign CloseBracket ∷ j) g.1)) in
       record {
-        spelled = subst (λ (j : List Symbol). Atom mentions names (seen a.states bodies) j (tree.variable_is v.0 w.0) w.1 (seen a.states bodies)) (sym whole)
+        spelled = subst (λ (j : List Symbol). Atom mentions names (seen a.states bodies) j (tree.variable_is v.0 w.0) w.1
+            (seen a.states bodies)) (sym whole)
             (grammar.in_brackets (is_known v.0 k.name k.stands k.no_lock) g.2);
         counted = omega arith;
         few = few;
         sized = refl;
       }))))
 
-  numbered_reads : (a : Asked) (x : Found) → AllFew a.states → (o : Option (ℕ × List Symbol)) → number_of (first a.symbols) (others a.symbols) ≡ o
+  numbered_reads : (a : Asked) (x : Found) → AllFew a.states → (o : Option (ℕ × List Symbol))
+      → number_of (first a.symbols) (others a.symbols) ≡ o
       → numbered_or_not names locks a o ≡ Some x → ReadsAtom a x
   numbered_reads a x few None is e =
-      either_way (is_sign OpenBracket (first a.symbols)) (variable_atom names locks true (asked_past a)) (variable_atom names locks false a) (ReadsAtom a) x e
+      either_way (is_sign OpenBracket (first a.symbols)) (variable_atom names locks true (asked_past a))
+      (variable_atom names locks false a) (ReadsAtom a) x e
       (λ opens e. bracketed_reads a x few opens e)
       (λ none e. plain_variable_reads a x few e)
   numbered_reads a x few (Some n) is e =
@@ -238,20 +265,24 @@ module _ (mentions : List Mention) (names : Names) (locks : List Bool) (bodies :
   unfolding atom_at
   atom_reads a x few e =
       either_way (is_true (first a.symbols)) (Some (tree.always, asked_past a))
-      (cond (is_false (first a.symbols)) (Some (tree.never, asked_past a)) (numbered_or_not names locks a (number_of (first a.symbols) (others a.symbols))))
+      (cond (is_false (first a.symbols)) (Some (tree.never, asked_past a))
+      (numbered_or_not names locks a (number_of (first a.symbols) (others a.symbols))))
       (ReadsAtom a) x e
       (λ is e. at_last (tree.always, asked_past a) (ReadsAtom a) x e (record {
-        spelled = subst (λ (j : List Symbol). Atom mentions names (seen a.states bodies) j tree.always (others a.symbols) (seen a.states bodies))
+        spelled = subst (λ (j : List Symbol). Atom mentions names (seen a.states bodies) j tree.always (others a.symbols)
+            (seen a.states bodies))
             (sym (front a.symbols (word words.True) (true_is (first a.symbols) is) (λ never. cc))) grammar.always;
         counted = omega arith;
         few = few;
         sized = refl;
       }))
       (λ no e.
-      either_way (is_false (first a.symbols)) (Some (tree.never, asked_past a)) (numbered_or_not names locks a (number_of (first a.symbols) (others a.symbols)))
+      either_way (is_false (first a.symbols)) (Some (tree.never, asked_past a))
+      (numbered_or_not names locks a (number_of (first a.symbols) (others a.symbols)))
       (ReadsAtom a) x e
       (λ is e. at_last (tree.never, asked_past a) (ReadsAtom a) x e (record {
-        spelled = subst (λ (j : List Symbol). Atom mentions names (seen a.states bodies) j tree.never (others a.symbols) (seen a.states bodies))
+        spelled = subst (λ (j : List Symbol). Atom mentions names (seen a.states bodies) j tree.never (others a.symbols)
+            (seen a.states bodies))
             (sym (front a.symbols (word words.False) (false_is (first a.symbols) is) (λ never. cc))) grammar.never;
         counted = omega arith;
         few = few;
@@ -262,13 +293,15 @@ module _ (mentions : List Mention) (names : Names) (locks : List Bool) (bodies :
   -- ---- propositions
 
   -- a proposition of a part of the grammar, and what one makes of another before it
-  record ReadsPart (Part : List Process → List Symbol → tree.Proposition → List Symbol → List Process → Type 0) (a : Asked) (x : Found) : Type 0 where
+  record ReadsPart (Part : List Process → List Symbol → tree.Proposition → List Symbol → List Process → Type 0) (a : Asked)
+      (x : Found) : Type 0 where
     spelled : Part (seen a.states bodies) a.symbols x.0 x.1.symbols (seen x.1.states bodies)
     counted : connectives x.0 + x.1.operators ≡ a.operators
     few : AllFew x.1.states
     sized : length x.1.states ≡ length a.states
 
-  record ReadsMore (Part : List Process → List Symbol → tree.Proposition → List Symbol → List Process → Type 0) (p : tree.Proposition) (a : Asked) (x : Found) : Type 0 where
+  record ReadsMore (Part : List Process → List Symbol → tree.Proposition → List Symbol → List Process → Type 0) (p : tree.Proposition)
+      (a : Asked) (x : Found) : Type 0 where
     spelled : (before : List Process) (symbols : List Symbol) → Part before symbols p a.symbols (seen a.states bodies)
         → Part before symbols x.0 x.1.symbols (seen x.1.states bodies)
     counted : connectives x.0 + x.1.operators ≡ connectives p + a.operators
@@ -288,7 +321,8 @@ module _ (mentions : List Mention) (names : Names) (locks : List Bool) (bodies :
     disjunction : (d : ℕ) (a : Asked) (x : Found) → AllFew a.states → R.disjunction d a ≡ Some x → ReadsPart (Or d) a x
     or_more : (d : ℕ) (p : tree.Proposition) (a : Asked) (x : Found) → AllFew a.states → R.or_more d p a ≡ Some x → ReadsMore (Or d) p a x
     conjunction : (d : ℕ) (a : Asked) (x : Found) → AllFew a.states → R.conjunction d a ≡ Some x → ReadsPart (And d) a x
-    and_more : (d : ℕ) (p : tree.Proposition) (a : Asked) (x : Found) → AllFew a.states → R.and_more d p a ≡ Some x → ReadsMore (And d) p a x
+    and_more : (d : ℕ) (p : tree.Proposition) (a : Asked) (x : Found) → AllFew a.states → R.and_more d p a ≡ Some x
+        → ReadsMore (And d) p a x
     negation : (d : ℕ) (a : Asked) (x : Found) → AllFew a.states → R.negation d a ≡ Some x → ReadsPart (Not d) a x
 
   -- the operator that is taken
@@ -300,7 +334,8 @@ module _ (mentions : List Mention) (names : Names) (locks : List Bool) (bodies :
   taken : (s : Sign) (a u : Asked) → is_sign s (first a.symbols) ≡ true → take_connective a ≡ Some u → Taken s a u
   unfolding take_connective
   taken s a u is e =
-      unless_it (a.operators == 0) (Some (record { symbols = others a.symbols; states = a.states; operators = a.operators - 1 })) (Taken s a) u e (λ some e.
+      unless_it (a.operators == 0) (Some (record { symbols = others a.symbols; states = a.states; operators = a.operators - 1 }))
+      (Taken s a) u e (λ some e.
       at_last _ (Taken s a) u e (record {
         next = front a.symbols (sign s) (is_sign_is s (first a.symbols) is) (λ never. cc);
         states = refl;
@@ -311,7 +346,8 @@ module _ (mentions : List Mention) (names : Names) (locks : List Bool) (bodies :
   few_of a u same few = subst (λ (s : List State). AllFew s) (sym same) few
 
   module _ (R : Readers) (h : Sound R) where
-    disjunction_sound : (d : ℕ) (a : Asked) (x : Found) → AllFew a.states → (by names locks R).disjunction d a ≡ Some x → ReadsPart (Or d) a x
+    disjunction_sound : (d : ℕ) (a : Asked) (x : Found) → AllFew a.states → (by names locks R).disjunction d a ≡ Some x
+        → ReadsPart (Or d) a x
     disjunction_sound d a x few e =
         behind_it (R.conjunction d a) (λ y. R.or_more d y.0 y.1) (ReadsPart (Or d) a) x e (λ y is e.
         let one = h.conjunction d a y few is in
@@ -323,12 +359,15 @@ module _ (mentions : List Mention) (names : Names) (locks : List Bool) (bodies :
           sized = two.sized ∙ one.sized;
         })
 
-    or_more_sound : (d : ℕ) (p : tree.Proposition) (a : Asked) (x : Found) → AllFew a.states → (by names locks R).or_more d p a ≡ Some x → ReadsMore (Or d) p a x
+    or_more_sound : (d : ℕ) (p : tree.Proposition) (a : Asked) (x : Found) → AllFew a.states → (by names locks R).or_more d p a ≡ Some x
+        → ReadsMore (Or d) p a x
     or_more_sound d p a x few e =
-        either_way (is_sign Disjunction (first a.symbols)) (take_connective a >>= λ u. R.conjunction d u >>= λ y. R.or_more d (tree.either p y.0) y.1) (Some (p, a))
+        either_way (is_sign Disjunction (first a.symbols)) (take_connective a >>= λ u. R.conjunction d u >>= λ y. R.or_more d
+        (tree.either p y.0) y.1) (Some (p, a))
         (ReadsMore (Or d) p a) x e
         (λ or e.
-        behind_it (take_connective a) (λ u. R.conjunction d u >>= λ y. R.or_more d (tree.either p y.0) y.1) (ReadsMore (Or d) p a) x e (λ u is e.
+        behind_it (take_connective a) (λ u. R.conjunction d u >>= λ y. R.or_more d (tree.either p y.0) y.1) (ReadsMore (Or d) p a) x e
+        (λ u is e.
         let t = taken Disjunction a u or is in
         behind_it (R.conjunction d u) (λ y. R.or_more d (tree.either p y.0) y.1) (ReadsMore (Or d) p a) x e (λ y is e.
         let one = h.conjunction d u y (few_of a u t.states few) is in
@@ -344,7 +383,8 @@ module _ (mentions : List Mention) (names : Names) (locks : List Bool) (bodies :
         (λ none e. at_last (p, a) (ReadsMore (Or d) p a) x e
         (record { spelled = λ before symbols spelled. spelled; counted = refl; few = few; sized = refl }))
 
-    conjunction_sound : (d : ℕ) (a : Asked) (x : Found) → AllFew a.states → (by names locks R).conjunction d a ≡ Some x → ReadsPart (And d) a x
+    conjunction_sound : (d : ℕ) (a : Asked) (x : Found) → AllFew a.states → (by names locks R).conjunction d a ≡ Some x
+        → ReadsPart (And d) a x
     conjunction_sound d a x few e =
         behind_it (R.negation d a) (λ y. R.and_more d y.0 y.1) (ReadsPart (And d) a) x e (λ y is e.
         let one = h.negation d a y few is in
@@ -356,12 +396,15 @@ module _ (mentions : List Mention) (names : Names) (locks : List Bool) (bodies :
           sized = two.sized ∙ one.sized;
         })
 
-    and_more_sound : (d : ℕ) (p : tree.Proposition) (a : Asked) (x : Found) → AllFew a.states → (by names locks R).and_more d p a ≡ Some x → ReadsMore (And d) p a x
+    and_more_sound : (d : ℕ) (p : tree.Proposition) (a : Asked) (x : Found) → AllFew a.states → (by names locks R).and_more d p a ≡ Some x
+        → ReadsMore (And d) p a x
     and_more_sound d p a x few e =
-        either_way (is_sign Conjunction (first a.symbols)) (take_connective a >>= λ u. R.negation d u >>= λ y. R.and_more d (tree.both p y.0) y.1) (Some (p, a))
+        either_way (is_sign Conjunction (first a.symbols)) (take_connective a >>= λ u. R.negation d u >>= λ y. R.and_more d
+        (tree.both p y.0) y.1) (Some (p, a))
         (ReadsMore (And d) p a) x e
         (λ and e.
-        behind_it (take_connective a) (λ u. R.negation d u >>= λ y. R.and_more d (tree.both p y.0) y.1) (ReadsMore (And d) p a) x e (λ u is e.
+        behind_it (take_connective a) (λ u. R.negation d u >>= λ y. R.and_more d (tree.both p y.0) y.1) (ReadsMore (And d) p a) x e
+        (λ u is e.
         let t = taken Conjunction a u and is in
         behind_it (R.negation d u) (λ y. R.and_more d (tree.both p y.0) y.1) (ReadsMore (And d) p a) x e (λ y is e.
         let one = h.negation d u y (few_of a u t.states few) is in
@@ -386,8 +429,10 @@ module _ (mentions : List Mention) (names : Names) (locks : List Bool) (bodies :
         at_last (tree.negation y.0, y.1) (ReadsPart (Not d) a) x e
         (let one = h.negation d u y (few_of a u t.states few) is in
         record {
-          spelled = subst (λ (l : List Symbol). Not d (seen a.states bodies) l (tree.negation y.0) y.1.symbols (seen y.1.states bodies)) (sym t.next)
-              (grammar.not (subst (λ (s : List State). Not d (seen s bodies) u.symbols y.0 y.1.symbols (seen y.1.states bodies)) t.states one.spelled));
+          spelled = subst (λ (l : List Symbol). Not d (seen a.states bodies) l (tree.negation y.0) y.1.symbols (seen y.1.states bodies))
+              (sym t.next)
+              (grammar.not (subst (λ (s : List State). Not d (seen s bodies) u.symbols y.0 y.1.symbols
+              (seen y.1.states bodies)) t.states one.spelled));
           counted = omega (arith, one.counted, t.counted);
           few = one.few;
           sized = one.sized ∙ ap (λ (s : List State). length s) t.states;
@@ -396,16 +441,19 @@ module _ (mentions : List Mention) (names : Names) (locks : List Bool) (bodies :
     inside_sound : (d : ℕ) (a : Asked) (x : Found) → AllFew a.states → is_sign OpenParen (first a.symbols) ≡ true → d < 16
         → inside_by R d (asked_past a) ≡ Some x → ReadsPart (Not d) a x
     inside_sound d a x few opens lt e =
-        behind_it (R.disjunction (d + 1) (asked_past a)) (λ y. take_sign CloseParen y.1.symbols >>= λ l. Some (y.0, asked_behind y.1 l)) (ReadsPart (Not d) a) x e (λ y is e.
+        behind_it (R.disjunction (d + 1) (asked_past a)) (λ y. take_sign CloseParen y.1.symbols >>= λ l. Some (y.0, asked_behind y.1 l))
+        (ReadsPart (Not d) a) x e (λ y is e.
         behind_it (take_sign CloseParen y.1.symbols) (λ l. Some (y.0, asked_behind y.1 l)) (ReadsPart (Not d) a) x e (λ l closes e.
         at_last (y.0, asked_behind y.1 l) (ReadsPart (Not d) a) x e
         (let one = h.disjunction (d + 1) (asked_past a) y few is in
         let deeper : d + 1 ≡ suc d = omega arith in
-        let inside = subst (λ (n : ℕ). Or n (seen a.states bodies) (others a.symbols) y.0 y.1.symbols (seen y.1.states bodies)) deeper one.spelled in
+        let inside = subst (λ (n : ℕ). Or n (seen a.states bodies) (others a.symbols) y.0 y.1.symbols
+        (seen y.1.states bodies)) deeper one.spelled in
         record {
           spelled = subst (λ (j : List Symbol). Not d (seen a.states bodies) j y.0 l (seen y.1.states bodies))
               (sym (front a.symbols (sign OpenParen) (is_sign_is OpenParen (first a.symbols) opens) (λ never. cc)))
-              (grammar.parenthesized lt (subst (λ (j : List Symbol). Or (suc d) (seen a.states bodies) (others a.symbols) y.0 j (seen y.1.states bodies))
+              (grammar.parenthesized lt (subst (λ (j : List Symbol). Or (suc d) (seen a.states bodies) (others a.symbols) y.0 j
+              (seen y.1.states bodies))
               (sign_taken CloseParen y.1.symbols l closes) inside));
           counted = one.counted;
           few = one.few;
@@ -415,10 +463,12 @@ module _ (mentions : List Mention) (names : Names) (locks : List Bool) (bodies :
     negation_sound : (d : ℕ) (a : Asked) (x : Found) → AllFew a.states → (by names locks R).negation d a ≡ Some x → ReadsPart (Not d) a x
     negation_sound d a x few e =
         either_way (is_sign Tilde (first a.symbols)) (take_connective a >>= λ u. R.negation d u >>= λ y. Some (tree.negation y.0, y.1))
-        (cond (is_sign OpenParen (first a.symbols)) (cond (nat_lt d 16) (inside_by R d (asked_past a)) None) (atom_at names locks a)) (ReadsPart (Not d) a) x e
+        (cond (is_sign OpenParen (first a.symbols)) (cond (nat_lt d 16) (inside_by R d (asked_past a)) None) (atom_at names locks a))
+        (ReadsPart (Not d) a) x e
         (λ denied e. denied_sound d a x few denied e)
         (λ plain e.
-        either_way (is_sign OpenParen (first a.symbols)) (cond (nat_lt d 16) (inside_by R d (asked_past a)) None) (atom_at names locks a) (ReadsPart (Not d) a) x e
+        either_way (is_sign OpenParen (first a.symbols)) (cond (nat_lt d 16) (inside_by R d (asked_past a)) None) (atom_at names locks a)
+        (ReadsPart (Not d) a) x e
         (λ opens e.
         either_way (nat_lt d 16) (inside_by R d (asked_past a)) None (ReadsPart (Not d) a) x e
         (λ below e. inside_sound d a x few opens (ltb-true d 16 below) e)
@@ -460,7 +510,8 @@ module _ (mentions : List Mention) (names : Names) (locks : List Bool) (bodies :
   nothing_left [] none = refl
   nothing_left (s ∷ symbols) none = absurd (omega arith)
 
-  pub whole_reads : (symbols : List Symbol) (states : List State) (x : tree.Proposition × List State) → AllFew states → whole_at names locks symbols states ≡ Some x
+  pub whole_reads : (symbols : List Symbol) (states : List State) (x : tree.Proposition × List State) → AllFew states
+      → whole_at names locks symbols states ≡ Some x
       → ReadsWhole (record { symbols = symbols; states = states; operators = 256 }) x
   unfolding whole_at disjunction_at
   whole_reads symbols states x few e =

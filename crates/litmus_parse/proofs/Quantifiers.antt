@@ -30,26 +30,32 @@ exists_taken symbols rest e =
 abbrev Spelled : List Symbol → Quantifier × List Symbol → Type 0
 Spelled symbols y = Quantifies symbols y.0 y.1
 
-pub quantifier_spelled : (symbols : List Symbol) (x : Quantifier × List Symbol) → quantifier_at symbols ≡ Some x → Quantifies symbols x.0 x.1
+pub quantifier_spelled : (symbols : List Symbol) (x : Quantifier × List Symbol) → quantifier_at symbols ≡ Some x
+    → Quantifies symbols x.0 x.1
 unfolding quantifier_at
 quantifier_spelled symbols x e =
     either_way (is_forall (first symbols)) (Some (Forall, others symbols))
-    (cond (is_sign Tilde (first symbols)) (take_exists (others symbols) >>= λ l. Some (NotExists, l)) (take_exists symbols >>= λ l. Some (Exists, l)))
+    (cond (is_sign Tilde (first symbols)) (take_exists (others symbols) >>= λ l. Some (NotExists, l))
+    (take_exists symbols >>= λ l. Some (Exists, l)))
     (Spelled symbols) x e
     (λ is e. at_last (Forall, others symbols) (Spelled symbols) x e
-    (subst (λ (l : List Symbol). Quantifies l Forall (others symbols)) (sym (front symbols (word words.Forall) (forall_is (first symbols) is) (λ never. cc)))
+    (subst (λ (l : List Symbol). Quantifies l Forall (others symbols))
+    (sym (front symbols (word words.Forall) (forall_is (first symbols) is) (λ never. cc)))
     grammar.for_all))
     (λ none e.
-    either_way (is_sign Tilde (first symbols)) (take_exists (others symbols) >>= λ l. Some (NotExists, l)) (take_exists symbols >>= λ l. Some (Exists, l))
+    either_way (is_sign Tilde (first symbols)) (take_exists (others symbols) >>= λ l. Some (NotExists, l))
+    (take_exists symbols >>= λ l. Some (Exists, l))
     (Spelled symbols) x e
     (λ denied e.
     behind_it (take_exists (others symbols)) (λ l. Some (NotExists, l)) (Spelled symbols) x e (λ l is e.
-    let whole : symbols ≡ sign Tilde ∷ word words.Exists ∷ l = front symbols (sign Tilde) (is_sign_is Tilde (first symbols) denied) (λ never. cc)
+    let whole : symbols ≡ sign Tilde ∷ word words.Exists ∷ l = front symbols (sign Tilde) (is_sign_is Tilde (first symbols) denied)
+    (λ never. cc)
     ∙ ap (λ (j : List Symbol). sign Tilde ∷ j) (exists_taken (others symbols) l is) in
     at_last (NotExists, l) (Spelled symbols) x e (subst (λ (j : List Symbol). Quantifies j NotExists l) (sym whole) grammar.not_exists)))
     (λ plain e.
     behind_it (take_exists symbols) (λ l. Some (Exists, l)) (Spelled symbols) x e (λ l is e.
-    at_last (Exists, l) (Spelled symbols) x e (subst (λ (j : List Symbol). Quantifies j Exists l) (sym (exists_taken symbols l is)) grammar.exists))))
+    at_last (Exists, l) (Spelled symbols) x e (subst (λ (j : List Symbol). Quantifies j Exists l)
+    (sym (exists_taken symbols l is)) grammar.exists))))
 
 pub quantifier_read : {symbols rest : List Symbol} {quantifier : Quantifier} → Quantifies symbols quantifier rest
     → quantifier_at symbols ≡ Some (quantifier, rest)

@@ -1,5 +1,5 @@
 -- A text that is read is spelled so, with its head.
-use Rattle.std.proofs.Common.{◌≡◌, ◌∙◌, ◌≤◌, ◌<◌, ℕ, List, [], ◌∷◌, Some, length, map, get_or, refl, sym, ap, subst, arith}
+use Rattle.std.proofs.Common.{◌≡◌, ◌∙◌, ◌≤◌, ℕ, List, [], ◌∷◌, Some, length, map, refl, sym, ap, subst}
 use Rattle.std.specs.Prelude.{All, Err, IfOk, Ok, Result}
 use Rattle.litmus_syntax.specs.Views.{program_of}
 use Rattle.litmus_syntax.specs.declared.program.Program.{Program}
@@ -45,7 +45,8 @@ spots_symbols (s ∷ spots) (t ∷ found) are =
 bodies_keep : (p : tree.Program) → KeepsLimits p → All (λ (t : tree.Task). BodyKeepsLimits t.body) p.tasks
 bodies_keep p keeps = λ k d lt. (keeps.each_task k d lt).body
 
-pub text_is_spelled : (text : List ℕ) (place : Place) (name : List ℕ) (spots : List Spot) (p : tree.Program) → length text ≤ file_bytes → All IsTextByte text
+pub text_is_spelled : (text : List ℕ) (place : Place) (name : List ℕ) (spots : List Spot) (p : tree.Program) → length text ≤ file_bytes
+    → All IsTextByte text
     → place.part ≡ Init → IsHead text name place.at → AreTokensFrom text place spots → ((found : List Placed) × AreSpots spots found)
     → program_at name (map symbol_of_spot spots) ≡ Some p → KeepsLimits p → SpellsProgram text p
 text_is_spelled text place name spots p size bytes init head are found read keeps =
@@ -69,6 +70,7 @@ pub result_is_spelled : (text : List ℕ) (place : Place) (title name : List ℕ
     → IfOk result (λ p. program_at name (map symbol_of_spot left) ≡ Some (program_of p)) → IfOk result (λ p. KeepsLimits (program_of p))
     → IfOk result (λ p. SpellsProgram text (program_of p))
 result_is_spelled text place title name spots left (Ok p) size bytes init head are found named stand reads keeps =
-    text_is_spelled text place name spots (program_of p) size bytes init (subst (λ (n : List ℕ). IsHead text n place.at) (sym named) head) are found
+    text_is_spelled text place name spots (program_of p) size bytes init
+    (subst (λ (n : List ℕ). IsHead text n place.at) (sym named) head) are found
     (subst (λ (l : List Spot). program_at name (map symbol_of_spot l) ≡ Some (program_of p)) stand reads) keeps
 result_is_spelled text place title name spots left (Err refusal) size bytes init head are found named stand reads keeps = tt

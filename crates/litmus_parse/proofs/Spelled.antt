@@ -1,16 +1,10 @@
 -- What is read before the condition is spelled so.
-use Rattle.std.proofs.Common.{inl, inr, ◌≡◌, ◌≢◌, ◌⊎◌, ◌∙◌, ◌+◌, ◌++◌, ◌<◌, ◌≤◌, ◌==◌, ℕ, zero, suc, List, [], ◌∷◌, Bool, true, false, cond, Option, Some, None, length, map, refl, sym, ap, subst, append_assoc, arith}
-use Rattle.std.specs.Prelude.{Contains, slice_get}
-use Rattle.std.proofs.lemmas.Bool.{eqb-true}
-use Rattle.litmus_lex.specs.declared.sign.Sign.TheVariants.{OpenBrace, CloseBrace, OpenParen, CloseParen, Comma, Semicolon, Star}
-use Rattle.litmus_cursor.specs.declared.words.VariableType.{VariableType}
-use Rattle.litmus_cursor.specs.declared.words.Word.TheVariants as words
+use Rattle.std.proofs.Common.{◌≡◌, ◌∙◌, ℕ, zero, suc, List, [], ◌∷◌, Bool, true, false, cond, Option, Some, None, length, refl, sym, ap}
+use Rattle.std.proofs.Common.{subst}
+use Rattle.litmus_lex.specs.declared.sign.Sign.TheVariants.{OpenBrace, CloseBrace, Semicolon}
 use Rattle.litmus_cursor.specs.Front.{◌>>=◌, first, is_sign, others, take_sign}
-use Rattle.litmus_cursor.specs.Words.{Symbol, word, identifier, sign}
-use Rattle.litmus_expression.specs.NameReader.{index_of}
-use Rattle.litmus_expression.specs.Names.{Names, Numbered, Parameter, known, new}
-use Rattle.litmus_expression.proofs.Fewer.{at_last, behind_it, either_way}
-use Rattle.litmus_expression.proofs.Named.{among, found_at, in_front, in_none, in_rest, index_there}
+use Rattle.litmus_cursor.specs.Words.{Symbol, sign}
+use Rattle.litmus_expression.proofs.Fewer.{behind_it}
 use Rattle.litmus_expression.proofs.Taken.{front, is_sign_is, same_given, sign_taken}
 use Rattle.litmus_parse.specs.Entries.{Entry}
 use Rattle.litmus_parse.specs.Headers as grammar
@@ -18,13 +12,10 @@ use Rattle.litmus_parse.specs.Headers.{Item, Items, Listed, Parameters, mention_
 use Rattle.litmus_parse.specs.ItemReader.{Heading, behind_item, initialization_at, item_at, items_at, items_by, past}
 use Rattle.litmus_parse.specs.Mentions as mentions
 use Rattle.litmus_parse.specs.Mentions.{AreNumbered, Mention}
-use Rattle.litmus_parse.specs.ParameterReader.{behind_paren, behind_parameter, has_variable, listed_at, listed_by, parameter_at, parameters_at}
 use Rattle.litmus_parse.specs.Told.{all_told, told_of}
-use Rattle.litmus_parse.specs.Turns.{Turn, again, done, going, turned}
+use Rattle.litmus_parse.specs.Turns.{again, done, going, turned}
 use Rattle.litmus_parse.proofs.Items.{ReadsItem, item_read}
-use Rattle.litmus_parse.proofs.Parameters.{ReadsParameter, parameter_read}
 use Rattle.litmus_parse.proofs.Tidy.{Tells, Tidy, entry_in, noted_tells}
-use Rattle.litmus_parse.proofs.Unrolled.{Listing, left, left_listed}
 
 pub not_both : (b : Bool) → b ≡ true → b ≡ false → ⊥
 not_both b e f = cc
@@ -50,7 +41,8 @@ pub record ReadsItems (h u : Heading) : Type 0 where
   pub numbered : AreNumbered h.names mentions u.names
   pub said : Said mentions h u
 
-pub one_told : (m : Mention) (later : List Mention) (name : List ℕ) (e f g : Entry) → told_of name m e ≡ Some f → all_told later name f ≡ Some g
+pub one_told : (m : Mention) (later : List Mention) (name : List ℕ) (e f g : Entry) → told_of name m e ≡ Some f → all_told later name f
+    ≡ Some g
     → all_told (m ∷ later) name e ≡ Some g
 one_told m later name e f g one rest = ap (λ (o : Option Entry). o >>= λ k. all_told later name k) one ∙ rest
 
@@ -73,7 +65,8 @@ module _ (h u : Heading) (r : ReadsItem h u) (tidy : Tidy h.names h.table) where
     numbered = mentions.more tells_it.numbered mentions.none;
     said = record {
       tidy = tells_it.tidy;
-      tells = λ name. one_told r.mention [] name (entry_in h.names h.table name) (entry_in u.names u.table name) (entry_in u.names u.table name) (tells_it.tells name) refl;
+      tells = λ name. one_told r.mention [] name (entry_in h.names h.table name) (entry_in u.names u.table name)
+          (entry_in u.names u.table name) (tells_it.tells name) refl;
     };
   }
 
@@ -84,7 +77,8 @@ module _ (h u : Heading) (r : ReadsItem h u) (tidy : Tidy h.names h.table) where
     numbered = mentions.more tells_it.numbered later.numbered;
     said = record {
       tidy = later.said.tidy;
-      tells = λ name. one_told r.mention later.mentions name (entry_in h.names h.table name) (entry_in u.names u.table name) (entry_in w.names w.table name)
+      tells = λ name. one_told r.mention later.mentions name (entry_in h.names h.table name) (entry_in u.names u.table name)
+          (entry_in w.names w.table name)
           (tells_it.tells name) (later.said.tells name);
     };
   }
@@ -92,11 +86,13 @@ module _ (h u : Heading) (r : ReadsItem h u) (tidy : Tidy h.names h.table) where
   closed_items : (f : ℕ) (w : Heading) (o : Option (List Symbol)) → take_sign CloseBrace u.symbols ≡ o
       → ((o >>= λ l. Some (done (at_symbols u l))) >>= λ t. turned (going items_by f) t) ≡ Some w → ReadsItems h w
   closed_items f w None is e = absurd cc
-  closed_items f w (Some l) is e = subst (λ (x : Heading). ReadsItems h x) (same_given (at_symbols u l) w e) (last_item l (sign_taken CloseBrace u.symbols l is))
+  closed_items f w (Some l) is e = subst (λ (x : Heading). ReadsItems h x) (same_given (at_symbols u l) w e)
+      (last_item l (sign_taken CloseBrace u.symbols l is))
 
   items_behind : (f : ℕ) (w : Heading) → (Tidy u.names u.table → going items_by f (past u) ≡ Some w → ReadsItems (past u) w)
       → (b : Bool) → is_sign Semicolon (first u.symbols) ≡ b
-      → (cond b (Some (again (past u))) (take_sign CloseBrace u.symbols >>= λ l. Some (done (at_symbols u l))) >>= λ t. turned (going items_by f) t) ≡ Some w
+      → (cond b (Some (again (past u))) (take_sign CloseBrace u.symbols >>= λ l. Some (done (at_symbols u l))) >>= λ t. turned
+      (going items_by f) t) ≡ Some w
       → ReadsItems h w
   items_behind f w later true is e =
       more_items w (front u.symbols (sign Semicolon) (is_sign_is Semicolon (first u.symbols) is) (λ never. cc)) (later tells_it.tidy e)
@@ -110,7 +106,8 @@ items_from : (f : ℕ) (h w : Heading) → Tidy h.names h.table
 items_from f h w tidy later true is o read e =
     subst (λ (x : Heading). ReadsItems h x) (same_given (past h) w e) (record {
       mentions = [];
-      spelled = subst (λ (l : List Symbol). Items l [] (others h.symbols)) (sym (front h.symbols (sign CloseBrace) (is_sign_is CloseBrace (first h.symbols) is) (λ never. cc)))
+      spelled = subst (λ (l : List Symbol). Items l [] (others h.symbols))
+          (sym (front h.symbols (sign CloseBrace) (is_sign_is CloseBrace (first h.symbols) is) (λ never. cc)))
           grammar.none;
       numbered = mentions.none;
       said = nothing_said h (others h.symbols) tidy;

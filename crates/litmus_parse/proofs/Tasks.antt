@@ -1,5 +1,6 @@
 -- One more task is made.
-use Rattle.std.proofs.Common.{◌≡◌, ◌∙◌, ◌++◌, ◌+◌, ◌-◌, ◌<◌, ◌≤◌, ℕ, zero, suc, List, [], ◌∷◌, Vec, Global, drop, get_or, length, map, refl, sym, ap, subst, take, arith}
+use Rattle.std.proofs.Common.{◌≡◌, ◌∙◌, ◌++◌, ◌+◌, ◌-◌, ◌<◌, ◌≤◌, ℕ, zero, suc, List, [], ◌∷◌, Vec, Global, drop, get_or, length, map, refl}
+use Rattle.std.proofs.Common.{sym, ap, subst, take, arith}
 use Rattle.std.specs.Prelude.{remove}
 use Rattle.litmus_syntax.specs.Tree as tree
 use Rattle.litmus_syntax.specs.Views as views
@@ -7,7 +8,7 @@ use Rattle.litmus_syntax.specs.Views.{block_of}
 use Rattle.litmus_syntax.specs.declared.program.Task.{Task}
 use Rattle.litmus_syntax.specs.declared.statement.Statement.{Statement}
 use Rattle.litmus_expression.specs.declared.process.Process.{Process}
-use Rattle.litmus_expression.specs.States.{State, state_of}
+use Rattle.litmus_expression.specs.States.{state_of}
 use Rattle.litmus_parse.specs.Grammar.{task_of}
 use Rattle.litmus_parse.specs.ProcessReader.{process_of, seen}
 use Rattle.litmus_parse.specs.TextReader.{bodies_of}
@@ -17,11 +18,13 @@ pub first_body : (bs : List (Vec Statement Global)) (b : Vec Statement Global) �
 first_body [] b some is = absurd (omega arith)
 first_body (a ∷ bs) b some is = ap (λ (c : Vec Statement Global). block_of c.items ∷ bodies_of bs) (sym is)
 
-more : (ts : List Task) (t : Task) (later : List tree.Task) → map views.task_of (ts ++ t ∷ []) ++ later ≡ map views.task_of ts ++ (views.task_of t ∷ later)
+more : (ts : List Task) (t : Task) (later : List tree.Task) → map views.task_of (ts ++ t ∷ []) ++ later
+    ≡ map views.task_of ts ++ (views.task_of t ∷ later)
 more [] t later = refl
 more (u ∷ ts) t later = ap (λ (l : List tree.Task). views.task_of u ∷ l) (more ts t later)
 
-pub one_task : (ts : List Task) (t : Task) (p : Process) (ps : List Process) (bs : List (Vec Statement Global)) (b : Vec Statement Global) (whole : List tree.Task)
+pub one_task : (ts : List Task) (t : Task) (p : Process) (ps : List Process) (bs : List (Vec Statement Global)) (b : Vec Statement Global)
+    (whole : List tree.Task)
     → 0 < length bs → b ≡ get_or bs 0 b → views.task_of t ≡ task_of (process_of (state_of p) (block_of b.items))
     → map views.task_of ts ++ map task_of (seen (map state_of (p ∷ ps)) (bodies_of bs)) ≡ whole
     → map views.task_of (ts ++ t ∷ []) ++ map task_of (seen (map state_of ps) (bodies_of (remove bs 0))) ≡ whole
@@ -45,15 +48,20 @@ rest_of (y ∷ xs) x some is =
     ap (λ (z : _). z ∷ xs) (sym is)
     ∙ ap (λ (l : List _). x ∷ l) (sym (take_whole xs (length (y ∷ xs) - 1) (omega arith)))
 
-pub rest_sized : {A : Type 0} (xs : List A) (n m : ℕ) → length xs ≡ n → 1 ≤ length xs → m + 1 ≡ n → length (take (length xs - 1) (drop 1 xs)) ≡ m
+pub rest_sized : {A : Type 0} (xs : List A) (n m : ℕ) → length xs ≡ n → 1 ≤ length xs → m + 1 ≡ n
+    → length (take (length xs - 1) (drop 1 xs)) ≡ m
 rest_sized [] n m sized some fewer = absurd (omega arith)
 rest_sized (y ∷ xs) n m sized some fewer =
     ap (λ (l : List _). length l) (take_whole xs (length (y ∷ xs) - 1) (omega arith)) ∙ omega arith
 
-pub next_task : (ts : List Task) (t : Task) (ps : List Process) (p : Process) (bs : List (Vec Statement Global)) (b : Vec Statement Global) (whole : List tree.Task)
-    → 1 ≤ length ps → p ≡ get_or ps 0 p → 0 < length bs → b ≡ get_or bs 0 b → views.task_of t ≡ task_of (process_of (state_of p) (block_of b.items))
+pub next_task : (ts : List Task) (t : Task) (ps : List Process) (p : Process) (bs : List (Vec Statement Global)) (b : Vec Statement Global)
+    (whole : List tree.Task)
+    → 1 ≤ length ps → p ≡ get_or ps 0 p → 0 < length bs → b ≡ get_or bs 0 b → views.task_of t
+    ≡ task_of (process_of (state_of p) (block_of b.items))
     → map views.task_of ts ++ map task_of (seen (map state_of ps) (bodies_of bs)) ≡ whole
-    → map views.task_of (ts ++ t ∷ []) ++ map task_of (seen (map state_of (take (length ps - 1) (drop 1 ps))) (bodies_of (remove bs 0))) ≡ whole
+    → map views.task_of (ts ++ t ∷ []) ++ map task_of (seen (map state_of (take (length ps - 1) (drop 1 ps))) (bodies_of (remove bs 0)))
+    ≡ whole
 next_task ts t ps p bs b whole some_process first_is some is made so_far =
     one_task ts t p (take (length ps - 1) (drop 1 ps)) bs b whole some is made
-    (subst (λ (l : List Process). map views.task_of ts ++ map task_of (seen (map state_of l) (bodies_of bs)) ≡ whole) (rest_of ps p some_process first_is) so_far)
+    (subst (λ (l : List Process). map views.task_of ts ++ map task_of (seen (map state_of l) (bodies_of bs)) ≡ whole)
+    (rest_of ps p some_process first_is) so_far)

@@ -1,23 +1,21 @@
 -- What is read as a text behind its head is spelled so.
-use Rattle.std.proofs.Common.{◌≡◌, ◌≢◌, ◌∙◌, ◌+◌, ◌++◌, ◌<◌, ◌≤◌, ℕ, zero, suc, List, [], ◌∷◌, Bool, true, false, cond, get_or, Option, Some, None, length, map, refl, sym, ap, subst, arith}
+use Rattle.std.proofs.Common.{◌≡◌, ◌∙◌, ◌++◌, ℕ, zero, suc, List, [], ◌∷◌, Bool, true, false, cond, get_or, Option, Some, length, map, refl}
+use Rattle.std.proofs.Common.{sym, ap, subst, arith}
 use Rattle.std.specs.Prelude.{All, flat_map, slice_get, unwrap_or}
 use Rattle.std.proofs.lemmas.List.{length-map}
-use Rattle.litmus_lex.specs.declared.sign.Sign.TheVariants.{OpenBrace}
 use Rattle.litmus_syntax.specs.Limits.{BodyKeepsLimits}
 use Rattle.litmus_syntax.specs.Tree as tree
-use Rattle.litmus_syntax.specs.declared.program.Variable.{Variable}
 use Rattle.litmus_syntax.specs.declared.proposition.Quantifier.{Quantifier}
 use Rattle.litmus_cursor.specs.declared.words.VariableType.{VariableType}
-use Rattle.litmus_cursor.specs.declared.words.VariableType.TheVariants.{Int, Lock}
+use Rattle.litmus_cursor.specs.declared.words.VariableType.TheVariants.{Int}
 use Rattle.litmus_cursor.specs.Front.{◌>>=◌}
-use Rattle.litmus_cursor.specs.Words.{Symbol, sign}
-use Rattle.litmus_expression.specs.NameReader.{index_of}
+use Rattle.litmus_cursor.specs.Words.{Symbol}
 use Rattle.litmus_expression.specs.Names.{Names, Parameter}
 use Rattle.litmus_expression.specs.States.{State}
 use Rattle.litmus_expression.proofs.Fewer.{at_last, behind_it, unless_it}
 use Rattle.litmus_expression.proofs.Named.{found_at, in_none, nowhere}
 use Rattle.litmus_parse.specs.ConditionReader.{quantifier_at}
-use Rattle.litmus_parse.specs.Conditions.{Disjoined, IsKnown, Quantifies}
+use Rattle.litmus_parse.specs.Conditions.{Disjoined, IsKnown}
 use Rattle.litmus_parse.specs.Entries.{Entry, fresh, has_two_types}
 use Rattle.litmus_parse.specs.Grammar.{Grammar, mentions_of, said_by, task_of}
 use Rattle.litmus_parse.specs.Headers as headers
@@ -27,13 +25,14 @@ use Rattle.litmus_parse.specs.Mentions as mentions
 use Rattle.litmus_parse.specs.Mentions.{AreDeclared, AreNumbered, Mention, contents_of}
 use Rattle.litmus_parse.specs.ProcessReader.{Course, process_of, processes_at, seen, unbegun}
 use Rattle.litmus_parse.specs.PropositionReader.{whole_at}
-use Rattle.litmus_parse.specs.TextReader.{condition_at, ended, has_contradiction, is_lock_entry, locks_in, program_at, variable_in, variables_in}
+use Rattle.litmus_parse.specs.TextReader.{condition_at, ended, has_contradiction, is_lock_entry, locks_in, program_at, variable_in}
+use Rattle.litmus_parse.specs.TextReader.{variables_in}
 use Rattle.litmus_parse.specs.Told.{all_told}
 use Rattle.litmus_parse.specs.VariableReader.{is_lock_type}
 use Rattle.litmus_parse.proofs.Known as known
 use Rattle.litmus_parse.proofs.Known.{AreItems, AreParameters, has_type, lock_is, not_both, value_is}
 use Rattle.litmus_parse.proofs.Processes.{AllKeep, Pair, Reads, SomeProcesses, body, proc, processes_read, seen_is, state, told_both}
-use Rattle.litmus_parse.proofs.PropositionSound.{AllFew, ReadsWhole, whole_reads}
+use Rattle.litmus_parse.proofs.PropositionSound.{AllFew, whole_reads}
 use Rattle.litmus_parse.proofs.Quantifiers.{quantifier_spelled}
 use Rattle.litmus_parse.proofs.Spelled.{ReadsBlock, initialization_read}
 use Rattle.litmus_parse.proofs.Tidy.{Tidy, entry_at, entry_in}
@@ -105,7 +104,8 @@ module _ (items : List Mention) (processes : List Process) (are : AreItems items
   all_declared (name ∷ names) [] sized peace is = absurd (omega arith)
   all_declared (name ∷ names) (e ∷ table) sized peace is =
       mentions.more (declared_as name e (is zero name refl) (first_false (has_two_types e) (has_contradiction table) peace))
-      (all_declared names table (omega arith) (rest_false (has_two_types e) (has_contradiction table) peace) (λ k other there. is (suc k) other there))
+      (all_declared names table (omega arith) (rest_false (has_two_types e) (has_contradiction table) peace)
+      (λ k other there. is (suc k) other there))
 
   is_known : (names : Names) (table : List Entry) → has_contradiction table ≡ false
       → ((k : ℕ) (name : List ℕ) → slice_get names k ≡ Some name → Known name (get_or table k fresh))
@@ -116,7 +116,8 @@ module _ (items : List Mention) (processes : List Process) (are : AreItems items
         type = unwrap_or e.type Int;
         stands = there;
         typed = has_type said name e (ended_at name e (is v name there)) (peace_at table v peace);
-        no_lock = λ lock. not_both (is_lock_entry e) (ap (λ (o : Option VariableType). is_lock_type o) (lock_is e.type lock)) (sym (locks_at table v) ∙ no_lock);
+        no_lock = λ lock. not_both (is_lock_entry e) (ap (λ (o : Option VariableType). is_lock_type o) (lock_is e.type lock))
+            (sym (locks_at table v) ∙ no_lock);
       }
 
 -- ---- bodies keep the limits
@@ -142,7 +143,8 @@ tidy_at_first = record { differ = tt; few = omega arith; sized = refl }
 unknown : (name : List ℕ) → entry_in [] [] name ≡ fresh
 unknown name = ap (λ (o : Option ℕ). entry_at [] o) (nowhere [] name (in_none name))
 
-module _ (name : List ℕ) (symbols : List Symbol) (h : Heading) (b : ReadsBlock (unnamed symbols) h) (c : Course) (later : List Pair) (r : Reads (unbegun h) later c) where
+module _ (name : List ℕ) (symbols : List Symbol) (h : Heading) (b : ReadsBlock (unnamed symbols) h) (c : Course) (later : List Pair)
+    (r : Reads (unbegun h) later c) where
   abbrev processes : List Process
   processes = map proc later
 
@@ -158,7 +160,8 @@ module _ (name : List ℕ) (symbols : List Symbol) (h : Heading) (b : ReadsBlock
       (subst (λ (e : Entry). all_told b.items.mentions nm e ≡ Some (entry_in h.names h.table nm)) (unknown nm) (b.items.said.tells nm))
       (r.said.tells nm)
 
-  told_at : (k : ℕ) (nm : List ℕ) → slice_get names k ≡ Some nm → all_told (said_by b.items.mentions processes) nm fresh ≡ Some (get_or table k fresh)
+  told_at : (k : ℕ) (nm : List ℕ) → slice_get names k ≡ Some nm → all_told (said_by b.items.mentions processes) nm fresh
+      ≡ Some (get_or table k fresh)
   told_at k nm there =
       told_in_all nm ∙ ap (λ (o : Option ℕ). Some (entry_at table o)) (found_at names nm k r.said.tidy.differ there)
 
@@ -166,7 +169,8 @@ module _ (name : List ℕ) (symbols : List Symbol) (h : Heading) (b : ReadsBlock
   course_seen =
       ap (λ (l : List State). seen l c.bodies) r.states ∙ ap (λ (l : List tree.Block). seen (map state later) l) r.bodies ∙ seen_is later
 
-  text_spelled : (q : Quantifier × List Symbol) (x : tree.Proposition × List State) → quantifier_at c.heading.symbols ≡ Some q → has_contradiction table ≡ false
+  text_spelled : (q : Quantifier × List Symbol) (x : tree.Proposition × List State) → quantifier_at c.heading.symbols ≡ Some q
+      → has_contradiction table ≡ false
       → whole_at names (locks_in table) q.1 c.states ≡ Some x
       → All (λ (t : tree.Task). BodyKeepsLimits t.body) (map task_of (seen x.1 c.bodies))
       → Grammar symbols (record {
@@ -200,7 +204,8 @@ module _ (name : List ℕ) (symbols : List Symbol) (h : Heading) (b : ReadsBlock
         numbered = b.items.numbered;
         bodies = some_processes (unbegun h) c later (r.some refl) (r.spelled keeps);
         quantifier = quantifier_spelled c.heading.symbols q quantified;
-        condition = subst (λ (ps : List Process). Disjoined (said_by b.items.mentions processes) names 0 ps q.1 x.0 [] (seen x.1 c.bodies)) course_seen w.spelled;
+        condition = subst (λ (ps : List Process). Disjoined (said_by b.items.mentions processes) names 0 ps q.1 x.0 []
+            (seen x.1 c.bodies)) course_seen w.spelled;
         operators = w.counted;
         declared = all_declared b.items.mentions processes are names table r.said.tidy.sized peace told_at;
         tasks = refl;
@@ -212,11 +217,14 @@ Spelled name symbols p = All (λ (t : tree.Task). BodyKeepsLimits t.body) p.task
 pub text_read : (name : List ℕ) (symbols : List Symbol) (p : tree.Program) → program_at name symbols ≡ Some p → Spelled name symbols p
 unfolding program_at
 text_read name symbols p e =
-    behind_it (initialization_at (unnamed symbols)) (λ h. processes_at (unbegun h) >>= λ c. condition_at name c) (Spelled name symbols) p e (λ h begins e.
+    behind_it (initialization_at (unnamed symbols)) (λ h. processes_at (unbegun h) >>= λ c. condition_at name c) (Spelled name symbols) p e
+    (λ h begins e.
     behind_it (processes_at (unbegun h)) (λ c. condition_at name c) (Spelled name symbols) p e (λ c follows e.
-    behind_it (quantifier_at c.heading.symbols) (λ q. whole_at c.heading.names (locks_in c.heading.table) q.1 c.states >>= λ x. ended name c q.0 x)
+    behind_it (quantifier_at c.heading.symbols) (λ q. whole_at c.heading.names
+    (locks_in c.heading.table) q.1 c.states >>= λ x. ended name c q.0 x)
     (Spelled name symbols) p e (λ q quantified e.
-    behind_it (whole_at c.heading.names (locks_in c.heading.table) q.1 c.states) (λ x. ended name c q.0 x) (Spelled name symbols) p e (λ x asked e.
+    behind_it (whole_at c.heading.names (locks_in c.heading.table) q.1 c.states) (λ x. ended name c q.0 x) (Spelled name symbols) p e
+    (λ x asked e.
     unless_it (has_contradiction c.heading.table) (Some (record {
       name = name;
       variables = variables_in c.heading.names c.heading.table;

@@ -1,21 +1,20 @@
 -- A mention changes what is known of its variable, and of no other.
-use Rattle.std.proofs.Common.{inl, inr, ◌≡◌, ◌≢◌, ◌∙◌, ◌+◌, ◌++◌, ◌<◌, ◌≤◌, ◌==◌, ℕ, zero, suc, List, [], ◌∷◌, Bool, true, false, cond, get_or, Option, Some, None, length, refl, sym, ap, subst, arith}
+use Rattle.std.proofs.Common.{inl, inr, ◌≡◌, ◌≢◌, ◌∙◌, ◌++◌, ◌<◌, ◌≤◌, ℕ, zero, suc, List, [], ◌∷◌, Bool, true, false, cond, get_or, Option}
+use Rattle.std.proofs.Common.{Some, None, length, refl, sym, ap, subst, arith}
 use Rattle.std.specs.Prelude.{Contains, set, slice_get}
 use Rattle.std.proofs.lemmas.Bool.{cases_lt}
 use Rattle.std.proofs.lemmas.List.{get_or-set_other, get_or-set_same, get_or_append_left, length-append, length-set}
-use Rattle.std.proofs.lemmas.Option.{get_or_from_slice_get, slice_get-get_or, slice_get_within}
+use Rattle.std.proofs.lemmas.Option.{slice_get-get_or, slice_get_within}
 use Rattle.litmus_cursor.specs.Front.{◌>>=◌}
 use Rattle.litmus_cursor.specs.Words.{is_same}
 use Rattle.litmus_expression.specs.Followed.{Differ}
 use Rattle.litmus_expression.specs.NameReader.{index_of}
 use Rattle.litmus_expression.specs.Names.{Names, Numbered, known, new}
-use Rattle.litmus_expression.proofs.Fewer.{at_last, unless_it}
-use Rattle.litmus_expression.proofs.Named.{differ_more, found_at, index_nowhere, index_there, is_itself, nowhere, same_name}
+use Rattle.litmus_expression.proofs.Named.{differ_more, found_at, index_there, is_itself, nowhere, same_name}
 use Rattle.litmus_expression.proofs.Taken.{same_given}
 use Rattle.litmus_parse.specs.Entries.{Entry, changed, changed_from, fresh, grown}
 use Rattle.litmus_parse.specs.Mentions.{Mention}
-use Rattle.litmus_parse.specs.Told.{Noted, all_told, told, told_of}
-use Rattle.litmus_parse.specs.VariableReader.{number_at, numbered_with}
+use Rattle.litmus_parse.specs.Told.{Noted, told, told_of}
 use Rattle.litmus_parse.proofs.Numbers.{number_spelled}
 
 -- names and a table that belong together
@@ -47,7 +46,8 @@ index_within names name n is = slice_get_within names n name (index_there names 
 abbrev Same : Names → List Entry → Names → List Entry → List ℕ → Type 0
 Same names table later after other = entry_in later after other ≡ entry_in names table other
 
-known_grows : (names : Names) (table : List Entry) (name : List ℕ) (n : ℕ) → Tidy names table → index_of names name ≡ Some n → Grows names table name n names
+known_grows : (names : Names) (table : List Entry) (name : List ℕ) (n : ℕ) → Tidy names table → index_of names name ≡ Some n
+    → Grows names table name n names
 known_grows names table name n tidy is =
     let stays : grown table (index_of names name) ≡ table = ap (λ (o : Option ℕ). grown table o) is in
     let lt = index_within names name n is in
@@ -121,7 +121,8 @@ module _ (names : Names) (table : List Entry) (name : List ℕ) (tidy : Tidy nam
             ∙ unchanged_from other (index_of names other) (index_of (names ++ name ∷ []) other) refl refl;
       }
 
-pub numbered_grows : (names : Names) (table : List Entry) (name : List ℕ) (n : ℕ) (later : Names) → Tidy names table → Numbered 32 names name n later
+pub numbered_grows : (names : Names) (table : List Entry) (name : List ℕ) (n : ℕ) (later : Names) → Tidy names table
+    → Numbered 32 names name n later
     → Grows names table name n later
 numbered_grows names table name n later tidy (known there) = known_grows names table name n tidy (found_at names name n tidy.differ there)
 numbered_grows names table name n later tidy (new out lt) = new_grows names table name tidy out lt
@@ -134,7 +135,8 @@ not_both b e f = cc
 -- what a change of one name's entry means
 abbrev pub Changes : (Entry → Option Entry) → List ℕ → Names → List Entry → List Entry → Type 0
 Changes f name names table after =
-    (other : List ℕ) → cond (is_same name other) (f (entry_in names table other)) (Some (entry_in names table other)) ≡ Some (entry_in names after other)
+    (other : List ℕ) → cond (is_same name other) (f (entry_in names table other)) (Some (entry_in names table other))
+    ≡ Some (entry_in names after other)
 
 module _ (f : Entry → Option Entry) (names : Names) (table after : List Entry) (name : List ℕ) (n : ℕ) (differ : Differ names)
     (found : index_of names name ≡ Some n) (within : n < length table) (is : changed f table n ≡ Some after) where
@@ -143,7 +145,8 @@ module _ (f : Entry → Option Entry) (names : Names) (table after : List Entry)
 
   made : (o : Option Entry) → f (get_or table n fresh) ≡ o → (o >>= λ g. Some (set table n g)) ≡ Some after
   unfolding changed
-  made o e = ap (λ (p : Option Entry). p >>= λ g. Some (set table n g)) (sym e) ∙ ap (λ (p : Option Entry). changed_from f table n p) (sym here) ∙ is
+  made o e = ap (λ (p : Option Entry). p >>= λ g. Some (set table n g)) (sym e)
+      ∙ ap (λ (p : Option Entry). changed_from f table n p) (sym here) ∙ is
 
   -- the entry that is put in its place
   put_from : (o : Option Entry) → f (get_or table n fresh) ≡ o → (g : Entry) × (f (get_or table n fresh) ≡ Some g) × (set table n g ≡ after)
@@ -176,7 +179,8 @@ module _ (f : Entry → Option Entry) (names : Names) (table after : List Entry)
       elsewhere : (o : Option ℕ) → index_of names other ≡ o → entry_at table (index_of names other) ≡ entry_at after (index_of names other)
       elsewhere None none = ap (λ (o : Option ℕ). entry_at table o) none ∙ ap (λ (o : Option ℕ). entry_at after o) (sym none)
       elsewhere (Some k) at =
-          let differs : k ≢ n = λ same. not_both (is_same name other) (ap (λ (m : List ℕ). is_same name m) (sym (names_meet other k at same)) ∙ is_itself name) differs_here in
+          let differs : k ≢ n = λ same. not_both (is_same name other)
+          (ap (λ (m : List ℕ). is_same name m) (sym (names_meet other k at same)) ∙ is_itself name) differs_here in
           ap (λ (o : Option ℕ). entry_at table o) at
           ∙ sym (get_or-set_other table n k put.0 fresh differs)
           ∙ ap (λ (t : List Entry). get_or t k fresh) put.2
@@ -195,7 +199,8 @@ pub record Tells (m : Mention) (names : Names) (table : List Entry) (n : ℕ) (l
   pub found : index_of later m.name ≡ Some n
   pub tells : (name : List ℕ) → told_of name m (entry_in names table name) ≡ Some (entry_in later after name)
 
-pub noted_tells : (m : Mention) (names later : Names) (table after : List Entry) (noted : Noted m names table later after) → Tidy names table
+pub noted_tells : (m : Mention) (names later : Names) (table after : List Entry) (noted : Noted m names table later after)
+    → Tidy names table
     → Tells m names table noted.number later after
 noted_tells m names later table after noted tidy =
     let numbered = number_spelled names m.name (noted.number, later) tidy.few noted.numbered in

@@ -1,16 +1,15 @@
 -- Readers of lists are given by their parts, and each part takes symbols.
-use Rattle.std.proofs.Common.{◌≡◌, ℕ, suc, ◌<◌, ◌≤◌, ◌++◌, List, [], ◌∷◌, map, refl, Bool, true, false, cond, Option, Some, None, length, ap, sym, subst, arith}
+use Rattle.std.proofs.Common.{◌≡◌, ℕ, ◌<◌, ◌≤◌, ◌++◌, List, [], ◌∷◌, map, refl, Some, length, ap, arith}
 use Rattle.litmus_lex.specs.declared.sign.Sign.TheVariants.{CloseBrace, CloseParen, Comma, Semicolon}
 use Rattle.litmus_cursor.specs.Front.{◌>>=◌, first, is_sign, others, take_sign}
-use Rattle.litmus_cursor.specs.Words.{Symbol, sign}
+use Rattle.litmus_cursor.specs.Words.{Symbol}
 use Rattle.litmus_expression.specs.Names.{Parameter}
 use Rattle.litmus_expression.specs.States.{parameter_of}
 use Rattle.litmus_expression.specs.declared.process.Parameter as coded
 use Rattle.litmus_expression.proofs.Fewer.{at_last, behind_it, either_way}
-use Rattle.litmus_expression.proofs.Taken.{front, is_sign_is, same_given, sign_fewer}
 use Rattle.litmus_parse.specs.ItemReader.{Heading, behind_item, item_at, items_at, items_by, past}
 use Rattle.litmus_parse.specs.ParameterReader.{behind_parameter, listed_at, listed_by, parameter_at}
-use Rattle.litmus_parse.specs.Turns.{Turn, again, done, going, turned}
+use Rattle.litmus_parse.specs.Turns.{Turn, again, done, turned}
 use Rattle.litmus_parse.proofs.Going.{going_unrolls}
 use Rattle.litmus_parse.proofs.Items.{item_fewer, item_read}
 use Rattle.litmus_parse.proofs.Parameters.{parameter_fewer, parameter_read}
@@ -35,7 +34,8 @@ items_go h t e =
     behind_it (item_at h) (λ u. behind_item u) (Goes h) t e (λ u is e.
     let lt = item_fewer (item_read h u is).spelled in
     let le = others_at_most u.symbols in
-    either_way (is_sign Semicolon (first u.symbols)) (Some (again (past u))) (take_sign CloseBrace u.symbols >>= λ l. Some (done (record u { symbols = l })))
+    either_way (is_sign Semicolon (first u.symbols)) (Some (again (past u)))
+    (take_sign CloseBrace u.symbols >>= λ l. Some (done (record u { symbols = l })))
     (Goes h) t e
     (λ more e. at_last (again (past u)) (Goes h) t e (omega arith))
     (λ last e. behind_it (take_sign CloseBrace u.symbols) (λ l. Some (done (record u { symbols = l }))) (Goes h) t e (λ l closed e.
@@ -69,7 +69,8 @@ listed_goes x t e =
     (take_sign CloseParen p.1.symbols >>= λ l. Some (done (x.0 ++ p.0 ∷ [], record p.1 { symbols = l })))
     (GoesListed x) t e
     (λ more e. at_last (again (x.0 ++ p.0 ∷ [], past p.1)) (GoesListed x) t e (omega arith))
-    (λ last e. behind_it (take_sign CloseParen p.1.symbols) (λ l. Some (done (x.0 ++ p.0 ∷ [], record p.1 { symbols = l }))) (GoesListed x) t e (λ l closed e.
+    (λ last e. behind_it (take_sign CloseParen p.1.symbols) (λ l. Some (done (x.0 ++ p.0 ∷ [], record p.1 { symbols = l })))
+    (GoesListed x) t e (λ l closed e.
     at_last (done (x.0 ++ p.0 ∷ [], record p.1 { symbols = l })) (GoesListed x) t e tt)))
 
 pub listed_short : (x y : Listing) → listed_by x ≡ Some (again y) → left_listed y < left_listed x
@@ -80,7 +81,8 @@ unfolding listed_at
 listed_unroll x = going_unrolls left_listed listed_by listed_short x
 
 -- one more parameter
-pub parameters_more : (ps : List coded.Parameter) (p : coded.Parameter) → map parameter_of (ps ++ p ∷ []) ≡ map parameter_of ps ++ parameter_of p ∷ []
+pub parameters_more : (ps : List coded.Parameter) (p : coded.Parameter) → map parameter_of (ps ++ p ∷ [])
+    ≡ map parameter_of ps ++ parameter_of p ∷ []
 parameters_more [] p = refl
 parameters_more (q ∷ ps) p = ap (λ (l : List Parameter). parameter_of q ∷ l) (parameters_more ps p)
 

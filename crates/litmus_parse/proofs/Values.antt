@@ -30,10 +30,12 @@ number_taken symbols x e =
 pub signed_spelled : (symbols : List Symbol) (x : ℕ × List Symbol) → take_signed symbols ≡ Some x → Signed symbols x.0 x.1
 unfolding take_signed
 signed_spelled symbols x e =
-    either_way (is_sign Minus (first symbols)) (take_number (others symbols) >>= λ n. Some ((2 ^ 64 - n.0) % 2 ^ 64, n.1)) (take_number symbols)
+    either_way (is_sign Minus (first symbols)) (take_number (others symbols) >>= λ n. Some ((2 ^ 64 - n.0) % 2 ^ 64, n.1))
+    (take_number symbols)
     (λ (y : ℕ × List Symbol). Signed symbols y.0 y.1) x e
     (λ minus e.
-    behind_it (take_number (others symbols)) (λ n. Some ((2 ^ 64 - n.0) % 2 ^ 64, n.1)) (λ (y : ℕ × List Symbol). Signed symbols y.0 y.1) x e (λ n is e.
+    behind_it (take_number (others symbols)) (λ n. Some ((2 ^ 64 - n.0) % 2 ^ 64, n.1))
+    (λ (y : ℕ × List Symbol). Signed symbols y.0 y.1) x e (λ n is e.
     let whole : symbols ≡ sign Minus ∷ number n.0 ∷ n.1 = front symbols (sign Minus) (is_sign_is Minus (first symbols) minus) (λ never. cc)
     ∙ ap (λ (l : List Symbol). sign Minus ∷ l) (number_taken (others symbols) n is) in
     at_last _ (λ (y : ℕ × List Symbol). Signed symbols y.0 y.1) x e
@@ -51,13 +53,15 @@ atomic_is : (y : Symbol) → is_atomic_init y ≡ true → y ≡ word words.Atom
 atomic_is (word words.AtomicInit) e = refl
 atomic_is _ e = absurd cc
 
-enclosed_spelled : (symbols : List Symbol) (x : ℕ × List Symbol) → first symbols ≡ word words.AtomicInit → enclosed_value (others symbols) ≡ Some x
+enclosed_spelled : (symbols : List Symbol) (x : ℕ × List Symbol) → first symbols ≡ word words.AtomicInit → enclosed_value (others symbols)
+    ≡ Some x
     → Value symbols x.0 x.1
 unfolding enclosed_value
 enclosed_spelled symbols x next e =
     behind_it (take_sign OpenParen (others symbols)) (λ l. take_signed l >>= λ v. take_sign CloseParen v.1 >>= λ m. Some (v.0, m))
     (λ (y : ℕ × List Symbol). Value symbols y.0 y.1) x e (λ l opens e.
-    behind_it (take_signed l) (λ v. take_sign CloseParen v.1 >>= λ m. Some (v.0, m)) (λ (y : ℕ × List Symbol). Value symbols y.0 y.1) x e (λ v is e.
+    behind_it (take_signed l) (λ v. take_sign CloseParen v.1 >>= λ m. Some (v.0, m)) (λ (y : ℕ × List Symbol). Value symbols y.0 y.1) x e
+    (λ v is e.
     behind_it (take_sign CloseParen v.1) (λ m. Some (v.0, m)) (λ (y : ℕ × List Symbol). Value symbols y.0 y.1) x e (λ m closes e.
     let whole : symbols ≡ word words.AtomicInit ∷ sign OpenParen ∷ l = front symbols (word words.AtomicInit) next (λ never. cc)
     ∙ ap (λ (j : List Symbol). word words.AtomicInit ∷ j) (sign_taken OpenParen (others symbols) l opens) in
@@ -68,7 +72,8 @@ enclosed_spelled symbols x next e =
 pub value_spelled : (symbols : List Symbol) (x : ℕ × List Symbol) → value_at symbols ≡ Some x → Value symbols x.0 x.1
 unfolding value_at
 value_spelled symbols x e =
-    either_way (is_atomic_init (first symbols)) (enclosed_value (others symbols)) (take_signed symbols) (λ (y : ℕ × List Symbol). Value symbols y.0 y.1) x e
+    either_way (is_atomic_init (first symbols)) (enclosed_value (others symbols)) (take_signed symbols)
+    (λ (y : ℕ × List Symbol). Value symbols y.0 y.1) x e
     (λ atomic e. enclosed_spelled symbols x (atomic_is (first symbols) atomic) e)
     (λ none e. grammar.plain (signed_spelled symbols x e))
 

@@ -1,5 +1,5 @@
 -- Reading processes: what the parser's functions answer, apart from which refusal it is.
-use Rattle.std.specs.Prelude.{◌==◌, ◌++◌, ℕ, suc, List, [], ◌∷◌, Option, Some, None, Bool, true, false, length, if◌then◌else◌}
+use Rattle.std.specs.Prelude.{◌==◌, ◌++◌, ℕ, suc, List, [], ◌∷◌, Option, Some, None, Bool, false, length, if◌then◌else◌}
 use Rattle.litmus_syntax.specs.Limits.{tasks_limit}
 use Rattle.litmus_syntax.specs.Tree as tree
 use Rattle.litmus_cursor.specs.Front.{◌>>=◌, first, identifier_at}

@@ -1,7 +1,9 @@
 -- Reading propositions: what the parser's functions answer, apart from which refusal it is. As with expressions,
 -- each part is given by how it calls the parts, which are a record of readers, with fuel.
-use Rattle.std.specs.Prelude.{◌==◌, ◌+◌, ◌-◌, ◌*◌, nat_lt, ℕ, zero, suc, List, Option, Some, None, Bool, true, false, length, map, set, slice_get, if◌then◌else◌}
-use Rattle.litmus_lex.specs.declared.sign.Sign.TheVariants.{OpenParen, CloseParen, OpenBracket, CloseBracket, Colon, Tilde, Conjunction, Disjunction}
+use Rattle.std.specs.Prelude.{◌==◌, ◌+◌, ◌-◌, ◌*◌, nat_lt, ℕ, zero, suc, List, Option, Some, None, Bool, true, false, length, map, set}
+use Rattle.std.specs.Prelude.{slice_get, if◌then◌else◌}
+use Rattle.litmus_lex.specs.declared.sign.Sign.TheVariants.{OpenParen, CloseParen, OpenBracket, CloseBracket, Colon, Tilde, Conjunction}
+use Rattle.litmus_lex.specs.declared.sign.Sign.TheVariants.{Disjunction}
 use Rattle.litmus_syntax.specs.Limits.{nesting_limit, operators_limit}
 use Rattle.litmus_syntax.specs.Tree as tree
 use Rattle.litmus_cursor.specs.declared.words.Word.{Word}

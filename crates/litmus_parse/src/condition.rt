@@ -110,7 +110,8 @@ impl<'a> Condition<'a> {
         ensures stays { self.new.declarations ≡ self.old.declarations }
         ensures sized { OnOk result (vec_len self.new.processes ≡ vec_len self.old.processes) }
         ensures reads { Answers result (λ proposition. (proposition_of proposition, asked_of self.new operators.new))
-            (propositions.disjunction_at (names_of self.old.declarations) (locks_of self.old.declarations) depth (asked_of self.old operators.old)) }
+            (propositions.disjunction_at (names_of self.old.declarations) (locks_of self.old.declarations)
+            depth (asked_of self.old operators.old)) }
     {
         let mut left = self.conjunction(depth, operators)?;
         while self.cursor.is_at(Sign::Disjunction) {
@@ -129,7 +130,8 @@ impl<'a> Condition<'a> {
         ensures stays { self.new.declarations ≡ self.old.declarations }
         ensures sized { OnOk result (vec_len self.new.processes ≡ vec_len self.old.processes) }
         ensures reads { Answers result (λ proposition. (proposition_of proposition, asked_of self.new operators.new))
-            (propositions.conjunction_at (names_of self.old.declarations) (locks_of self.old.declarations) depth (asked_of self.old operators.old)) }
+            (propositions.conjunction_at (names_of self.old.declarations) (locks_of self.old.declarations)
+            depth (asked_of self.old operators.old)) }
     {
         let mut left = self.negation(depth, operators)?;
         while self.cursor.is_at(Sign::Conjunction) {
@@ -148,7 +150,8 @@ impl<'a> Condition<'a> {
         ensures stays { self.new.declarations ≡ self.old.declarations }
         ensures sized { OnOk result (vec_len self.new.processes ≡ vec_len self.old.processes) }
         ensures reads { Answers result (λ proposition. (proposition_of proposition, asked_of self.new operators.new))
-            (propositions.negation_at (names_of self.old.declarations) (locks_of self.old.declarations) depth (asked_of self.old operators.old)) }
+            (propositions.negation_at (names_of self.old.declarations) (locks_of self.old.declarations)
+            depth (asked_of self.old operators.old)) }
     {
         if self.cursor.is_at(Sign::Tilde) {
             self.take_operator(operators)?;
@@ -174,7 +177,8 @@ impl<'a> Condition<'a> {
         ensures moves { OnOk result (count_left self.new.cursor < count_left self.old.cursor) }
         ensures stays { self.new.declarations ≡ self.old.declarations }
         ensures sized { OnOk result (vec_len self.new.processes ≡ vec_len self.old.processes) }
-        ensures reads { Answers result (λ _. asked_of self.new operators.new) (propositions.take_connective (asked_of self.old operators.old)) }
+        ensures reads { Answers result (λ _. asked_of self.new operators.new)
+            (propositions.take_connective (asked_of self.old operators.old)) }
     {
         if *operators == 0 {
             return Err(Refusal::Limit(Excess::Operators));
@@ -191,7 +195,8 @@ impl<'a> Condition<'a> {
         ensures stays { self.new.declarations ≡ self.old.declarations }
         ensures sized { OnOk result (vec_len self.new.processes ≡ vec_len self.old.processes) }
         ensures reads { Answers result (λ proposition. (proposition_of proposition, asked_of self.new operators))
-            (propositions.atom_at (names_of self.old.declarations) (locks_of self.old.declarations) (asked_of self.old operators)) }
+            (propositions.atom_at (names_of self.old.declarations) (locks_of self.old.declarations)
+            (asked_of self.old operators)) }
     {
         if is_at_true(&self.cursor) {
             self.cursor.advance();
@@ -219,7 +224,8 @@ impl<'a> Condition<'a> {
         ensures stays { self.new.declarations ≡ self.old.declarations }
         ensures sized { OnOk result (vec_len self.new.processes ≡ vec_len self.old.processes) }
         ensures reads { Answers result (λ proposition. (proposition_of proposition, asked_of self.new operators))
-            (propositions.variable_atom (names_of self.old.declarations) (locks_of self.old.declarations) is_bracketed (asked_of self.old operators)) }
+            (propositions.variable_atom (names_of self.old.declarations) (locks_of self.old.declarations)
+            is_bracketed (asked_of self.old operators)) }
     {
         let variable = self.variable()?;
         if is_bracketed {
@@ -301,7 +307,8 @@ impl<'a> Condition<'a> {
         ensures moves { OnOk result (count_left self.new.cursor < count_left self.old.cursor) }
         ensures stays { self.new.declarations ≡ self.old.declarations }
         ensures processes { self.new.processes ≡ self.old.processes }
-        ensures reads { Answers result (λ value. (value, symbols_left self.new.cursor)) (reader.given_value (symbols_left self.old.cursor)) }
+        ensures reads { Answers result (λ value. (value, symbols_left self.new.cursor))
+            (reader.given_value (symbols_left self.old.cursor)) }
     {
         self.cursor.take(Sign::Assign)?;
         self.cursor.take_signed_number()

@@ -99,7 +99,8 @@ fn limit_of(excess: Excess) -> Limit
 /// Reads the whole text, from left to right.
 fn read(alloc: Global, text: &[u8]) -> Result<Program, Refusal>
     ensures keeps_limits { IfOk result (λ program. KeepsLimits (program_of program)) }
-    ensures spelled { length text.now ≤ file_bytes → All IsTextByte text.now → IfOk result (λ program. SpellsProgram text.now (program_of program)) }
+    ensures spelled { length text.now ≤ file_bytes → All IsTextByte text.now
+        → IfOk result (λ program. SpellsProgram text.now (program_of program)) }
 {
     let head = match read_head(text) {
         Ok(head) => head,

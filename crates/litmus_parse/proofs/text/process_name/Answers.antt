@@ -1,5 +1,5 @@
 -- Each name is that of its number.
-use Rattle.std.proofs.Common.{◌≡◌, ℕ, List, [], ◌∷◌, refl, sym, subst, arith}
+use Rattle.std.proofs.Common.{◌≡◌, ℕ, [], ◌∷◌, refl, sym, subst, arith}
 use Rattle.std.specs.Fmt.{digits}
 use Rattle.litmus_parse.specs.Headers.{process_name}
 use Rattle.litmus_parse.proofs.text.process_name.Goals as goal

@@ -1,5 +1,5 @@
 -- Each process takes a token, and what is left to read is what was to be read.
-use Rattle.std.proofs.Common.{◌≡◌, ◌≤◌, length, map}
+use Rattle.std.proofs.Common.{◌≡◌, ◌≤◌, map}
 use Rattle.std.specs.Prelude.{vec_len}
 use Rattle.litmus_syntax.specs.Limits.{tasks_limit}
 use Rattle.litmus_cursor.specs.Cursor.{count_left}

@@ -18,10 +18,12 @@ loop-processes-preserved c =
     let whole : List tree.Task = map task_of (seen (map state_of c.args.processes.now) (bodies_of c.args.bodies.items)) in
     record {
       sized = rest_sized l.processes.now _ _ l.invariant.sized c.in-len1-up.len_at_least c.remove-body.ensures.len;
-      made = subst (λ (ts : List Task). map views.task_of ts ++ map task_of (seen (map state_of (take (length l.processes.now - 1) (drop 1 l.processes.now)))
+      made = subst (λ (ts : List Task). map views.task_of ts ++ map task_of
+          (seen (map state_of (take (length l.processes.now - 1) (drop 1 l.processes.now)))
           (bodies_of c.remove-body.new.self.items)) ≡ whole) (sym c.in_ok-push.ensures.items)
           (subst (λ (bs : List (Vec Statement Global)). map views.task_of (l.tasks.items ++ c.in_ok-task.field-0 ∷ [])
-          ++ map task_of (seen (map state_of (take (length l.processes.now - 1) (drop 1 l.processes.now))) (bodies_of bs)) ≡ whole) (sym c.remove-body.ensures.items)
+          ++ map task_of (seen (map state_of (take (length l.processes.now - 1) (drop 1 l.processes.now))) (bodies_of bs)) ≡ whole)
+          (sym c.remove-body.ensures.items)
           (next_task l.tasks.items c.in_ok-task.field-0 l.processes.now c.process-item.result l.bodies.items c.remove-body.result whole c.in-len1-up.len_at_least
           c.process-item.is some c.remove-body.ensures.value c.in_ok-task.ensures.ok l.invariant.made));
     }

@@ -22,7 +22,8 @@ invariant-conjunction-loop-self l = record {
   stays : l.self.declarations ≡ l.fn.self.declarations;
   sized : vec_len l.self.processes ≡ vec_len l.fn.self.processes;
   reads : conjunction_at (names_of l.fn.self.declarations) (locks_of l.fn.self.declarations) l.depth (asked_of l.fn.self l.fn.operators)
-      ≡ and_more_at (names_of l.fn.self.declarations) (locks_of l.fn.self.declarations) l.depth (proposition_of l.left) (asked_of l.self l.operators);
+      ≡ and_more_at (names_of l.fn.self.declarations) (locks_of l.fn.self.declarations) l.depth (proposition_of l.left)
+      (asked_of l.self l.operators);
 }
 
 abbrev pub decreases-conjunction-loop-self : goal.decreases-conjunction-loop-self
@@ -34,7 +35,8 @@ invariant-disjunction-loop-self l = record {
   stays : l.self.declarations ≡ l.fn.self.declarations;
   sized : vec_len l.self.processes ≡ vec_len l.fn.self.processes;
   reads : disjunction_at (names_of l.fn.self.declarations) (locks_of l.fn.self.declarations) l.depth (asked_of l.fn.self l.fn.operators)
-      ≡ or_more_at (names_of l.fn.self.declarations) (locks_of l.fn.self.declarations) l.depth (proposition_of l.left) (asked_of l.self l.operators);
+      ≡ or_more_at (names_of l.fn.self.declarations) (locks_of l.fn.self.declarations) l.depth (proposition_of l.left)
+      (asked_of l.self l.operators);
 }
 
 abbrev pub decreases-disjunction-loop-self : goal.decreases-disjunction-loop-self

@@ -1,5 +1,5 @@
 -- A process that isn't there has no registers.
-use Rattle.std.proofs.Common.{◌≡◌, ◌≤◌, ℕ, length, map, arith}
+use Rattle.std.proofs.Common.{arith}
 use Rattle.std.proofs.lemmas.List.{length-map}
 use Rattle.litmus_expression.specs.States.{state_of}
 use Rattle.litmus_parse.specs.PropositionReader.{asked_of, asked_past}

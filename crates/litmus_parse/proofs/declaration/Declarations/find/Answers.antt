@@ -11,5 +11,6 @@ use Rattle.litmus_parse.proofs.declaration.Declarations.find.Goals as goal
 pub returns : goal.returns
 unfolding index_of
 returns c =
-    c.find_declared.ensures ∙ ap (λ (ds : List Declared). position (λ (d : Declared). is_same d.name.now c.args.name.now) ds) c.deref.ensures.value
+    c.find_declared.ensures ∙ ap (λ (ds : List Declared). position
+    (λ (d : Declared). is_same d.name.now c.args.name.now) ds) c.deref.ensures.value
     ∙ position_map name_of (λ (other : List ℕ). is_same other c.args.name.now) c.args.self.now.variables.items

@@ -20,8 +20,10 @@ returns-in_err-name_parameter-clause-table c =
     let read = slice_get_read c.deref.result.now _ c.args.number c.in-Some.declared.now refl c.in-Some.ensures.lookup.3.0
     (c.in-Some.ensures.lookup.3.1 c.in-Some.declared.now) in
     let there = subst (λ (ds : List Declared). slice_get ds c.args.number ≡ Some c.in-Some.declared.now) c.deref.ensures.value read in
-    let none : (c.in_err-name_parameter.field-0.0 ≡ OutOfMemory → ⊥) → changed (named_parameter c.args.variable_type) (table_of c.args.self.now) c.args.number
-    ≡ None = λ memory. refused (named_parameter c.args.variable_type) c.args.self.now.variables.items c.args.number c.in-Some.declared.now there
+    let none : (c.in_err-name_parameter.field-0.0 ≡ OutOfMemory → ⊥)
+    → changed (named_parameter c.args.variable_type) (table_of c.args.self.now) c.args.number
+    ≡ None = λ memory. refused
+    (named_parameter c.args.variable_type) c.args.self.now.variables.items c.args.number c.in-Some.declared.now there
     (c.in_err-name_parameter.ensures.names memory) in
     search (none, rules)
 
