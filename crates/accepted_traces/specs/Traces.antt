@@ -1,5 +1,5 @@
 -- What a trace of a run list says.
-use Rattle.std.specs.Prelude.{◌≤◌, ◌*◌, All, List, length}
+use Rattle.std.specs.Prelude.{All, List}
 use Rattle.access_types.specs.Arms.{Arm}
 use Rattle.access_types.specs.Stamped.{Stamped}
 use Rattle.access_types.specs.Takes.{Take}
@@ -10,13 +10,10 @@ use Rattle.run_logs.specs.Lists.{AreAccesses, AreArms, AreTakes}
 use Rattle.slot_table.specs.declared.records.Record.{Record}
 
 -- These are the accesses, the armings and the takings of a run list that are over, one task after the other. The
--- masks have 64 bits, and there are no more of each than a trace may have.
+-- masks have 64 bits.
 pub record AreOf {run : Run} {records : List Record} (list : RunList run records) (accesses : List Stamped)
     (arms : List Arm) (takes : List Take) : Type 0 where
   pub accesses_are : AreAccesses list accesses
   pub arms_are : AreArms list arms
   pub takes_are : AreTakes list takes
   pub masks : All HasLowMask accesses
-  pub few_accesses : length accesses ≤ 16 * 1024
-  pub few_arms : length arms ≤ 16 * 9216
-  pub few_takes : length takes ≤ 16 * 9216

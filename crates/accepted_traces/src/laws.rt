@@ -1,6 +1,6 @@
 //! What is true of the trace of a run.
 
-ghost use Rattle.std.specs.Prelude.{◌≤◌, ◌≡◌, ◌++◌, ◌∷◌, ℕ, All, List};
+ghost use Rattle.std.specs.Prelude.{◌≤◌, ◌≡◌, ◌++◌, ◌∷◌, ℕ, All, List, length};
 ghost use Rattle.access_types.specs.Arms.{Arm};
 ghost use Rattle.access_types.specs.Stamped.{Stamped};
 ghost use Rattle.access_types.specs.Takes.{Take};
@@ -15,12 +15,15 @@ ghost use Rattle.run_lists.specs.Reports.{reports_of};
 ghost use Rattle.run_lists.specs.RunList.{AllHaveEnded, RunList};
 ghost use Rattle.run_logs.specs.Lists.{AreAccesses};
 ghost use Rattle.slot_table.specs.declared.records.Record.{Record};
+ghost use Rattle.trace_replay.specs.Answer.{IsAccepted};
+ghost use Rattle.trace_replay.specs.declared.accepted.Accepted.TheVariants as accepted;
 ghost use Rattle.watch_word.specs.declared.layout.Layout.{Layout};
 
 use litmus_meaning::laws::tickets_have_room;
 use run_bags::laws::{armings_have_their_own_verdicts, the_bags_are_equal};
 use run_bounds::laws::few_are_reported;
 use run_histories::laws::{reports_are_true, unknown_origins_changed};
+use run_lengths::laws::few_are_kept;
 use run_lists::laws::{reports_name_two_sides, run_lists_keep_the_discipline};
 use run_verdicts::laws::{
     answers_are_on_a_watch_and_a_find, records_tell_their_events, verdicts_are_on_watches,
@@ -56,7 +59,8 @@ pub fn accesses_of_runs_fit()
 
 /// Law: once all tasks of a run list have ended its accesses, armings, takings and reports are the parts of one true trace.
 /// So the trace that is written of them is true: each access has its own ticket and stamps, each arming, taking and report
-/// names accesses of the trace that may have made it, and the three tell of the same.
+/// names accesses of the trace that may have made it, and the three tell of the same. It is to be accepted, with as many
+/// lines of each kind as there are accesses, armings, takings and reports.
 pub fn traces_of_ended_runs_are_true()
     ensures parts { (run : Run) (records : List Record) (list : RunList run records) → KeepsLimits run.program
         → 3 ≤ run.rules.slots → run.rules.slots ≤ 1024 → AllHaveEnded run records
@@ -67,6 +71,11 @@ pub fn traces_of_ended_runs_are_true()
         → (accesses : List Stamped) (arms : List Arm) (takes : List Take) → AreOf list accesses arms takes
         → IsTrueTrace (written_trace run.rules.slots run.rules.layout accesses arms takes (reports_of list))
         (second run.rules.slots run.rules.layout) (written_lines accesses arms takes (reports_of list)) }
+    ensures accepted { (run : Run) (records : List Record) (list : RunList run records) → KeepsLimits run.program
+        → 3 ≤ run.rules.slots → run.rules.slots ≤ 1024 → AllHaveEnded run records
+        → (accesses : List Stamped) (arms : List Arm) (takes : List Take) → AreOf list accesses arms takes
+        → IsAccepted (written_trace run.rules.slots run.rules.layout accesses arms takes (reports_of list))
+        (accepted.Second (length accesses) (length arms) (length takes) (length (reports_of list))) }
 {
     parts_make_a_true_trace();
     accesses_of_runs_fit();
@@ -87,4 +96,5 @@ pub fn traces_of_ended_runs_are_true()
     armings_have_their_own_verdicts();
     the_bags_are_equal();
     few_are_reported();
+    few_are_kept();
 }

@@ -1,9 +1,12 @@
 -- part by part
 use Rattle.accepted_traces.proofs.Final.{arm_fits, takes_fit}
 use Rattle.accepted_traces.proofs.Reports.{reports_fit}
+use Rattle.accepted_traces.proofs.Sections.{hold_all}
+use Rattle.report_text.specs.TraceText.{second, written_lines}
+use Rattle.run_lists.specs.Reports.{reports_of}
 use Rattle.litmus_meaning.specs.RunOfProgram.{setting_of}
 use Rattle.run_lists.specs.Run.{first_cells, idle, locks_of, task_of}
-use Rattle.std.proofs.Common.{arith}
+use Rattle.std.proofs.Common.{arith, refl}
 use Rattle.accepted_traces.proofs.laws.traces_of_ended_runs_are_true.Goals as goal
 
 pub returns-clause-parts : goal.returns-clause-parts
@@ -46,9 +49,9 @@ returns-clause-parts c = λ run records list keeps some most ended accesses arms
       takings = takings;
       races = c.the_bags_are_equal.ensures.races run records list arms ended are.arms_are;
       origins = c.the_bags_are_equal.ensures.origins run records list arms ended are.arms_are;
-      few_accesses = are.few_accesses;
-      few_arms = are.few_arms;
-      few_takes = are.few_takes;
+      few_accesses = omega (arith, c.few_are_kept.ensures.accesses run records list accesses keeps are.accesses_are, tasks);
+      few_arms = omega (arith, c.few_are_kept.ensures.arms run records list arms keeps are.arms_are, tasks);
+      few_takes = omega (arith, c.few_are_kept.ensures.takes run records list takes keeps are.takes_are, tasks);
       few_reports = omega (arith, reports, tasks);
     }
 
@@ -56,3 +59,13 @@ pub returns-clause-is_true : goal.returns-clause-is_true
 returns-clause-is_true c = λ run records list keeps some most ended accesses arms takes are.
     c.parts_make_a_true_trace.ensures run.rules.slots run.rules.layout accesses arms takes _
     (returns-clause-parts c run records list keeps some most ended accesses arms takes are)
+
+pub returns-clause-accepted : goal.returns-clause-accepted
+returns-clause-accepted c = λ run records list keeps some most ended accesses arms takes are.
+    let is = hold_all accesses arms takes (reports_of list) in
+    record {
+      head = second run.rules.slots run.rules.layout;
+      all = written_lines accesses arms takes (reports_of list);
+      is_true = returns-clause-is_true c run records list keeps some most ended accesses arms takes are;
+      counts_are = rw (is.accesses_are, is.arms_are, is.takes_are, is.reports_are) refl;
+    }
