@@ -76,7 +76,8 @@ all_of P (x ∷ xs) h =
     (all_of P xs (λ y there. h y (suc there.0, let below : there.0 < length xs = there.1 in omega (arith, below), there.2)))
 
 -- a number that stands nowhere is nobody's
-apart_from : (n : ℕ) (xs : List Meeting) (met : Meeting) → ((j d : ℕ) → j < length (numbers_met xs) → n ≢ slice_index_or (numbers_met xs) j d)
+apart_from : (n : ℕ) (xs : List Meeting) (met : Meeting)
+    → ((j d : ℕ) → j < length (numbers_met xs) → n ≢ slice_index_or (numbers_met xs) j d)
     → Contains xs met → met.number ≢ n
 apart_from n [] met apart there = let none : there.0 < 0 = there.1 in absurd (omega (arith, none))
 apart_from n (x ∷ xs) met apart (zero, below, is) =
@@ -184,7 +185,8 @@ module _ (run : Run) (all : List Record) (list : RunList run all) where
             let its : own worth task (latest ∷ earlier) ≡ 0 + own worth task earlier =
             ap (λ (b : Bool). cond {A = ℕ} b (worth latest earlier) 0 + own worth task earlier) is in omega (arith, rest, verdicts, parts, nothing, its)
 
-  each_verdict : (P : OutcomeAt → Type 0) (task : ℕ) (records : List Record) → Each P (outcomes_by list records) → Each P (verdicts_by list task records)
+  each_verdict : (P : OutcomeAt → Type 0) (task : ℕ) (records : List Record) → Each P (outcomes_by list records)
+      → Each P (verdicts_by list task records)
   each_verdict P task [] h = tt
   each_verdict P task (latest ∷ earlier) h = by_test (each_verdict P task earlier parts.0) (latest.task == task)
     where
@@ -195,14 +197,16 @@ module _ (run : Run) (all : List Record) (list : RunList run all) where
       parts : Each P (outcomes_by list earlier) × Each P (came_next list latest earlier)
       parts = first_of (outcomes_by list earlier) (came_next list latest earlier) h
 
-      by_test : Each P (verdicts_by list task earlier) → (b : Bool) → Each P (verdicts_by list task earlier ++ (if b then filter (λ came. is_verdict came.outcome) (came_next list latest earlier) else []))
+      by_test : Each P (verdicts_by list task earlier) → (b : Bool)
+          → Each P (verdicts_by list task earlier ++ (if b then filter (λ came. is_verdict came.outcome) (came_next list latest earlier) else []))
       by_test rest true =
           each_both P (verdicts_by list task earlier) (filter (λ (came : OutcomeAt). is_verdict came.outcome) (came_next list latest earlier))
           rest (each_left P (λ (came : OutcomeAt). is_verdict came.outcome) (came_next list latest earlier) parts.1)
       by_test rest false = each_both P (verdicts_by list task earlier) [] rest tt
 
   -- armings, each with its verdict
-  matched_sum : (P : OutcomeAt → Type 0) (u : Arm → ℕ) (w : OutcomeAt → ℕ) → ((arm : Arm) (verdict : OutcomeAt) → Suits all arm verdict → P verdict → u arm ≡ w verdict)
+  matched_sum : (P : OutcomeAt → Type 0) (u : Arm → ℕ) (w : OutcomeAt → ℕ)
+      → ((arm : Arm) (verdict : OutcomeAt) → Suits all arm verdict → P verdict → u arm ≡ w verdict)
       → (arms : List Arm) (verdicts : List OutcomeAt) → Match all arms verdicts → Each P verdicts → sum_by u arms ≡ sum_by w verdicts
   matched_sum P u w same [] [] match_so each = refl
   matched_sum P u w same [] (verdict ∷ verdicts) match_so each = absurd match_so
@@ -236,7 +240,8 @@ module _ (run : Run) (all : List Record) (list : RunList run all) where
     abbrev Others : (OutcomeAt → ℕ) → Type 0
     Others w = (c : OutcomeAt) → is_verdict c.outcome ≡ false → w c ≡ 0
 
-    arms_by_task : (u : Arm → ℕ) (w : OutcomeAt → ℕ) → Same u w → (none : Others w) → (tasks : ℕ) (arms : List Arm) → ByTask (AreArmsOf list) tasks arms
+    arms_by_task : (u : Arm → ℕ) (w : OutcomeAt → ℕ) → Same u w → (none : Others w) → (tasks : ℕ) (arms : List Arm)
+        → ByTask (AreArmsOf list) tasks arms
         → sum_by u arms ≡ by_task run all list (worth w none) (λ task. sum_by w (verdicts_by list task all)) tasks
     arms_by_task u w same none zero arms are = ap (λ (l : List Arm). sum_by u l) are
     arms_by_task u w same none (suc task) arms are =
@@ -246,7 +251,8 @@ module _ (run : Run) (all : List Record) (list : RunList run all) where
         let own_so = matched_sum (IfAnswer list) u w same are.1 (verdicts_by list task all) (match_of task are.1 are.4)
         (each_verdict (IfAnswer list) task all each_answer) in omega (arith, rest, split, both, own_so)
 
-    arms_sum : (u : Arm → ℕ) (w : OutcomeAt → ℕ) → Same u w → Others w → (arms : List Arm) → ByTask (AreArmsOf list) (length run.program.tasks) arms
+    arms_sum : (u : Arm → ℕ) (w : OutcomeAt → ℕ) → Same u w → Others w → (arms : List Arm)
+        → ByTask (AreArmsOf list) (length run.program.tasks) arms
         → sum_by u arms ≡ sum_by w (outcomes_of list)
     arms_sum u w same none arms are =
         arms_by_task u w same none (length run.program.tasks) arms are
@@ -262,7 +268,8 @@ module _ (run : Run) (all : List Record) (list : RunList run all) where
         let now = with_one (reported c.access c.outcome) (filter_map (λ (d : OutcomeAt). reported d.access d.outcome) came) in
         let one = sum_by-cons (λ (d : OutcomeAt). count_by p (flat_map f (option_to_list (reported d.access d.outcome)))) c came in omega (arith, rest, now, one)
       where
-        with_one : (o : Option Report) (l : List Report) → count_by p (flat_map f (cons_option o l)) ≡ count_by p (flat_map f (option_to_list o)) + count_by p (flat_map f l)
+        with_one : (o : Option Report) (l : List Report)
+            → count_by p (flat_map f (cons_option o l)) ≡ count_by p (flat_map f (option_to_list o)) + count_by p (flat_map f l)
         with_one None l = omega arith
         with_one (Some r) l =
             let all_so : count_by p (flat_map f (r ∷ l)) ≡ count_by p (f r ++ flat_map f l) = ap (λ (k : List X). count_by p k) (flat_map-cons f r l) in
@@ -296,7 +303,8 @@ module _ (run : Run) (all : List Record) (list : RunList run all) where
       abbrev races_at : Pair → OutcomeAt → ℕ
       races_at x c = count_by (is_pair x) (flat_map race_in (option_to_list (reported c.access c.outcome)))
 
-      no_pair : (x : Pair) (setter finder : ℕ) (reason : Reason) → count_by (is_pair x) (pair_in setter (became_as.Hit finder (dropped reason))) ≡ 0
+      no_pair : (x : Pair) (setter finder : ℕ) (reason : Reason)
+          → count_by (is_pair x) (pair_in setter (became_as.Hit finder (dropped reason))) ≡ 0
       no_pair x setter finder Encoding = refl
       no_pair x setter finder SameValue = refl
       no_pair x setter finder MaskedBits = refl
@@ -304,7 +312,8 @@ module _ (run : Run) (all : List Record) (list : RunList run all) where
       pairs_same : (x : Pair) → Same (pairs_at x) (races_at x)
       pairs_same x arm verdict suits answers_so = by_outcome verdict.outcome refl suits.became
         where
-          by_outcome : (o : Outcome) → verdict.outcome ≡ o → Became all arm.index suits.number arm.setter o arm.outcome → pairs_at x arm ≡ races_at x verdict
+          by_outcome : (o : Outcome) → verdict.outcome ≡ o → Became all arm.index suits.number arm.setter o arm.outcome
+              → pairs_at x arm ≡ races_at x verdict
           by_outcome outcomes.Quiet is became =
               ap (λ (a : ArmOutcome). count_by (is_pair x) (pair_in arm.setter a)) became
               ∙ sym (ap (λ (o : Outcome). count_by (is_pair x) (flat_map race_in (option_to_list (reported verdict.access o)))) is)
@@ -360,7 +369,8 @@ module _ (run : Run) (all : List Record) (list : RunList run all) where
       origins_same : (x : ℕ) → Same (origins_at x) (unknowns_at x)
       origins_same x arm verdict suits answers_so = by_outcome verdict.outcome refl suits.became
         where
-          by_outcome : (o : Outcome) → verdict.outcome ≡ o → Became all arm.index suits.number arm.setter o arm.outcome → origins_at x arm ≡ unknowns_at x verdict
+          by_outcome : (o : Outcome) → verdict.outcome ≡ o → Became all arm.index suits.number arm.setter o arm.outcome
+              → origins_at x arm ≡ unknowns_at x verdict
           by_outcome outcomes.Quiet is became =
               ap (λ (a : ArmOutcome). count_by (λ (m : ℕ). x == m) (origin_of arm.setter a)) became
               ∙ sym (ap (λ (o : Outcome). count_by (λ (m : ℕ). x == m) (flat_map unknown_in (option_to_list (reported verdict.access o)))) is)
@@ -419,7 +429,8 @@ module _ (run : Run) (all : List Record) (list : RunList run all) where
       and_false false = refl
 
       -- the one taking that an answer is to
-      hit_same : (x : Take) (arm : Arm) (verdict : OutcomeAt) (suits : Suits all arm verdict) (result : HitResult) → is_answer verdict.outcome ≡ true
+      hit_same : (x : Take) (arm : Arm) (verdict : OutcomeAt) (suits : Suits all arm verdict) (result : HitResult)
+          → is_answer verdict.outcome ≡ true
           → IsHit all arm.index suits.number arm.setter result arm.outcome → hits_at x arm ≡ takes_at x verdict
       hit_same x arm verdict suits result is hit =
           let met : Meeting = record { index = arm.index; number = suits.number; setter = arm.setter; finder = hit.finder } in
@@ -443,7 +454,8 @@ module _ (run : Run) (all : List Record) (list : RunList run all) where
       hits_same : (x : Take) → Same (hits_at x) (takes_at x)
       hits_same x arm verdict suits answers_so = by_outcome verdict.outcome refl suits.became
         where
-          by_outcome : (o : Outcome) → verdict.outcome ≡ o → Became all arm.index suits.number arm.setter o arm.outcome → hits_at x arm ≡ takes_at x verdict
+          by_outcome : (o : Outcome) → verdict.outcome ≡ o → Became all arm.index suits.number arm.setter o arm.outcome
+              → hits_at x arm ≡ takes_at x verdict
           by_outcome outcomes.Quiet is became =
               ap (λ (a : ArmOutcome). count_by (is_take x) (hit_in arm.setter arm.index a)) became ∙ sym (no_answer x verdict (ap is_answer is))
           by_outcome (outcomes.Unknown old new) is became =
@@ -511,13 +523,15 @@ module _ (run : Run) (all : List Record) (list : RunList run all) where
           told_one x index ticket (last_arming_number index earlier) (heard index (records_of task earlier)) before
       told_step x task step earlier before = omega arith
 
-      told_total : (x : Take) (records : List Record) → total (told_worth x) records ≡ count_by (λ (m : Meeting). is_take x (take_of m)) (finders_told records)
+      told_total : (x : Take) (records : List Record)
+          → total (told_worth x) records ≡ count_by (λ (m : Meeting). is_take x (take_of m)) (finders_told records)
       told_total x [] = refl
       told_total x (latest ∷ earlier) =
           let rest = told_total x earlier in
           let now = told_step x latest.task latest.step earlier (finders_told earlier) in omega (arith, rest, now)
 
-      told_own : (x : Take) (task : ℕ) (records : List Record) → count_by (is_take x) (takes_by task records) ≡ own (told_worth x) task records
+      told_own : (x : Take) (task : ℕ) (records : List Record)
+          → count_by (is_take x) (takes_by task records) ≡ own (told_worth x) task records
       told_own x task [] = refl
       told_own x task (latest ∷ earlier) = by_test (latest.task == task) (told_own x task earlier)
         where
@@ -541,7 +555,8 @@ module _ (run : Run) (all : List Record) (list : RunList run all) where
           omega (arith, rest, split, both, own_so)
 
       pub takings : All (λ (met : Meeting). HasOneAnswer list met.index met.number) (finders_told all) → (arms : List Arm)
-          → ByTask (AreArmsOf list) (length run.program.tasks) arms → (takes : List Take) → ByTask (AreTakesOf list) (length run.program.tasks) takes → (x : Take)
+          → ByTask (AreArmsOf list) (length run.program.tasks) arms → (takes : List Take)
+          → ByTask (AreTakesOf list) (length run.program.tasks) takes → (x : Take)
           → count_by (is_take x) (hits_in arms) ≡ count_by (is_take x) takes
       takings once arms are takes taken x =
           let each = each_of (λ (met : Meeting). HasOneAnswer list met.index met.number) (finders_told all)

@@ -77,7 +77,8 @@ module _ (run : Run) (all : List Record) (list : RunList run all) (rules : Keeps
   rules_before (latest ∷ later) earlier kept =
       rules_before later earlier (keeps_before run.rules.slots (locks_of run) (first_cells run) latest (later ++ earlier) kept)
 
-  told_in_all : (later earlier : List Record) (came : OutcomeAt) → Contains (outcomes_by list earlier) came → Contains (outcomes_by list (later ++ earlier)) came
+  told_in_all : (later earlier : List Record) (came : OutcomeAt) → Contains (outcomes_by list earlier) came
+      → Contains (outcomes_by list (later ++ earlier)) came
   told_in_all [] earlier came there = there
   told_in_all (latest ∷ later) earlier came there =
       Contains-append_left (outcomes_by list (later ++ earlier)) (came_next list latest (later ++ earlier)) came (told_in_all later earlier came there)
@@ -92,7 +93,8 @@ module _ (run : Run) (all : List Record) (list : RunList run all) (rules : Keeps
     pub says : SaysOf (records_of task records) (verdicts_by list task records) arms (λ index. number_made task index records) kept
 
   -- one more record of another task
-  of_another : (task : ℕ) (latest : Record) (earlier : List Record) (arms : List Arm) → (latest.task == task) ≡ false → Paired task earlier arms
+  of_another : (task : ℕ) (latest : Record) (earlier : List Record) (arms : List Arm) → (latest.task == task) ≡ false
+      → Paired task earlier arms
       → Paired task (latest ∷ earlier) arms
   of_another task latest earlier arms others paired =
       let same : records_of task (latest ∷ earlier) ≡ records_of task earlier = rw others refl in
@@ -172,7 +174,8 @@ module _ (run : Run) (all : List Record) (list : RunList run all) (rules : Keeps
 
     -- no verdict falls
     quietly : NoVerdict (outcomes_in here) → ((index : ℕ) → latest.step ≡ steps.Consume index → latest.answer ≢ answers.Flag true)
-        → Unanswered (in_hand own) latest.step latest.answer (outcomes_in here) → ((index : ℕ) → latest.step ≢ steps.Remove index) → Paired task with_it arms
+        → Unanswered (in_hand own) latest.step latest.answer (outcomes_in here) → ((index : ℕ) → latest.step ≢ steps.Remove index)
+        → Paired task with_it arms
     quietly none consumes un never =
         let verdicts : verdicts_by list task with_it ≡ verdicts_by list task earlier =
         verdicts_are ∙ (ap (λ (l : List OutcomeAt). verdicts_by list task earlier ++ l) (no_verdicts (length earlier) arming here none)
@@ -185,7 +188,8 @@ module _ (run : Run) (all : List Record) (list : RunList run all) (rules : Keeps
         }))
 
     -- the verdict on an access's watch names it
-    named_so : (fallen : Fallen) → here ≡ fallen ∷ [] → is_verdict fallen.outcome ≡ true → last_name (latest ∷ own) ≡ Some (ticket_number fallen.access)
+    named_so : (fallen : Fallen) → here ≡ fallen ∷ [] → is_verdict fallen.outcome ≡ true
+        → last_name (latest ∷ own) ≡ Some (ticket_number fallen.access)
     named_so fallen one verdict =
         let came : OutcomeAt = outcome_at (length earlier) arming fallen in
         let next : came_next list latest earlier ≡ came ∷ [] = next_is ∙ ap (λ (l : List Fallen). map (outcome_at (length earlier) arming) l) one in
@@ -305,13 +309,15 @@ module _ (run : Run) (all : List Record) (list : RunList run all) (rules : Keeps
         (record { verdicts = it.1; arms = arms; name = last_name (latest ∷ own); made = λ i. number_made task i with_it; kept = it.0 })) (sym hears)
         (inr (falls.above, it.3))))
 
-    says_on : ((index : ℕ) → latest.step ≢ steps.Remove index) → FallsHere (in_hand own) latest.step latest.answer (outcomes_in here) → Paired task with_it arms
+    says_on : ((index : ℕ) → latest.step ≢ steps.Remove index) → FallsHere (in_hand own) latest.step latest.answer (outcomes_in here)
+        → Paired task with_it arms
     says_on never (cases.nothing_falls none consumes un) = quietly none consumes un never
     says_on never (cases.quiet_falls falls) = untouched falls
     says_on never (cases.hit_falls falls) = hit falls
 
     -- the arming is removed
-    removed : (index : ℕ) → latest.step ≡ steps.Remove index → (after : List Arm) → (arm : Arm) × IsArm list task index earlier arms arm × (after ≡ arms ++ arm ∷ [])
+    removed : (index : ℕ) → latest.step ≡ steps.Remove index → (after : List Arm)
+        → (arm : Arm) × IsArm list task index earlier arms arm × (after ≡ arms ++ arm ∷ [])
         → Paired task with_it after
     removed index step_is after (arm, its, after_is) =
         let allows : Allows task own (steps.Remove index) = subst (λ (st : Step). Allows task own st) step_is allowed in
@@ -344,7 +350,8 @@ module _ (run : Run) (all : List Record) (list : RunList run all) (rules : Keeps
         (subst (λ (a : List Arm). Match all a (pending.older ++ pending.verdict ∷ [])) (sym after_is)
         (match_with all arms pending.older arm pending.verdict pending.matched suits)))
 
-    same_after : (step : Step) (after : List Arm) → ((index : ℕ) → step ≢ steps.Remove index) → AreArmsAt list task step earlier arms after → after ≡ arms
+    same_after : (step : Step) (after : List Arm) → ((index : ℕ) → step ≢ steps.Remove index)
+        → AreArmsAt list task step earlier arms after → after ≡ arms
     same_after (steps.Remove index) after never h = absurd (never index refl)
     same_after (steps.Load index) after never h = h
     same_after (steps.Insert index word) after never h = h
@@ -384,7 +391,8 @@ module _ (run : Run) (all : List Record) (list : RunList run all) (rules : Keeps
             (λ h. subst (λ (a : List Arm). Paired task (latest ∷ earlier) a) (sym h) (of_another task latest earlier are.0 others.0 before))
       ]
     where
-      of_own : latest.task ≡ task → Paired task earlier are.0 → AreArmsAt list task latest.step earlier are.0 arms → Paired task (latest ∷ earlier) arms
+      of_own : latest.task ≡ task → Paired task earlier are.0 → AreArmsAt list task latest.step earlier are.0 arms
+          → Paired task (latest ∷ earlier) arms
       of_own mine =
           subst (λ (t : ℕ). Paired t earlier are.0 → AreArmsAt list t latest.step earlier are.0 arms → Paired t (latest ∷ earlier) arms) mine
           (λ before h. one_more later latest earlier is are.0 before arms h)

@@ -34,7 +34,8 @@ none_below worth (latest ∷ earlier) =
     let none : ◌≡◌ {A = ℕ} (cond (nat_lt latest.task 0) (worth latest earlier) 0) 0 =
     ap (λ (b : Bool). cond {A = ℕ} b (worth latest earlier) 0) (le-ltb latest.task 0 (omega arith)) in omega (arith, rest, none)
 
-one_task : (worth : Worth) (task : ℕ) (records : List Record) → below worth (suc task) records ≡ below worth task records + own worth task records
+one_task : (worth : Worth) (task : ℕ) (records : List Record)
+    → below worth (suc task) records ≡ below worth task records + own worth task records
 one_task worth task [] = refl
 one_task worth task (latest ∷ earlier) = by_place (one_task worth task earlier) (place task latest)
   where
@@ -76,7 +77,8 @@ module _ (run : Run) (all : List Record) (list : RunList run all) (worth : Worth
   by_task each zero = 0
   by_task each (suc task) = by_task each task + each task
 
-  adds_up : (each : ℕ → ℕ) → (tasks : ℕ) → ((task : ℕ) → task < tasks → each task ≡ own worth task all) → by_task each tasks ≡ below worth tasks all
+  adds_up : (each : ℕ → ℕ) → (tasks : ℕ) → ((task : ℕ) → task < tasks → each task ≡ own worth task all)
+      → by_task each tasks ≡ below worth tasks all
   adds_up each zero same = sym (none_below worth all)
   adds_up each (suc task) same =
       let rest = adds_up each task (λ t less. same t (omega (arith, less))) in
@@ -124,7 +126,8 @@ same_sums f g are (x ∷ xs) =
     let now = are x in omega (arith, rest, one, other, now)
 
 -- how often something stands in lists that are laid together
-pub counted_flat : {X Y : Type 0} (p : Y → Bool) (f : X → List Y) (xs : List X) → count_by p (flat_map f xs) ≡ sum_by (λ (x : X). count_by p (f x)) xs
+pub counted_flat : {X Y : Type 0} (p : Y → Bool) (f : X → List Y) (xs : List X)
+    → count_by p (flat_map f xs) ≡ sum_by (λ (x : X). count_by p (f x)) xs
 counted_flat p f [] = refl
 counted_flat {X = X} p f (x ∷ xs) =
     let rest = counted_flat p f xs in

@@ -118,7 +118,8 @@ module _ {s : Setting} {registers : ℕ} {body : Block} {records : List Record} 
   fell_by zero = 0
   fell_by (suc made) = fell_by made + length (fell_next written made)
 
-  fell_from : (made : ℕ) → made ≤ length (records ++ written.more) → fell_by made ≤ falls_from (length (records ++ written.more) - made) outs
+  fell_from : (made : ℕ) → made ≤ length (records ++ written.more)
+      → fell_by made ≤ falls_from (length (records ++ written.more) - made) outs
   fell_from zero within = none_above (length (records ++ written.more) - 0) outs
   fell_from (suc made) within =
       let total : ℕ = length (records ++ written.more) in
@@ -136,13 +137,15 @@ module _ {s : Setting} {registers : ℕ} {body : Block} {records : List Record} 
       let all = at_most_all (λ (f : Fallen). at_least (length f.later) (length (records ++ written.more) - made)) outs in omega (arith, from, all)
 
   -- what is reported at a step
-  one_reported : (outcome : Option Outcome) (earlier : List Noted) → length (option_to_list (reported outcome earlier)) ≤ length (option_to_list outcome)
+  one_reported : (outcome : Option Outcome) (earlier : List Noted)
+      → length (option_to_list (reported outcome earlier)) ≤ length (option_to_list outcome)
   one_reported None earlier = omega arith
   one_reported (Some (outcomes.Report pair seen)) earlier = omega arith
   one_reported (Some (outcomes.Unknown old new)) earlier = omega arith
   one_reported (Some outcome) earlier = omega arith
 
-  pub few_reported_in : (own : List Record) (noted : List Noted) → AreNoted written own noted → length (reported_in noted) ≤ fell_by (length own)
+  pub few_reported_in : (own : List Record) (noted : List Noted) → AreNoted written own noted
+      → length (reported_in noted) ≤ fell_by (length own)
   few_reported_in [] [] are = omega arith
   few_reported_in [] (now ∷ before) are = absurd are
   few_reported_in (latest ∷ earlier) [] are = absurd are

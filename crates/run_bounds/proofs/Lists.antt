@@ -46,7 +46,8 @@ reports_fewer (one ∷ others) =
     one_more None l = omega arith
     one_more (Some report) l = omega arith
 
-pub keeps_body : (run : Run) → KeepsLimits run.program → (task : ℕ) → task < length run.program.tasks → BodyKeepsLimits (task_of run task).body
+pub keeps_body : (run : Run) → KeepsLimits run.program → (task : ℕ) → task < length run.program.tasks
+    → BodyKeepsLimits (task_of run task).body
 keeps_body run keeps task there = (All-get_or (TaskKeepsLimits run.program.variables) run.program.tasks task idle there keeps.each_task).body
 
 module _ (run : Run) (all : List Record) (list : RunList run all) where
@@ -90,8 +91,10 @@ module _ (run : Run) (all : List Record) (list : RunList run all) where
       let turned : length (reverse (records_of task all)) ≡ made_by task all = length-reverse (records_of task all) in
       let few = few_fell (list.tasks task) (made_by task all) (omega (arith, size, turned)) in omega (arith, fell, few)
 
-  pub few_below : (most : ℕ) → ((task : ℕ) → task < length run.program.tasks → length (list.tasks task).whole.end.outcomes ≤ most) → (tasks : ℕ)
-      → tasks ≤ length run.program.tasks → count_by (λ (one : OutcomeAt). some_came (Some one.outcome)) (outcomes_below list tasks all) ≤ tasks * most
+  pub few_below : (most : ℕ) → ((task : ℕ) → task < length run.program.tasks → length (list.tasks task).whole.end.outcomes ≤ most)
+      → (tasks : ℕ)
+      → tasks ≤ length run.program.tasks
+      → count_by (λ (one : OutcomeAt). some_came (Some one.outcome)) (outcomes_below list tasks all) ≤ tasks * most
   few_below most each zero within = let none = no_outcome_below some_came none_came run all list all in omega (arith, none)
   few_below most each (suc task) within =
       let rest = few_below most each task (omega (arith, within)) in

@@ -33,7 +33,8 @@ use Rattle.written_order.proofs.ScopesLemmas.{counting_scopes, operated_scopes}
 
 -- a check of an access has one outcome, and those of the scoped assertions in force, at most
 module _ (s : checks.Setting) where
-  rechecks_many : (scopes : List Begun) (asked : ℕ) (records : List Record) (passes : Passes) (rest : List Record) → Rechecks s scopes asked records passes rest
+  rechecks_many : (scopes : List Begun) (asked : ℕ) (records : List Record) (passes : Passes) (rest : List Record)
+      → Rechecks s scopes asked records passes rest
       → length passes.outcomes ≤ length scopes
   rechecks_many [] asked records passes rest h = let none : length passes.outcomes ≡ 0 = ap (λ (p : Passes). length p.outcomes) h.0 in omega (arith, none)
   rechecks_many (scope ∷ scopes) asked records passes rest h = by_silence scope.silenced h (λ now left some more. rechecks_many scopes now left some rest more)
@@ -111,7 +112,8 @@ module _ (s : Setting) where
         most = omega (arith, all, parts, many, few);
       }
 
-  only_adds : (before comes_to after : Standing) (records rest : List Record) → comes_to.scopes ≡ before.scopes → comes_to.outcomes ≡ before.outcomes
+  only_adds : (before comes_to after : Standing) (records rest : List Record) → comes_to.scopes ≡ before.scopes
+      → comes_to.outcomes ≡ before.outcomes
       → Only comes_to records after rest → Adds 0 before after
   only_adds before comes_to after records rest scopes outcomes h = adds_is 0 before comes_to after h.0 (adds_none before comes_to scopes outcomes)
 
@@ -123,12 +125,14 @@ module _ (s : Setting) where
       adds_is 1 before _ after h.6 (record { scopes = made.scopes; most = made.most })
 
   expression_adds : (site : ℕ) (e : Expression) (before : Standing) (records : List Record) (value : ℕ) (after : Standing) (rest : List Record)
-      → length before.scopes ≤ scoped_limit → StepsOfExpression s site e before records value after rest → Adds (if expression_has_access e then 1 else 0) before after
+      → length before.scopes ≤ scoped_limit → StepsOfExpression s site e before records value after rest
+      → Adds (if expression_has_access e then 1 else 0) before after
   expression_adds site (tree.pure e) before records value after rest few h = adds_is 0 before before after h.1 (adds_none before before refl refl)
   expression_adds site (tree.loading e) before records value after rest few h = load_adds site (load_in e) before records h.0 after rest few h.1
 
   assignment_adds : (site : ℕ) (a : Assignment) (before : Standing) (records : List Record) (after : Standing) (rest : List Record)
-      → length before.scopes ≤ scoped_limit → StepsOfAssignment s site a before records after rest → Adds (if assignment_has_access a then 1 else 0) before after
+      → length before.scopes ≤ scoped_limit → StepsOfAssignment s site a before records after rest
+      → Adds (if assignment_has_access a then 1 else 0) before after
   assignment_adds site (tree.to_register r e) before records after rest few h =
       let own = expression_adds site e before records h.0 h.1 rest few h.2 in
       adds_is (if expression_has_access e then 1 else 0) before _ after h.3 (record { scopes = own.scopes; most = own.most })
@@ -154,18 +158,21 @@ module _ (s : Setting) where
   unlock_adds false l before records after rest Frees h = only_adds before _ after records rest refl refl h
 
   checked_adds : (empty : Bool) (before : Standing) (records : List Record) (after : Standing) (rest : List Record) (site : ℕ) (bytes : Bytes) (kind : Kind)
-      → length before.scopes ≤ scoped_limit → MatchBool empty (Only before records after rest) (ChecksAt s site bytes kind None before records after rest)
+      → length before.scopes ≤ scoped_limit
+      → MatchBool empty (Only before records after rest) (ChecksAt s site bytes kind None before records after rest)
       → Adds (if not empty then 1 else 0) before after
   checked_adds true before records after rest site bytes kind few h = only_adds before before after records rest refl refl h
   checked_adds false before records after rest site bytes kind few h = makes_adds _ _ h.0 before records after rest few h.1
 
-  mark_adds : (m : Mark) (before : Standing) (records : List Record) (after : Standing) (rest : List Record) → MakesMark s m before records after rest
+  mark_adds : (m : Mark) (before : Standing) (records : List Record) (after : Standing) (rest : List Record)
+      → MakesMark s m before records after rest
       → Adds 0 before after
   mark_adds m before records after rest h =
       only_adds before _ after records rest (counting_scopes h.0 before) (counted h.0 before) h.2
 
   call_adds : (site : ℕ) (c : Call) (before : Standing) (records : List Record) (after : Standing) (rest : List Record)
-      → length before.scopes ≤ scoped_limit → StepsOfCall s site c before records after rest → Adds (if call_has_access c then 1 else 0) before after
+      → length before.scopes ≤ scoped_limit → StepsOfCall s site c before records after rest
+      → Adds (if call_has_access c then 1 else 0) before after
   call_adds site (calls.Barrier b) before records after rest few h = only_adds before before after records rest refl refl h
   call_adds site (calls.Lock l) before records after rest few h = adds_is 0 before _ after h.2 (adds_none before _ refl refl)
   call_adds site (calls.Unlock l) before records after rest few h = unlock_adds (has_lock l before.progress.did) l before records after rest _ h
@@ -240,7 +247,8 @@ scopes_are (tree.if_block e body) = refl
 scopes_are (tree.if_else e body otherwise) = refl
 scopes_are (tree.for_turns r turns body) = refl
 
-has_room : (statement : Statement) (scopes : ℕ) → StatementScopes scopes statement → scopes ≤ scoped_limit → scopes + scopes_of statement ≤ scoped_limit
+has_room : (statement : Statement) (scopes : ℕ) → StatementScopes scopes statement → scopes ≤ scoped_limit
+    → scopes + scopes_of statement ≤ scoped_limit
 has_room (tree.load_only l) scopes fits within = omega (arith, within)
 has_room (tree.assign data_race a) scopes fits within = omega (arith, within)
 has_room (tree.call c) scopes fits within = fits
@@ -255,7 +263,8 @@ module _ (s : Setting) where
       (before : Standing) (records : List Record) (after : Standing) (rest : List Record) → length before.scopes ≡ scopes → Part before records after rest
       → Adds n before after
 
-  turns_add : (Body : Steps) (scopes n : ℕ) → AddsFrom scopes n Body → (register turn left : ℕ) → AddsFrom scopes (left * n) (StepsOfTurns Body register turn left)
+  turns_add : (Body : Steps) (scopes n : ℕ) → AddsFrom scopes n Body → (register turn left : ℕ)
+      → AddsFrom scopes (left * n) (StepsOfTurns Body register turn left)
   turns_add Body scopes n each register turn zero before records after rest has h =
       adds_more 0 (zero * n) before after (omega arith) (adds_is 0 before _ after h.0 (adds_none before _ refl refl))
   turns_add Body scopes n each register turn (suc left) before records after rest has h =
@@ -265,7 +274,8 @@ module _ (s : Setting) where
       let all : suc left * n ≡ left * n + n = suc-mul left n in
       adds_more (n + left * n) (suc left * n) before after (omega (arith, all)) (adds_both n (left * n) before h.0 after own others)
 
-  in_block : (site : ℕ) (st : Statement) (scoped : Option Scoped) (scopes n : ℕ) (Own Later : Steps) → Scopes st scoped → scopes + scopes_of st ≤ scoped_limit
+  in_block : (site : ℕ) (st : Statement) (scoped : Option Scoped) (scopes n : ℕ) (Own Later : Steps) → Scopes st scoped
+      → scopes + scopes_of st ≤ scoped_limit
       → AddsFrom scopes (statement_repeats 1 st) Own → AddsFrom (scopes + scopes_of st) n Later
       → AddsFrom scopes (statement_repeats 1 st + n) (StepsInBlock s site scoped Own Later)
   in_block site st None scopes n Own Later is room own later before records after rest has h =
@@ -304,7 +314,8 @@ module _ (s : Setting) where
 
   mutual
     statement_adds : (st : Statement) (site scopes : ℕ) → StatementScopes scopes st → scopes ≤ scoped_limit
-        → (before : Standing) (records : List Record) (after : Standing) (rest : List Record) → length before.scopes ≡ scopes → StepsOf s site st before records after rest
+        → (before : Standing) (records : List Record) (after : Standing) (rest : List Record) → length before.scopes ≡ scopes
+        → StepsOf s site st before records after rest
         → Adds (statement_repeats 1 st) before after
     statement_adds (tree.load_only l) site scopes fits within before records after rest has h =
         load_adds s site l before records h.0 after rest (omega (arith, has, within)) h.1
@@ -349,7 +360,8 @@ module _ (s : Setting) where
         (λ b r a e its steps. block_adds more (site + length (accesses_of st)) (scopes + scopes_of st) fits.1 (has_room st scopes fits.0 within) b r a e its steps)
         before records after rest has h
 
-pub few_outcomes : (s : Setting) (registers : ℕ) (body : Block) (records : List Record) → BlockScopes 0 body → (whole : SpellsAll s registers body records)
+pub few_outcomes : (s : Setting) (registers : ℕ) (body : Block) (records : List Record) → BlockScopes 0 body
+    → (whole : SpellsAll s registers body records)
     → length whole.end.outcomes ≤ 9 * block_repeats 1 body
 few_outcomes s registers body records fits whole =
     let all = (block_adds s body 0 0 fits (omega arith) (at_first registers) records whole.end [] refl whole.steps).most in omega (arith, all)

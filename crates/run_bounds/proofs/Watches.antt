@@ -245,7 +245,8 @@ pub few_tells : (records : List Record) (outs : List Fallen) → Falls [] record
 few_tells records outs falls = tells_few records [] outs falls
 
 -- in whatever order
-pub count_reverse : (p : Step → Answer → Bool) (records : List Record) → count_by (of_record p) (reverse records) ≡ count_by (of_record p) records
+pub count_reverse : (p : Step → Answer → Bool) (records : List Record)
+    → count_by (of_record p) (reverse records) ≡ count_by (of_record p) records
 count_reverse p [] = refl
 count_reverse p (first ∷ later) =
     let both : count_by (of_record p) (reverse later ++ first ∷ []) ≡ count_by (of_record p) (reverse later) + count_by (of_record p) (first ∷ []) =

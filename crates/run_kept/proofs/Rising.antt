@@ -64,7 +64,8 @@ same_begins stamp (touch ∷ newer) = by_newer (list_any goes_on newer) refl (sa
 abbrev begins_in : List Stamped → List ℕ
 begins_in accesses = map (λ (one : Stamped). one.begin) accesses
 
-ended_rise : (low high : ℕ) (touches : List Touch) → Rises low high (begins_of touches) → Rises low high (begins_in (filter_map stamped touches))
+ended_rise : (low high : ℕ) (touches : List Touch) → Rises low high (begins_of touches)
+    → Rises low high (begins_in (filter_map stamped touches))
 ended_rise low high [] h = h
 ended_rise low high (touch ∷ newer) h = by_end touch.end refl (ended_rise (suc touch.begin) high newer h.1)
   where
@@ -76,7 +77,8 @@ ended_rise low high (touch ∷ newer) h = by_end touch.end refl (ended_rise (suc
     by_end (Some end) is rest =
         subst (λ (e : Option ℕ). Rises low high (begins_in (cons_option (stamped (record touch { end = e })) (filter_map stamped newer)))) (sym is) (h.0, rest)
 
-above_all : (low high : ℕ) (accesses : List Stamped) → Rises (suc low) high (begins_in accesses) → All (λ (one : Stamped). low < one.begin) accesses
+above_all : (low high : ℕ) (accesses : List Stamped) → Rises (suc low) high (begins_in accesses)
+    → All (λ (one : Stamped). low < one.begin) accesses
 above_all low high [] h = All-nil (λ (one : Stamped). low < one.begin)
 above_all low high (one ∷ others) h =
     let here : suc low ≤ one.begin = h.0 in
@@ -133,7 +135,8 @@ module _ (run : Run) (records : List Record) (list : RunList run records) (task 
   with_step (steps.LockTry lock holder) answer begins earlier before answered h = still before earlier h
   with_step (steps.LockStore lock) answer begins earlier before answered h = still before earlier h
 
-  all_rise : (later earlier : List Record) → records ≡ later ++ earlier → (noted : List Noted) → AreNoted (list.tasks task) (records_of task earlier) noted
+  all_rise : (later earlier : List Record) → records ≡ later ++ earlier → (noted : List Noted)
+      → AreNoted (list.tasks task) (records_of task earlier) noted
       → Rising earlier (touches_of noted)
   all_rise later [] is [] are = omega arith
   all_rise later [] is (noted ∷ before) are = absurd are
@@ -150,7 +153,8 @@ module _ (run : Run) (records : List Record) (list : RunList run records) (task 
             (all_rise (later ++ latest ∷ []) earlier back noted (subst (λ (r : List Record). AreNoted (list.tasks task) r noted) same are))
       ]
     where
-      its : ((kept : List Noted) → AreNoted (list.tasks task) (records_of task earlier) kept → Rising earlier (touches_of kept)) → (noted : List Noted)
+      its : ((kept : List Noted) → AreNoted (list.tasks task) (records_of task earlier) kept → Rising earlier (touches_of kept))
+          → (noted : List Noted)
           → AreNoted (list.tasks task) (latest ∷ records_of task earlier) noted → Rising (latest ∷ earlier) (touches_of noted)
       its rest [] are = absurd are
       its rest (now ∷ before) are =
@@ -161,6 +165,7 @@ module _ (run : Run) (records : List Record) (list : RunList run records) (task 
           (sym are.1.answer)
           (with_step latest.step latest.answer now.begins earlier (touches_of before) (λ clock. stamps later earlier latest is clock) (rest before are.0))))
 
-  pub in_order : (noted : List Noted) → Notes list task noted → AllPairs (λ (one later : Stamped). one.begin < later.begin) (accesses_of noted)
+  pub in_order : (noted : List Noted) → Notes list task noted
+      → AllPairs (λ (one later : Stamped). one.begin < later.begin) (accesses_of noted)
   in_order noted notes =
       in_pairs 0 (stamps_in records) (accesses_of noted) (ended_rise 0 (stamps_in records) (touches_of noted) (all_rise [] records refl noted notes))

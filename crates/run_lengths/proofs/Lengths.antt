@@ -65,7 +65,8 @@ ends_begin going (happenings.Mark mark ∷ later) after h =
     let other = counted is_begin (happenings.Mark mark) later in omega (arith, rest, one, other)
 
 -- what each task has so much of, all tasks have so often
-pub by_tasks : {X : Type 0} (Of : ℕ → List X → Type 0) (most : ℕ) (tasks : ℕ) → ((task : ℕ) → task < tasks → (own : List X) → Of task own → length own ≤ most)
+pub by_tasks : {X : Type 0} (Of : ℕ → List X → Type 0) (most : ℕ) (tasks : ℕ)
+    → ((task : ℕ) → task < tasks → (own : List X) → Of task own → length own ≤ most)
     → (all : List X) → ByTask Of tasks all → length all ≤ tasks * most
 by_tasks {X = X} Of most zero each all are = let none : length all ≡ 0 = ap (λ (l : List X). length l) are in omega (arith, none)
 by_tasks {X = X} Of most (suc task) each all are =
@@ -79,7 +80,8 @@ module _ {run : Run} {all : List Record} (list : RunList run all) where
   longer : (before after : List Arm) → after ≡ before → length after ≡ 0 + length before
   longer before after is = let same : length after ≡ length before = ap (λ (l : List Arm). length l) is in omega (arith, same)
 
-  arms_at_step : (task : ℕ) (step : Step) (answer : Answer) (earlier : List Record) (before after : List Arm) → AreArmsAt list task step earlier before after
+  arms_at_step : (task : ℕ) (step : Step) (answer : Answer) (earlier : List Record) (before after : List Arm)
+      → AreArmsAt list task step earlier before after
       → length after ≡ cond (is_remove step answer) 1 0 + length before
   arms_at_step task (steps.Remove index) answer earlier before after h =
       let size : length after ≡ length before + length (h.0 ∷ []) = ap (λ (l : List Arm). length l) h.2 ∙ length-append before (h.0 ∷ []) in omega (arith, size)
@@ -129,11 +131,13 @@ module _ {run : Run} {all : List Record} (list : RunList run all) where
   told_one index ticket None both = omega arith
   told_one index ticket (Some number) None = omega arith
 
-  told_step : (task : ℕ) (step : Step) (answer : Answer) (earlier : List Record) → length (told_by task step earlier []) ≤ cond (is_tell step answer) 1 0
+  told_step : (task : ℕ) (step : Step) (answer : Answer) (earlier : List Record)
+      → length (told_by task step earlier []) ≤ cond (is_tell step answer) 1 0
   told_step task (steps.Tell index ticket) answer earlier = told_one index ticket (last_arming_number index earlier) (heard index (records_of task earlier))
   told_step task step answer earlier = omega arith
 
-  pub so_many_takes : (task : ℕ) (records : List Record) → length (takes_by task records) ≤ count_by (of_record is_tell) (records_of task records)
+  pub so_many_takes : (task : ℕ) (records : List Record)
+      → length (takes_by task records) ≤ count_by (of_record is_tell) (records_of task records)
   so_many_takes task [] = omega arith
   so_many_takes task (latest ∷ earlier) =
       let rest = so_many_takes task earlier in
@@ -158,7 +162,8 @@ module _ {run : Run} {all : List Record} (list : RunList run all) where
       ]
 
   -- no more accesses than have begun
-  pub few_ended : (task : ℕ) → count_by is_end (did_by (list.tasks task) (made_by task all)) ≤ begins_in (did_by (list.tasks task) (made_by task all))
+  pub few_ended : (task : ℕ)
+      → count_by is_end (did_by (list.tasks task) (made_by task all)) ≤ begins_in (did_by (list.tasks task) (made_by task all))
   few_ended task =
       let whole = whole_runs (task_setting run task) (length (task_of run task).registers) (task_of run task).body
       (reverse (records_of task all) ++ (list.tasks task).more) (list.tasks task).whole in

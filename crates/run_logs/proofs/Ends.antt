@@ -68,7 +68,8 @@ still_there stamp (one ∷ newer) touch end there is = by_newer (list_any goes_o
         subst (λ (c : Bool). Contains (if c then one ∷ end_newest stamp newer else (if goes_on one then record one { end = Some stamp } else one) ∷ newer) touch)
         (sym none) (subst (λ (c : Bool). Contains ((if c then record one { end = Some stamp } else one) ∷ newer) touch) (sym goes) there_so)
 
-    by_one : (b : Bool) → goes_on one ≡ b → list_any goes_on newer ≡ false → Stands one touch newer → Contains (end_newest stamp (one ∷ newer)) touch
+    by_one : (b : Bool) → goes_on one ≡ b → list_any goes_on newer ≡ false → Stands one touch newer
+        → Contains (end_newest stamp (one ∷ newer)) touch
     by_one true goes none (at_front same) =
         absurd (let over : goes_on touch ≡ false = ended_going touch.end end is in
         let both : true ≡ false = sym goes ∙ (ap goes_on same ∙ over) in cc)
@@ -76,14 +77,16 @@ still_there stamp (one ∷ newer) touch end there is = by_newer (list_any goes_o
     by_one false goes none (at_front same) = last_one false goes none (subst (λ (t : Touch). Contains (one ∷ newer) t) same (first_of one newer))
     by_one false goes none (later_on later) = last_one false goes none (behind one touch newer later)
 
-    by_newer : (b : Bool) → list_any goes_on newer ≡ b → Stands one touch newer → (Contains newer touch → Contains (end_newest stamp newer) touch)
+    by_newer : (b : Bool) → list_any goes_on newer ≡ b → Stands one touch newer
+        → (Contains newer touch → Contains (end_newest stamp newer) touch)
         → Contains (end_newest stamp (one ∷ newer)) touch
     by_newer true any (at_front same) each = rw any (subst (λ (t : Touch). Contains (one ∷ end_newest stamp newer) t) same (first_of one (end_newest stamp newer)))
     by_newer true any (later_on later) each = rw any (behind one touch (end_newest stamp newer) (each later))
     by_newer false none at each = by_one (goes_on one) refl none at
 
 -- the newest that goes on is kept as it ends
-ends_now : (stamp : ℕ) (touches : List Touch) (a : Access) (older : List Access) → open_in touches ≡ a ∷ older → IsKept (end_newest stamp touches) a stamp
+ends_now : (stamp : ℕ) (touches : List Touch) (a : Access) (older : List Access) → open_in touches ≡ a ∷ older
+    → IsKept (end_newest stamp touches) a stamp
 ends_now stamp [] a older is = absurd (let no : [] ≡ a ∷ older = is in cc)
 ends_now stamp (touch ∷ newer) a older is = by_case (newest stamp a older touch newer is) (λ more so. ends_now stamp newer a more so)
   where
@@ -102,7 +105,8 @@ data Touching (before after : List Touch) (answer : Answer) (did : List Happenin
   stays : after ≡ before → ((a : Access) (marks : List Happening) → did ≡ happenings.End a ∷ marks → ⊥) → Touching before after answer did
   begins : (one : Touch) → after ≡ before ++ one ∷ [] → ((a : Access) (marks : List Happening) → did ≡ happenings.End a ∷ marks → ⊥)
       → Touching before after answer did
-  ends : (a : Access) (older : List Access) (stamp : ℕ) (marks : List Happening) → answer ≡ answers.Word stamp → did ≡ happenings.End a ∷ marks
+  ends : (a : Access) (older : List Access) (stamp : ℕ) (marks : List Happening) → answer ≡ answers.Word stamp
+      → did ≡ happenings.End a ∷ marks
       → open_in before ≡ a ∷ older → after ≡ end_newest stamp before → Touching before after answer did
 
 no_end : (did : List Happening) → ArePlain did → (a : Access) (marks : List Happening) → did ≡ happenings.End a ∷ marks → ⊥
@@ -112,7 +116,8 @@ module _ (run : Run) (records : List Record) (list : RunList run records) (task 
   abbrev EndsKept : List Record → List Touch → Type 0
   EndsKept earlier touches =
       (l : List Record) (latest : Record) (e : List Record) (a : Access) (stamp : ℕ) (marks : List Happening) → earlier ≡ l ++ latest ∷ e → latest.task ≡ task
-      → latest.answer ≡ answers.Word stamp → did_next (list.tasks latest.task) (made_by latest.task e) ≡ happenings.End a ∷ marks → IsKept touches a stamp
+      → latest.answer ≡ answers.Word stamp → did_next (list.tasks latest.task) (made_by latest.task e) ≡ happenings.End a ∷ marks
+      → IsKept touches a stamp
 
   module _ (later earlier : List Record) (latest : Record) (is : records ≡ later ++ latest ∷ earlier)
       (event : DoesEvent (task_setting run task) (did_by (list.tasks task) (made_by task earlier)) latest.step latest.answer
@@ -141,8 +146,10 @@ module _ (run : Run) (records : List Record) (list : RunList run records) (task 
         as_is ∙ (ap (λ (st : Step). touches_at st latest.answer noted.begins before) clock
         ∙ ap (λ (an : Answer). touches_at steps.Clock an noted.begins before) answered)
 
-    begin_one : (a : Access) (stamp : ℕ) → latest.step ≡ steps.Clock → latest.answer ≡ answers.Word stamp → next ≡ happenings.Begin a ∷ event.marks
-        → (begun : Option Begun) → noted.begins ≡ begun → IsBegun run.rules.plain_writes_atomic task (did_by (list.tasks task) made) next begun
+    begin_one : (a : Access) (stamp : ℕ) → latest.step ≡ steps.Clock → latest.answer ≡ answers.Word stamp
+        → next ≡ happenings.Begin a ∷ event.marks
+        → (begun : Option Begun) → noted.begins ≡ begun
+        → IsBegun run.rules.plain_writes_atomic task (did_by (list.tasks task) made) next begun
         → Touching before touched latest.answer next
     begin_one a stamp clock answered did None same begun_so =
         absurd (let no : [] ≡ a ∷ begun_in event.marks = sym begun_so ∙ ap begun_in did in cc)
@@ -151,8 +158,10 @@ module _ (run : Run) (records : List Record) (list : RunList run records) (task 
         (at_clock stamp clock answered ∙ ap (λ (b : Option Begun). touches_at steps.Clock (answers.Word stamp) b before) same)
         (λ b marks no. let both : happenings.Begin a ∷ event.marks ≡ happenings.End b ∷ marks = sym did ∙ no in cc)
 
-    end_one : (a : Access) (stamp : ℕ) → latest.step ≡ steps.Clock → latest.answer ≡ answers.Word stamp → next ≡ happenings.End a ∷ event.marks
-        → (begun : Option Begun) → noted.begins ≡ begun → IsBegun run.rules.plain_writes_atomic task (did_by (list.tasks task) made) next begun
+    end_one : (a : Access) (stamp : ℕ) → latest.step ≡ steps.Clock → latest.answer ≡ answers.Word stamp
+        → next ≡ happenings.End a ∷ event.marks
+        → (begun : Option Begun) → noted.begins ≡ begun
+        → IsBegun run.rules.plain_writes_atomic task (did_by (list.tasks task) made) next begun
         → Touching before touched latest.answer next
     end_one a stamp clock answered did (Some begun) same begun_so =
         absurd (let none : begun_in next ≡ [] = ap begun_in did ∙ none_begun event.marks (plain_none event.marks marks_are) in
@@ -195,7 +204,8 @@ module _ (run : Run) (records : List Record) (list : RunList run records) (task 
         (record { touch = it.touch; stands = still_there now before it.touch stamp it.stands it.end; access = it.access; end = it.end })
 
     -- the end that falls now
-    ends_here : Touching before touched latest.answer next → (a : Access) (stamp : ℕ) (marks : List Happening) → latest.answer ≡ answers.Word stamp
+    ends_here : Touching before touched latest.answer next → (a : Access) (stamp : ℕ) (marks : List Happening)
+        → latest.answer ≡ answers.Word stamp
         → next ≡ happenings.End a ∷ marks → IsKept touched a stamp
     ends_here (stays same none) a stamp marks answered did = absurd (none a marks did)
     ends_here (begins one same none) a stamp marks answered did = absurd (none a marks did)
@@ -231,7 +241,8 @@ module _ (run : Run) (records : List Record) (list : RunList run records) (task 
 
       its : records ≡ (later ++ now ∷ []) ++ earlier
           → ((kept : List Noted) → AreNoted (list.tasks task) (records_of task earlier) kept → EndsKept earlier (touches_of kept))
-          → (noted : List Noted) → AreNoted (list.tasks task) (now ∷ records_of task earlier) noted → now.task ≡ task → EndsKept (now ∷ earlier) (touches_of noted)
+          → (noted : List Noted) → AreNoted (list.tasks task) (now ∷ records_of task earlier) noted → now.task ≡ task
+          → EndsKept (now ∷ earlier) (touches_of noted)
       its back rest [] are mine = absurd are
       its back rest (noted ∷ before) are mine =
           let event : DoesEvent (task_setting run task) (did_by (list.tasks task) (made_by task earlier)) now.step now.answer
@@ -271,7 +282,8 @@ module _ (run : Run) (records : List Record) (list : RunList run records) (task 
       over None it = it
       over (Some s) it = (it.0, behind s it.0 (filter_map stamped newer) it.1, it.2, it.3)
 
-      by_place : Stands one touch newer → (Contains newer touch → Found (filter_map stamped newer)) → Found (filter_map stamped (one ∷ newer))
+      by_place : Stands one touch newer → (Contains newer touch → Found (filter_map stamped newer))
+          → Found (filter_map stamped (one ∷ newer))
       by_place (later_on later) each = over (stamped one) (each later)
       by_place (at_front same) each =
           let s : Stamped = record {
@@ -284,7 +296,8 @@ module _ (run : Run) (records : List Record) (list : RunList run records) (task 
           let is_s : stamped one ≡ Some s = ap stamped same ∙ ap (λ (e : Option ℕ). stamped_at touch.begun touch.begin e) is in
           subst (λ (o : Option Stamped). Found (cons_option o (filter_map stamped newer))) (sym is_s) (s, first_of s (filter_map stamped newer), refl, refl)
 
-  pub each_end_kept : (noted : List Noted) → Notes list task noted → EachDoesItsEvent list records → (a : Access) (end : ℕ) → HappensAt list task (happenings.End a) end
+  pub each_end_kept : (noted : List Noted) → Notes list task noted → EachDoesItsEvent list records → (a : Access) (end : ℕ)
+      → HappensAt list task (happenings.End a) end
       → (one : Stamped) × Contains (accesses_of noted) one × (one.access ≡ a) × (one.end ≡ end)
   each_end_kept noted notes events a end at =
       let it = all_ends [] records refl events noted notes at.later at.latest at.earlier a end at.marks at.split at.mine at.answer at.did in

@@ -139,13 +139,15 @@ module _ (records : List Record) where
     consumes index ticket answers.Done has other = named_still index ticket answers.Done has
 
     -- a setter that was hit and heard its finder
-    heard_pends : (index : ℕ) (both : Halves) (hears : Option Halves) → hears ≡ Some both → 0 < both.finder → HitSays hears index known → Pending index known
+    heard_pends : (index : ℕ) (both : Halves) (hears : Option Halves) → hears ≡ Some both → 0 < both.finder → HitSays hears index known
+        → Pending index known
     heard_pends index both hears is above h = elim (subst (λ (o : Option Halves). HitSays o index known) is h) [
       | inl none ↦ let zero_half : both.finder ≡ 0 = none.0 in absurd (omega (arith, zero_half, above))
       | inr some ↦ some.1
     ]
 
-    pub unheard_settled : (index : ℕ) (hears : Option Halves) → ((both : Halves) → hears ≡ Some both → 0 < both.finder → ⊥) → HitSays hears index known
+    pub unheard_settled : (index : ℕ) (hears : Option Halves) → ((both : Halves) → hears ≡ Some both → 0 < both.finder → ⊥)
+        → HitSays hears index known
         → Settled known
     unheard_settled index None never h = h
     unheard_settled index (Some both) never h = elim h [ inl none ↦ none.1 | inr some ↦ absurd (never both refl some.0) ]
@@ -160,7 +162,8 @@ module _ (records : List Record) where
     Silent index finder = in_hand own ≡ Some (record { index = index; part = Hit }) → 0 < finder → ⊥
 
     loads_hit : (index at setter finder : ℕ) → in_hand own ≡ Some (record { index = at; part = Hit }) → Silent index finder
-        → ClearsNext own (steps.PairLoad index) → HitSays (heard_after at (steps.PairLoad index) (answers.Halves setter finder) (heard at own)) at known
+        → ClearsNext own (steps.PairLoad index)
+        → HitSays (heard_after at (steps.PairLoad index) (answers.Halves setter finder) (heard at own)) at known
     loads_hit index at setter finder has silent next =
         let before : HitSays (heard at own) at known = in_hand_says (Some (record { index = at; part = Hit })) has in
         let settled : Settled known = unheard_settled at (heard at own)
@@ -191,7 +194,8 @@ module _ (records : List Record) where
     loads_part index at setter finder Untouched has silent next = in_hand_says (Some (record { index = at; part = Untouched })) has
     loads_part index at setter finder Cleared has silent next = in_hand_says (Some (record { index = at; part = Cleared })) has
 
-    loads_hand : (index setter finder : ℕ) (hand : Option InHand) → in_hand own ≡ hand → Silent index finder → ClearsNext own (steps.PairLoad index)
+    loads_hand : (index setter finder : ℕ) (hand : Option InHand) → in_hand own ≡ hand → Silent index finder
+        → ClearsNext own (steps.PairLoad index)
         → LoadsIn index setter finder hand
     loads_hand index setter finder None has silent next = in_hand_says None has
     loads_hand index setter finder (Some hand) has silent next = loads_part index hand.index setter finder hand.part has silent next

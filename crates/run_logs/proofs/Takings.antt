@@ -72,7 +72,8 @@ telling (steps.LockStore lock) = of_none (λ outcome before. refl) (λ task earl
 telling steps.Clock = of_none (λ outcome before. refl) (λ task earlier. refl)
 
 module _ (run : Run) (all : List Record) (list : RunList run all) (hears : EachHearsTheOther all) (finds : All (IfTelling list) (outcomes_of list)) where
-  told_in_all : (later earlier : List Record) (came : OutcomeAt) → Contains (outcomes_by list earlier) came → Contains (outcomes_by list (later ++ earlier)) came
+  told_in_all : (later earlier : List Record) (came : OutcomeAt) → Contains (outcomes_by list earlier) came
+      → Contains (outcomes_by list (later ++ earlier)) came
   told_in_all [] earlier came there = there
   told_in_all (latest ∷ later) earlier came there =
       Contains-append_left (outcomes_by list (later ++ earlier)) (came_next list latest (later ++ earlier)) came (told_in_all later earlier came there)
@@ -137,7 +138,8 @@ module _ (run : Run) (all : List Record) (list : RunList run all) (hears : EachH
     abbrev took : Step → List Take
     took step = map take_of (told_by task step earlier [])
 
-    by_step : Telling latest.step → takes_of before ≡ takes_by task earlier → takes_at latest.step now.outcome (takes_of before) ≡ takes_by task earlier ++ took latest.step
+    by_step : Telling latest.step → takes_of before ≡ takes_by task earlier
+        → takes_at latest.step now.outcome (takes_of before) ≡ takes_by task earlier ++ took latest.step
     by_step (of_one index ticket step_is) rest =
         ap (λ (st : Step). takes_at st now.outcome (takes_of before)) step_is
         ∙ (ap (λ (l : List Take). takes_of before ++ l) (told_one index ticket step_is)
@@ -169,12 +171,15 @@ module _ (run : Run) (all : List Record) (list : RunList run all) (hears : EachH
             ∙ ap (λ (b : Bool). takes_by task earlier ++ (if b then map take_of (told_by latest.task latest.step earlier []) else [])) (sym others.0))
       ]
     where
-      its : ((kept : List Noted) → AreNoted (list.tasks task) (records_of task earlier) kept → takes_of kept ≡ takes_by task earlier) → (noted : List Noted)
-          → AreNoted (list.tasks task) (latest ∷ records_of task earlier) noted → latest.task ≡ task → takes_of noted ≡ takes_by task (latest ∷ earlier)
+      its : ((kept : List Noted) → AreNoted (list.tasks task) (records_of task earlier) kept → takes_of kept ≡ takes_by task earlier)
+          → (noted : List Noted)
+          → AreNoted (list.tasks task) (latest ∷ records_of task earlier) noted → latest.task ≡ task
+          → takes_of noted ≡ takes_by task (latest ∷ earlier)
       its rest [] are mine = absurd are
       its rest (now ∷ before) are mine =
           subst (λ (t : ℕ). ((kept : List Noted) → AreNoted (list.tasks t) (records_of t earlier) kept → takes_of kept ≡ takes_by t earlier)
-          → AreNoted (list.tasks t) (latest ∷ records_of t earlier) (now ∷ before) → takes_of (now ∷ before) ≡ takes_by t (latest ∷ earlier)) mine
+          → AreNoted (list.tasks t) (latest ∷ records_of t earlier) (now ∷ before)
+          → takes_of (now ∷ before) ≡ takes_by t (latest ∷ earlier)) mine
           (λ back_then are_so. one_more later latest earlier is now before are_so.1 (back_then before are_so.0)) rest are
 
   pub kept_takes_of : (task : ℕ) (noted : List Noted) → Notes list task noted → takes_of noted ≡ takes_by task all

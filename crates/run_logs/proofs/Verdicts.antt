@@ -85,7 +85,8 @@ pub record IsItsSetter (index task : ℕ) (v : View) : Type 0 where
   pub numbered : v.last.number ≡ Some number
   pub arming : v.last.arming ≡ Some (record { setter = task; word = word })
 
-pub its_setter : (index task : ℕ) (v : View) (part : Part) → ((word : ℕ) → part ≢ Taken word) → Fits index v → v.part task ≡ Some part → IsItsSetter index task v
+pub its_setter : (index task : ℕ) (v : View) (part : Part) → ((word : ℕ) → part ≢ Taken word) → Fits index v → v.part task ≡ Some part
+    → IsItsSetter index task v
 its_setter index task v part other (hears, inl idle) has = let none = idle.nobody task in absurd (cc)
 its_setter index task v part other (hears, inr (phase, h)) has =
     let it = is_setter index phase v h task part has other in record {
@@ -143,7 +144,8 @@ none_fell fell is = subst NoVerdict (sym is) tt
 one_fell : (fell : List Outcome) (outcome : Outcome) → fell ≡ outcome ∷ [] → is_verdict outcome ≡ false → NoVerdict fell
 one_fell fell outcome is none = subst NoVerdict (sym is) (none, tt)
 
-most_fell : (Is : Outcome → Type 0) → ((outcome : Outcome) → Is outcome → is_verdict outcome ≡ false) → (fell : List Outcome) → OneAtMost Is fell → NoVerdict fell
+most_fell : (Is : Outcome → Type 0) → ((outcome : Outcome) → Is outcome → is_verdict outcome ≡ false) → (fell : List Outcome)
+    → OneAtMost Is fell → NoVerdict fell
 most_fell Is none fell (inl empty) = none_fell fell empty
 most_fell Is none fell (inr one) = one_fell fell one.0 one.1 (none one.0 one.2)
 
@@ -158,18 +160,21 @@ pub record QuietFalls (step : Step) (answer : Answer) (fell : List Outcome) : Ty
 
 -- what falls at a record: no verdict, that on an untouched watch, or that on one that was hit
 pub data FallsHere (hand : Option InHand) (step : Step) (answer : Answer) (fell : List Outcome) : Type 0 where
-  nothing_falls : NoVerdict fell → ((index : ℕ) → step ≡ steps.Consume index → answer ≢ answers.Flag true) → Unanswered hand step answer fell
+  nothing_falls : NoVerdict fell → ((index : ℕ) → step ≡ steps.Consume index → answer ≢ answers.Flag true)
+      → Unanswered hand step answer fell
       → FallsHere hand step answer fell
   quiet_falls : QuietFalls step answer fell → FallsHere hand step answer fell
   hit_falls : Answered hand step answer fell → FallsHere hand step answer fell
 
-heard_none : (b : Bool) (both : Halves) (fell : List Outcome) → MatchBool b (One (AnswersTo both) fell) (fell ≡ []) → NoAnswer fell → NoVerdict fell
+heard_none : (b : Bool) (both : Halves) (fell : List Outcome) → MatchBool b (One (AnswersTo both) fell) (fell ≡ []) → NoAnswer fell
+    → NoVerdict fell
 heard_none true both fell h none =
     let its : NoAnswer (h.0 ∷ []) = subst NoAnswer h.1 none in
     absurd (let both_ways : true ≡ false = sym (answers_so both h.0 h.2) ∙ its.0 in cc)
 heard_none false both fell h none = none_fell fell h
 
-unanswered : (hand : Option InHand) (step : Step) (answer : Answer) (fell : List Outcome) → Settles hand step answer fell → Unanswered hand step answer fell
+unanswered : (hand : Option InHand) (step : Step) (answer : Answer) (fell : List Outcome) → Settles hand step answer fell
+    → Unanswered hand step answer fell
     → FallsHere hand step answer fell
 unanswered hand (steps.Consume index) (answers.Flag true) fell h un =
     quiet_falls (record { index = index; step_is = refl; answer_is = refl; outcome = h.0; only = h.1; untouched = h.2 })
@@ -184,7 +189,8 @@ unanswered hand (steps.Tell index ticket) answer fell h un =
     nothing_falls (one_fell fell h.0 h.1 (tells_none ticket h.0 h.2)) (λ at is. absurd (cc)) un
 unanswered hand step answer fell h un = nothing_falls (none_fell fell h) (λ at is yes. absurd (cc)) un
 
-pub falls_here : (hand : Option InHand) (step : Step) (answer : Answer) (fell : List Outcome) → Settles hand step answer fell → FallsHere hand step answer fell
+pub falls_here : (hand : Option InHand) (step : Step) (answer : Answer) (fell : List Outcome) → Settles hand step answer fell
+    → FallsHere hand step answer fell
 falls_here hand step answer fell h = elim (fell_cases hand step answer fell h) [
   | inl un ↦ unanswered hand step answer fell h un
   | inr some ↦ hit_falls some
@@ -194,7 +200,8 @@ falls_here hand step answer fell h = elim (fell_cases hand step answer fell h) [
 abbrev pub verdicts_in : List OutcomeAt → List OutcomeAt
 verdicts_in came = filter (λ (one : OutcomeAt). is_verdict one.outcome) came
 
-pub no_verdicts : (at : ℕ) (arming : Option Armed) (here : List Fallen) → NoVerdict (outcomes_in here) → verdicts_in (map (outcome_at at arming) here) ≡ []
+pub no_verdicts : (at : ℕ) (arming : Option Armed) (here : List Fallen) → NoVerdict (outcomes_in here)
+    → verdicts_in (map (outcome_at at arming) here) ≡ []
 no_verdicts at arming [] none = refl
 no_verdicts at arming (fallen ∷ here) none = rw none.0 (no_verdicts at arming here none.1)
 
@@ -202,7 +209,8 @@ pub one_verdict : (at : ℕ) (arming : Option Armed) (fallen : Fallen) → is_ve
     → verdicts_in (outcome_at at arming fallen ∷ []) ≡ outcome_at at arming fallen ∷ []
 one_verdict at arming fallen is = rw is refl
 
-pub only_one : (here : List Fallen) (outcome : Outcome) → outcomes_in here ≡ outcome ∷ [] → (fallen : Fallen) × (here ≡ fallen ∷ []) × (fallen.outcome ≡ outcome)
+pub only_one : (here : List Fallen) (outcome : Outcome) → outcomes_in here ≡ outcome ∷ []
+    → (fallen : Fallen) × (here ≡ fallen ∷ []) × (fallen.outcome ≡ outcome)
 only_one [] outcome is = absurd (cc)
 only_one (fallen ∷ []) outcome is = (fallen, refl, cc)
 only_one (fallen ∷ other ∷ here) outcome is = absurd (cc)
@@ -244,7 +252,8 @@ hit_so records index number setter (outcomes.Dropped reason) finder is told =
 hit_so records index number setter outcome finder is told = absurd (cc)
 
 -- arms grow by a remove alone
-same_arms : (step : Step) (earlier : List Noted) (before : List Arm) → ((index : ℕ) → step ≢ steps.Remove index) → arms_at step earlier before ≡ before
+same_arms : (step : Step) (earlier : List Noted) (before : List Arm) → ((index : ℕ) → step ≢ steps.Remove index)
+    → arms_at step earlier before ≡ before
 same_arms (steps.Remove index) earlier before other = absurd (other index refl)
 same_arms (steps.Load index) earlier before other = refl
 same_arms (steps.Insert index word) earlier before other = refl
@@ -309,7 +318,8 @@ module _ (run : Run) (all : List Record) (list : RunList run all) (rules : Keeps
   rules_before (latest ∷ later) earlier kept =
       rules_before later earlier (keeps_before run.rules.slots (locks_of run) (first_cells run) latest (later ++ earlier) kept)
 
-  told_in_all : (later earlier : List Record) (came : OutcomeAt) → Contains (outcomes_by list earlier) came → Contains (outcomes_by list (later ++ earlier)) came
+  told_in_all : (later earlier : List Record) (came : OutcomeAt) → Contains (outcomes_by list earlier) came
+      → Contains (outcomes_by list (later ++ earlier)) came
   told_in_all [] earlier came there = there
   told_in_all (latest ∷ later) earlier came there =
       Contains-append_left (outcomes_by list (later ++ earlier)) (came_next list latest (later ++ earlier)) came (told_in_all later earlier came there)
@@ -332,7 +342,8 @@ module _ (run : Run) (all : List Record) (list : RunList run all) (rules : Keeps
     pub says : SaysOf task records (known_by task records noted)
 
   -- one more record of another task
-  of_another : (task : ℕ) (latest : Record) (earlier : List Record) (noted : List Noted) → (latest.task == task) ≡ false → Good task earlier noted
+  of_another : (task : ℕ) (latest : Record) (earlier : List Record) (noted : List Noted) → (latest.task == task) ≡ false
+      → Good task earlier noted
       → Good task (latest ∷ earlier) noted
   of_another task latest earlier noted others good =
       let same : records_of task (latest ∷ earlier) ≡ records_of task earlier = rw others refl in
@@ -432,7 +443,8 @@ module _ (run : Run) (all : List Record) (list : RunList run all) (rules : Keeps
     arms_same : ((index : ℕ) → latest.step ≢ steps.Remove index) → arms_of (now ∷ before) ≡ arms_of before
     arms_same other = ap (λ (st : Step). arms_at st before (arms_of before)) noted_so.step ∙ same_arms latest.step before (arms_of before) other
 
-    still_arms_at : (step : Step) → ((index : ℕ) → step ≢ steps.Remove index) → AreArmsAt list task step earlier (arms_of before) (arms_of before)
+    still_arms_at : (step : Step) → ((index : ℕ) → step ≢ steps.Remove index)
+        → AreArmsAt list task step earlier (arms_of before) (arms_of before)
     still_arms_at (steps.Remove index) other = absurd (other index refl)
     still_arms_at (steps.Load index) other = refl
     still_arms_at (steps.Insert index word) other = refl
@@ -475,7 +487,8 @@ module _ (run : Run) (all : List Record) (list : RunList run all) (rules : Keeps
         }))
 
     -- the verdict on an access's watch names it
-    named_so : (fallen : Fallen) → here ≡ fallen ∷ [] → is_verdict fallen.outcome ≡ true → last_name (latest ∷ own) ≡ Some (ticket_number fallen.access)
+    named_so : (fallen : Fallen) → here ≡ fallen ∷ [] → is_verdict fallen.outcome ≡ true
+        → last_name (latest ∷ own) ≡ Some (ticket_number fallen.access)
     named_so fallen one verdict =
         let came : OutcomeAt = outcome_at (length earlier) arming fallen in
         let next : came_next list latest earlier ≡ came ∷ [] = next_is ∙ ap (λ (l : List Fallen). map (outcome_at (length earlier) arming) l) one in
@@ -496,7 +509,8 @@ module _ (run : Run) (all : List Record) (list : RunList run all) (rules : Keeps
 
     -- a verdict falls on the arming in hand
     pends : (index : ℕ) (part : Part) → ((word : ℕ) → part ≢ Taken word) → in_hand (latest ∷ own) ≡ Some (record { index = index; part = part })
-        → Settled all known → ((i : ℕ) → latest.step ≢ steps.Remove i) → (outcome : Outcome) → outcomes_in here ≡ outcome ∷ [] → is_verdict outcome ≡ true
+        → Settled all known → ((i : ℕ) → latest.step ≢ steps.Remove i) → (outcome : Outcome) → outcomes_in here ≡ outcome ∷ []
+        → is_verdict outcome ≡ true
         → ((number : ℕ) → last_arming_number index with_it ≡ Some number → (fallen : Fallen) → last_name (latest ∷ own) ≡ Some (ticket_number fallen.access)
         → BecameSo all index number (ticket_number fallen.access) outcome (finder_heard now.step now.answer))
         → (kept_as : Option ArmOutcome) × (verdicts : List OutcomeAt) × (verdicts_by list task with_it ≡ verdicts) × (last_of became (now ∷ before) ≡ kept_as)
@@ -689,7 +703,8 @@ module _ (run : Run) (all : List Record) (list : RunList run all) (rules : Keeps
             (all_good task (later ++ latest ∷ []) earlier back noted (subst (λ (r : List Record). AreNoted (list.tasks task) r noted) same are))
       ]
     where
-      its : ((kept : List Noted) → AreNoted (list.tasks task) (records_of task earlier) kept → Good task earlier kept) → (noted : List Noted)
+      its : ((kept : List Noted) → AreNoted (list.tasks task) (records_of task earlier) kept → Good task earlier kept)
+          → (noted : List Noted)
           → AreNoted (list.tasks task) (latest ∷ records_of task earlier) noted → latest.task ≡ task → Good task (latest ∷ earlier) noted
       its rest [] are mine = absurd are
       its rest (now ∷ before) are mine =

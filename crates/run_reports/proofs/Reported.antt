@@ -47,7 +47,8 @@ use Rattle.written_order.specs.Told.{fell_next}
 
 -- a task's last name is a ticket of its own
 named_now : (task : ℕ) (own : List Record) (step : Step) (ticket : ℕ) → Allows task own step
-    → ((its : ℕ) → last_name own ≡ Some its → task_in its ≡ task) → option_or (named_by step) (last_name own) ≡ Some ticket → task_in ticket ≡ task
+    → ((its : ℕ) → last_name own ≡ Some its → task_in its ≡ task) → option_or (named_by step) (last_name own) ≡ Some ticket
+    → task_in ticket ≡ task
 named_now task own (steps.Name index its) ticket allows before is = ap task_in (sym (some_same is)) ∙ allows.0.1
 named_now task own (steps.Load index) ticket allows before is = before ticket is
 named_now task own (steps.Insert index word) ticket allows before is = before ticket is
@@ -68,7 +69,8 @@ own_name task [] keeps ticket is = absurd (let no : None ≡ Some ticket = is in
 own_name task (latest ∷ earlier) keeps ticket is = named_now task earlier latest.step ticket keeps.1 (own_name task earlier keeps.0) is
 
 -- a naming settles nothing
-unnamed : (step : Step) (answer : Answer) (hand : Option InHand) (outcome : Outcome) → Settles hand step answer (outcome ∷ []) → named_by step ≡ None
+unnamed : (step : Step) (answer : Answer) (hand : Option InHand) (outcome : Outcome) → Settles hand step answer (outcome ∷ [])
+    → named_by step ≡ None
 unnamed (steps.Name index ticket) answer hand outcome settles = absurd (let no : outcome ∷ [] ≡ [] = settles in cc)
 unnamed (steps.Load index) answer hand outcome settles = refl
 unnamed (steps.Insert index word) answer hand outcome settles = refl
@@ -112,7 +114,8 @@ module _ (run : Run) (all : List Record) (list : RunList run all) (rules : Keeps
   rules_before (latest ∷ later) earlier kept =
       rules_before later earlier (keeps_before run.rules.slots (locks_of run) (first_cells run) latest (later ++ earlier) kept)
 
-  told_in_all : (later earlier : List Record) (came : OutcomeAt) → Contains (outcomes_by list earlier) came → Contains (outcomes_by list (later ++ earlier)) came
+  told_in_all : (later earlier : List Record) (came : OutcomeAt) → Contains (outcomes_by list earlier) came
+      → Contains (outcomes_by list (later ++ earlier)) came
   told_in_all [] earlier came there = there
   told_in_all (latest ∷ later) earlier came there =
       Contains-append_left (outcomes_by list (later ++ earlier)) (came_next list latest (later ++ earlier)) came (told_in_all later earlier came there)
@@ -157,7 +160,8 @@ module _ (run : Run) (all : List Record) (list : RunList run all) (rules : Keeps
         (subst (λ (l : List OutcomeAt). Contains l came) (sym next) (0, omega arith, refl)) in
         subst (λ (r : List Record). Contains (outcomes_by list r) came) (sym is) (told_in_all later with_it came now)
 
-    named_so : (fallen : Fallen) → here ≡ fallen ∷ [] → is_verdict fallen.outcome ≡ true → last_name (latest ∷ own) ≡ Some (ticket_number fallen.access)
+    named_so : (fallen : Fallen) → here ≡ fallen ∷ [] → is_verdict fallen.outcome ≡ true
+        → last_name (latest ∷ own) ≡ Some (ticket_number fallen.access)
     named_so fallen one verdict =
         let came : OutcomeAt = outcome_at (length earlier) arming fallen in
         let it : IsOfWatch list came = All-contains (IfVerdict list) (outcomes_of list) came watches (there fallen one) verdict in
@@ -175,14 +179,16 @@ module _ (run : Run) (all : List Record) (list : RunList run all) (rules : Keeps
         own_name task (latest ∷ own) (subst (λ (r : List Record). Discipline task r) mine (now_kept.keeps task)) (ticket_number fallen.access)
         (named_so fallen one verdict)
 
-    last_before : (fallen : Fallen) → here ≡ fallen ∷ [] → is_verdict fallen.outcome ≡ true → last_name own ≡ Some (ticket_number fallen.access)
+    last_before : (fallen : Fallen) → here ≡ fallen ∷ [] → is_verdict fallen.outcome ≡ true
+        → last_name own ≡ Some (ticket_number fallen.access)
     last_before fallen one verdict =
         let fell : Settles (in_hand own) latest.step latest.answer (fallen.outcome ∷ []) =
         subst (λ (l : List Fallen). Settles (in_hand own) latest.step latest.answer (outcomes_in l)) one settled.settles in
         ap (λ (o : Option ℕ). option_or o (last_name own)) (sym (unnamed latest.step latest.answer (in_hand own) fallen.outcome fell)) ∙ named_so fallen one verdict
 
     -- what the record reports is of its task
-    one_by : (fallen : Fallen) → here ≡ fallen ∷ [] → (o : Outcome) → fallen.outcome ≡ o → AllBy task (cons_option (lists.reported fallen.access o) [])
+    one_by : (fallen : Fallen) → here ≡ fallen ∷ [] → (o : Outcome) → fallen.outcome ≡ o
+        → AllBy task (cons_option (lists.reported fallen.access o) [])
     one_by fallen one (outcomes.Report pair seen) falls =
         let answer : AnswersTaking list (outcome_at (length earlier) arming fallen) =
         All-contains (IfAnswer list) (outcomes_of list) (outcome_at (length earlier) arming fallen) answered (there fallen one) (ap is_answer falls) in
@@ -200,7 +206,8 @@ module _ (run : Run) (all : List Record) (list : RunList run all) (rules : Keeps
     one_by fallen one (outcomes.Dropped reason) falls = tt
 
     -- and what its log reports
-    one_logged : (fallen : Fallen) → here ≡ fallen ∷ [] → (before : List Noted) → AreNoted (list.tasks task) own before → (o : Outcome) → fallen.outcome ≡ o
+    one_logged : (fallen : Fallen) → here ≡ fallen ∷ [] → (before : List Noted) → AreNoted (list.tasks task) own before → (o : Outcome)
+        → fallen.outcome ≡ o
         → cons_option (lists.reported fallen.access o) [] ≡ option_to_list (logs.reported (Some o) before)
     one_logged fallen one before are (outcomes.Unknown old new) falls =
         let ticket : setter_named before ≡ ticket_number fallen.access =
@@ -221,7 +228,8 @@ module _ (run : Run) (all : List Record) (list : RunList run all) (rules : Keeps
     its_is : its ≡ filter_map reported_at (map (outcome_at (length earlier) arming) here)
     its_is = ap (λ (l : List OutcomeAt). filter_map reported_at l) next_is
 
-    all_by : (fell : List Fallen) → here ≡ fell → length fell ≤ 1 → AllBy task (filter_map reported_at (map (outcome_at (length earlier) arming) fell))
+    all_by : (fell : List Fallen) → here ≡ fell → length fell ≤ 1
+        → AllBy task (filter_map reported_at (map (outcome_at (length earlier) arming) fell))
     all_by [] is_fell few = tt
     all_by (fallen ∷ []) is_fell few = one_by fallen is_fell fallen.outcome refl
     all_by (fallen ∷ other ∷ fell) is_fell few = absurd (omega (arith, few))
@@ -243,7 +251,8 @@ module _ (run : Run) (all : List Record) (list : RunList run all) (rules : Keeps
         let falls : fallen.outcome ≡ outcome = let both : fallen.outcome ∷ [] ≡ outcome ∷ [] = same in cc in
         ap (λ (o : Outcome). cons_option (lists.reported fallen.access o) []) falls ∙ one_logged fallen is_fell before are outcome falls
 
-    step_logged : (before : List Noted) (now : Noted) → AreNoted (list.tasks task) own before → IsNoted (list.tasks task) (made_by task earlier) latest now
+    step_logged : (before : List Noted) (now : Noted) → AreNoted (list.tasks task) own before
+        → IsNoted (list.tasks task) (made_by task earlier) latest now
         → its ≡ option_to_list (logs.reported now.outcome before)
     step_logged before now are noted_so =
         its_is ∙ logged here refl before are now.outcome (ap outcomes_in (sym settled.all) ∙ noted_so.outcome)
@@ -258,7 +267,8 @@ module _ (run : Run) (all : List Record) (list : RunList run all) (rules : Keeps
       ∙ filter-append (is_by task) (reported_by earlier) (filter_map reported_at (came_next list latest earlier))
 
   module _ (few : (task made : ℕ) → length (fell_next (list.tasks task) made) ≤ 1) where
-    own_by : (task : ℕ) (later earlier : List Record) → all ≡ later ++ earlier → (noted : List Noted) → AreNoted (list.tasks task) (records_of task earlier) noted
+    own_by : (task : ℕ) (later earlier : List Record) → all ≡ later ++ earlier → (noted : List Noted)
+        → AreNoted (list.tasks task) (records_of task earlier) noted
         → reports_by task (reported_by earlier) ≡ reported_in noted
     own_by task later [] is [] are = refl
     own_by task later [] is (noted ∷ before) are = absurd are
@@ -284,7 +294,8 @@ module _ (run : Run) (all : List Record) (list : RunList run all) (rules : Keeps
         its_own rest [] are mine = absurd are
         its_own rest (now ∷ before) are mine =
             subst (λ (t : ℕ). ((kept : List Noted) → AreNoted (list.tasks t) (records_of t earlier) kept → reports_by t (reported_by earlier) ≡ reported_in kept)
-            → AreNoted (list.tasks t) (latest ∷ records_of t earlier) (now ∷ before) → reports_by t (reported_by (latest ∷ earlier)) ≡ reported_in (now ∷ before)) mine
+            → AreNoted (list.tasks t) (latest ∷ records_of t earlier) (now ∷ before)
+            → reports_by t (reported_by (latest ∷ earlier)) ≡ reported_in (now ∷ before)) mine
             (λ back_then are_so.
             let by : AllBy latest.task (filter_map reported_at (came_next list latest earlier)) =
             step_by later latest earlier is (few latest.task (made_by latest.task earlier)) in
