@@ -146,7 +146,8 @@ left_sum w p none (c ∷ came) = by_test (p c) refl (left_sum w p none came)
 
 zero_sum : {X : Type 0} (f : X → ℕ) → ((x : X) → f x ≡ 0) → (xs : List X) → sum_by f xs ≡ 0
 zero_sum f none [] = refl
-zero_sum f none (x ∷ xs) = let rest = zero_sum f none xs in let one = sum_by-cons f x xs in let own_so = none x in omega (arith, rest, one, own_so)
+zero_sum f none (x ∷ xs) =
+    let rest = zero_sum f none xs in let one = sum_by-cons f x xs in let own_so = none x in omega (arith, rest, one, own_so)
 
 module _ (run : Run) (all : List Record) (list : RunList run all) where
   -- what the outcomes come to, task by task
@@ -232,7 +233,8 @@ module _ (run : Run) (all : List Record) (list : RunList run all) where
         subst (λ (h : Option InHand). HandSays all h (λ index. heard index (records_of task all)) known) (over task) paired.says
 
     each_answer : Each (IfAnswer list) (outcomes_of list)
-    each_answer = each_of (IfAnswer list) (outcomes_of list) (λ came there. All-contains (IfAnswer list) (outcomes_of list) came answered there)
+    each_answer =
+        each_of (IfAnswer list) (outcomes_of list) (λ came there. All-contains (IfAnswer list) (outcomes_of list) came answered there)
 
     abbrev Same : (Arm → ℕ) → (OutcomeAt → ℕ) → Type 0
     Same u w = (arm : Arm) (verdict : OutcomeAt) → Suits all arm verdict → IfAnswer list verdict → u arm ≡ w verdict

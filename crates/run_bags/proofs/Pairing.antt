@@ -111,7 +111,8 @@ module _ (run : Run) (all : List Record) (list : RunList run all) (rules : Keeps
       (λ index n is. made_by_others task index latest.task latest.step latest.answer (length earlier) (number_made task index earlier) others ∙ is) paired.says in
       record {
         kept = paired.kept;
-        says = subst (λ (own : List Record). SaysOf own (verdicts_by list task (latest ∷ earlier)) arms (λ index. number_made task index (latest ∷ earlier)) paired.kept)
+        says =
+            subst (λ (own : List Record). SaysOf own (verdicts_by list task (latest ∷ earlier)) arms (λ index. number_made task index (latest ∷ earlier)) paired.kept)
             (sym same)
             (subst (λ (v : List OutcomeAt). SaysOf (records_of task earlier) v arms (λ index. number_made task index (latest ∷ earlier)) paired.kept) (sym verdicts) so);
       }
@@ -168,7 +169,8 @@ module _ (run : Run) (all : List Record) (list : RunList run all) (rules : Keeps
         → SaysOf (latest ∷ own) verdicts after (λ index. number_made task index with_it) kept → Paired task with_it after
     comes_to verdicts after kept verdicts_so says = record {
       kept = kept;
-      says = subst (λ (r : List Record). SaysOf r (verdicts_by list task with_it) after (λ index. number_made task index with_it) kept) (sym mine)
+      says =
+          subst (λ (r : List Record). SaysOf r (verdicts_by list task with_it) after (λ index. number_made task index with_it) kept) (sym mine)
           (subst (λ (v : List OutcomeAt). SaysOf (latest ∷ own) v after (λ index. number_made task index with_it) kept) (sym verdicts_so) says);
     }
 

@@ -48,7 +48,8 @@ reports_fewer (one ∷ others) =
 
 pub keeps_body : (run : Run) → KeepsLimits run.program → (task : ℕ) → task < length run.program.tasks
     → BodyKeepsLimits (task_of run task).body
-keeps_body run keeps task there = (All-get_or (TaskKeepsLimits run.program.variables) run.program.tasks task idle there keeps.each_task).body
+keeps_body run keeps task there =
+    (All-get_or (TaskKeepsLimits run.program.variables) run.program.tasks task idle there keeps.each_task).body
 
 module _ (run : Run) (all : List Record) (list : RunList run all) where
   abbrev came_by : ℕ → List Record → ℕ

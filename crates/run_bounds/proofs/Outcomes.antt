@@ -36,8 +36,10 @@ module _ (s : checks.Setting) where
   rechecks_many : (scopes : List Begun) (asked : ℕ) (records : List Record) (passes : Passes) (rest : List Record)
       → Rechecks s scopes asked records passes rest
       → length passes.outcomes ≤ length scopes
-  rechecks_many [] asked records passes rest h = let none : length passes.outcomes ≡ 0 = ap (λ (p : Passes). length p.outcomes) h.0 in omega (arith, none)
-  rechecks_many (scope ∷ scopes) asked records passes rest h = by_silence scope.silenced h (λ now left some more. rechecks_many scopes now left some rest more)
+  rechecks_many [] asked records passes rest h =
+      let none : length passes.outcomes ≡ 0 = ap (λ (p : Passes). length p.outcomes) h.0 in omega (arith, none)
+  rechecks_many (scope ∷ scopes) asked records passes rest h =
+      by_silence scope.silenced h (λ now left some more. rechecks_many scopes now left some rest more)
     where
       by_silence : (silenced : Bool)
           → MatchBool silenced (Rechecks s scopes asked records passes rest)
@@ -108,14 +110,16 @@ module _ (s : Setting) where
       let all : length after.outcomes ≡ length (before.outcomes ++ h.passes.outcomes) = ap (λ (st : Standing). length st.outcomes) h.comes_to in
       let parts = length-append before.outcomes h.passes.outcomes in
       let many = check_many (checks_of s) before.scopes h.begun before.asked records h.passes h.checked h.check in record {
-        scopes = ap (λ (st : Standing). st.scopes) h.comes_to ∙ operated_scopes a operation (doing before _ (happenings.Begin a ∷ [])) h.checked effect h.done;
+        scopes =
+            ap (λ (st : Standing). st.scopes) h.comes_to ∙ operated_scopes a operation (doing before _ (happenings.Begin a ∷ [])) h.checked effect h.done;
         most = omega (arith, all, parts, many, few);
       }
 
   only_adds : (before comes_to after : Standing) (records rest : List Record) → comes_to.scopes ≡ before.scopes
       → comes_to.outcomes ≡ before.outcomes
       → Only comes_to records after rest → Adds 0 before after
-  only_adds before comes_to after records rest scopes outcomes h = adds_is 0 before comes_to after h.0 (adds_none before comes_to scopes outcomes)
+  only_adds before comes_to after records rest scopes outcomes h =
+      adds_is 0 before comes_to after h.0 (adds_none before comes_to scopes outcomes)
 
   load_adds : (site : ℕ) (l : Load) (before : Standing) (records : List Record) (loaded : ℕ) (after : Standing) (rest : List Record)
       → length before.scopes ≤ scoped_limit → StepsOfLoad s site l before records loaded after rest → Adds 1 before after
@@ -127,8 +131,10 @@ module _ (s : Setting) where
   expression_adds : (site : ℕ) (e : Expression) (before : Standing) (records : List Record) (value : ℕ) (after : Standing) (rest : List Record)
       → length before.scopes ≤ scoped_limit → StepsOfExpression s site e before records value after rest
       → Adds (if expression_has_access e then 1 else 0) before after
-  expression_adds site (tree.pure e) before records value after rest few h = adds_is 0 before before after h.1 (adds_none before before refl refl)
-  expression_adds site (tree.loading e) before records value after rest few h = load_adds site (load_in e) before records h.0 after rest few h.1
+  expression_adds site (tree.pure e) before records value after rest few h =
+      adds_is 0 before before after h.1 (adds_none before before refl refl)
+  expression_adds site (tree.loading e) before records value after rest few h =
+      load_adds site (load_in e) before records h.0 after rest few h.1
 
   assignment_adds : (site : ℕ) (a : Assignment) (before : Standing) (records : List Record) (after : Standing) (rest : List Record)
       → length before.scopes ≤ scoped_limit → StepsOfAssignment s site a before records after rest
@@ -175,7 +181,8 @@ module _ (s : Setting) where
       → Adds (if call_has_access c then 1 else 0) before after
   call_adds site (calls.Barrier b) before records after rest few h = only_adds before before after records rest refl refl h
   call_adds site (calls.Lock l) before records after rest few h = adds_is 0 before _ after h.2 (adds_none before _ refl refl)
-  call_adds site (calls.Unlock l) before records after rest few h = unlock_adds (has_lock l before.progress.did) l before records after rest _ h
+  call_adds site (calls.Unlock l) before records after rest few h =
+      unlock_adds (has_lock l before.progress.did) l before records after rest _ h
   call_adds site (calls.AssertWriter x scoped) before records after rest few h = makes_adds _ _ h.0 before records after rest few h.1
   call_adds site (calls.AssertAccess x scoped) before records after rest few h = makes_adds _ _ h.0 before records after rest few h.1
   call_adds site (calls.AssertBits x mask) before records after rest few h =
@@ -187,7 +194,8 @@ module _ (s : Setting) where
 
 -- how often a text repeats its accesses, with the loops round it
 two_scaled : (turns x y one other : ℕ) → x ≡ turns * one → y ≡ turns * other → x + y ≡ turns * (one + other)
-two_scaled turns x y one other p q = let all : turns * (one + other) ≡ turns * one + turns * other = mul-add turns one other in omega (arith, p, q, all)
+two_scaled turns x y one other p q =
+    let all : turns * (one + other) ≡ turns * one + turns * other = mul-add turns one other in omega (arith, p, q, all)
 
 own_scaled : (turns : ℕ) (b : Bool) → (if b then turns else 0) ≡ turns * (if b then 1 else 0)
 own_scaled turns true = sym (mul-one turns)
@@ -352,7 +360,8 @@ module _ (s : Setting) where
     block_adds : (body : Block) (site scopes : ℕ) → BlockScopes scopes body → scopes ≤ scoped_limit
         → (before : Standing) (records : List Record) (after : Standing) (rest : List Record) → length before.scopes ≡ scopes
         → StepsOfBlock s site body before records after rest → Adds (block_repeats 1 body) before after
-    block_adds tree.empty site scopes fits within before records after rest has h = adds_is 0 before before after h.0 (adds_none before before refl refl)
+    block_adds tree.empty site scopes fits within before records after rest has h =
+        adds_is 0 before before after h.0 (adds_none before before refl refl)
     block_adds (tree.first st more) site scopes fits within before records after rest has h =
         in_block site st (scoped_assertion st) scopes (block_repeats 1 more) (λ b r a e. StepsOf s site st b r a e)
         (λ b r a e. StepsOfBlock s (site + length (accesses_of st)) more b r a e) (scopes_are st) (has_room st scopes fits.0 within)

@@ -113,7 +113,8 @@ module _ (task : ℕ) (own : List Record) (fell : List Outcome) where
       nothing : heard_one None ≡ 0
       nothing = refl
   consumes index ticket (answers.Word w) has settles = let less = still_named index ticket (answers.Word w) has in omega (arith, less)
-  consumes index ticket (answers.Halves setter finder) has settles = let less = still_named index ticket (answers.Halves setter finder) has in omega (arith, less)
+  consumes index ticket (answers.Halves setter finder) has settles =
+      let less = still_named index ticket (answers.Halves setter finder) has in omega (arith, less)
   consumes index ticket answers.Done has settles = let less = still_named index ticket answers.Done has in omega (arith, less)
 
   clears : (index : ℕ) (answer : Answer) → Allows task own (steps.Clear index) → Few (steps.Clear index) answer
@@ -172,7 +173,8 @@ module _ (task : ℕ) (own : List Record) (fell : List Outcome) where
   loads_hand index setter finder (Some hand) has settles = loads_part index hand.index setter finder hand.part has settles
 
   loads_pair : (index : ℕ) (answer : Answer) → Settles (in_hand own) (steps.PairLoad index) answer fell → Few (steps.PairLoad index) answer
-  loads_pair index (answers.Halves setter finder) settles = let less = loads_hand index setter finder (in_hand own) refl settles in omega (arith, less)
+  loads_pair index (answers.Halves setter finder) settles =
+      let less = loads_hand index setter finder (in_hand own) refl settles in omega (arith, less)
   loads_pair index (answers.Word w) settles = omega arith
   loads_pair index (answers.Flag flag) settles = omega arith
   loads_pair index answers.Done settles = omega arith

@@ -133,7 +133,8 @@ module _ {run : Run} {all : List Record} (list : RunList run all) where
 
   told_step : (task : ℕ) (step : Step) (answer : Answer) (earlier : List Record)
       → length (told_by task step earlier []) ≤ cond (is_tell step answer) 1 0
-  told_step task (steps.Tell index ticket) answer earlier = told_one index ticket (last_arming_number index earlier) (heard index (records_of task earlier))
+  told_step task (steps.Tell index ticket) answer earlier =
+      told_one index ticket (last_arming_number index earlier) (heard index (records_of task earlier))
   told_step task step answer earlier = omega arith
 
   pub so_many_takes : (task : ℕ) (records : List Record)

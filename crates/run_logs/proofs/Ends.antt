@@ -60,7 +60,8 @@ ended_going end stamp is = ap is_none is
 still_there : (stamp : ℕ) (touches : List Touch) (touch : Touch) (end : ℕ) → Contains touches touch → touch.end ≡ Some end
     → Contains (end_newest stamp touches) touch
 still_there stamp [] touch end there is = let none : there.0 < 0 = there.1 in absurd (omega (arith, none))
-still_there stamp (one ∷ newer) touch end there is = by_newer (list_any goes_on newer) refl (stands one touch newer there) (λ later. still_there stamp newer touch end later is)
+still_there stamp (one ∷ newer) touch end there is =
+    by_newer (list_any goes_on newer) refl (stands one touch newer there) (λ later. still_there stamp newer touch end later is)
   where
     last_one : (b : Bool) → goes_on one ≡ b → list_any goes_on newer ≡ false → Contains ((if b then record one { end = Some stamp } else one) ∷ newer) touch
         → Contains (end_newest stamp (one ∷ newer)) touch
@@ -74,13 +75,15 @@ still_there stamp (one ∷ newer) touch end there is = by_newer (list_any goes_o
         absurd (let over : goes_on touch ≡ false = ended_going touch.end end is in
         let both : true ≡ false = sym goes ∙ (ap goes_on same ∙ over) in cc)
     by_one true goes none (later_on later) = last_one true goes none (behind (record one { end = Some stamp }) touch newer later)
-    by_one false goes none (at_front same) = last_one false goes none (subst (λ (t : Touch). Contains (one ∷ newer) t) same (first_of one newer))
+    by_one false goes none (at_front same) =
+        last_one false goes none (subst (λ (t : Touch). Contains (one ∷ newer) t) same (first_of one newer))
     by_one false goes none (later_on later) = last_one false goes none (behind one touch newer later)
 
     by_newer : (b : Bool) → list_any goes_on newer ≡ b → Stands one touch newer
         → (Contains newer touch → Contains (end_newest stamp newer) touch)
         → Contains (end_newest stamp (one ∷ newer)) touch
-    by_newer true any (at_front same) each = rw any (subst (λ (t : Touch). Contains (one ∷ end_newest stamp newer) t) same (first_of one (end_newest stamp newer)))
+    by_newer true any (at_front same) each =
+        rw any (subst (λ (t : Touch). Contains (one ∷ end_newest stamp newer) t) same (first_of one (end_newest stamp newer)))
     by_newer true any (later_on later) each = rw any (behind one touch (end_newest stamp newer) (each later))
     by_newer false none at each = by_one (goes_on one) refl none at
 
@@ -173,10 +176,12 @@ module _ (run : Run) (records : List Record) (list : RunList run records) (task 
         (at_clock stamp clock answered ∙ ap (λ (b : Option Begun). touches_at steps.Clock (answers.Word stamp) b before) same)
 
     touching : Touching before touched latest.answer next
-    touching = by_kind (kind_of (task_setting run task) (did_by (list.tasks task) made) latest.step latest.answer event.event event.is_event)
+    touching =
+        by_kind (kind_of (task_setting run task) (did_by (list.tasks task) made) latest.step latest.answer event.event event.is_event)
       where
         stamp_of : latest.step ≡ steps.Clock → (stamp : ℕ) × (latest.answer ≡ answers.Word stamp)
-        stamp_of clock = legal_at (first_words run) later latest earlier (subst (λ (r : List Record). Legal (first_words run) r) is list.legal) clock
+        stamp_of clock =
+            legal_at (first_words run) later latest earlier (subst (λ (r : List Record). Legal (first_words run) r) is list.legal) clock
 
         by_kind : Kind latest.step event.event → Touching before touched latest.answer next
         by_kind (spanning.quiet other plain) =

@@ -188,7 +188,8 @@ module _ (records : List Record) where
     loads_part : (index at setter finder : ℕ) (part : Part) → in_hand own ≡ Some (record { index = at; part = part }) → Silent index finder
         → ClearsNext own (steps.PairLoad index) → LoadsIn index setter finder (Some (record { index = at; part = part }))
     loads_part index at setter finder Hit has silent next = loads_hit index at setter finder has silent next
-    loads_part index at setter finder (Inserted word) has silent next = in_hand_says (Some (record { index = at; part = Inserted word })) has
+    loads_part index at setter finder (Inserted word) has silent next =
+        in_hand_says (Some (record { index = at; part = Inserted word })) has
     loads_part index at setter finder (Named ticket) has silent next = in_hand_says (Some (record { index = at; part = Named ticket })) has
     loads_part index at setter finder (Taken word) has silent next = in_hand_says (Some (record { index = at; part = Taken word })) has
     loads_part index at setter finder Untouched has silent next = in_hand_says (Some (record { index = at; part = Untouched })) has
@@ -225,7 +226,8 @@ module _ (records : List Record) where
     silently (steps.Remove index) answer allows next silent = absurd (silent.removes index refl)
     silently (steps.Tell index ticket) answer allows next silent =
         in_hand_says (Some (record { index = index; part = Taken allows.1.0 })) allows.1.1
-    silently (steps.PairLoad index) answer allows next silent = loads_pair index answer (λ setter finder is. silent.hears index setter finder refl is) next
+    silently (steps.PairLoad index) answer allows next silent =
+        loads_pair index answer (λ setter finder is. silent.hears index setter finder refl is) next
     silently (steps.Load index) answer allows next silent = says
     silently (steps.CellLoad cell) answer allows next silent = says
     silently (steps.CellExchange cell expected new) answer allows next silent = says

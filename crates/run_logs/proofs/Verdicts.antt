@@ -240,7 +240,8 @@ pub record BecameSo (records : List Record) (index number setter : ℕ) (outcome
 pub untouched_so : (records : List Record) (index number setter : ℕ) (outcome : Outcome) (finder : ℕ) → IsUntouched outcome
     → BecameSo records index number setter outcome finder
 untouched_so records index number setter outcomes.Quiet finder is = record { result = became_as.Quiet; noted_so = refl; is = refl }
-untouched_so records index number setter (outcomes.Unknown old new) finder is = record { result = became_as.Origin; noted_so = refl; is = refl }
+untouched_so records index number setter (outcomes.Unknown old new) finder is =
+    record { result = became_as.Origin; noted_so = refl; is = refl }
 untouched_so records index number setter outcome finder is = absurd is
 
 pub hit_so : (records : List Record) (index number setter : ℕ) (outcome : Outcome) (finder : ℕ) → is_answer outcome ≡ true
@@ -441,7 +442,8 @@ module _ (run : Run) (all : List Record) (list : RunList run all) (rules : Keeps
         (known_with verdicts arms b)) (sym last_so) says)))
 
     arms_same : ((index : ℕ) → latest.step ≢ steps.Remove index) → arms_of (now ∷ before) ≡ arms_of before
-    arms_same other = ap (λ (st : Step). arms_at st before (arms_of before)) noted_so.step ∙ same_arms latest.step before (arms_of before) other
+    arms_same other =
+        ap (λ (st : Step). arms_at st before (arms_of before)) noted_so.step ∙ same_arms latest.step before (arms_of before) other
 
     still_arms_at : (step : Step) → ((index : ℕ) → step ≢ steps.Remove index)
         → AreArmsAt list task step earlier (arms_of before) (arms_of before)
@@ -664,7 +666,8 @@ module _ (run : Run) (all : List Record) (list : RunList run all) (rules : Keeps
             rw (eq-eqb task task refl)
                 (subst (λ (st : Step). AreArmsAt list task st earlier (arms_of before) (arms_of (now ∷ before))) (sym step_is) (arm, its, arms_are)),
           );
-          says = comes_to (pending.older ++ pending.verdict ∷ []) (arms_of before ++ arm ∷ []) (last_of became (now ∷ before)) verdicts arms_are refl
+          says =
+              comes_to (pending.older ++ pending.verdict ∷ []) (arms_of before ++ arm ∷ []) (last_of became (now ∷ before)) verdicts arms_are refl
               (subst (λ (h : Option InHand). HandSays all h (λ i. heard i (latest ∷ own))
               (known_with (pending.older ++ pending.verdict ∷ []) (arms_of before ++ arm ∷ []) (last_of became (now ∷ before)))) (sym hand)
               (match_with all (arms_of before) pending.older arm pending.verdict pending.matched suits));
