@@ -1,27 +1,44 @@
 -- What registers and variables hold in a world.
-use Rattle.std.proofs.Common.{◌≡◌, ◌+◌, ◌%◌, ◌++◌, ◌∷◌, [], ◌∙◌, ◌↔◌, ◌⊎◌, ℕ, List, Option, None, Some, ap, arith, length, map, refl, slice_get, subst, suc, sym, inl, inr, Vec}
+use Rattle.std.proofs.Common.{◌≡◌, ◌+◌, ◌++◌, ◌∷◌, [], ◌∙◌, ℕ, List, Option, None, Some, ap, arith, length, map}
+use Rattle.std.proofs.Common.{refl, slice_get, subst, suc, sym, inl, inr, Vec}
 use Rattle.std.specs.Option.{option_map}
 use Rattle.std.proofs.lemmas.Option.{slice_get-map}
 use Rattle.std.specs.Global.{Global}
 use Rattle.final_condition.specs.Holds as final
 use Rattle.final_condition.specs.Holds.{Holds, register_of}
 use Rattle.final_condition.specs.declared.condition.Finals.{Finals}
-use Rattle.litmus_command.specs.Finals.{AreRegistersFrom, register_value, value_among}
+use Rattle.litmus_command.specs.Finals.{AreAllRegisters, AreRegistersFrom, register_value, value_among}
+use Rattle.litmus_step.specs.Readers.{AreRegisters}
 use Rattle.litmus_syntax.specs.Tree.{Proposition, always, both, either, negation, never, register_is, variable_is}
 use Rattle.run_lists.specs.Run.{Run}
+use Rattle.run_lists.specs.RunList.{RunList}
 use Rattle.slot_table.specs.declared.records.Record.{Record}
-use Rattle.litmus_step.specs.Readers.{AreRegisters}
-use Rattle.litmus_step.specs.declared.world.World.{World}
 
 -- the registers of one task more
-pub registers_go_on : (run : Run) (records : List Record) (world : World) (from number : ℕ) (all : List (List ℕ)) (values : List ℕ)
-    → number ≡ from + length all → AreRegistersFrom run records world from all → AreRegisters run records world number values
-    → AreRegistersFrom run records world from (all ++ values ∷ [])
-registers_go_on run records world from number [] values is before here =
+pub registers_go_on : {run : Run} {records : List Record} (list : RunList run records) (from number : ℕ) (all : List (List ℕ))
+    (values : List ℕ) → number ≡ from + length all → AreRegistersFrom list from all → AreRegisters list number values
+    → AreRegistersFrom list from (all ++ values ∷ [])
+registers_go_on list from number [] values is before here =
     let same : number ≡ from = omega (arith, is) in
-    (subst (λ task. AreRegisters run records world task values) same here, tt)
-registers_go_on run records world from number (first ∷ all) values is before here =
-    (before.0, registers_go_on run records world (suc from) number all values (omega (arith, is)) before.1 here)
+    (subst (λ task. AreRegisters list task values) same here, tt)
+registers_go_on list from number (first ∷ all) values is before here =
+    (before.0, registers_go_on list (suc from) number all values (omega (arith, is)) before.1 here)
+
+-- they are one list alone
+registers_same_from : {run : Run} {records : List Record} (list : RunList run records) (from : ℕ) (one other : List (List ℕ))
+    → length one ≡ length other → AreRegistersFrom list from one → AreRegistersFrom list from other → one ≡ other
+registers_same_from list from [] [] same are others = refl
+registers_same_from list from [] (values ∷ other) same are others = absurd (omega (arith, same))
+registers_same_from list from (values ∷ one) [] same are others = absurd (omega (arith, same))
+registers_same_from list from (first ∷ one) (second ∷ other) same are others =
+    ap (λ (values : List ℕ). values ∷ one) (are.0 ∙ sym others.0)
+    ∙ ap (λ (more : List (List ℕ)). second ∷ more)
+    (registers_same_from list (suc from) one other (omega (arith, same)) are.1 others.1)
+
+pub all_registers_same : {run : Run} {records : List Record} (list : RunList run records) (one other : List (List ℕ))
+    → AreAllRegisters list one → AreAllRegisters list other → one ≡ other
+all_registers_same list one other are others =
+    registers_same_from list 0 one other (are.all ∙ sym others.all) are.each others.each
 
 -- what holds of values holds of the same values, and the other way round
 alike : (registers others : ℕ → ℕ → ℕ) (variables values : ℕ → ℕ)

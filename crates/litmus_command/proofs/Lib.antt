@@ -1,2 +1,4 @@
+mod AskedLemmas
+mod CellValues
 mod FinalLemmas
 mod ResultLemmas

@@ -3,6 +3,7 @@ use Rattle.std.specs.Global.{Global}
 use Rattle.std.specs.Prelude.{◌≡◌, ◌≤◌, ◌⊎◌, ℕ, List, Option, Some, None, Vec, Bool, true, false, is_some, not}
 use Rattle.std.specs.Option.{option_map}
 use Rattle.command_words.specs.Bounds.{KeepsBounds, MayBeAsked}
+use Rattle.command_words.specs.Words.{Ask, AskForHelp}
 use Rattle.command_words.specs.declared.request.ReplayRequest.{ReplayRequest}
 use Rattle.command_words.specs.declared.request.Request.{Request}
 use Rattle.command_words.specs.declared.request.Request.TheVariants as requests
@@ -11,13 +12,14 @@ use Rattle.litmus_parse.specs.Text.{file_bytes}
 use Rattle.place_list.specs.Spelling as places
 use Rattle.program_layout.specs.declared.place.Place.{Place}
 use Rattle.report_text.specs.Faults.{size_limit}
-use Rattle.report_text.specs.Sink.{CountsFailure, appended}
+use Rattle.report_text.specs.Sink.{CountsFailure, HoldsBeginning, appended}
 use Rattle.step_schedule.specs.Spelling as schedules
 use Rattle.step_schedule.specs.declared.schedule.Entry.{Entry}
 use Rattle.litmus_step.specs.declared.settings.Settings.{Settings}
+use Rattle.trace_replay.specs.Answer as answers
 use Rattle.trace_replay.specs.declared.accepted.TraceError.{TraceError}
 use Rattle.trace_replay.specs.declared.accepted.TraceError.TheVariants as trace
-use Rattle.litmus_command.specs.Engine.{TextLeaves}
+use Rattle.litmus_command.specs.Engine.{IsRefused, TextLeaves}
 use Rattle.litmus_command.specs.Files.{FileEvent, Gave, Has, OnlyRead, noted}
 use Rattle.litmus_command.specs.Replay.{IsLineOf}
 use Rattle.litmus_command.specs.declared.command.Failure.{Failure}
@@ -99,28 +101,79 @@ with_trace before (Some path) (Some trace) = noted before (Has path trace)
 with_trace before (Some path) None = before
 with_trace before None trace = before
 
--- The file that is asked for was read, and its program was stepped under the settings and the schedule that are asked for. What is
--- left of that one run was written: its trace, if it is asked for, and its output, which has a report or none.
+-- This is left of one run of the program that a text spells, under the settings and the schedule that are asked for: whether there was a
+-- report, the output, and the trace, if it is asked for.
+pub record IsLeft (request : StepRequest) (text : List ℕ) (raced : Bool) (output : List ℕ) (trace : Option (List ℕ)) :
+    Type 0 where
+  pub settings : Settings
+  pub entries : List Entry
+  pub asks : AsksFor request settings entries
+  pub leaves : TextLeaves text settings entries raced output trace
+  pub traced : is_some trace ≡ is_some request.trace
+
+-- what was done with files once the file that is asked for gave this text, and then the trace was written, if it is asked for
+abbrev pub files_after : StepRequest → List ℕ → (trace : Option (List ℕ)) → Option (List FileEvent) → Option (List FileEvent)
+files_after request text trace before =
+    with_trace (noted before (Gave request.file.now file_bytes text)) (option_map (λ path. path.now) request.trace) trace
+
+-- The file that is asked for was read, and its program was stepped. What is left of that one run was written: its trace, if it is asked
+-- for, and its output, which has a report or none.
 pub record StepIsDone (request : StepRequest) (raced : Bool) (before after : State) : Type 0 where
+  pub text : List ℕ
+  pub output : List ℕ
+  pub trace : Option (List ℕ)
+  pub left : IsLeft request text raced output trace
+  pub written : after.written ≡ appended before.written output
+  pub files : after.files ≡ files_after request text trace before.files
+
+-- Not all of it could be written. A trace is asked for, and its file could not be written: standard output has what it had. Or that was
+-- done, and standard output took but a beginning of the output.
+pub record StepIsCut (request : StepRequest) (before after : State) : Type 0 where
+  pub text : List ℕ
+  pub raced : Bool
+  pub output : List ℕ
+  pub trace : Option (List ℕ)
+  pub left : IsLeft request text raced output trace
+  pub cut : ((is_some request.trace ≡ true) × (after.written ≡ before.written))
+      ⊎ (HoldsBeginning output before.written after.written × (after.files ≡ files_after request text trace before.files))
+
+-- The file that is asked for was read, and its text has no output, for a reason that ends with this status. Nothing was written.
+pub record StepIsRefused (request : StepRequest) (status : ℕ) (before after : State) : Type 0 where
   pub settings : Settings
   pub entries : List Entry
   pub asks : AsksFor request settings entries
   pub text : List ℕ
-  pub output : List ℕ
-  pub trace : Option (List ℕ)
-  pub leaves : TextLeaves text settings entries raced output trace
-  pub traced : is_some trace ≡ is_some request.trace
-  pub written : after.written ≡ appended before.written output
-  pub files : after.files ≡ with_trace (noted before.files (Gave request.file.now file_bytes text))
-      (option_map (λ path. path.now) request.trace) trace
+  pub error : EngineError
+  pub refused : IsRefused text settings entries error
+  pub status_is : status ≡ engine_status_of error
+  pub files : after.files ≡ noted before.files (Gave request.file.now file_bytes text)
 
--- the file that is asked for was read, and is a true trace; how many lines it has of each kind was written
+-- the file that is asked for was read, and is no true trace, for a reason that ends with this status
+pub record ReplayIsRefused (request : ReplayRequest) (status : ℕ) (before after : State) : Type 0 where
+  pub bytes : List ℕ
+  pub error : TraceError
+  pub refused : answers.IsRefused bytes error
+  pub status_is : status ≡ trace_status_of error
+  pub files : after.files ≡ noted before.files (Gave request.trace.now size_limit bytes)
+
+-- the file that is asked for gave these bytes, which are a true trace, and this is said of it: how many lines it has of each kind
+pub record IsSaid (request : ReplayRequest) (bytes line : List ℕ) (before after : State) : Type 0 where
+  pub accepted : IsLineOf bytes line
+  pub files : after.files ≡ noted before.files (Gave request.trace.now size_limit bytes)
+
+-- the file that is asked for was read, and is a true trace; what is said of it was written
 pub record ReplayIsDone (request : ReplayRequest) (before after : State) : Type 0 where
   pub bytes : List ℕ
   pub line : List ℕ
-  pub accepted : IsLineOf bytes line
+  pub said : IsSaid request bytes line before after
   pub written : after.written ≡ appended before.written line
-  pub files : after.files ≡ noted before.files (Gave request.trace.now size_limit bytes)
+
+-- standard output took but a beginning of it
+pub record ReplayIsCut (request : ReplayRequest) (before after : State) : Type 0 where
+  pub bytes : List ℕ
+  pub line : List ℕ
+  pub said : IsSaid request bytes line before after
+  pub begun : HoldsBeginning line before.written after.written
 
 -- what is asked was done, with a report or without one
 abbrev pub IsDone : Request → Bool → State → State → Type 0
@@ -128,10 +181,36 @@ IsDone (requests.Step request) raced before after = StepIsDone request raced bef
 IsDone (requests.Replay request) true before after = ⊥
 IsDone (requests.Replay request) false before after = ReplayIsDone request before after
 
--- what was asked for is help: some text was written, and no file was touched
-pub record HelpIsGiven (before after : State) : Type 0 where
+-- what is asked was done, and not all of it could be written
+abbrev pub IsCut : Request → State → State → Type 0
+IsCut (requests.Step request) before after = StepIsCut request before after
+IsCut (requests.Replay request) before after = ReplayIsCut request before after
+
+-- what is asked was refused of the file that it is about
+abbrev pub IsRefusedOf : Request → (status : ℕ) → State → State → Type 0
+IsRefusedOf (requests.Step request) status before after = StepIsRefused request status before after
+IsRefusedOf (requests.Replay request) status before after = ReplayIsRefused request status before after
+
+-- the status says that a file is refused, or that a task is stuck
+abbrev pub IsOfFile : ℕ → Type 0
+IsOfFile status = (status ≡ 65) ⊎ (status ≡ 70)
+
+-- the words ask for something of which this holds
+abbrev pub AskForOne : (words : List (List ℕ)) → (Request → Type 0) → Type 0
+AskForOne words Holds = (request : Request) × MayBeAsked request × Ask words request × Holds request
+
+-- the words ask for help, a text was written, and no file was touched
+pub record HelpIsGiven (words : List (List ℕ)) (before after : State) : Type 0 where
+  pub asked : AskForHelp words
   pub text : List ℕ
   pub written : after.written ≡ appended before.written text
+  pub files : after.files ≡ before.files
+
+-- the words ask for help, and standard output took but a beginning of the text
+pub record HelpIsCut (words : List (List ℕ)) (before after : State) : Type 0 where
+  pub asked : AskForHelp words
+  pub text : List ℕ
+  pub begun : HoldsBeginning text before.written after.written
   pub files : after.files ≡ before.files
 
 -- nothing was written: standard output has what it had, and one file was read at most

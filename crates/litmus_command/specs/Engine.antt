@@ -1,36 +1,37 @@
 -- What is left of the run of a litmus text, and why there is none.
-use Rattle.std.specs.Prelude.{◌≡◌, ◌<◌, ◌≤◌, ◌==◌, ◌↔◌, ◌⊎◌, ◌-◌, ◌*◌, ◌^◌, ℕ, List, [], Option, Bool, Any, IfSome, IsTrue, length, not}
+use Rattle.std.specs.Prelude.{◌≡◌, ◌<◌, ◌≤◌, ◌==◌, ◌↔◌, ◌⊎◌, ◌++◌, ◌∷◌, ℕ, List, [], Option, Bool, Any, IfSome, IsTrue, length, not}
+use Rattle.std.specs.List.{flat_map}
 use Rattle.access_types.specs.Arms.{Arm}
+use Rattle.access_types.specs.Sites.{AccessMap}
 use Rattle.access_types.specs.Stamped.{Stamped}
 use Rattle.access_types.specs.Takes.{Take}
+use Rattle.litmus_command.specs.Finals.{HoldsAtEnd}
+use Rattle.litmus_command.specs.declared.engine.EngineError.{EngineError}
+use Rattle.litmus_command.specs.declared.engine.EngineError.TheVariants as engine
 use Rattle.litmus_parse.specs.Text.{IsTextByte, file_bytes}
+use Rattle.litmus_step.specs.Runs.{HasEnded, IsStuck, run_of, tasks_of}
+use Rattle.litmus_step.specs.declared.settings.Settings.{Settings}
 use Rattle.litmus_syntax.specs.Limits.{KeepsLimits}
 use Rattle.litmus_syntax.specs.Views.{program_of}
 use Rattle.litmus_syntax.specs.declared.error.ParseError.{ParseError}
 use Rattle.litmus_syntax.specs.declared.error.ParseError.TheVariants as parse
 use Rattle.litmus_syntax.specs.declared.program.Program.{Program}
-use Rattle.litmus_meaning.specs.Layout.{Place}
-use Rattle.program_layout.specs.Places.{AreFit, places_of}
+use Rattle.program_layout.specs.Places.{AreFit}
+use Rattle.report_text.specs.ReportOf.{report_text}
 use Rattle.report_text.specs.Sink.{HoldsBeginning, appended}
 use Rattle.report_text.specs.TraceText.{written_trace}
+use Rattle.run_headline.specs.Headline.{Headline}
 use Rattle.run_lists.specs.Reports.{reports_of}
 use Rattle.run_lists.specs.Run.{Run}
-use Rattle.run_logs.specs.Totals.{CountsList}
+use Rattle.run_lists.specs.RunList.{AllHaveEnded, RunList}
+use Rattle.run_logs.specs.Lists.{AreArms, AreTakes}
+use Rattle.run_logs.specs.Totals.{CountsList, IsUnbalanced}
 use Rattle.run_output.specs.Output.{output_text}
 use Rattle.slot_table.specs.declared.records.Record.{Record}
-use Rattle.step_schedule.specs.Order.{AreAsked, IsOrder}
+use Rattle.step_schedule.specs.Order.{AreAsked, IsOrder, Tasks}
 use Rattle.step_schedule.specs.Schedule.{names_stranger}
 use Rattle.step_schedule.specs.declared.schedule.Entry.{Entry}
-use Rattle.litmus_step.specs.Kept.{watches_kept}
-use Rattle.litmus_step.specs.Runs.{run_of, tasks_of}
-use Rattle.litmus_step.specs.Steps.{IsStuck, LeadsTo, tasks_in}
-use Rattle.litmus_step.specs.Turns.{AllHaveEnded, known_of, point}
-use Rattle.litmus_step.specs.declared.settings.Settings.{Settings}
-use Rattle.litmus_step.specs.declared.world.World.{World}
 use Rattle.task_log.specs.declared.counters.Counters.{Counters}
-use Rattle.litmus_command.specs.Finals.{AreAllRegisters, HoldsWith}
-use Rattle.litmus_command.specs.declared.engine.EngineError.{EngineError}
-use Rattle.litmus_command.specs.declared.engine.EngineError.TheVariants as engine
 
 -- what the engine answers for a text that is refused
 abbrev pub parse_fault : ParseError → EngineError
@@ -46,54 +47,55 @@ pub record IsReadAs (text : List ℕ) (program : Program) : Type 0 where
   pub ascii : ¬ Any (λ byte. ¬ IsTextByte byte) text
   pub limits : KeepsLimits (program_of program)
 
--- The program was stepped under these settings to its end: from its first world on its tasks were asked for steps in the order of the
--- schedule, and these records led to the last one.
-pub record IsStepped (program : Program) (settings : Settings) (entries : List Entry) (first : World) (records : List Record)
-    (last : World) : Type 0 where
-  pub begins : LeadsTo (run_of program settings first.sites) [] first
-  pub order : List ℕ
-  pub in_order : IsOrder entries (tasks_in first) order
-  pub leads : LeadsTo (run_of program settings first.sites) records last
-  pub asked : AreAsked (known_of (run_of program settings first.sites)) (tasks_of (run_of program settings first.sites))
-      (point [] first) order (point records last)
-  pub over : AllHaveEnded last ⊎ (last.steps ≡ 2 ^ 64 - 1)
+-- a task of the run that moves makes one step more; which tasks have ended, and which are stuck, is so by their steps. The latest step
+-- stands first.
+abbrev pub tasks_known : Run → Tasks (List Record)
+tasks_known run = record {
+  Moves = λ task before after. (made : Record) × (made.task ≡ task) × (after ≡ made ∷ before) × RunList run after;
+  HasEnded = λ task records. HasEnded run task records;
+  IsStuck = λ task records. IsStuck run task records;
+}
 
--- the trace of a run that ended in the world, of some accesses, armings and takings, and of its reports
-pub record IsTrace (settings : Settings) (last : World) (bytes : List ℕ) : Type 0 where
+-- from the first step on the tasks of the run were asked in the order of the schedule, and these are the steps that they made
+pub record AreStepped (run : Run) (entries : List Entry) (records : List Record) : Type 0 where
+  pub list : RunList run records
+  pub order : List ℕ
+  pub in_order : IsOrder entries (tasks_of run) order
+  pub asked : AreAsked (tasks_known run) (tasks_of run) [] order records
+
+-- the trace of the list's armings, takings and reports, and of accesses
+pub record IsTrace (settings : Settings) {run : Run} {records : List Record} (list : RunList run records) (bytes : List ℕ) :
+    Type 0 where
   pub accesses : List Stamped
   pub arms : List Arm
+  pub arms_are : AreArms list arms
   pub takes : List Take
-  pub spelled : bytes ≡ written_trace settings.slots settings.layout accesses arms takes last.reports.items
+  pub takes_are : AreTakes list takes
+  pub spelled : bytes ≡ written_trace settings.slots settings.layout accesses arms takes (reports_of list)
 
--- The output of a program in this world, to which the list leads: its reports in order, its counters, and whether the condition held.
--- The reports are those that the list tells, as long as there is room for them; the counters and the registers are the list's too. How
--- many calls had nothing to end is not said.
-pub record IsOutput (program : Program) (places : List Place) (run : Run) (records : List Record) (last : World)
-    (leads : LeadsTo run records last) (output : List ℕ) : Type 0 where
-  pub reports_are : length (reports_of leads.list) ≤ tasks_of run * watches_kept
-      → last.reports.items ≡ reports_of leads.list
+-- the output of a list: its reports in order, its counters, and whether the condition of the program held at its end
+pub record IsOutput {run : Run} {records : List Record} (list : RunList run records) (output : List ℕ) : Type 0 where
   pub counters : Counters
-  pub counters_are : CountsList leads.list counters
+  pub counters_are : CountsList list counters
   pub unbalanced : ℕ
-  pub registers : List (List ℕ)
-  pub registers_are : AreAllRegisters run records last registers
+  pub unbalanced_is : IsUnbalanced list unbalanced
   pub held : Bool
-  pub held_is : IsTrue held ↔ HoldsWith program places registers last.board.cells
-  pub spelled : output ≡ output_text last.sites last.reports.items
+  pub held_is : IsTrue held ↔ HoldsAtEnd list
+  pub spelled : output ≡ output_text run.sites (reports_of list)
       (record { counters = counters; unbalanced = unbalanced; held = held })
 
--- What is left of one run of the program, under these settings and this schedule: its output, which is the reports in order, the
--- counters and whether the condition held, and its trace, if there is one. There was a race if there is a report.
+-- What is left of one run of the program, under these settings and this schedule, in which all tasks ended: its output and its trace, if
+-- there is one. There was a race if there is a report. And of that run the headline holds.
 pub record Leaves (program : Program) (settings : Settings) (entries : List Entry) (raced : Bool) (output : List ℕ)
     (trace : Option (List ℕ)) : Type 0 where
-  pub first : World
+  pub sites : AccessMap
   pub records : List Record
-  pub last : World
-  pub stepped : IsStepped program settings entries first records last
-  pub output_is : IsOutput program (places_of settings.places.items) (run_of program settings first.sites) records last
-      stepped.leads output
-  pub traced : IfSome trace (IsTrace settings last)
-  pub raced_is : raced ≡ not (length last.reports.items == 0)
+  pub stepped : AreStepped (run_of program settings sites) entries records
+  pub over : AllHaveEnded (run_of program settings sites) records
+  pub output_is : IsOutput stepped.list output
+  pub trace_is : IfSome trace (IsTrace settings stepped.list)
+  pub raced_is : raced ≡ not (length (reports_of stepped.list) == 0)
+  pub headline : Headline stepped.list
 
 -- so it is of the program that the text is read as
 pub record TextLeaves (text : List ℕ) (settings : Settings) (entries : List Entry) (raced : Bool) (output : List ℕ)
@@ -119,19 +121,27 @@ pub record HoldsBeginningOfOutput (text : List ℕ) (settings : Settings) (entri
   pub leaves : TextLeaves text settings entries raced output trace
   pub begun : HoldsBeginning output before after
 
+-- The text spells a program, and behind what was there stand, first, the reports of a list of steps of this program, under these settings,
+-- of which the headline holds: each names a true race, or bytes that changed.
+pub record HoldsTrueReports (text : List ℕ) (settings : Settings) (entries : List Entry) (before after : Option (List ℕ)) :
+    Type 0 where
+  pub program : Program
+  pub read : IsReadAs text program
+  pub sites : AccessMap
+  pub records : List Record
+  pub stepped : AreStepped (run_of program settings sites) entries records
+  pub headline : Headline stepped.list
+  pub lines : List ℕ
+  pub holds : after ≡ appended before (flat_map (report_text sites) (reports_of stepped.list) ++ lines)
+
 -- The tasks of the program were asked for steps under these settings in the order of the schedule, and then a wait of the task had as
 -- many vain tries as are allowed.
 pub record GetsStuck (program : Program) (settings : Settings) (entries : List Entry) (task : ℕ) : Type 0 where
-  pub first : World
-  pub begins : LeadsTo (run_of program settings first.sites) [] first
-  pub order : List ℕ
-  pub in_order : IsOrder entries (tasks_in first) order
+  pub sites : AccessMap
   pub records : List Record
-  pub last : World
-  pub leads : LeadsTo (run_of program settings first.sites) records last
-  pub asked : AreAsked (known_of (run_of program settings first.sites)) (tasks_of (run_of program settings first.sites))
-      (point [] first) order (point records last)
-  pub stuck : IsStuck (run_of program settings first.sites) records last task
+  pub stepped : AreStepped (run_of program settings sites) entries records
+  pub there : task < tasks_of (run_of program settings sites)
+  pub stuck : IsStuck (run_of program settings sites) task records
 
 -- why the run of a program has no output: want of memory, too few slots or too many, places that don't suit its variables, a
 -- schedule that names a task that isn't there, or a task that is stuck

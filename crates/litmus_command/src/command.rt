@@ -1,9 +1,13 @@
 //! The command line: what the words ask for is done, and the status that the program ends with.
 
-ghost use Rattle.std.specs.Prelude.{◌≡◌, ◌≢◌, ◌⊎◌, IfErr, IfOk, OnOk, true, false};
+ghost use Rattle.std.specs.Prelude.{◌≡◌, ◌≢◌, ◌⊎◌, ℕ, List, IfErr, IfOk, OnErr, OnOk, is_some, true, false, map};
 ghost use Rattle.command_words.specs.Bounds.{KeepsBounds, MayBeAsked};
-ghost use Rattle.command_words.specs.declared.request.Request.{Request};
-ghost use Rattle.litmus_command.specs.Command.{AsksFor, EndsAs, HelpIsGiven, IsDone, NothingIsWritten, ReplayIsDone, StepIsDone, engine_status_of, read_failure, settings_of, state_of, status_of, trace_status_of, with_trace};
+ghost use Rattle.command_words.specs.Words.{AskForHelp, MayFail};
+ghost use Rattle.clap.specs.Words.{kind_of};
+ghost use Rattle.litmus_command.specs.Command.{AskForOne, AsksFor, EndsAs, HelpIsCut, HelpIsGiven, IsCut, IsDone, IsOfFile, IsRefusedOf};
+ghost use Rattle.litmus_command.specs.Command.{NothingIsWritten, ReplayIsCut, ReplayIsDone, ReplayIsRefused, StepIsCut};
+ghost use Rattle.litmus_command.specs.Command.{StepIsDone, StepIsRefused, engine_status_of, read_failure, settings_of, state_of};
+ghost use Rattle.litmus_command.specs.Command.{status_of, trace_status_of, with_trace};
 ghost use Rattle.litmus_command.specs.declared.command.Failure.TheVariants.{Engine, OutOfMemory, Trace};
 ghost use Rattle.report_text.specs.Sink.{CountsFailure};
 ghost use Rattle.std.specs.Option.{option_map};
@@ -150,14 +154,24 @@ fn trace_status(error: TraceError) -> u8
 /// 0: no report, a trace that is accepted, or help. 2: a report. 64: usage, a schedule that doesn't read or names a task
 /// that isn't there, or a place that doesn't read or doesn't suit. 65: the file is refused. 66: it can't be read. 70: a task
 /// is stuck. 71: out of memory. 74: output can't be written. At 64 to 71 nothing goes to standard output, and no trace is
-/// written.
+/// written. At 74 standard output has what it had, or a beginning of what should have gone there.
 pub fn command<S: AsStr, D: Desk>(alloc: Global, words: &[S], desk: &mut D) -> u8
-    ensures reported { result ≡ 2 → (request : Request) × MayBeAsked request
-        × IsDone request true (state_of D.written D.failures D.files desk.old) (state_of D.written D.failures D.files desk.new) }
-    ensures unreported { result ≡ 0
-        → ((request : Request) × MayBeAsked request
-        × IsDone request false (state_of D.written D.failures D.files desk.old) (state_of D.written D.failures D.files desk.new))
-        ⊎ HelpIsGiven (state_of D.written D.failures D.files desk.old) (state_of D.written D.failures D.files desk.new) }
+    ensures reported { result ≡ 2 → AskForOne (map S.text words.now) (λ request.
+        IsDone request true (state_of D.written D.failures D.files desk.old)
+        (state_of D.written D.failures D.files desk.new)) }
+    ensures unreported { result ≡ 0 → AskForOne (map S.text words.now) (λ request.
+        IsDone request false (state_of D.written D.failures D.files desk.old)
+        (state_of D.written D.failures D.files desk.new))
+        ⊎ HelpIsGiven (map S.text words.now) (state_of D.written D.failures D.files desk.old)
+        (state_of D.written D.failures D.files desk.new) }
+    ensures unwritten { result ≡ 74 → AskForOne (map S.text words.now) (λ request.
+        IsCut request (state_of D.written D.failures D.files desk.old)
+        (state_of D.written D.failures D.files desk.new))
+        ⊎ HelpIsCut (map S.text words.now) (state_of D.written D.failures D.files desk.old)
+        (state_of D.written D.failures D.files desk.new) }
+    ensures refused { IsOfFile result → AskForOne (map S.text words.now) (λ request.
+        IsRefusedOf request result (state_of D.written D.failures D.files desk.old)
+        (state_of D.written D.failures D.files desk.new)) }
     ensures ends { EndsAs result (state_of D.written D.failures D.files desk.old)
         (state_of D.written D.failures D.files desk.new) }
 {
@@ -173,6 +187,10 @@ pub fn carry_out<D: Desk>(alloc: Global, request: &Request<'_>, desk: &mut D) ->
     ensures reported { result ≡ 2 → IsDone request.now true (state_of D.written D.failures D.files desk.old)
         (state_of D.written D.failures D.files desk.new) }
     ensures unreported { result ≡ 0 → IsDone request.now false (state_of D.written D.failures D.files desk.old)
+        (state_of D.written D.failures D.files desk.new) }
+    ensures unwritten { result ≡ 74 → IsCut request.now (state_of D.written D.failures D.files desk.old)
+        (state_of D.written D.failures D.files desk.new) }
+    ensures refused { IsOfFile result → IsRefusedOf request.now result (state_of D.written D.failures D.files desk.old)
         (state_of D.written D.failures D.files desk.new) }
     ensures ends { EndsAs result (state_of D.written D.failures D.files desk.old)
         (state_of D.written D.failures D.files desk.new) }
@@ -218,7 +236,7 @@ fn settings(request: &StepRequest<'_>, places: Vec<Place>) -> Settings
 fn asked_for(alloc: Global, request: &StepRequest<'_>) -> Result<(Settings, Schedule), Failure>
     requires { KeepsBounds request.now }
     ensures asks { IfOk result (λ run. AsksFor request.now run.0 (entries_of run.1)) }
-    ensures early { IfErr result (λ failure. status_of failure ≢ 74) }
+    ensures early { IfErr result (λ failure. (status_of failure ≡ 64) ⊎ (status_of failure ≡ 71)) }
 {
     let Some(schedule) = Schedule::parse(alloc, request.schedule)? else {
         return Err(Failure::BadSchedule);
@@ -241,6 +259,7 @@ fn keep_trace<D: Desk>(
     ensures failed { IfErr result (λ failure.
         (status_of failure ≡ 74) × CountsFailure (D.failures desk.old) (D.failures desk.new)) }
     ensures works { OnOk result (D.failures desk.new ≡ D.failures desk.old) }
+    ensures asked { OnErr result (is_some path.entry ≡ true) }
 {
     match path {
         None => Ok(()),
@@ -263,6 +282,10 @@ fn step<D: Desk>(alloc: Global, request: &StepRequest<'_>, desk: &mut D) -> Resu
         → NothingIsWritten (state_of D.written D.failures D.files desk.old) (state_of D.written D.failures D.files desk.new)) }
     ensures failed { IfErr result (λ failure.
         status_of failure ≡ 74 → CountsFailure (D.failures desk.old) (D.failures desk.new)) }
+    ensures cut { IfErr result (λ failure. status_of failure ≡ 74
+        → StepIsCut request.now (state_of D.written D.failures D.files desk.old) (state_of D.written D.failures D.files desk.new)) }
+    ensures refused { IfErr result (λ failure. IsOfFile (status_of failure) → StepIsRefused request.now (status_of failure)
+        (state_of D.written D.failures D.files desk.old) (state_of D.written D.failures D.files desk.new)) }
 {
     let (settings, schedule) = asked_for(alloc, request)?;
     let text = desk.read_file(alloc, request.file, FILE_BYTES)?;
@@ -282,6 +305,10 @@ fn replay<D: Desk>(alloc: Global, request: &ReplayRequest<'_>, desk: &mut D) -> 
         → NothingIsWritten (state_of D.written D.failures D.files desk.old) (state_of D.written D.failures D.files desk.new)) }
     ensures failed { IfErr result (λ failure.
         status_of failure ≡ 74 → CountsFailure (D.failures desk.old) (D.failures desk.new)) }
+    ensures cut { IfErr result (λ failure. status_of failure ≡ 74
+        → ReplayIsCut request.now (state_of D.written D.failures D.files desk.old) (state_of D.written D.failures D.files desk.new)) }
+    ensures refused { IfErr result (λ failure. IsOfFile (status_of failure) → ReplayIsRefused request.now (status_of failure)
+        (state_of D.written D.failures D.files desk.old) (state_of D.written D.failures D.files desk.new)) }
 {
     let bytes = desk.read_file(alloc, request.trace, SIZE_LIMIT)?;
     let line = replayed(alloc, &bytes)?;
@@ -293,23 +320,44 @@ fn replay<D: Desk>(alloc: Global, request: &ReplayRequest<'_>, desk: &mut D) -> 
 
 /// Help goes to standard output, and what is wrong with the words to standard error.
 fn explain<D: Desk>(alloc: Global, error: clap::Error, desk: &mut D) -> u8
-    ensures help { result ≡ 0 → HelpIsGiven (state_of D.written D.failures D.files desk.old)
+    ensures help { (words : List (List ℕ)) → MayFail words (kind_of error) → result ≡ 0
+        → HelpIsGiven words (state_of D.written D.failures D.files desk.old)
         (state_of D.written D.failures D.files desk.new) }
     ensures unreported { result ≢ 2 }
+    ensures of_words { ¬ IsOfFile result }
+    ensures unwritten { (words : List (List ℕ)) → MayFail words (kind_of error) → result ≡ 74
+        → HelpIsCut words (state_of D.written D.failures D.files desk.old)
+        (state_of D.written D.failures D.files desk.new) }
     ensures ends { EndsAs result (state_of D.written D.failures D.files desk.old)
         (state_of D.written D.failures D.files desk.new) }
 {
-    if error.kind() == ErrorKind::OutOfMemory {
-        return fail(Failure::OutOfMemory, desk);
+    match error.kind() {
+        ErrorKind::OutOfMemory => fail(Failure::OutOfMemory, desk),
+        ErrorKind::DisplayHelp => help(alloc, error, desk),
+        _ => {
+            desk.complain(error);
+            USAGE
+        }
     }
-    if error.use_stderr() {
-        desk.complain(error);
-        return USAGE;
-    }
-    let Ok(help) = error.to_string(alloc) else {
+}
+
+/// Writes the text of help.
+fn help<D: Desk>(alloc: Global, help: clap::Error, desk: &mut D) -> u8
+    ensures help { (words : List (List ℕ)) → AskForHelp words → result ≡ 0
+        → HelpIsGiven words (state_of D.written D.failures D.files desk.old)
+        (state_of D.written D.failures D.files desk.new) }
+    ensures unreported { result ≢ 2 }
+    ensures of_words { ¬ IsOfFile result }
+    ensures unwritten { (words : List (List ℕ)) → AskForHelp words → result ≡ 74
+        → HelpIsCut words (state_of D.written D.failures D.files desk.old)
+        (state_of D.written D.failures D.files desk.new) }
+    ensures ends { EndsAs result (state_of D.written D.failures D.files desk.old)
+        (state_of D.written D.failures D.files desk.new) }
+{
+    let Ok(text) = help.to_string(alloc) else {
         return fail(Failure::OutOfMemory, desk);
     };
-    match desk.print(help.as_bytes()) {
+    match desk.print(text.as_bytes()) {
         Ok(()) => NO_REPORT,
         Err(_) => fail(Failure::CannotWrite, desk),
     }

@@ -1,6 +1,6 @@
 //! What the program stands on.
 
-ghost use Rattle.std.specs.Prelude.{◌≡◌, List, Option, ℕ, IfOk, OnErr, OnOk};
+ghost use Rattle.std.specs.Prelude.{◌≡◌, ◌≤◌, ◌+◌, List, Option, ℕ, IfOk, OnErr, OnOk, vec_len};
 ghost use Rattle.litmus_command.specs.Files.{FileEvent, Gave, Has, noted};
 ghost use Rattle.report_text.specs.Sink.{CountsFailure, Writes};
 
@@ -36,6 +36,7 @@ pub trait Desk {
     /// The bytes of a named file, or `limit` + 1 of them, which say that it has more than `limit`.
     fn read_file(&mut self, alloc: Global, path: &str, limit: usize) -> Result<Vec<u8>, ReadFault>
         ensures gave { IfOk result (λ bytes. files self.new ≡ noted (files self.old) (Gave path.now limit bytes.items)) }
+        ensures within { IfOk result (λ bytes. vec_len bytes ≤ limit + 1) }
         ensures refused { OnErr result (files self.new ≡ files self.old) }
         ensures written { written self.new ≡ written self.old }
         ensures failures { failures self.new ≡ failures self.old };

@@ -1,25 +1,28 @@
 //! The engine: a litmus text, stepped under a schedule, and what is found written to a sink.
 
-ghost use Rattle.std.specs.Prelude.{◌≡◌, ◌≤◌, ◌<◌, ◌==◌, ◌↔◌, List, Any, IfErr, IfOk, IfSome, IsErr, IsErrOf, is_some, length, not};
+ghost use Rattle.std.specs.Prelude.{◌≡◌, ◌≤◌, ◌<◌, ◌==◌, ◌↔◌, List, Any, IfErr, IfOk, IfSome, IsErr, IsErrOf, OnOk, is_some, length, not};
 ghost use Rattle.std.specs.Option.{option_map};
-ghost use Rattle.litmus_command.specs.Engine.{HoldsBeginningOfOutput, HoldsOutput, IsOutput, IsRefused, IsTrace, Leaves, Stops, TextLeaves, parse_fault};
+ghost use Rattle.litmus_command.specs.Engine.{HoldsBeginningOfOutput, HoldsOutput, HoldsTrueReports, IsOutput, IsRefused};
+ghost use Rattle.litmus_command.specs.Engine.{IsTrace, Leaves, Stops, TextLeaves, parse_fault};
 ghost use Rattle.litmus_command.specs.declared.engine.EngineError.TheVariants.{OutOfMemory};
 ghost use Rattle.litmus_parse.specs.Text.{IsTextByte, file_bytes};
+ghost use Rattle.litmus_step.specs.Runs.{run_of};
+ghost use Rattle.litmus_step.specs.Steps.{LeadsTo};
 ghost use Rattle.litmus_syntax.specs.Limits.{KeepsLimits};
 ghost use Rattle.litmus_syntax.specs.Views.{program_of};
-ghost use Rattle.program_layout.specs.Places.{places_of};
 ghost use Rattle.report_text.specs.Sink.{CountsFailure};
+ghost use Rattle.run_lists.specs.Reports.{reports_of};
 ghost use Rattle.run_lists.specs.Run.{Run};
 ghost use Rattle.slot_table.specs.declared.records.Record.{Record};
 ghost use Rattle.step_schedule.specs.Schedule.{entries_of};
-ghost use Rattle.litmus_step.specs.Steps.{LeadsTo};
 
 use crate::finals::finals_of;
 use final_condition::holds;
 use litmus_parse::{Limit, ParseError, Program, parse};
 use litmus_step::{Settings, World, WorldError};
-use program_layout::{LayoutError, Place};
+use program_layout::LayoutError;
 use report_text::{MemorySink, Sink, write_all, write_trace};
+use run_headline::laws::the_headline_holds;
 use run_output::{Found, write_output};
 use std::alloc::{AllocError, Global};
 use step_schedule::Schedule;
@@ -103,6 +106,11 @@ pub fn step_file<K: Sink>(
     ensures written { IfOk result (λ raced.
         HoldsOutput text.now settings.now (entries_of schedule.now) raced (K.written sink.old) (K.written sink.new)) }
 
+    // The headline: what was written begins with the reports of a run of the program that the text spells, of which each names a true
+    // race, or bytes that changed.
+    ensures headline { OnOk result
+        (HoldsTrueReports text.now settings.now (entries_of schedule.now) (K.written sink.old) (K.written sink.new)) }
+
     // The sink's count of failures rose in this call, or stood at its last value.
     ensures failed { IsErrOf result EngineError.SinkFailed →
         CountsFailure (K.failures sink.old) (K.failures sink.new) }
@@ -160,6 +168,7 @@ fn run_program(
     ensures traced { IfOk result (λ written. is_some written.trace ≡ traced) }
     ensures stops { IfErr result (Stops program.now settings.now (entries_of schedule.now)) }
 {
+    the_headline_holds();
     match World::new(alloc, program, settings) {
         Ok(mut world) => match world.run(schedule) {
             Ok(()) => left_of(alloc, program, settings, &world, traced),
@@ -181,14 +190,17 @@ fn left_of(
     traced: bool,
 ) -> Result<Written, EngineError>
     requires { KeepsLimits (program_of program.now) }
-    ensures output { (run : Run) (records : List Record) → (leads : LeadsTo run records world.now) → IfOk result (λ written.
-        IsOutput program.now (places_of settings.now.places.items) run records world.now leads written.output.items) }
-    ensures trace { IfOk result (λ written. IfSome written.trace (λ trace. IsTrace settings.now world.now trace.items)) }
+    ensures output { (records : List Record)
+        → (leads : LeadsTo (run_of program.now settings.now world.now.sites) records world.now)
+        → IfOk result (λ written. IsOutput leads.list written.output.items) }
+    ensures trace { (run : Run) (records : List Record) → (leads : LeadsTo run records world.now)
+        → IfOk result (λ written. IfSome written.trace (λ trace. IsTrace settings.now leads.list trace.items)) }
     ensures traced { IfOk result (λ written. is_some written.trace ≡ traced) }
-    ensures raced { IfOk result (λ written. written.raced ≡ not (length world.now.reports.items == 0)) }
+    ensures raced { (run : Run) (records : List Record) → (leads : LeadsTo run records world.now)
+        → IfOk result (λ written. written.raced ≡ not (length (reports_of leads.list) == 0)) }
     ensures stops { IfErr result (λ error. error ≡ OutOfMemory) }
 {
-    let Ok(output) = output_of(alloc, program, settings.places.as_slice(), world) else {
+    let Ok(output) = output_of(alloc, program, settings, world) else {
         return Err(EngineError::OutOfMemory);
     };
     let trace = trace_if(traced, alloc, settings, world)?;
@@ -203,14 +215,15 @@ fn left_of(
 fn output_of(
     alloc: Global,
     program: &Program,
-    places: &[Place],
+    settings: &Settings,
     world: &World<'_>,
 ) -> Result<Vec<u8>, LayoutError>
     requires { KeepsLimits (program_of program.now) }
-    ensures { (run : Run) (records : List Record) → (leads : LeadsTo run records world.now)
-        → IfOk result (λ output. IsOutput program.now (places_of places.now) run records world.now leads output.items) }
+    ensures { (records : List Record)
+        → (leads : LeadsTo (run_of program.now settings.now world.now.sites) records world.now)
+        → IfOk result (λ output. IsOutput leads.list output.items) }
 {
-    let finals = finals_of(alloc, program, places, world)?;
+    let finals = finals_of(alloc, program, settings, world)?;
     let found = Found {
         counters: world.counters(),
         unbalanced: world.unbalanced(),
@@ -225,7 +238,8 @@ fn output_of(
 
 /// The trace of a run that led to this world.
 fn trace_of(alloc: Global, settings: &Settings, world: &World<'_>) -> Result<Vec<u8>, AllocError>
-    ensures { IfOk result (λ trace. IsTrace settings.now world.now trace.items) }
+    ensures { (run : Run) (records : List Record) → (leads : LeadsTo run records world.now)
+        → IfOk result (λ trace. IsTrace settings.now leads.list trace.items) }
 {
     let (Ok(accesses), Ok(arms), Ok(takes)) = (world.accesses(), world.arms(), world.takes()) else {
         return Err(AllocError);
@@ -252,7 +266,8 @@ fn trace_if(
     settings: &Settings,
     world: &World<'_>,
 ) -> Result<Option<Vec<u8>>, AllocError>
-    ensures trace { IfOk result (λ trace. IfSome trace (λ trace. IsTrace settings.now world.now trace.items)) }
+    ensures trace { (run : Run) (records : List Record) → (leads : LeadsTo run records world.now)
+        → IfOk result (λ trace. IfSome trace (λ trace. IsTrace settings.now leads.list trace.items)) }
     ensures traced { IfOk result (λ trace. is_some trace ≡ traced) }
 {
     if traced {

@@ -1,31 +1,35 @@
 //! What registers and variables hold at the end of a run.
 
 ghost use Rattle.std.specs.Prelude.{◌≡◌, ℕ, List, IfOk, IsErrOf, map, slice_get, unwrap_or};
+ghost use Rattle.access_types.specs.Sites.{AccessMap};
 ghost use Rattle.final_condition.specs.Holds.{variable_of};
 ghost use Rattle.litmus_command.specs.Finals as spec;
-ghost use Rattle.litmus_command.specs.Finals.{AreAllRegisters, variable_value};
+ghost use Rattle.litmus_command.specs.Finals.{AreAllRegisters, value_in_cells, variable_value};
 ghost use Rattle.litmus_meaning.specs.Layout as layouts;
+ghost use Rattle.litmus_step.specs.Runs.{run_of};
+ghost use Rattle.litmus_step.specs.Steps.{LeadsTo};
 ghost use Rattle.litmus_syntax.specs.Limits.{KeepsLimits};
 ghost use Rattle.litmus_syntax.specs.Views.{program_of};
 ghost use Rattle.litmus_syntax.specs.declared.program.Variable.{Variable};
 ghost use Rattle.program_layout.specs.Lays.{Lays};
 ghost use Rattle.program_layout.specs.Places.{AreFit, places_of};
 ghost use Rattle.run_lists.specs.Run.{Run};
+ghost use Rattle.run_lists.specs.Told.{history_of};
 ghost use Rattle.slot_table.specs.declared.records.Record.{Record};
-ghost use Rattle.litmus_step.specs.Steps.{LeadsTo};
 
 use access_types::Bytes;
 use final_condition::Finals;
 use litmus_meaning::sign_extended;
-use litmus_step::World;
+use litmus_step::{Settings, World};
 use litmus_syntax::Program;
-use program_layout::{Layout, LayoutError, Place};
+use program_layout::laws::variables_lie_in_one_cell;
+use program_layout::{Layout, LayoutError};
 use std::alloc::{AllocError, Global};
 
 /// The registers of all tasks of a world.
 fn registers_of(alloc: Global, world: &World<'_>) -> Result<Vec<Vec<u64>>, AllocError>
-    ensures { (run : Run) (records : List Record) → LeadsTo run records world.now
-        → IfOk result (λ all. AreAllRegisters run records world.now (map (λ values. values.items) all.items)) }
+    ensures { (run : Run) (records : List Record) → (leads : LeadsTo run records world.now)
+        → IfOk result (λ all. AreAllRegisters leads.list (map (λ values. values.items) all.items)) }
 {
     let mut registers = Vec::new(alloc);
     for task in 0..world.tasks() {
@@ -79,28 +83,36 @@ fn values_of(
 fn variables_of(alloc: Global, layout: &Layout, words: &[u64]) -> Result<Vec<u64>, AllocError>
     ensures { (places : List layouts.Place) (variables : List Variable) → Lays places variables layout.now
         → IfOk result (λ values. (number : ℕ) → unwrap_or (slice_get values.items number) 0
-        ≡ variable_value places variables words.now number) }
+        ≡ value_in_cells places variables words.now number) }
 {
     let cells = layout.cells(alloc)?;
     let bytes = layout.all_bytes(alloc)?;
     values_of(alloc, cells.as_slice(), words, bytes.as_slice())
 }
 
-/// What registers and variables hold in a world of a program, whose variables stand at these places.
+/// What registers and variables hold in a world of a program, where a list of its steps ended: a variable has the content of its bytes in
+/// the history that the list tells.
 pub fn finals_of(
     alloc: Global,
     program: &Program,
-    places: &[Place],
+    settings: &Settings,
     world: &World<'_>,
 ) -> Result<Finals, LayoutError>
     requires { KeepsLimits (program_of program.now) }
-    ensures registers { (run : Run) (records : List Record) → LeadsTo run records world.now
-        → IfOk result (λ finals. AreAllRegisters run records world.now (map (λ values. values.items) finals.registers.items)) }
-    ensures variables { IfOk result (λ finals. (number : ℕ) → variable_of finals number
-        ≡ variable_value (places_of places.now) program.now.variables world.now.board.cells number) }
-    ensures bad_place { IsErrOf result LayoutError.BadPlace → (AreFit program.now.variables places.now → ⊥) }
+    ensures registers { (run : Run) (records : List Record) → (leads : LeadsTo run records world.now)
+        → IfOk result (λ finals. AreAllRegisters leads.list (map (λ values. values.items) finals.registers.items)) }
+    ensures variables { (sites : AccessMap) (records : List Record)
+        → (leads : LeadsTo (run_of program.now settings.now sites) records world.now)
+        → IfOk result (λ finals. (number : ℕ) → variable_of finals number
+        ≡ variable_value (places_of settings.now.places.items) program.now.variables (history_of leads.list) number) }
+    ensures bad_place { IsErrOf result LayoutError.BadPlace → (AreFit program.now.variables settings.now.places.items → ⊥) }
 {
-    let layout = Layout::new(alloc, program.variables.as_slice(), places)?;
+    variables_lie_in_one_cell();
+    let layout = Layout::new(
+        alloc,
+        program.variables.as_slice(),
+        settings.places.as_slice(),
+    )?;
     Ok(Finals {
         registers: registers_of(alloc, world)?,
         variables: variables_of(alloc, &layout, world.memory())?,

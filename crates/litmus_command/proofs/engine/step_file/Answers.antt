@@ -1,7 +1,11 @@
 -- what the sink took is the output
-use Rattle.std.proofs.Common.{◌∙◌, ap}
+use Rattle.std.proofs.Common.{◌++◌, ◌∙◌, ap, append_assoc, if◌then◌else◌}
+use Rattle.std.specs.List.{flat_map}
 use Rattle.std.specs.Option.{option_map}
+use Rattle.report_text.specs.ReportOf.{report_text}
 use Rattle.report_text.specs.Sink.{appended}
+use Rattle.run_lists.specs.Reports.{reports_of}
+use Rattle.run_output.specs.Lines.{condition_line, counters_line}
 use Rattle.litmus_command.proofs.engine.step_file.Goals as goal
 
 pub returns-in-Ok-clause-written : goal.returns-in-Ok-clause-written
@@ -11,3 +15,23 @@ returns-in-Ok-clause-written g c = record {
   leaves = c.in_ok-written.ensures.leaves;
   holds = c.in-Ok.ensures.holds ∙ ap (appended (g.K.Sink.written c.args.sink.now)) c.as_slice.ensures.value;
 }
+
+pub returns-in-Ok-clause-headline : goal.returns-in-Ok-clause-headline
+returns-in-Ok-clause-headline g c =
+    let text = c.in_ok-written.ensures.leaves in
+    let left = text.leaves in
+    let list = left.stepped.list in
+    let output = left.output_is in
+    let counters = counters_line output.counters output.unbalanced in
+    let condition = condition_line (if output.held then 1 else 0) 1 in
+    record {
+      program = text.program;
+      read = text.read;
+      sites = left.sites;
+      records = left.records;
+      stepped = left.stepped;
+      headline = left.headline;
+      lines = counters ++ condition;
+      holds = c.in-Ok.ensures.holds ∙ ap (appended (g.K.Sink.written c.args.sink.now)) (c.as_slice.ensures.value
+          ∙ (output.spelled ∙ append_assoc (flat_map (report_text left.sites) (reports_of list)) counters condition));
+    }

@@ -1,13 +1,13 @@
 -- The registers of the tasks so far.
 use Rattle.std.proofs.Common.{◌≡◌, List, length, map}
 use Rattle.litmus_command.specs.Finals.{AreRegistersFrom}
+use Rattle.litmus_step.specs.Steps.{LeadsTo}
 use Rattle.run_lists.specs.Run.{Run}
 use Rattle.slot_table.specs.declared.records.Record.{Record}
-use Rattle.litmus_step.specs.Steps.{LeadsTo}
 use Rattle.litmus_command.proofs.finals.registers_of.Given as goal
 
 abbrev pub invariant-loop-task : goal.invariant-loop-task
 invariant-loop-task l =
     (length l.registers.items ≡ l.task)
-    × ((run : Run) (records : List Record) → LeadsTo run records l.world
-    → AreRegistersFrom run records l.world 0 (map (λ values. values.items) l.registers.items))
+    × ((run : Run) (records : List Record) → (leads : LeadsTo run records l.world)
+    → AreRegistersFrom leads.list 0 (map (λ values. values.items) l.registers.items))
