@@ -1,5 +1,5 @@
 -- What is left of the run of a litmus text, and why there is none.
-use Rattle.std.specs.Prelude.{◌≡◌, ◌<◌, ◌≤◌, ◌==◌, ◌↔◌, ◌⊎◌, ◌++◌, ◌∷◌, ℕ, List, [], Option, Bool, Any, IfSome, IsTrue, length, not}
+use Rattle.std.specs.Prelude.{◌≡◌, ◌<◌, ◌==◌, ◌↔◌, ◌⊎◌, ◌++◌, ◌∷◌, ℕ, List, [], Option, Bool, IfSome, IsTrue, length, not}
 use Rattle.std.specs.List.{flat_map}
 use Rattle.access_types.specs.Arms.{Arm}
 use Rattle.access_types.specs.Sites.{AccessMap}
@@ -8,7 +8,7 @@ use Rattle.access_types.specs.Takes.{Take}
 use Rattle.litmus_command.specs.Finals.{HoldsAtEnd}
 use Rattle.litmus_command.specs.declared.engine.EngineError.{EngineError}
 use Rattle.litmus_command.specs.declared.engine.EngineError.TheVariants as engine
-use Rattle.litmus_parse.specs.Text.{IsTextByte, file_bytes}
+use Rattle.litmus_parse.specs.Grammar.{SpellsProgram}
 use Rattle.litmus_step.specs.Runs.{HasEnded, IsStuck, run_of, tasks_of}
 use Rattle.litmus_step.specs.declared.settings.Settings.{Settings}
 use Rattle.litmus_syntax.specs.Limits.{KeepsLimits}
@@ -24,7 +24,7 @@ use Rattle.run_headline.specs.Headline.{Headline}
 use Rattle.run_lists.specs.Reports.{reports_of}
 use Rattle.run_lists.specs.Run.{Run}
 use Rattle.run_lists.specs.RunList.{AllHaveEnded, RunList}
-use Rattle.run_logs.specs.Lists.{AreArms, AreTakes}
+use Rattle.run_logs.specs.Lists.{AreAccesses, AreArms, AreTakes}
 use Rattle.run_logs.specs.Totals.{CountsList, IsUnbalanced}
 use Rattle.run_output.specs.Output.{output_text}
 use Rattle.slot_table.specs.declared.records.Record.{Record}
@@ -41,10 +41,9 @@ parse_fault (parse.Unsupported line) = engine.Unsupported line
 parse_fault (parse.Limit limit) = engine.Limit limit
 parse_fault parse.NotAscii = engine.NotAscii
 
--- what is known of the program that a text is read as
+-- a text is read as a program: it spells it, and the program keeps the limits
 pub record IsReadAs (text : List ℕ) (program : Program) : Type 0 where
-  pub within : length text ≤ file_bytes
-  pub ascii : ¬ Any (λ byte. ¬ IsTextByte byte) text
+  pub spelled : SpellsProgram text (program_of program)
   pub limits : KeepsLimits (program_of program)
 
 -- a task of the run that moves makes one step more; which tasks have ended, and which are stuck, is so by their steps. The latest step
@@ -63,10 +62,11 @@ pub record AreStepped (run : Run) (entries : List Entry) (records : List Record)
   pub in_order : IsOrder entries (tasks_of run) order
   pub asked : AreAsked (tasks_known run) (tasks_of run) [] order records
 
--- the trace of the list's armings, takings and reports, and of accesses
+-- the trace of the list's accesses, armings, takings and reports
 pub record IsTrace (settings : Settings) {run : Run} {records : List Record} (list : RunList run records) (bytes : List ℕ) :
     Type 0 where
   pub accesses : List Stamped
+  pub accesses_are : AreAccesses list accesses
   pub arms : List Arm
   pub arms_are : AreArms list arms
   pub takes : List Take

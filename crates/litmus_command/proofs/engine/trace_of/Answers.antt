@@ -13,6 +13,7 @@ returns-in-Ok c = λ run records leads.
     search rules in
     record {
       accesses = accesses;
+      accesses_are = c.in-Ok-Ok-Ok.ensures.all run records leads;
       arms = arms;
       arms_are = c.in-Ok-Ok-Ok.ensures'.all run records leads;
       takes = takes;
