@@ -1,0 +1,29 @@
+-- The trace of a list of steps, and that it is to be accepted.
+use Rattle.std.specs.Prelude.{◌≡◌, ℕ, List}
+use Rattle.access_types.specs.Arms.{Arm}
+use Rattle.access_types.specs.Stamped.{Stamped}
+use Rattle.access_types.specs.Takes.{Take}
+use Rattle.report_text.specs.TraceText.{written_trace}
+use Rattle.run_lists.specs.Reports.{reports_of}
+use Rattle.run_lists.specs.Run.{Run}
+use Rattle.run_lists.specs.RunList.{RunList}
+use Rattle.run_logs.specs.Lists.{AreAccesses, AreArms, AreTakes}
+use Rattle.slot_table.specs.declared.records.Record.{Record}
+use Rattle.trace_replay.specs.Answer.{IsAccepted}
+use Rattle.trace_replay.specs.declared.accepted.Accepted.{Accepted}
+use Rattle.watch_word.specs.declared.layout.Layout.{Layout}
+
+-- the bytes are the trace of the list's accesses, armings, takings and reports
+pub record IsTraceOf (slots : ℕ) (layout : Layout) {run : Run} {records : List Record} (list : RunList run records)
+    (bytes : List ℕ) : Type 0 where
+  pub accesses : List Stamped
+  pub accesses_are : AreAccesses list accesses
+  pub arms : List Arm
+  pub arms_are : AreArms list arms
+  pub takes : List Take
+  pub takes_are : AreTakes list takes
+  pub spelled : bytes ≡ written_trace slots layout accesses arms takes (reports_of list)
+
+-- `replay` answers of the bytes that they are a true trace, if it has memory
+abbrev pub IsToBeAccepted : List ℕ → Type 0
+IsToBeAccepted bytes = (counts : Accepted) × IsAccepted bytes counts
