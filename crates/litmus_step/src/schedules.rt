@@ -1,17 +1,21 @@
 //! Worlds that are run to their end.
 
-ghost use Rattle.std.specs.Prelude.{◌≡◌, ◌≢◌, ◌<◌, ◌↔◌, ◌⊎◌, ℕ, IfErr, IsErrOf, IsTrue, OnOk, false, replicate, true};
+ghost use Rattle.std.specs.Prelude.{◌≡◌, ◌≢◌, ◌<◌, ◌↔◌, ◌⊎◌, ℕ, IfErr, IsErrOf, IsTrue, List, OnOk, false, replicate, true};
 ghost use Rattle.std.specs.List.{range_with_len};
+ghost use Rattle.run_headline.specs.Headline.{Headline};
+ghost use Rattle.run_lists.specs.Run.{Run};
+ghost use Rattle.slot_table.specs.declared.records.Record.{Record};
 ghost use Rattle.step_schedule.specs.Order.{asked_by, in_rounds};
 ghost use Rattle.step_schedule.specs.Schedule.{entries_of, names_stranger};
 
 use crate::error::WorldError;
 use crate::world::{Stepped, World};
+use run_headline::laws::the_headline_holds;
 use step_bounds::laws::few_steps_are_made;
 use step_schedule::Schedule;
 
 impl<'a> World<'a> {
-    ghost use Rattle.litmus_step.specs.Steps.{tasks_in};
+    ghost use Rattle.litmus_step.specs.Steps.{LeadsTo, tasks_in};
     ghost use Rattle.litmus_step.specs.Turns.{AllHaveEnded, Asked, IsStuckAt, LeadsFurther, NobodyIsStuck, RunsOn, StopsAt};
 
     /// Makes the steps that the schedule says, and then one step of each task that has not ended, in
@@ -29,7 +33,9 @@ impl<'a> World<'a> {
         ensures errors { IfErr result (λ error. (error ≡ WorldError.BadSchedule) ⊎ ((task : ℕ) × (error ≡ WorldError.Stuck task))) }
         ensures tasks { tasks_in self.new ≡ tasks_in self.old }
         ensures sites { self.new.sites ≡ self.old.sites }
+        ensures headline { (run : Run) (records : List Record) → (leads : LeadsTo run records self.new) → Headline leads.list }
     {
+        the_headline_holds();
         if schedule.names_stranger(self.tasks.len() as u64) {
             return Err(WorldError::BadSchedule);
         }

@@ -5,6 +5,7 @@ ghost use Rattle.std.specs.Prelude.{vec_capacity, vec_len};
 ghost use Rattle.litmus_syntax.specs.Limits.{KeepsLimits};
 ghost use Rattle.litmus_syntax.specs.Views.{program_of};
 ghost use Rattle.program_layout.specs.Places.{AreFit};
+ghost use Rattle.run_headline.specs.Headline.{Headline};
 ghost use Rattle.run_lists.specs.Run.{Run};
 ghost use Rattle.slot_table.specs.declared.records.Record.{Record};
 ghost use Rattle.litmus_step.specs.Leads.{IsLedTo, MakesNextIn};
@@ -20,6 +21,7 @@ use crate::settings::Settings;
 use access_types::{Report, Sites};
 use litmus_syntax::Program;
 use program_sites::sites_of;
+use run_headline::laws::the_headline_holds;
 use slot_table::{Board, PlainBoard, Step};
 use std::alloc::Global;
 use task_log::{Noted, TaskLog};
@@ -125,7 +127,9 @@ impl<'a> World<'a> {
         ensures others { (other : ℕ) → task ≢ other → slice_get self.new.tasks.items other ≡ slice_get self.old.tasks.items other }
         ensures tasks { tasks_in self.new ≡ tasks_in self.old }
         ensures sites { self.new.sites ≡ self.old.sites }
+        ensures headline { (run : Run) (records : List Record) → (leads : LeadsTo run records self.new) → Headline leads.list }
     {
+        the_headline_holds();
         let Some(step) = self.tasks[task].next() else {
             return self.state(task);
         };
