@@ -39,8 +39,8 @@ use Rattle.watch_word.specs.Layout.{word_span}
 use Rattle.watch_word.specs.Word.{WordOf, Watches, watch_of, word_of}
 use Rattle.watch_word.specs.declared.layout.Layout.{Layout}
 use Rattle.watch_word.specs.declared.layout.Layout.TheVariants.{W64, W32}
-use Rattle.watched_accesses.specs.Stamps.{stamps_in}
-use Rattle.watched_accesses.specs.Watched.{FitsItsTask, IfTold, IfWatched}
+use Rattle.run_kept.specs.Stamps.{stamps_in}
+use Rattle.run_kept.specs.Watched.{FitsItsTask, IfTold, IfWatched}
 use Rattle.written_order.specs.Standing.{checks_of}
 use Rattle.written_order.specs.Told.{did_by}
 use Rattle.accepted_traces.specs.Parts.{ArmFits, OfNamed, OutcomeFits, TakeFits}

@@ -48,8 +48,8 @@ use Rattle.value_filter.specs.declared.verdict.Change.TheVariants.{Maybe, Ruled}
 use Rattle.value_filter.specs.declared.verdict.Reason.{Reason}
 use Rattle.value_filter.specs.declared.verdict.Reason.TheVariants.{Encoding, MaskedBits, SameValue}
 use Rattle.value_filter.specs.declared.verdict.Verdict.TheVariants as verdict
-use Rattle.watched_accesses.specs.Stamps.{stamps_in}
-use Rattle.watched_accesses.specs.Watched.{IfTold}
+use Rattle.run_kept.specs.Stamps.{stamps_in}
+use Rattle.run_kept.specs.Watched.{IfTold}
 use Rattle.written_order.specs.Standing.{checks_of}
 use Rattle.written_order.specs.Told.{did_by}
 use Rattle.accepted_traces.specs.Parts.{IsNamed, OutcomeFits}

@@ -24,7 +24,7 @@ use Rattle.run_verdicts.specs.Watches.{is_verdict}
 use Rattle.setup_access.specs.Check.{Fallen}
 use Rattle.slot_table.specs.Records.{records_of}
 use Rattle.slot_table.specs.declared.records.Record.{Record}
-use Rattle.watched_accesses.proofs.Once.{begins_with, few_verdicts, is_verdict_of}
+use Rattle.run_kept.proofs.Once.{begins_with, few_verdicts, is_verdict_of}
 use Rattle.written_order.specs.Told.{fell_next, to_come}
 use Rattle.written_order.proofs.MeaningLemmas.{whole_means}
 

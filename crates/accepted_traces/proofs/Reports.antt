@@ -20,9 +20,9 @@ use Rattle.litmus_meaning.specs.RunOfProgram.{setting_of}
 use Rattle.litmus_meaning.specs.TextSites.{FitsTickets, block_sites}
 use Rattle.memory_operation.proofs.WordLemmas.{range_is}
 use Rattle.report_text.specs.Truth.{IsLoadable, MaySee, RaceByStamps}
-use Rattle.run_histories.specs.Reported.{IsOfOutcome}
-use Rattle.run_histories.specs.Watched.{ChangedInWatch, IfUnknownInWatch, NamesWatched}
-use Rattle.run_histories.proofs.Memories.{HoldsBytes, first_bytes}
+use Rattle.run_headline.specs.Reported.{IsOfOutcome}
+use Rattle.run_headline.specs.Watched.{ChangedInWatch, IfUnknownInWatch, NamesWatched}
+use Rattle.run_headline.proofs.Memories.{HoldsBytes, first_bytes}
 use Rattle.run_lists.specs.Reports.{reported, reports_of}
 use Rattle.run_lists.specs.Run.{Run, task_of, task_setting}
 use Rattle.run_lists.specs.RunList.{RunList}
@@ -40,8 +40,8 @@ use Rattle.slot.specs.Pair.{Halves}
 use Rattle.slot_table.specs.declared.records.Record.{Record}
 use Rattle.slot_table.specs.declared.step.Answer.TheVariants as answers
 use Rattle.slot_table.specs.declared.step.Step.TheVariants as steps
-use Rattle.watched_accesses.specs.Stamps.{stamps_in}
-use Rattle.watched_accesses.specs.Watched.{IfWatched}
+use Rattle.run_kept.specs.Stamps.{stamps_in}
+use Rattle.run_kept.specs.Watched.{IfWatched}
 use Rattle.written_order.specs.Standing.{checks_of}
 use Rattle.written_order.specs.Told.{did_by}
 use Rattle.accepted_traces.specs.Parts.{OfNamed, ReportFits}

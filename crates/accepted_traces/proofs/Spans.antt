@@ -33,10 +33,10 @@ use Rattle.slot_table.specs.declared.records.Record.{Record}
 use Rattle.slot_table.specs.declared.step.Answer.TheVariants as answers
 use Rattle.slot_table.specs.declared.step.Step.{Step}
 use Rattle.slot_table.specs.declared.step.Step.TheVariants as steps
-use Rattle.watched_accesses.specs.Stamps.{is_clock, stamps_in}
-use Rattle.watched_accesses.proofs.Checked.{all_fit, all_later}
-use Rattle.watched_accesses.proofs.Clock.{event_turns, one_more, turns, turns_both, turns_of_marks}
-use Rattle.watched_accesses.proofs.Lists.{once}
+use Rattle.run_kept.specs.Stamps.{is_clock, stamps_in}
+use Rattle.run_kept.proofs.Checked.{all_fit, all_later}
+use Rattle.run_kept.proofs.Clock.{event_turns, one_more, turns, turns_both, turns_of_marks}
+use Rattle.run_kept.proofs.Told.{once}
 use Rattle.written_order.specs.Told.{did_by, did_next}
 use Rattle.written_order.proofs.MeaningLemmas.{whole_means}
 use Rattle.written_order.proofs.WayLemmas.{Begins}

@@ -17,8 +17,8 @@ use Rattle.litmus_syntax.specs.declared.program.Variable.{Variable}
 use Rattle.program_layout.specs.Cells.{LieInOneCell}
 use Rattle.litmus_command.specs.Finals.{value_in_cells, value_of, variable_value, word_at}
 use Rattle.memory_operation.proofs.WordLemmas.{range_is}
-use Rattle.run_histories.specs.Cells.{CellsHold}
-use Rattle.run_histories.proofs.WordBytes.{value_of_bytes}
+use Rattle.run_headline.specs.Cells.{CellsHold}
+use Rattle.run_headline.proofs.WordBytes.{value_of_bytes}
 
 chosen : (same : Bool) (word other : ℕ) → same ≡ true → (if same then word else other) ≡ word
 chosen true word other is = refl

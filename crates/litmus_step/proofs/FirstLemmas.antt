@@ -25,7 +25,7 @@ use Rattle.program_sites.specs.Sites as sites
 use Rattle.program_sites.specs.Sites.{AreSitesOf}
 use Rattle.run_lists.specs.Run.{AreItsSites, IsOfProgram, Run, idle, task_of, task_setting}
 use Rattle.run_lists.specs.RunList.{InWrittenOrder, RunList}
-use Rattle.spelled_texts.specs.Fits.{ArePlaced}
+use Rattle.task_laws.specs.Fits.{ArePlaced}
 use Rattle.litmus_step.specs.Leads.{LeadsTask}
 use Rattle.litmus_step.specs.Runs.{CanBeMade, run_of, tasks_of}
 use Rattle.litmus_step.specs.declared.settings.Settings.{Settings}

@@ -18,7 +18,7 @@ use Rattle.slot_table.specs.Words.{Words}
 use Rattle.slot_table.specs.declared.records.Record.{Record}
 use Rattle.slot_table.specs.declared.step.Answer.{Answer}
 use Rattle.slot_table.specs.declared.step.Step.{Step}
-use Rattle.spelled_texts.specs.Fits.{ArePlaced}
+use Rattle.task_laws.specs.Fits.{ArePlaced}
 use Rattle.litmus_step.proofs.NameLemmas.{after_as_many, last_of_all, names_as_many, some_answer}
 use Rattle.access_types.specs.declared.report.Report.{Report}
 use Rattle.litmus_step.specs.Kept.{AreKept}

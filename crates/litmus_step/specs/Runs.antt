@@ -8,7 +8,7 @@ use Rattle.program_layout.specs.Places.{places_of}
 use Rattle.run_lists.specs.Run.{Run, task_of, task_setting}
 use Rattle.slot_table.specs.Records.{records_of}
 use Rattle.slot_table.specs.declared.records.Record.{Record}
-use Rattle.spelled_texts.specs.Fits.{ArePlaced}
+use Rattle.task_laws.specs.Fits.{ArePlaced}
 use Rattle.litmus_step.specs.Settings.{rules_of}
 use Rattle.litmus_step.specs.declared.settings.Settings.{Settings}
 use Rattle.written_order.specs.Waits as waits

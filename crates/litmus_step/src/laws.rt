@@ -46,16 +46,16 @@ ghost use Rattle.task_run.specs.Says.{Says};
 ghost use Rattle.task_run.specs.declared.run.TaskRun.{TaskRun};
 ghost use Rattle.written_order.specs.WrittenOrder.{stands_after};
 
-use run_bounds::laws::{few_are_reported, few_watches_are_over};
-use run_histories::laws::run_lists_tell_runs_of_the_program;
-use run_kept::laws::a_log_keeps_just_the_accesses;
+use run_kept::bounds::{few_are_reported, few_watches_are_over};
+use run_headline::histories::run_lists_tell_runs_of_the_program;
+use run_kept::accesses::a_log_keeps_just_the_accesses;
 use run_logs::laws::{
     a_log_keeps_just_the_arms, a_log_keeps_just_the_takes, a_log_reports_what_the_list_does,
     a_machine_says_what_is_noted, counters_of_tasks_add_up, few_accesses_are_noted,
     one_more_is_noted,
 };
-use spelled_texts::laws::{texts_within_limits_are_spelled, variables_of_programs_are_placed};
-use standing_laws::laws::{ended_tasks_stand_at_the_end, machines_stand_where_the_records_tell};
+use task_laws::spelled::{texts_within_limits_are_spelled, variables_of_programs_are_placed};
+use run_logs::standing::{ended_tasks_stand_at_the_end, machines_stand_where_the_records_tell};
 use task_laws::laws::an_answer_leads_on;
 use task_run::laws::no_task_stops;
 use written_tellings::steps_name_words_of_the_run;

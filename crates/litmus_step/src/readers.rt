@@ -3,8 +3,8 @@
 ghost use Rattle.std.specs.Prelude.{◌≡◌, ◌<◌, All, IfErr, IfOk, List};
 ghost use Rattle.litmus_step.specs.Runs.{HasEnded};
 ghost use Rattle.run_headline.specs.Headline.{Headline};
-ghost use Rattle.run_histories.specs.Cells.{CellsHold, memory_after, run_cells};
-ghost use Rattle.run_histories.specs.Reported.{IsTrueReport};
+ghost use Rattle.run_headline.specs.Cells.{CellsHold, memory_after, run_cells};
+ghost use Rattle.run_headline.specs.Reported.{IsTrueReport};
 ghost use Rattle.run_lists.specs.Reports.{reports_of};
 ghost use Rattle.run_lists.specs.Run.{Run};
 ghost use Rattle.run_lists.specs.Told.{history_of};
@@ -16,7 +16,7 @@ use crate::logs::{accesses_of, arms_of, counters_of, takes_of};
 use crate::world::World;
 use access_types::{Arm, Report, Sites, Stamped, Take};
 use run_headline::laws::the_headline_holds;
-use run_histories::laws::{cells_hold_the_content, reports_are_true};
+use run_headline::histories::{cells_hold_the_content, reports_are_true};
 use task_log::Counters;
 use task_run::{After, Before};
 

@@ -2,14 +2,14 @@
 use Rattle.std.specs.Prelude.{◌≢◌, ℕ, List, All, AllPairs}
 use Rattle.litmus_meaning.specs.RunOfProgram.{RunOfProgram}
 use Rattle.run_headline.specs.Races.{NamesRaceOfBoth}
-use Rattle.run_histories.specs.Ended.{HasEndedSince}
-use Rattle.run_histories.specs.Reported.{IsTrueReport}
-use Rattle.run_histories.specs.Watched.{NamesWatched}
+use Rattle.run_headline.specs.Ended.{HasEndedSince}
+use Rattle.run_headline.specs.Reported.{IsTrueReport}
+use Rattle.run_headline.specs.Watched.{NamesWatched}
 use Rattle.run_lists.specs.Reports.{reports_of}
 use Rattle.run_lists.specs.Run.{Run, first_words}
 use Rattle.run_lists.specs.RunList.{AllHaveEnded, RunList}
 use Rattle.run_lists.specs.Told.{history_of, outcomes_of}
-use Rattle.run_totals.specs.Totals.{Totals}
+use Rattle.run_headline.specs.Totals.{Totals}
 use Rattle.run_verdicts.specs.Joined.{IfAnswersBoth}
 use Rattle.run_verdicts.specs.Made.{EachIsMadeFor}
 use Rattle.run_verdicts.specs.Takings.{HasOneAnswer}

@@ -1,2 +1,9 @@
 pub mod Races
 pub mod Headline
+pub mod Cells
+pub mod Origins
+pub mod Watched
+pub mod Reported
+pub mod HeldReads
+pub mod Ended
+pub mod Totals

@@ -6,12 +6,12 @@ ghost use Rattle.run_lists.specs.Run.{Run};
 ghost use Rattle.run_lists.specs.RunList.{RunList};
 ghost use Rattle.slot_table.specs.declared.records.Record.{Record};
 
-use run_histories::laws::{
+use crate::histories::{
     reports_are_true, run_lists_tell_runs_of_the_program,
     takings_of_ended_accesses_have_one_answer, unknown_origins_changed,
 };
 use run_lists::laws::{reports_name_two_sides, roles_of_run_lists};
-use run_totals::laws::totals_agree;
+use crate::totals::totals_agree;
 use run_verdicts::laws::{
     answers_are_on_a_watch_and_a_find, watchpoints_are_of_accesses_in_progress,
 };

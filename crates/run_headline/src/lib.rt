@@ -1,4 +1,7 @@
-//! The headline of this project, as one law of every run list.
+//! What each run list tells: the history beside the words that its steps are made on, the totals of its checks, and
+//! the headline of this project as one law.
 #![tactic(auto)]
 
+pub mod histories;
 pub mod laws;
+pub mod totals;

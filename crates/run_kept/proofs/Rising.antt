@@ -21,7 +21,7 @@ use Rattle.slot_table.specs.declared.step.Step.TheVariants as steps
 use Rattle.task_log.specs.Touches.{accesses_of, end_newest, goes_on, stamped, touches_at, touches_of}
 use Rattle.task_log.specs.declared.noted.Noted.{Noted}
 use Rattle.task_log.specs.declared.touches.Touch.{Touch}
-use Rattle.watched_accesses.specs.Stamps.{is_clock, stamps_in}
+use Rattle.run_kept.specs.Stamps.{is_clock, stamps_in}
 
 -- numbers that rise, from one on, and stay below another
 abbrev Rises : ℕ → ℕ → List ℕ → Type 0

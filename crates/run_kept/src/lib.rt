@@ -1,4 +1,9 @@
-//! What is kept of a run's accesses is what the list tells of them.
+//! What a run has and keeps, at most and exactly: its outcomes, accesses, armings, takings and reports.
 #![tactic(auto)]
 
-pub mod laws;
+pub mod accesses;
+pub mod bags;
+pub mod bounds;
+pub mod lengths;
+pub mod reports;
+pub mod watched;

@@ -21,3 +21,8 @@ pub mod Settling
 pub mod Verdicts
 pub mod Takings
 pub mod Ends
+pub mod Going
+pub mod Told
+pub mod Afters
+pub mod Standing
+pub mod Ended

@@ -22,7 +22,7 @@ use Rattle.run_lists.proofs.Histories.{did_then}
 use Rattle.run_lists.proofs.Ways.{Chain, by_later, whole_chain}
 use Rattle.run_lists.specs.Told as told
 use Rattle.run_logs.specs.Noted.{IsBegun, IsNoted, begun_by, begun_in}
-use Rattle.standing_laws.proofs.Afters.{After, follow_left, walk_left}
+use Rattle.run_logs.proofs.Afters.{After, follow_left, walk_left}
 use Rattle.run_logs.proofs.Begun.{NoBeginFirst, NoneBegins, moments_begin_none, none_both, none_by_others, none_first, one_first, reads_begin_none, writes_begin_none}
 use Rattle.run_logs.proofs.Points.{EachDid, before_end, chain_after, each_at, falls_after, from_fewer, goes_on, past, stands_still, up_to_end}
 use Rattle.run_logs.proofs.Unfinished.{Unfinished, unfinished}

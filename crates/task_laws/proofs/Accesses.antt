@@ -2,9 +2,9 @@
 use Rattle.std.proofs.Common.{◌≡◌, ◌<◌, ℕ, List, [], Option, None, Some, arith, refl, subst, sym}
 use Rattle.access_run.specs.Leads.{HasCell}
 use Rattle.access_types.specs.Access.{Access}
-use Rattle.answered_parts.proofs.Checks.{OfPasses, check_open, clock_open}
-use Rattle.answered_parts.proofs.Memory.{operates_open}
-use Rattle.answered_parts.proofs.Opens.{After, Begins, Lists, open_map}
+use Rattle.task_laws.proofs.Checks.{OfPasses, check_open, clock_open}
+use Rattle.task_laws.proofs.Memory.{operates_open}
+use Rattle.task_laws.proofs.Opens.{After, Begins, Lists, open_map}
 use Rattle.memory_operation.specs.Operations.{Operates}
 use Rattle.memory_operation.specs.declared.effect.Effect.{Effect}
 use Rattle.memory_operation.specs.declared.operation.Operation.{Operation}
@@ -15,10 +15,10 @@ use Rattle.setup_access.specs.Records.{MakesWord}
 use Rattle.setup_access.specs.declared.begun.Begun.{Begun}
 use Rattle.slot_table.specs.declared.records.Record.{Record}
 use Rattle.slot_table.specs.declared.step.Step.TheVariants.{Clock}
-use Rattle.spelled_texts.proofs.Accesses.{after_access, begun_in, ends_at}
-use Rattle.spelled_texts.proofs.Decided.{begins_now}
-use Rattle.spelled_texts.specs.Begins.{one_at}
-use Rattle.spelled_texts.specs.Core.{Core, core_of, standing}
+use Rattle.task_laws.proofs.SpelledAccesses.{after_access, begun_in, ends_at}
+use Rattle.task_laws.proofs.Decided.{begins_now}
+use Rattle.task_laws.specs.Begins.{one_at}
+use Rattle.task_laws.specs.Core.{Core, core_of, standing}
 use Rattle.task_laws.proofs.Places.{ByEach, BySome, PartIsOpen, Valued, WithinFrom, sum_open}
 use Rattle.written_order.specs.Access.{Makes}
 use Rattle.written_order.specs.Standing.{BeginsNow, Point, Setting, Standing, checks_of}

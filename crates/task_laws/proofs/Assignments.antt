@@ -17,11 +17,11 @@ use Rattle.memory_operation.specs.declared.operation.Change.TheVariants as chang
 use Rattle.memory_operation.specs.declared.operation.Operation.{Operation}
 use Rattle.memory_operation.specs.declared.operation.Operation.TheVariants as operations
 use Rattle.setup_access.specs.Own.{AreOwn}
-use Rattle.spelled_texts.proofs.Parts.{set_at}
-use Rattle.spelled_texts.proofs.Statements.{atomic_bytes, doing_at, few_at, integer_bytes, write_bytes}
-use Rattle.spelled_texts.specs.Begins.{one_at, own_begins}
-use Rattle.spelled_texts.specs.Core.{Core, begun_at, core_of, standing}
-use Rattle.spelled_texts.specs.Fits.{ArePlaced, HasBytes}
+use Rattle.task_laws.proofs.Parts.{set_at}
+use Rattle.task_laws.proofs.Statements.{atomic_bytes, doing_at, few_at, integer_bytes, write_bytes}
+use Rattle.task_laws.specs.Begins.{one_at, own_begins}
+use Rattle.task_laws.specs.Core.{Core, begun_at, core_of, standing}
+use Rattle.task_laws.specs.Fits.{ArePlaced, HasBytes}
 use Rattle.task_laws.proofs.Loads.{expression_open, made_to_open}
 use Rattle.task_laws.proofs.Places.{Plain, StepsAreOpen, WithinFrom, part_via}
 use Rattle.task_plan.proofs.KeepsLemmas.{begun_still, marks_other}

@@ -7,8 +7,8 @@ use Rattle.litmus_syntax.specs.Tree as tree
 use Rattle.litmus_syntax.specs.declared.statement.Call.{Call}
 use Rattle.litmus_syntax.specs.declared.statement.Call.TheVariants as calls
 use Rattle.slot_table.specs.declared.records.Record.{Record}
-use Rattle.spelled_texts.specs.Begins.{block_begins, one_at, own_begins, statement_begins}
-use Rattle.spelled_texts.specs.Core.{begun_at, core_of}
+use Rattle.task_laws.specs.Begins.{block_begins, one_at, own_begins, statement_begins}
+use Rattle.task_laws.specs.Core.{begun_at, core_of}
 use Rattle.text_bounds.proofs.Counts.{Bounds, block_grows}
 use Rattle.text_bounds.proofs.Statements.{assignment_weight, call_weight, expression_weight}
 use Rattle.text_bounds.proofs.Weights.{Weighs}

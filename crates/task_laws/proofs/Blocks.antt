@@ -13,12 +13,12 @@ use Rattle.setup_access.specs.Own.{AreOwn}
 use Rattle.setup_access.specs.Setting as checks
 use Rattle.setup_access.specs.declared.begun.Begun.{Begun}
 use Rattle.slot_table.specs.declared.records.Record.{Record}
-use Rattle.spelled_texts.proofs.Blocks.{after_own, alone, scoped_fits}
-use Rattle.spelled_texts.proofs.Parts.{set_at}
-use Rattle.spelled_texts.proofs.Statements.{few_at, fetch_bytes}
-use Rattle.spelled_texts.specs.Begins.{block_begins, one_at, own_begins, statement_begins}
-use Rattle.spelled_texts.specs.Core.{Core, begun_at, core_of, standing}
-use Rattle.spelled_texts.specs.Fits.{ArePlaced, HasBytes}
+use Rattle.task_laws.proofs.SpelledBlocks.{after_own, alone, scoped_fits}
+use Rattle.task_laws.proofs.Parts.{set_at}
+use Rattle.task_laws.proofs.Statements.{few_at, fetch_bytes}
+use Rattle.task_laws.specs.Begins.{block_begins, one_at, own_begins, statement_begins}
+use Rattle.task_laws.specs.Core.{Core, begun_at, core_of, standing}
+use Rattle.task_laws.specs.Fits.{ArePlaced, HasBytes}
 use Rattle.task_laws.proofs.Assignments.{assign_open}
 use Rattle.task_laws.proofs.Calls.{call_open}
 use Rattle.task_laws.proofs.Loads.{expression_open, load_open}

@@ -10,8 +10,8 @@ use Rattle.access_types.specs.declared.history.Mark.TheVariants as marks
 use Rattle.access_types.specs.declared.kind.Claim.TheVariants.{NoAccesses, NoWrites}
 use Rattle.access_types.specs.declared.kind.Kind.{Kind}
 use Rattle.access_types.specs.declared.kind.Kind.TheVariants as kinds
-use Rattle.answered_parts.proofs.Opens.{Begins, done_then, still_open}
-use Rattle.answered_parts.proofs.Waits.{lock_open}
+use Rattle.task_laws.proofs.Opens.{Begins, done_then, still_open}
+use Rattle.task_laws.proofs.Waits.{lock_open}
 use Rattle.litmus_meaning.specs.Calls.{check_kind, checked_bytes}
 use Rattle.litmus_meaning.specs.Task.{access_now, begins_at, bytes_in, has_lock}
 use Rattle.litmus_syntax.specs.Limits.{CallTyped, IsVariable}
@@ -25,11 +25,11 @@ use Rattle.setup_access.specs.Own.{AreOwn}
 use Rattle.setup_access.specs.Records.{MakesDone}
 use Rattle.slot_table.specs.declared.records.Record.{Record}
 use Rattle.slot_table.specs.declared.step.Step.TheVariants.{LockStore}
-use Rattle.spelled_texts.proofs.Decided.{nothing_told}
-use Rattle.spelled_texts.proofs.Statements.{above_zero, doing_at, few_at, in_range, lock_at, memory_bytes, no_mask, own_access, proper}
-use Rattle.spelled_texts.specs.Begins.{one_at, own_begins}
-use Rattle.spelled_texts.specs.Core.{Core, begun_at, core_of, standing}
-use Rattle.spelled_texts.specs.Fits.{ArePlaced}
+use Rattle.task_laws.proofs.Decided.{nothing_told}
+use Rattle.task_laws.proofs.Statements.{above_zero, doing_at, few_at, in_range, lock_at, memory_bytes, no_mask, own_access, proper}
+use Rattle.task_laws.specs.Begins.{one_at, own_begins}
+use Rattle.task_laws.specs.Core.{Core, begun_at, core_of, standing}
+use Rattle.task_laws.specs.Fits.{ArePlaced}
 use Rattle.task_laws.proofs.Accesses.{makes_open}
 use Rattle.task_laws.proofs.Places.{Plain, StepsAreOpen, Valued, WithinFrom, part_as, part_of, part_still, part_sum, part_via}
 use Rattle.written_order.specs.Access.{Makes}

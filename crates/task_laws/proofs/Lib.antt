@@ -8,3 +8,17 @@ pub mod Blocks
 pub mod Texts
 pub mod Next
 pub mod Begins
+pub mod Decided
+pub mod ReadLemmas
+pub mod SpelledAccesses
+pub mod Parts
+pub mod Statements
+pub mod SpelledBlocks
+pub mod LimitLemmas
+pub mod TextLemmas
+pub mod PlacedLemmas
+pub mod Opens
+pub mod Waits
+pub mod Memory
+pub mod Checks
+pub mod Ends

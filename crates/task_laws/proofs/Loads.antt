@@ -18,11 +18,11 @@ use Rattle.memory_operation.specs.declared.operation.Operation.{Operation}
 use Rattle.setup_access.specs.Check.{Fallen}
 use Rattle.setup_access.specs.Own.{AreOwn}
 use Rattle.slot_table.specs.declared.records.Record.{Record}
-use Rattle.spelled_texts.proofs.ReadLemmas.{HasRead, fetch_reads, operation_reads}
-use Rattle.spelled_texts.proofs.Statements.{doing_at, few_at, in_range, load_bytes, no_mask, own_access}
-use Rattle.spelled_texts.specs.Begins.{one_at, own_begins}
-use Rattle.spelled_texts.specs.Core.{Core, begun_at, core_of, standing}
-use Rattle.spelled_texts.specs.Fits.{ArePlaced, HasBytes}
+use Rattle.task_laws.proofs.ReadLemmas.{HasRead, fetch_reads, operation_reads}
+use Rattle.task_laws.proofs.Statements.{doing_at, few_at, in_range, load_bytes, no_mask, own_access}
+use Rattle.task_laws.specs.Begins.{one_at, own_begins}
+use Rattle.task_laws.specs.Core.{Core, begun_at, core_of, standing}
+use Rattle.task_laws.specs.Fits.{ArePlaced, HasBytes}
 use Rattle.task_laws.proofs.Accesses.{makes_open}
 use Rattle.task_laws.proofs.Places.{PartIsOpen, Valued, WithinFrom, part_still, part_via}
 use Rattle.task_plan.proofs.KeepsLemmas.{begun_still, marks_other}

@@ -7,7 +7,7 @@ use Rattle.slot_table.specs.Answer.{Answers}
 use Rattle.slot_table.specs.declared.records.Record.{Record}
 use Rattle.slot_table.specs.declared.step.Answer.{Answer}
 use Rattle.slot_table.specs.declared.step.Step.{Step}
-use Rattle.answered_parts.specs.Alike.{IsAlike}
+use Rattle.task_laws.specs.Alike.{IsAlike}
 use Rattle.written_order.specs.Standing.{Setting}
 use Rattle.written_order.specs.WrittenOrder.{SpellsAll, WrittenOrder}
 

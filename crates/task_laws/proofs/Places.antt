@@ -1,9 +1,9 @@
 -- Parts of a text are open, from a place on: whatever the way there and what came of checks.
 use Rattle.std.proofs.Common.{◌≡◌, ◌↔◌, ◌+◌, ◌≤◌, ℕ, List, subst, sym}
-use Rattle.answered_parts.proofs.Opens.{After, Begins, IsOpen, Lists, Open, open_map}
+use Rattle.task_laws.proofs.Opens.{After, Begins, IsOpen, Lists, Open, open_map}
 use Rattle.setup_access.specs.Check.{Fallen}
 use Rattle.slot_table.specs.declared.records.Record.{Record}
-use Rattle.spelled_texts.specs.Core.{Core, begun_at, core_of, standing}
+use Rattle.task_laws.specs.Core.{Core, begun_at, core_of, standing}
 use Rattle.written_order.specs.Standing.{Point, Standing}
 
 -- the steps of a part of a text that gives a value

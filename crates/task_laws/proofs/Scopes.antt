@@ -2,8 +2,8 @@
 use Rattle.std.proofs.Common.{◌≡◌, ◌<◌, ◌≤◌, ◌↔◌, ◌∙◌, ◌+◌, ◌++◌, ℕ, Bool, IsTrue, List, [], ◌∷◌, None, Option, Some, arith, drop, refl, subst, sym}
 use Rattle.access_types.specs.Access.{Access}
 use Rattle.access_types.specs.declared.history.Happening.TheVariants as happenings
-use Rattle.answered_parts.proofs.Checks.{OfPasses, check_open, close_open}
-use Rattle.answered_parts.proofs.Opens.{After, Lists, open_map}
+use Rattle.task_laws.proofs.Checks.{OfPasses, check_open, close_open}
+use Rattle.task_laws.proofs.Opens.{After, Lists, open_map}
 use Rattle.litmus_meaning.specs.Calls.{Scoped, scoped_access}
 use Rattle.litmus_meaning.specs.Task as meaning
 use Rattle.litmus_meaning.specs.Task.{bytes_in}
@@ -11,13 +11,13 @@ use Rattle.setup_access.specs.Check.{Check, Close, Passes}
 use Rattle.setup_access.specs.Own.{AreOwn, IsOwn}
 use Rattle.setup_access.specs.declared.begun.Begun.{Begun}
 use Rattle.slot_table.specs.declared.records.Record.{Record}
-use Rattle.spelled_texts.proofs.Accesses.{begun_more}
-use Rattle.spelled_texts.proofs.Blocks.{ScopedFits, own_more}
-use Rattle.spelled_texts.proofs.Decided.{begins_now, disabled_told}
-use Rattle.spelled_texts.proofs.Statements.{few_at, in_range, no_mask, own_access}
-use Rattle.spelled_texts.specs.Begins.{one_at}
-use Rattle.spelled_texts.specs.Core.{Core, begun_at, core_of, standing}
-use Rattle.spelled_texts.specs.Fits.{ArePlaced, HasBytes}
+use Rattle.task_laws.proofs.SpelledAccesses.{begun_more}
+use Rattle.task_laws.proofs.SpelledBlocks.{ScopedFits, own_more}
+use Rattle.task_laws.proofs.Decided.{begins_now, disabled_told}
+use Rattle.task_laws.proofs.Statements.{few_at, in_range, no_mask, own_access}
+use Rattle.task_laws.specs.Begins.{one_at}
+use Rattle.task_laws.specs.Core.{Core, begun_at, core_of, standing}
+use Rattle.task_laws.specs.Fits.{ArePlaced, HasBytes}
 use Rattle.task_laws.proofs.Places.{Both, ByEach, BySome, PartIsOpen, Plain, StepsAreOpen, Valued, WithinFrom, part_as, part_both, part_wider, sum_open}
 use Rattle.task_plan.proofs.KeepsLemmas.{begun_still}
 use Rattle.written_order.specs.Standing.{BeginsNow, IsDisabled, Setting, Standing, checks_of, doing}

@@ -1,14 +1,14 @@
 -- What is open as a block is open as a whole text.
 use Rattle.std.proofs.Common.{◌++◌, ℕ, List, [], ◌∷◌, append_assoc, length, refl, subst, sym}
-use Rattle.answered_parts.proofs.Ends.{AtEnd, end_open}
-use Rattle.answered_parts.specs.Alike.{IsAlike}
+use Rattle.task_laws.proofs.Ends.{AtEnd, end_open}
+use Rattle.task_laws.specs.Alike.{IsAlike}
 use Rattle.litmus_syntax.specs.Limits.{TaskKeepsLimits}
 use Rattle.litmus_syntax.specs.Tree.{Block, Task}
 use Rattle.slot_table.specs.declared.records.Record.{Record}
-use Rattle.spelled_texts.proofs.TextLemmas.{fits_first}
-use Rattle.spelled_texts.specs.Begins.{block_begins}
-use Rattle.spelled_texts.specs.Core.{core_of}
-use Rattle.spelled_texts.specs.Fits.{ArePlaced, Fits}
+use Rattle.task_laws.proofs.TextLemmas.{fits_first}
+use Rattle.task_laws.specs.Begins.{block_begins}
+use Rattle.task_laws.specs.Core.{core_of}
+use Rattle.task_laws.specs.Fits.{ArePlaced, Fits}
 use Rattle.task_laws.proofs.Blocks.{block_open}
 use Rattle.task_laws.proofs.Places.{StepsAreOpen}
 use Rattle.written_order.specs.Standing.{Setting}

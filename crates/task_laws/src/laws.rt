@@ -9,10 +9,10 @@ ghost use Rattle.slot_table.specs.Answer.{Answers};
 ghost use Rattle.slot_table.specs.declared.records.Record.{Record};
 ghost use Rattle.slot_table.specs.declared.step.Answer.{Answer};
 ghost use Rattle.slot_table.specs.declared.step.Step.{Step};
-ghost use Rattle.spelled_texts.specs.Begins.{block_begins};
-ghost use Rattle.spelled_texts.specs.Core.{begun_at, core_of};
-ghost use Rattle.spelled_texts.specs.Fits.{ArePlaced};
-ghost use Rattle.answered_parts.specs.Alike.{IsAlike};
+ghost use Rattle.task_laws.specs.Begins.{block_begins};
+ghost use Rattle.task_laws.specs.Core.{begun_at, core_of};
+ghost use Rattle.task_laws.specs.Fits.{ArePlaced};
+ghost use Rattle.task_laws.specs.Alike.{IsAlike};
 ghost use Rattle.written_order.specs.Standing.{Setting, Standing};
 ghost use Rattle.written_order.specs.WrittenOrder.{SpellsAll, StepsOfBlock, WrittenOrder};
 

@@ -2,7 +2,7 @@
 use Rattle.std.proofs.Common.{◌∙◌, subst}
 use Rattle.program_layout.specs.Lays.{Lays}
 use Rattle.program_layout.specs.Places.{AreFit, places_of}
-use Rattle.run_histories.proofs.CellBlocks.{cells_are_blocks}
+use Rattle.run_headline.proofs.CellBlocks.{cells_are_blocks}
 use Rattle.run_lists.specs.Told.{history_of}
 use Rattle.litmus_command.proofs.CellValues.{variable_told}
 use Rattle.litmus_command.proofs.finals.finals_of.Goals as goal

@@ -4,7 +4,7 @@ use Rattle.litmus_step.proofs.KeptLemmas.{all_of_front, all_reported}
 use Rattle.litmus_step.proofs.world.World.reports.Goals as goal
 use Rattle.litmus_step.specs.Kept.{watches_kept}
 use Rattle.litmus_step.specs.Runs.{tasks_of}
-use Rattle.run_histories.specs.Reported.{IsTrueReport}
+use Rattle.run_headline.specs.Reported.{IsTrueReport}
 use Rattle.run_lists.specs.Reports.{reports_of}
 
 pub returns-clause-told : goal.returns-clause-told

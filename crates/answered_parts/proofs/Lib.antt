@@ -1,5 +1,0 @@
-pub mod Opens
-pub mod Waits
-pub mod Memory
-pub mod Checks
-pub mod Ends

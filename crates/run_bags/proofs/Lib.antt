@@ -1,4 +1,0 @@
-pub mod Pairing
-pub mod Own
-pub mod Tallies
-pub mod Bags

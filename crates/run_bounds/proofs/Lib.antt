@@ -1,4 +1,0 @@
-pub mod Outcomes
-pub mod Watches
-pub mod Fallen
-pub mod Lists

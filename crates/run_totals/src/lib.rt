@@ -1,4 +1,0 @@
-//! The totals of what comes of the checks in a run list.
-#![tactic(auto)]
-
-pub mod laws;

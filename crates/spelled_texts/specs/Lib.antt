@@ -1,3 +1,0 @@
-pub mod Core
-pub mod Begins
-pub mod Fits

@@ -1,5 +1,0 @@
-pub mod Going
-pub mod Points
-pub mod Afters
-pub mod Machines
-pub mod Ended

@@ -1,0 +1,5 @@
+pub mod Core
+pub mod Begins
+pub mod Fits
+pub mod Alike
+pub mod LeadsOn
