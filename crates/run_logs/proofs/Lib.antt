@@ -24,5 +24,5 @@ pub mod Ends
 pub mod Going
 pub mod Told
 pub mod Afters
-pub mod Standing
+pub mod MachineStanding
 pub mod Ended
