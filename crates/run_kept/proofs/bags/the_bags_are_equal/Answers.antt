@@ -1,7 +1,7 @@
 -- Each arming has its verdict, and each taking its one answer.
 use Rattle.std.proofs.Common.{All}
 use Rattle.std.proofs.lemmas.List.Sorted.{All-permutation}
-use Rattle.run_kept.proofs.Bags.{all_of, origins, races, takings}
+use Rattle.run_kept.proofs.OneBags.{all_of, origins, races, takings}
 use Rattle.run_lists.specs.Run.{first_cells, locks_of}
 use Rattle.run_verdicts.specs.Takings.{HasOneAnswer}
 use Rattle.slot_table.specs.Meetings.{Meeting, finders_told, setters_heard}

@@ -4,7 +4,7 @@ use Rattle.std.proofs.lemmas.List.{append-nil, length-reverse}
 use Rattle.litmus_syntax.specs.Tree.{Block}
 use Rattle.run_kept.proofs.Lists.{keeps_body}
 use Rattle.run_kept.proofs.Watches.{count_reverse, few_removes, few_tells, is_remove, is_tell}
-use Rattle.run_kept.proofs.Lengths.{by_tasks, few_ended, so_many_arms, so_many_takes}
+use Rattle.run_kept.proofs.FewKept.{by_tasks, few_ended, so_many_arms, so_many_takes}
 use Rattle.run_lists.specs.Run.{task_setting}
 use Rattle.run_lists.specs.Told.{made_by}
 use Rattle.run_lists.proofs.CheckFacts.{back}
