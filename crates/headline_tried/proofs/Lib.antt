@@ -1,2 +1,3 @@
+pub mod EndedTakings
 pub mod Pairs
 pub mod Tellings

@@ -1,53 +1,28 @@
 //! The headline, decided of a list of steps and of what is told of it.
 
-ghost use Rattle.std.specs.Prelude.{◌≡◌, All, IfOk, IsTrue, count_by};
-ghost use Rattle.slot.specs.Pair.{Halves};
-ghost use Rattle.slot_table.specs.Meetings as spec;
-ghost use Rattle.headline_tried.specs.Tried.{Answered, HasHeadline, IsTrueOf, NamesRace, NamesRaceWith, answers};
+ghost use Rattle.std.specs.Prelude.{◌≡◌, All, IfOk, IsTrue};
+ghost use Rattle.headline_tried.specs.Tried.{HasHeadline, IsAnswered, IsTrueOf, NamesRace, NamesRaceWith, Totals, account_of};
+ghost use Rattle.slot_table.specs.Meetings.{setters_heard};
 
+use crate::answers::all_answered;
 use crate::armings::taken_once;
 use crate::changes::changed;
+use crate::endings::takings_answered;
 use crate::meetings::{Meeting, setters_heard, was_told};
-use access_types::{Access, Moment, ValueChange, ticket};
+use crate::told::{Came, Told};
+use crate::totals::totals_agree;
+use access_types::{Access, ValueChange, ticket};
 use definitions_tried::true_race;
 use setup_access::Outcome;
 use slot::Pair;
-use slot_table::Record;
 use std::alloc::{AllocError, Global};
 
 /// An answer, where memory suffices.
 pub type Answer = Result<bool, AllocError>;
 
-/// An arming, by its index and its number.
-#[derive(Clone, Copy, Debug, PartialEq, Eq)]
-pub struct Armed {
-    pub index: usize,
-    pub number: usize,
-}
-
-/// What came of checking an access once, and the arming that its task has in hand since then.
-#[derive(Clone, Copy, Debug, PartialEq, Eq)]
-pub struct Came {
-    pub access: Access,
-    pub outcome: Outcome,
-    pub arming: Option<Armed>,
-}
-
-/// A list of steps, the latest first, and what is told of it: the moments and the outcomes. Memory is 0 at first.
-#[derive(Drop)]
-pub struct Told {
-    /// Plain writes are assumed to be made in one piece.
-    pub atomic: bool,
-    /// The accesses of the program.
-    pub accesses: Vec<Access>,
-    pub records: Vec<Record>,
-    pub history: Vec<Moment>,
-    pub outcomes: Vec<Came>,
-}
-
 /// The pair names the access that was checked and this finder, which told of the arming, and the two race.
 fn races_with(alloc: Global, told: &Told, came: &Came, pair: Pair, finder: &Access) -> Answer
-    ensures { IfOk result (λ yes. IsTrue yes → NamesRaceWith told.now came.now pair finder.now) }
+    ensures { IfOk result (λ yes. IsTrue yes → NamesRaceWith (account_of told.now) came.now pair finder.now) }
 {
     let Some(arming) = came.arming else {
         return Ok(false);
@@ -76,7 +51,7 @@ fn races_with(alloc: Global, told: &Told, came: &Came, pair: Pair, finder: &Acce
 
 /// The pair names a true race of the access that was checked.
 fn names_race(alloc: Global, told: &Told, came: &Came, pair: Pair) -> Answer
-    ensures { IfOk result (λ yes. IsTrue yes → NamesRace told.now came.now pair) }
+    ensures { IfOk result (λ yes. IsTrue yes → NamesRace (account_of told.now) came.now pair) }
 {
     for finder in told.accesses.as_slice() {
         if races_with(alloc, told, came, pair, finder)? {
@@ -88,7 +63,7 @@ fn names_race(alloc: Global, told: &Told, came: &Came, pair: Pair) -> Answer
 
 /// What came is true, if it is a report.
 fn is_true(alloc: Global, told: &Told, came: &Came) -> Answer
-    ensures { IfOk result (λ yes. IsTrue yes → IsTrueOf told.now came.now) }
+    ensures { IfOk result (λ yes. IsTrue yes → IsTrueOf (account_of told.now) came.now) }
 {
     match came.outcome {
         Outcome::Report { pair, seen: _ } => names_race(alloc, told, came, pair),
@@ -102,7 +77,7 @@ fn is_true(alloc: Global, told: &Told, came: &Came) -> Answer
 
 /// All reports are true.
 fn all_true(alloc: Global, told: &Told) -> Answer
-    ensures { IfOk result (λ yes. IsTrue yes → All (IsTrueOf told.now) told.now.outcomes.items) }
+    ensures { IfOk result (λ yes. IsTrue yes → All (IsTrueOf (account_of told.now)) told.now.outcomes.items) }
 {
     for came in told.outcomes.as_slice() {
         if !is_true(alloc, told, came)? {
@@ -112,52 +87,28 @@ fn all_true(alloc: Global, told: &Told) -> Answer
     Ok(true)
 }
 
-/// What came is a report of two sides or a named discard, for the meeting's arming.
-fn answers(met: &Meeting, came: &Came) -> bool
-    ensures { result ≡ answers met.now came.now }
+/// Once all tasks have ended the totals agree.
+fn ends_agreed(told: &Told) -> bool
+    ensures { IsTrue result → IsTrue told.now.ended → Totals told.now.records.items told.now.outcomes.items }
 {
-    let is_answer = matches!(came.outcome, Outcome::Report { .. } | Outcome::Dropped(_));
-    match came.arming {
-        Some(arming) => is_answer && arming.index == met.index && arming.number == met.number,
-        None => false,
-    }
+    !told.ended || totals_agree(told)
 }
 
-/// How many answers the meeting's arming has.
-fn answers_to(told: &Told, met: &Meeting) -> usize
-    ensures { result ≡ count_by (answers met.now) told.now.outcomes.items }
-{
-    let outcomes = told.outcomes.as_slice().iter();
-    outcomes.filter(|came| answers(met, came)).count()
-}
-
-/// It has one.
-fn is_answered(told: &Told, met: &Meeting) -> bool
-    ensures { IsTrue result → Answered told.now met.now }
-{
-    answers_to(told, met) == 1
-}
-
-/// Each meeting of which a setter has heard has one answer.
-fn all_answered(told: &Told, met: &[Meeting]) -> bool
-    ensures { IsTrue result → All (Answered told.now) met.now }
-{
-    for meeting in met {
-        if !is_answered(told, meeting) {
-            return false;
-        }
-    }
-    true
-}
-
-/// Whether the headline holds of what is told.
+/// Whether the headline holds of what is told. Then each meeting of which a setter has heard has one answer as well.
 pub fn holds(alloc: Global, told: &Told) -> Answer
-    ensures { IfOk result (λ yes. IsTrue yes → HasHeadline told.now) }
+    ensures headline { IfOk result (λ yes. IsTrue yes → HasHeadline (account_of told.now)) }
+    ensures heard { IfOk result (λ yes. IsTrue yes → All (IsAnswered (account_of told.now)) (setters_heard told.now.records.items)) }
 {
     if !taken_once(alloc, told.records.as_slice())? {
         return Ok(false);
     }
     if !all_true(alloc, told)? {
+        return Ok(false);
+    }
+    if !takings_answered(told, told.records.as_slice()) {
+        return Ok(false);
+    }
+    if !ends_agreed(told) {
         return Ok(false);
     }
     let met = setters_heard(alloc, told.records.as_slice())?;

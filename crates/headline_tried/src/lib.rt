@@ -3,8 +3,10 @@
 //! make, so it is seen that the definitions are met by real lists, and that others don't meet them.
 #![tactic(auto)]
 
+pub mod answers;
 pub mod armings;
 pub mod changes;
+pub mod endings;
 pub mod headline;
 #[cfg(test)]
 mod lists;
@@ -13,5 +15,8 @@ pub mod meetings;
 mod orders;
 #[cfg(test)]
 mod rows;
+pub mod told;
+pub mod totals;
 
-pub use headline::{Armed, Came, Told, holds};
+pub use headline::holds;
+pub use told::{Armed, Came, Told};

@@ -3,8 +3,8 @@
 ghost use Rattle.std.specs.Prelude.{◌≤◌};
 
 use crate::armings::last_arming;
-use crate::headline::{Armed, Came, Told};
 use crate::meetings::in_hand;
+use crate::told::{Armed, Came, Told};
 use access_types::{Access, Bytes, Happening, Mark, Moment, Sites, ticket};
 use setup_access::{Checker, Rules};
 use slot_table::{Answer, Board, PlainBoard, Record, Shape, Step};
@@ -410,13 +410,17 @@ fn first_task(
     })
 }
 
-/// The list that the tasks make in this order, and what it tells; none where a task is asked that has no step.
-pub(crate) fn play(
-    rt: &impl Abort,
-    alloc: Global,
-    program: &Program<'_>,
-    order: &[u32],
-) -> Result<Option<Told>, Fail> {
+/// A program as it goes: the list so far, how many moments were told by each number of steps, and its tasks.
+#[derive(Drop)]
+struct Going {
+    accesses: Vec<Access>,
+    list: List,
+    moments: Vec<usize>,
+    tasks: Vec<Task>,
+}
+
+/// Before the first step.
+fn start(rt: &impl Abort, alloc: Global, program: &Program<'_>) -> Result<Going, Fail> {
     let accesses = accesses_of(alloc, program)?;
     let mut list = first_list(rt, alloc, accesses.as_slice())?;
     let mut tasks = Vec::new(alloc);
@@ -424,25 +428,101 @@ pub(crate) fn play(
         assert!(rt; number < 4);
         tasks.push(first_task(alloc, &mut list, number as u32, program)?)?;
     }
-    for number in order {
-        let place = *number as usize;
-        assert!(rt; place < tasks.len() && place < program.tasks.len());
-        let parts = program.tasks[place];
-        if !make(rt, alloc, &mut list, *number, &mut tasks[place], parts)? {
-            return Ok(None);
-        }
+    let mut moments = Vec::new(alloc);
+    moments.push(list.history.len())?;
+    Ok(Going {
+        accesses,
+        list,
+        moments,
+        tasks,
+    })
+}
+
+/// One more step, of this task; whether it has one.
+fn go_on(
+    rt: &impl Abort,
+    alloc: Global,
+    program: &Program<'_>,
+    going: &mut Going,
+    number: u32,
+) -> Result<bool, Fail> {
+    let place = number as usize;
+    assert!(rt; place < going.tasks.len() && place < program.tasks.len());
+    let parts = program.tasks[place];
+    let task = &mut going.tasks[place];
+    if !make(rt, alloc, &mut going.list, number, task, parts)? {
+        return Ok(false);
     }
-    let records = latest_first(alloc, list.made.as_slice())?;
+    going.moments.push(going.list.history.len())?;
+    Ok(true)
+}
+
+/// Whether all tasks have ended.
+fn have_ended(program: &Program<'_>, tasks: &[Task]) -> bool {
+    let parts = program.tasks.iter();
+    parts
+        .zip(tasks.iter())
+        .all(|(parts, task)| parts.len() <= task.part)
+}
+
+/// What the list tells.
+fn told_of(alloc: Global, program: &Program<'_>, going: Going) -> Result<Told, Fail> {
+    let ended = have_ended(program, going.tasks.as_slice());
+    let records = latest_first(alloc, going.list.made.as_slice())?;
     let List {
         history,
         outcomes,
         ..
-    } = list;
-    Ok(Some(Told {
+    } = going.list;
+    Ok(Told {
         atomic: program.rules.plain_writes_atomic,
-        accesses,
+        accesses: going.accesses,
         records,
         history,
+        moments: going.moments,
         outcomes,
-    }))
+        ended,
+    })
+}
+
+/// The list that the tasks make in this order, and what it tells; none where a task is asked that has no step.
+pub(crate) fn play(
+    rt: &impl Abort,
+    alloc: Global,
+    program: &Program<'_>,
+    order: &[u32],
+) -> Result<Option<Told>, Fail> {
+    let mut going = start(rt, alloc, program)?;
+    for number in order {
+        if !go_on(rt, alloc, program, &mut going, *number)? {
+            return Ok(None);
+        }
+    }
+    Ok(Some(told_of(alloc, program, going)?))
+}
+
+/// The list that two tasks make in this order, and then each as long as it has a step, the first before the second,
+/// and what it tells. The order is then that of the whole list.
+pub(crate) fn play_out(
+    rt: &impl Abort,
+    alloc: Global,
+    program: &Program<'_>,
+    order: &mut Vec<u32>,
+) -> Result<Told, Fail> {
+    let mut going = start(rt, alloc, program)?;
+    for number in order.as_slice() {
+        let made = go_on(rt, alloc, program, &mut going, *number)?;
+        assert!(rt; made, "task {number} in the order {order:?}");
+    }
+    for _ in 0..1000 {
+        let number = if go_on(rt, alloc, program, &mut going, 0)? {
+            0
+        } else if go_on(rt, alloc, program, &mut going, 1)? {
+            1
+        } else {
+            return told_of(alloc, program, going);
+        };
+        order.push(number)?;
+    }
+    panic!(rt; "no end in the order {order:?}")
 }

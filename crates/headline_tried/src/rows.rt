@@ -1,7 +1,8 @@
 //! The headline holds of each beginning of lists worked by hand, and not of what was changed in one.
 
-use crate::headline::{Told, holds};
+use crate::headline::holds;
 use crate::lists::{Part, Program, play};
+use crate::told::Told;
 use access_types::{Access, Claim, Kind, Operation};
 use setup_access::{Outcome, Rules};
 use std::alloc::Global;

@@ -2,9 +2,9 @@
 use Rattle.std.proofs.Common.{◌≡◌, ◌≤◌, ◌∙◌, inl, inr, ℕ, ap, arith, length, slice_index_or, subst, sym}
 use Rattle.std.proofs.lemmas.Bool.Decides.{eqb_tells}
 use Rattle.std.proofs.lemmas.List.{get_or_default}
-use Rattle.headline_tried.specs.Tried.{Answered}
+use Rattle.headline_tried.specs.Tried.{IsAnswered, account_of}
 use Rattle.slot_table.specs.Meetings.{Meeting}
-use Rattle.headline_tried.proofs.headline.all_answered.Goals as goal
+use Rattle.headline_tried.proofs.answers.all_answered.Goals as goal
 
 pub loop-meeting-preserved : goal.loop-meeting-preserved
 loop-meeting-preserved c = λ k d below.
@@ -14,7 +14,7 @@ loop-meeting-preserved c = λ k d below.
           let here : slice_index_or c.args.met.now k d ≡ c.meeting-item.result =
           ap (λ (n : ℕ). slice_index_or c.args.met.now n d) same.1
           ∙ (get_or_default c.args.met.now index d c.meeting-item.result c.loop-meeting-test.true ∙ sym c.meeting-item.is) in
-          subst (λ (met : Meeting). Answered c.args.told.now met) (sym here) (c.is_answered.ensures c.if-not-is_answered.false)
+          subst (λ (met : Meeting). IsAnswered (account_of c.args.told.now) met) (sym here) (c.is_answered_met.ensures c.if-not-is_answered_met.false)
       | inr apart ↦ c.loop-meeting.invariant k d (let differs : k ≡ index → ⊥ = apart.1 in omega (arith, below, differs))
     ]
 
