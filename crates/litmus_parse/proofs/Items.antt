@@ -32,12 +32,12 @@ identifier_is _ name e = absurd cc
 
 -- ---- a table that is changed
 
-set_twice : (table : List Entry) (n : ℕ) (f g : Entry) → set (set table n f) n g ≡ set table n g
+pub set_twice : (table : List Entry) (n : ℕ) (f g : Entry) → set (set table n f) n g ≡ set table n g
 set_twice [] n f g = refl
 set_twice (e ∷ table) zero f g = refl
 set_twice (e ∷ table) (suc n) f g = ap (λ (t : List Entry). e ∷ t) (set_twice table n f g)
 
-set_there : (table : List Entry) (n : ℕ) (e f : Entry) → slice_get table n ≡ Some e → slice_get (set table n f) n ≡ Some f
+pub set_there : (table : List Entry) (n : ℕ) (e f : Entry) → slice_get table n ≡ Some e → slice_get (set table n f) n ≡ Some f
 set_there [] n e f is = absurd cc
 set_there (d ∷ table) zero e f is = refl
 set_there (d ∷ table) (suc n) e f is = set_there table n e f is

@@ -19,3 +19,5 @@ pub mod PropositionSound
 pub mod Texts
 pub mod Read
 pub mod Tasks
+pub mod Fits
+pub mod ItemsComplete

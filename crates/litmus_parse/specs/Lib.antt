@@ -13,4 +13,5 @@ pub mod ParameterReader
 pub mod ProcessReader
 pub mod PropositionReader
 pub mod Told
+pub mod Typed
 pub mod TextReader

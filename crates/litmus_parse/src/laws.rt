@@ -1,10 +1,11 @@
 //! What is true of the readers of whole texts and the grammar.
 
-ghost use Rattle.std.specs.Prelude.{◌≡◌, ◌↔◌, ◌≤◌, ℕ, All, List, Some, length};
+ghost use Rattle.std.specs.Prelude.{◌≡◌, ◌↔◌, ◌≤◌, ℕ, All, List, [], ◌∷◌, Some, length};
+ghost use Rattle.litmus_lex.specs.declared.sign.Sign.TheVariants.{OpenBrace};
 ghost use Rattle.litmus_syntax.specs.Tree as tree;
 ghost use Rattle.litmus_syntax.specs.declared.proposition.Quantifier.{Quantifier};
 ghost use Rattle.litmus_cursor.specs.Front.{take_signed};
-ghost use Rattle.litmus_cursor.specs.Words.{Symbol};
+ghost use Rattle.litmus_cursor.specs.Words.{Symbol, sign};
 ghost use Rattle.litmus_syntax.specs.Limits.{BodyKeepsLimits, variables_limit};
 ghost use Rattle.litmus_expression.specs.Followed.{Differ};
 ghost use Rattle.litmus_expression.specs.Names.{Names, Numbered};
@@ -12,8 +13,12 @@ ghost use Rattle.litmus_parse.specs.ConditionReader.{quantifier_at};
 ghost use Rattle.litmus_parse.specs.Conditions.{Quantifies};
 ghost use Rattle.litmus_parse.specs.Grammar.{Grammar};
 ghost use Rattle.litmus_parse.specs.HeaderReader.{value_at};
-ghost use Rattle.litmus_parse.specs.Headers.{Signed, Value};
+ghost use Rattle.litmus_parse.specs.Entries.{Entry};
+ghost use Rattle.litmus_parse.specs.Headers.{Items, Signed, Value};
+ghost use Rattle.litmus_parse.specs.ItemReader.{initialization_at, unnamed};
+ghost use Rattle.litmus_parse.specs.Mentions.{AreNumbered, Mention};
 ghost use Rattle.litmus_parse.specs.TextReader.{program_at};
+ghost use Rattle.litmus_parse.specs.Typed.{AreTyped};
 ghost use Rattle.litmus_parse.specs.VariableReader.{number_at};
 
 /// Law: what is read as a number, with a sign or without, or as an initial value, is what is spelled as one.
@@ -39,4 +44,13 @@ pub fn variables_are_numbered_as_they_appear()
 pub fn what_is_read_as_a_text_is_spelled()
     ensures { (name : List ℕ) (symbols : List Symbol) (program : tree.Program) → program_at name symbols ≡ Some program
         → All (λ task. BodyKeepsLimits task.body) program.tasks → (program.name ≡ name) × Grammar symbols program }
+{}
+
+/// Law: what is spelled as an initialization block is read, with the names and the numbers that its items give, where the
+/// names have types.
+pub fn what_is_spelled_as_an_initialization_block_is_read()
+    ensures { (all items : List Mention) (symbols rest : List Symbol) (names : Names)
+        → Items symbols items rest → AreNumbered [] items names → AreTyped all items
+        → (table : List Entry) × (initialization_at (unnamed (sign OpenBrace ∷ symbols))
+        ≡ Some (record { symbols = rest; names = names; table = table })) }
 {}
