@@ -74,7 +74,7 @@ module _ (f g h : Entry → Option Entry) (same : (e : Entry) → h e ≡ (f e >
 
 -- ---- an item behind its type
 
-abbrev heading : List Symbol → Names → List Entry → Heading
+abbrev pub heading : List Symbol → Names → List Entry → Heading
 heading symbols names table = record { symbols = symbols; names = names; table = table }
 
 abbrev saying : List ℕ → Option VariableType → Option ℕ → Mention
@@ -178,7 +178,7 @@ first_free all m ms are =
     no_lock is.1.0 m.said (allows all m.name is.1.0 is.1.1 m.said is.0)
 
 -- one mention and those behind it
-pub behind_more : (all : List Mention) (m : Mention) (ms : List Mention) (h : Heading) (n : ℕ) (between later : Names) (middle rest : List Symbol)
+unfoldable pub behind_more : (all : List Mention) (m : Mention) (ms : List Mention) (h : Heading) (n : ℕ) (between later : Names) (middle rest : List Symbol)
     → Fits all h.names h.table → (one : Notes all m h.names h.table n between)
     → Behind all ms (record { symbols = middle; names = between; table = one.after }) rest later → Behind all (m ∷ ms) h rest later
 behind_more all m ms h n between later middle rest fits one b =
@@ -193,7 +193,7 @@ behind_more all m ms h n between later middle rest fits one b =
       };
     }
 
-pub behind_none : (all : List Mention) (h : Heading) (rest : List Symbol) → Fits all h.names h.table → Behind all [] h rest h.names
+unfoldable pub behind_none : (all : List Mention) (h : Heading) (rest : List Symbol) → Fits all h.names h.table → Behind all [] h rest h.names
 behind_none all h rest fits = record { table = h.table; fits = fits; said = nothing_said h rest fits.tidy }
 
 -- items that are read

@@ -21,3 +21,4 @@ pub mod Read
 pub mod Tasks
 pub mod Fits
 pub mod ItemsComplete
+pub mod ParametersComplete

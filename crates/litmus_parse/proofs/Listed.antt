@@ -37,7 +37,7 @@ at_the_end : {A : Type 0} (xs : List A) (x : A) → Contains (xs ++ x ∷ []) x
 at_the_end [] x = in_front x []
 at_the_end (z ∷ xs) x = in_rest z x (xs ++ x ∷ []) (at_the_end xs x)
 
-before_or_last : {A : Type 0} (xs : List A) (x y : A) (P : Type 0) → Contains (xs ++ x ∷ []) y → (Contains xs y → P) → (x ≡ y → P) → P
+pub before_or_last : {A : Type 0} (xs : List A) (x y : A) (P : Type 0) → Contains (xs ++ x ∷ []) y → (Contains xs y → P) → (x ≡ y → P) → P
 before_or_last [] x y P there f g = among x y [] P there g (λ rest. absurd (in_none y rest))
 before_or_last (z ∷ xs) x y P there f g =
     among z y (xs ++ x ∷ []) P there
@@ -47,7 +47,7 @@ before_or_last (z ∷ xs) x y P there f g =
 -- ---- parameters
 
 -- parameters have their numbers among names
-abbrev Stand : List Parameter → Names → Type 0
+abbrev pub Stand : List Parameter → Names → Type 0
 Stand before names = (p : Parameter) → Contains before p → index_of names p.name ≡ Some p.variable
 
 -- what parameters are read behind others

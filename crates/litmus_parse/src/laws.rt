@@ -1,22 +1,23 @@
 //! What is true of the readers of whole texts and the grammar.
 
-ghost use Rattle.std.specs.Prelude.{◌≡◌, ◌↔◌, ◌≤◌, ℕ, All, List, [], ◌∷◌, Some, length};
-ghost use Rattle.litmus_lex.specs.declared.sign.Sign.TheVariants.{OpenBrace};
+ghost use Rattle.std.specs.Prelude.{◌≡◌, ◌↔◌, ◌≤◌, ℕ, All, List, [], ◌∷◌, Some, length, map};
+ghost use Rattle.litmus_lex.specs.declared.sign.Sign.TheVariants.{OpenBrace, OpenParen};
 ghost use Rattle.litmus_syntax.specs.Tree as tree;
 ghost use Rattle.litmus_syntax.specs.declared.proposition.Quantifier.{Quantifier};
 ghost use Rattle.litmus_cursor.specs.Front.{take_signed};
 ghost use Rattle.litmus_cursor.specs.Words.{Symbol, sign};
 ghost use Rattle.litmus_syntax.specs.Limits.{BodyKeepsLimits, variables_limit};
 ghost use Rattle.litmus_expression.specs.Followed.{Differ};
-ghost use Rattle.litmus_expression.specs.Names.{Names, Numbered};
+ghost use Rattle.litmus_expression.specs.Names.{Names, Numbered, Parameter};
 ghost use Rattle.litmus_parse.specs.ConditionReader.{quantifier_at};
 ghost use Rattle.litmus_parse.specs.Conditions.{Quantifies};
 ghost use Rattle.litmus_parse.specs.Grammar.{Grammar};
 ghost use Rattle.litmus_parse.specs.HeaderReader.{value_at};
 ghost use Rattle.litmus_parse.specs.Entries.{Entry};
-ghost use Rattle.litmus_parse.specs.Headers.{Items, Signed, Value};
+ghost use Rattle.litmus_parse.specs.Headers.{Items, Parameters, Signed, Value, mention_of};
 ghost use Rattle.litmus_parse.specs.ItemReader.{initialization_at, unnamed};
 ghost use Rattle.litmus_parse.specs.Mentions.{AreNumbered, Mention};
+ghost use Rattle.litmus_parse.specs.ParameterReader.{parameters_at};
 ghost use Rattle.litmus_parse.specs.TextReader.{program_at};
 ghost use Rattle.litmus_parse.specs.Typed.{AreTyped};
 ghost use Rattle.litmus_parse.specs.VariableReader.{number_at};
@@ -53,4 +54,17 @@ pub fn what_is_spelled_as_an_initialization_block_is_read()
         → Items symbols items rest → AreNumbered [] items names → AreTyped all items
         → (table : List Entry) × (initialization_at (unnamed (sign OpenBrace ∷ symbols))
         ≡ Some (record { symbols = rest; names = names; table = table })) }
+{}
+
+/// Law: what is spelled as the parameters of a first process is read, behind an initialization block that is read, where
+/// the names have types.
+pub fn what_is_spelled_as_parameters_is_read()
+    ensures { (all items : List Mention) (symbols inside rest : List Symbol) (names later : Names) (table : List Entry)
+        (parameters : List Parameter) → Items symbols items (sign OpenParen ∷ inside)
+        → AreNumbered [] items names → AreTyped all items
+        → initialization_at (unnamed (sign OpenBrace ∷ symbols))
+        ≡ Some (record { symbols = sign OpenParen ∷ inside; names = names; table = table })
+        → Parameters names inside parameters rest later → AreTyped all (map mention_of parameters)
+        → (grown : List Entry) × (parameters_at (record { symbols = sign OpenParen ∷ inside; names = names; table = table })
+        ≡ Some (parameters, record { symbols = rest; names = later; table = grown })) }
 {}
