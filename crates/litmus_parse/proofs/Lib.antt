@@ -22,3 +22,4 @@ pub mod Tasks
 pub mod Fits
 pub mod ItemsComplete
 pub mod ParametersComplete
+pub mod PropositionComplete

@@ -15,3 +15,4 @@ pub mod PropositionReader
 pub mod Told
 pub mod Typed
 pub mod TextReader
+pub mod Distinct

@@ -5,6 +5,7 @@ mod condition;
 mod declaration;
 mod initialization;
 pub mod laws;
+pub mod laws_of_parts;
 pub mod limits;
 mod text;
 
