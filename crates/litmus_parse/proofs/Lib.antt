@@ -23,3 +23,5 @@ pub mod Fits
 pub mod ItemsComplete
 pub mod ParametersComplete
 pub mod PropositionComplete
+pub mod ProcessesComplete
+pub mod NamesSpelled

@@ -1,18 +1,24 @@
 //! What is true of the readers of processes and conditions and of the grammar: what is spelled is read.
 
-ghost use Rattle.std.specs.Prelude.{◌≡◌, ◌≤◌, ℕ, Bool, List, [], Some, false, get_or};
-ghost use Rattle.litmus_cursor.specs.Words.{Symbol};
+ghost use Rattle.std.specs.Prelude.{◌≡◌, ◌≤◌, ℕ, All, Bool, Contains, List, [], ◌∷◌, Some, false, flat_map, get_or, map};
+ghost use Rattle.litmus_lex.specs.declared.sign.Sign.TheVariants.{OpenBrace};
+ghost use Rattle.litmus_cursor.specs.Front.{first};
+ghost use Rattle.litmus_cursor.specs.Words.{Symbol, identifier, sign};
 ghost use Rattle.litmus_expression.specs.NameReader.{index_of};
 ghost use Rattle.litmus_expression.specs.Names.{Names};
 ghost use Rattle.litmus_expression.specs.States.{State};
 ghost use Rattle.litmus_syntax.specs.Limits.{connectives, operators_limit};
 ghost use Rattle.litmus_syntax.specs.Tree as tree;
 ghost use Rattle.litmus_parse.specs.Conditions.{Disjoined, IsKnown};
-ghost use Rattle.litmus_parse.specs.Distinct.{AllDistinct};
-ghost use Rattle.litmus_parse.specs.Headers.{Process};
-ghost use Rattle.litmus_parse.specs.Mentions.{Mention};
-ghost use Rattle.litmus_parse.specs.ProcessReader.{seen};
+ghost use Rattle.litmus_parse.specs.Distinct.{AllDistinct, body_of};
+ghost use Rattle.litmus_parse.specs.Entries.{Entry};
+ghost use Rattle.litmus_parse.specs.Grammar.{Grammar, mentions_of};
+ghost use Rattle.litmus_parse.specs.Headers.{Items, Process, Processes};
+ghost use Rattle.litmus_parse.specs.ItemReader.{initialization_at, unnamed};
+ghost use Rattle.litmus_parse.specs.Mentions.{AreNumbered, Mention};
+ghost use Rattle.litmus_parse.specs.ProcessReader.{is_process, processes_at, seen, unbegun};
 ghost use Rattle.litmus_parse.specs.PropositionReader.{whole_at};
+ghost use Rattle.litmus_parse.specs.Typed.{AreTyped};
 
 /// Law: what is spelled as a whole proposition, with no more operators than one may have, is read so, behind processes each
 /// of whose names differ, where the names and locks that the reader knows are those of the variables.
@@ -24,4 +30,27 @@ pub fn what_is_spelled_as_a_proposition_is_read()
         → AllDistinct states → Disjoined mentions names 0 (seen states bodies) symbols proposition [] later
         → connectives proposition ≤ operators_limit
         → (after : List State) × (whole_at names locks symbols states ≡ Some (proposition, after)) × (seen after bodies ≡ later) }
+{}
+
+/// Law: what is spelled as processes is read, behind an initialization block that is read and before what begins no process,
+/// where the names have types.
+pub fn what_is_spelled_as_processes_is_read()
+    ensures { (all items : List Mention) (symbols inside rest : List Symbol) (names later : Names) (table : List Entry)
+        (processes : List Process) → Items symbols items inside → AreNumbered [] items names → AreTyped all items
+        → initialization_at (unnamed (sign OpenBrace ∷ symbols)) ≡ Some (record { symbols = inside; names = names; table = table })
+        → Processes 0 names inside processes rest later → AreTyped all (flat_map mentions_of processes)
+        → ((number : ℕ) → is_process number (first rest) ≡ false)
+        → (grown : List Entry) × (states : List State)
+        × (processes_at (unbegun (record { symbols = inside; names = names; table = table })) ≡ Some (record {
+          heading = record { symbols = rest; names = later; table = grown };
+          states = states;
+          bodies = map body_of processes;
+        })) × (seen states (map body_of processes) ≡ processes) × AllDistinct states }
+{}
+
+/// Law: each name of a variable and of a register in a program that symbols spell is a name among these symbols.
+pub fn names_of_a_program_are_spelled()
+    ensures { (symbols : List Symbol) (program : tree.Program) → Grammar symbols program
+        → All (λ variable. Contains symbols (identifier variable.name)) program.variables
+        × All (λ task. All (λ name. Contains symbols (identifier name)) task.registers) program.tasks }
 {}
