@@ -77,12 +77,12 @@ same_type g t e =
     ∙ ap (λ (n : ℕ). cond (n == 0) Char (cond (n == 1) Short (cond (n == 2) Int (cond (n == 3) Long (cond (n == 4) Atomic Lock))))) e
     ∙ type_there t
 
-abbrev with_type : Entry → VariableType → Entry
+abbrev pub with_type : Entry → VariableType → Entry
 with_type e t = record e { type = Some t }
 
-record Settled (t : VariableType) (e f : Entry) : Type 0 where
-  is : f ≡ with_type e t
-  before : (u : VariableType) → e.type ≡ Some u → u ≡ t
+pub record Settled (t : VariableType) (e f : Entry) : Type 0 where
+  pub is : f ≡ with_type e t
+  pub before : (u : VariableType) → e.type ≡ Some u → u ≡ t
 
 settled_is : (t : VariableType) (e f : Entry) (o : Option VariableType) → e.type ≡ o → settled_from o t e ≡ Some f → Settled t e f
 settled_is t e f None none s = record { is = sym (same_given (with_type e t) f s); before = λ u is. absurd (no_type u (sym none ∙ is)) }
@@ -97,7 +97,7 @@ settled_is t e f (Some g) given s =
     }))
     (λ other s. absurd cc)
 
-settles : (t : VariableType) (e f : Entry) → settled t e ≡ Some f → Settled t e f
+pub settles : (t : VariableType) (e f : Entry) → settled t e ≡ Some f → Settled t e f
 unfolding settled
 settles t e f s = settled_is t e f e.type refl s
 

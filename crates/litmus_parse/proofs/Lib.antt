@@ -25,3 +25,6 @@ pub mod ParametersComplete
 pub mod PropositionComplete
 pub mod ProcessesComplete
 pub mod NamesSpelled
+pub mod Numbered
+pub mod Declared
+pub mod TextComplete

@@ -26,14 +26,14 @@ use Rattle.litmus_parse.proofs.Unrolled.{Listing}
 
 -- ---- the last of a list
 
-in_before : {A : Type 0} (xs : List A) (x y : A) → Contains xs y → Contains (xs ++ x ∷ []) y
+pub in_before : {A : Type 0} (xs : List A) (x y : A) → Contains xs y → Contains (xs ++ x ∷ []) y
 in_before [] x y there = absurd (in_none y there)
 in_before (z ∷ xs) x y there =
     among z y xs (Contains (z ∷ (xs ++ x ∷ [])) y) there
     (λ is. subst (λ (w : _). Contains (z ∷ (xs ++ x ∷ [])) w) is (in_front z (xs ++ x ∷ [])))
     (λ rest. in_rest z y (xs ++ x ∷ []) (in_before xs x y rest))
 
-at_the_end : {A : Type 0} (xs : List A) (x : A) → Contains (xs ++ x ∷ []) x
+pub at_the_end : {A : Type 0} (xs : List A) (x : A) → Contains (xs ++ x ∷ []) x
 at_the_end [] x = in_front x []
 at_the_end (z ∷ xs) x = in_rest z x (xs ++ x ∷ []) (at_the_end xs x)
 

@@ -73,7 +73,7 @@ peace_at [] n peace = refl
 peace_at (e ∷ table) zero peace = first_false (has_two_types e) (has_contradiction table) peace
 peace_at (e ∷ table) (suc n) peace = peace_at table n (rest_false (has_two_types e) (has_contradiction table) peace)
 
-locks_at : (table : List Entry) (n : ℕ) → get_or (locks_in table) n false ≡ is_lock_entry (get_or table n fresh)
+pub locks_at : (table : List Entry) (n : ℕ) → get_or (locks_in table) n false ≡ is_lock_entry (get_or table n fresh)
 locks_at [] n = refl
 locks_at (e ∷ table) zero = refl
 locks_at (e ∷ table) (suc n) = locks_at table n
@@ -140,7 +140,7 @@ tidy_at_first : Tidy [] []
 tidy_at_first = record { differ = tt; few = omega arith; sized = refl }
 
 -- what is known of a name before all mentions
-unknown : (name : List ℕ) → entry_in [] [] name ≡ fresh
+pub unknown : (name : List ℕ) → entry_in [] [] name ≡ fresh
 unknown name = ap (λ (o : Option ℕ). entry_at [] o) (nowhere [] name (in_none name))
 
 module _ (name : List ℕ) (symbols : List Symbol) (h : Heading) (b : ReadsBlock (unnamed symbols) h) (c : Course) (later : List Pair)

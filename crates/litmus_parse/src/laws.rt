@@ -68,3 +68,8 @@ pub fn what_is_spelled_as_parameters_is_read()
         → (grown : List Entry) × (parameters_at (record { symbols = sign OpenParen ∷ inside; names = names; table = table })
         ≡ Some (parameters, record { symbols = rest; names = later; table = grown })) }
 {}
+
+/// Law: what spells a program behind a head is read as that program.
+pub fn what_is_spelled_as_a_text_is_read()
+    ensures { (symbols : List Symbol) (program : tree.Program) → Grammar symbols program → program_at program.name symbols ≡ Some program }
+{}
