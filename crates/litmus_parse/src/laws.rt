@@ -11,7 +11,7 @@ ghost use Rattle.litmus_expression.specs.Followed.{Differ};
 ghost use Rattle.litmus_expression.specs.Names.{Names, Numbered, Parameter};
 ghost use Rattle.litmus_parse.specs.ConditionReader.{quantifier_at};
 ghost use Rattle.litmus_parse.specs.Conditions.{Quantifies};
-ghost use Rattle.litmus_parse.specs.Grammar.{Grammar};
+ghost use Rattle.litmus_parse.specs.Grammar.{Grammar, SpellsProgram};
 ghost use Rattle.litmus_parse.specs.HeaderReader.{value_at};
 ghost use Rattle.litmus_parse.specs.Entries.{Entry};
 ghost use Rattle.litmus_parse.specs.Headers.{Items, Parameters, Signed, Value, mention_of};
@@ -21,6 +21,8 @@ ghost use Rattle.litmus_parse.specs.ParameterReader.{parameters_at};
 ghost use Rattle.litmus_parse.specs.TextReader.{program_at};
 ghost use Rattle.litmus_parse.specs.Typed.{AreTyped};
 ghost use Rattle.litmus_parse.specs.VariableReader.{number_at};
+
+use litmus_lex::a_text_has_one_reading;
 
 /// Law: what is read as a number, with a sign or without, or as an initial value, is what is spelled as one.
 pub fn values_are_read_as_they_are_spelled()
@@ -73,3 +75,10 @@ pub fn what_is_spelled_as_parameters_is_read()
 pub fn what_is_spelled_as_a_text_is_read()
     ensures { (symbols : List Symbol) (program : tree.Program) → Grammar symbols program → program_at program.name symbols ≡ Some program }
 {}
+
+/// Law: a text spells at most one program.
+pub fn a_text_spells_one_program()
+    ensures { (text : List ℕ) (one two : tree.Program) → SpellsProgram text one → SpellsProgram text two → one ≡ two }
+{
+    a_text_has_one_reading();
+}
