@@ -6,8 +6,8 @@ use Rattle.run_lists.specs.Run.{Run, task_of, task_setting}
 use Rattle.run_lists.specs.RunList.{RunList}
 use Rattle.run_lists.specs.Told.{made_by}
 use Rattle.run_lists.proofs.OwnLasts.{own_latest}
-use Rattle.run_logs.specs.Noted.{IsNoted}
-use Rattle.run_logs.proofs.Ties.{says_what_is_noted}
+use Rattle.run_logs.specs.Noted.{IsBegun, IsNoted}
+use Rattle.run_logs.proofs.Ties.{says_what_begins, says_what_is_noted}
 use Rattle.run_verdicts.specs.Events.{DoesEvent, EachDoesItsEvent}
 use Rattle.setup_access.specs.declared.begun.Begun.{Begun}
 use Rattle.setup_access.specs.declared.outcome.Outcome.{Outcome}
@@ -23,14 +23,15 @@ use Rattle.written_order.specs.Told.{did_by, did_next}
 use Rattle.written_order.specs.WrittenOrder.{WrittenOrder}
 
 -- the same of the same records
-noted_as : (s : Setting) (registers : ℕ) (body : Block) (latest : Record) (noted : Noted) (made : ℕ) (records others : List Record) → others ≡ records
+same_of : (s : Setting) (registers : ℕ) (body : Block) (P : (r : List Record) → WrittenOrder s registers body r → Type 0) (latest : Record) (made : ℕ)
+    (records others : List Record) → others ≡ records
     → (written : WrittenOrder s registers body others) → DoesEvent s (did_by written made) latest.step latest.answer (did_next written made)
-    → ((w : WrittenOrder s registers body records) → DoesEvent s (did_by w made) latest.step latest.answer (did_next w made) → IsNoted w made latest noted)
-    → IsNoted written made latest noted
-noted_as s registers body latest noted made records others is =
+    → ((w : WrittenOrder s registers body records) → DoesEvent s (did_by w made) latest.step latest.answer (did_next w made) → P records w)
+    → P others written
+same_of s registers body P latest made records others is =
     subst (λ (r : List Record). (written : WrittenOrder s registers body r) → DoesEvent s (did_by written made) latest.step latest.answer (did_next written made)
-    → ((w : WrittenOrder s registers body records) → DoesEvent s (did_by w made) latest.step latest.answer (did_next w made) → IsNoted w made latest noted)
-    → IsNoted written made latest noted) (sym is) (λ written does each. each written does)
+    → ((w : WrittenOrder s registers body records) → DoesEvent s (did_by w made) latest.step latest.answer (did_next w made) → P records w)
+    → P r written) (sym is) (λ written does each. each written does)
 
 pub noted_of_machine : (run : Run) (latest : Record) (earlier : List Record) (old : TaskRun) (begins : Option Begun) (fell : Option Outcome)
     → (list : RunList run (latest ∷ earlier))
@@ -48,8 +49,32 @@ noted_of_machine run latest earlier old begins fell list leads says next falls d
     let noted : Noted = record { step = latest.step; answer = latest.answer; begins = begins; outcome = fell } in
     let all : reverse (records_of latest.task (latest ∷ earlier)) ≡ reverse own ++ latest ∷ [] =
     ap (λ (l : List Record). reverse l) (own_latest latest.task latest earlier refl) ∙ reverse-append (latest ∷ []) own in
-    noted_as s registers body latest noted (length own) (reverse own ++ latest ∷ []) (reverse (records_of latest.task (latest ∷ earlier))) all
+    same_of s registers body (λ r w. IsNoted w (length own) latest noted) latest (length own) (reverse own ++ latest ∷ [])
+    (reverse (records_of latest.task (latest ∷ earlier))) all
     (list.tasks latest.task) does.1
     (λ w event. subst (λ (n : ℕ). IsNoted w n latest noted) (length-reverse own)
     (says_what_is_noted s registers body (reverse own) old latest.step latest.answer begins fell leads says next falls w
+    (subst (λ (n : ℕ). DoesEvent s (did_by w n) latest.step latest.answer (did_next w n)) (sym (length-reverse own)) event)))
+
+-- with what it says before the record begins the access that begins in what the list tells of the record
+pub begun_of_machine : (run : Run) (latest : Record) (earlier : List Record) (old : TaskRun) (begins : Option Begun)
+    → (list : RunList run (latest ∷ earlier))
+    → (leads : Leads (task_setting run latest.task) (length (task_of run latest.task).registers) (task_of run latest.task).body (reverse (records_of latest.task earlier)) old)
+    → Says old latest.step
+    → ((later : List Record) → BeginsNext (task_setting run latest.task) leads.part (stands_at leads later) leads.mine begins)
+    → EachDoesItsEvent list (latest ∷ earlier)
+    → IsBegun run.rules.plain_writes_atomic latest.task (did_by (list.tasks latest.task) (made_by latest.task earlier))
+    (did_next (list.tasks latest.task) (made_by latest.task earlier)) begins
+begun_of_machine run latest earlier old begins list leads says next does =
+    let s : Setting = task_setting run latest.task in
+    let registers : ℕ = length (task_of run latest.task).registers in
+    let body : Block = (task_of run latest.task).body in
+    let own : List Record = records_of latest.task earlier in
+    let all : reverse (records_of latest.task (latest ∷ earlier)) ≡ reverse own ++ latest ∷ [] =
+    ap (λ (l : List Record). reverse l) (own_latest latest.task latest earlier refl) ∙ reverse-append (latest ∷ []) own in
+    same_of s registers body
+    (λ r w. IsBegun run.rules.plain_writes_atomic latest.task (did_by w (length own)) (did_next w (length own)) begins) latest (length own)
+    (reverse own ++ latest ∷ []) (reverse (records_of latest.task (latest ∷ earlier))) all (list.tasks latest.task) does.1
+    (λ w event. subst (λ (n : ℕ). IsBegun run.rules.plain_writes_atomic latest.task (did_by w n) (did_next w n) begins) (length-reverse own)
+    (says_what_begins s registers body (reverse own) old latest.step latest.answer begins leads says next w
     (subst (λ (n : ℕ). DoesEvent s (did_by w n) latest.step latest.answer (did_next w n)) (sym (length-reverse own)) event)))

@@ -572,6 +572,24 @@ module _ (s : Setting) (registers : ℕ) (body : Block) (records : List Record) 
       begins_in over begins h going next = absurd going
       begins_in (stops due) begins h going next = absurd going
 
+-- with what the machine says before its step begins the access that begins in what is done with the record
+pub says_what_begins : (s : Setting) (registers : ℕ) (body : Block) (records : List Record) (old : TaskRun) (step : Step) (answer : Answer) (begins : Option Begun)
+    → (leads : Leads s registers body records old) → Says old step
+    → ((later : List Record) → BeginsNext s leads.part (stands_at leads later) leads.mine begins)
+    → (written : WrittenOrder s registers body (records ++ made s.text.task step answer ∷ []))
+    → DoesEvent s (did_by written (length records)) step answer (did_next written (length records))
+    → IsBegun s.rules.plain_writes_atomic s.text.task (did_by written (length records)) (did_next written (length records)) begins
+says_what_begins s registers body records old step answer begins leads says next written does =
+    let x : Record = made s.text.task step answer in
+    let left : List Record = written.more in
+    let all : List Record = leads.mine ++ x ∷ left in
+    let before : Standing = leads.now all in
+    let steps : StepsOfBlock s 0 body (at_first registers) (records ++ x ∷ left) written.whole.end [] =
+    subst (λ (r : List Record). StepsOfBlock s 0 body (at_first registers) r written.whole.end []) (append_assoc records (x ∷ []) left) written.whole.steps in
+    let part = (leads.left (x ∷ left) written.whole.end).0 steps in
+    let going : Unfinished s leads.part before all left = unfinished s old before leads.mine x left step leads.part (leads.agrees all).is_in says in
+    begins_in s registers body records x written old.machine.walk leads.mine before (leads.told all) does leads.part begins part going (next (x ∷ left))
+
 -- so what the machine says before its step and after the answer is noted of the record
 pub says_what_is_noted : (s : Setting) (registers : ℕ) (body : Block) (records : List Record) (old : TaskRun) (step : Step) (answer : Answer) (begins : Option Begun)
     (fell : Option Outcome) → (leads : Leads s registers body records old) → Says old step
@@ -591,7 +609,7 @@ says_what_is_noted s registers body records old step answer begins fell leads sa
     record {
       step = refl;
       answer = refl;
-      begins = begins_in s registers body records x written old.machine.walk leads.mine before (leads.told all) does leads.part begins part going (next (x ∷ left));
+      begins = says_what_begins s registers body records old step answer begins leads says next written does;
       outcome = fell_in s registers body records x written old.machine.walk leads.mine before (leads.told all) leads.part fell part going
           (falls s registers body records step leads says left);
     }

@@ -14,7 +14,7 @@ ghost use Rattle.run_lists.specs.RunList.{RunList};
 ghost use Rattle.run_lists.specs.Told.{made_by};
 ghost use Rattle.run_logs.specs.Decided.{IsStampedSo};
 ghost use Rattle.run_logs.specs.Lists.{AreArmsOf, AreTakesOf};
-ghost use Rattle.run_logs.specs.Noted.{AreNoted, IsNoted, Notes};
+ghost use Rattle.run_logs.specs.Noted.{AreNoted, IsBegun, IsNoted, Notes};
 ghost use Rattle.run_logs.specs.Removed.{as_removed, as_told, removed_by, told_by};
 ghost use Rattle.run_logs.specs.Spans.{HappensAt, IsSpan, is_end};
 ghost use Rattle.run_logs.specs.Totals.{AddUp, CountsList, CountsTasks};
@@ -33,7 +33,7 @@ ghost use Rattle.task_run.specs.Leads.{BeginsNext, Leads, stands_at};
 ghost use Rattle.task_run.specs.Says.{Says};
 ghost use Rattle.task_run.specs.declared.run.TaskRun.{TaskRun};
 ghost use Rattle.written_order.specs.Standing.{Setting};
-ghost use Rattle.written_order.specs.Told.{did_by};
+ghost use Rattle.written_order.specs.Told.{did_by, did_next};
 ghost use Rattle.written_order.specs.WrittenOrder.{WrittenOrder};
 
 use run_lists::laws::{roles_of_run_lists, run_lists_keep_the_discipline};
@@ -71,6 +71,20 @@ pub fn a_machine_says_what_is_noted()
         → FellAt old fell latest.answer
         → IsNoted (list.tasks latest.task) (made_by latest.task earlier) latest
         (record { step = latest.step; answer = latest.answer; begins = begins; outcome = fell }) }
+{
+    records_tell_their_events();
+}
+
+/// Law: a task's machine says before a step which access begins with it: just this one begins in what the list tells of
+/// the record.
+pub fn a_machine_says_what_begins()
+    ensures { (run : Run) (latest : Record) (earlier : List Record) (old : TaskRun) (begins : Option Begun)
+        → (list : RunList run (latest ∷ earlier))
+        → (leads : Leads (task_setting run latest.task) (length (task_of run latest.task).registers) (task_of run latest.task).body (reverse (records_of latest.task earlier)) old)
+        → Says old latest.step
+        → ((later : List Record) → BeginsNext (task_setting run latest.task) leads.part (stands_at leads later) leads.mine begins)
+        → IsBegun run.rules.plain_writes_atomic latest.task (did_by (list.tasks latest.task) (made_by latest.task earlier))
+        (did_next (list.tasks latest.task) (made_by latest.task earlier)) begins }
 {
     records_tell_their_events();
 }
