@@ -8,3 +8,4 @@ pub mod MakeLemmas
 pub mod RoundLemmas
 pub mod KeptLemmas
 pub mod ReaderLemmas
+pub mod PointLemmas

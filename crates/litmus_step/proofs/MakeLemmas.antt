@@ -14,7 +14,7 @@ use Rattle.litmus_step.proofs.TurnLemmas.{same_machine}
 use Rattle.access_types.specs.declared.report.Report.{Report}
 use Rattle.run_logs.specs.Noted.{Notes}
 use Rattle.litmus_step.specs.Kept.{Added, AreKept, IsNotedIn, accesses_kept, watches_kept}
-use Rattle.litmus_step.specs.Leads.{LeadsTask, LeadsTasks, LeadsToAll, MakesNextIn}
+use Rattle.litmus_step.specs.Leads.{AreAtPoints, LeadsTask, LeadsTasks, LeadsToAll, MakesNextIn}
 use Rattle.litmus_step.specs.Runs.{CanBeMade, tasks_of}
 use Rattle.task_log.specs.Keeps.{Keeps}
 use Rattle.task_log.specs.declared.log.TaskLog.{TaskLog}
@@ -27,6 +27,7 @@ use Rattle.setup_access.specs.declared.begun.Begun.{Begun}
 use Rattle.setup_access.specs.declared.outcome.Outcome.{Outcome}
 use Rattle.task_run.specs.Fell.{FellAt, fell_of}
 use Rattle.task_run.specs.Leads.{BeginsNext, Leads, LeadsOn, stands_at}
+use Rattle.task_run.specs.Points.{HasMade}
 use Rattle.task_run.specs.Says.{Says}
 use Rattle.written_order.specs.Standing.{Setting}
 use Rattle.std.proofs.lemmas.List.{append-nil, get_or-set_same}
@@ -41,6 +42,7 @@ StepsLead = (run : Run) (records : List Record) (words : Words) (machines : List
     → (next : MakesNextIn machines task step)
     → Answers step answer → answer ≡ (step_line words step).answer → LeadsOn next.machine after answer
     → ((list : RunList run (made task step answer ∷ records)) → AreKept list more_logs more_reports more_room)
+    → ((list : RunList run (made task step answer ∷ records)) → AreAtPoints list (set machines task after))
     → LeadsToAll run (made task step answer ∷ records) (step_line words step).after (set machines task after)
     (up_to_last (steps + 1)) more_logs more_reports more_room
 
@@ -60,23 +62,31 @@ pub world_leads : StepsLead → (world : World) (task : ℕ) (step : Step) (answ
     → steps ≡ up_to_last (world.steps + 1) → LeadsOn here after answer
     → (run : Run) (records : List Record) → LeadsTo run records world
     → ((list : RunList run (made task step answer ∷ records)) → AreKept list logs reports room)
+    → ((list : RunList run (made task step answer ∷ records)) → AreAtPoints list (set world.tasks.items task after))
     → LeadsToAll run (made task step answer ∷ records) words (set world.tasks.items task after) steps logs reports room
 world_leads lead world task step answer here after words steps logs reports room next below is answers as_answered left counted on run
-    records leads keeps =
+    records leads keeps points =
     let same = same_machine world task here next.machine below is next.stands in
     leads_alike run (made task step answer ∷ records) (step_line world.board step).after words (set world.tasks.items task after)
     (up_to_last (world.steps + 1)) steps logs reports room left counted
     (lead run records world.board world.tasks.items world.steps world.logs.items logs world.reports.items reports
     (vec_capacity world.reports) room
     task step answer after leads next answers as_answered
-    (subst (λ (machine : TaskRun). LeadsOn machine after answer) same on) keeps)
+    (subst (λ (machine : TaskRun). LeadsOn machine after answer) same on) keeps points)
 
 -- the list without a step leads to a world before its first step
 pub first_world : (run : Run) (board : Words) (machines : List TaskRun) (logs : List TaskLog) (reports : List Report) (room : ℕ)
     → CanBeMade run → (list : RunList run []) → board ≡ first_words run → LeadsTasks run [] machines → AreKept list logs reports room
-    → LeadsToAll run [] board machines 0 logs reports room
-first_world run board machines logs reports room can list words tasks kept =
-    record { can = can; list = list; leaves = words; tasks = tasks; counts = refl; kept = kept }
+    → AreAtPoints list machines → LeadsToAll run [] board machines 0 logs reports room
+first_world run board machines logs reports room can list words tasks kept points =
+    record { can = can; list = list; leaves = words; tasks = tasks; counts = refl; kept = kept; points = points }
+
+-- before the first step none is the last
+pub first_points : ((run : Run) (list : RunList run []) → (task : ℕ) → Notes list task []) → (run : Run) (list : RunList run [])
+    (machines : List TaskRun) → ((task : ℕ) (machine : TaskRun) → slice_get machines task ≡ Some machine → HasMade [] machine)
+    → AreAtPoints list machines
+first_points none run list machines each = λ task machine stands.
+    record { noted = []; notes = none run list task; made = each task machine stands }
 
 -- before the first step nothing is kept
 pub first_kept : ((run : Run) (list : RunList run []) → (task : ℕ) → Notes list task []) → (run : Run) (list : RunList run [])

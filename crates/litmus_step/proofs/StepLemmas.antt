@@ -22,7 +22,7 @@ use Rattle.task_laws.specs.Fits.{ArePlaced}
 use Rattle.litmus_step.proofs.NameLemmas.{after_as_many, last_of_all, names_as_many, some_answer}
 use Rattle.access_types.specs.declared.report.Report.{Report}
 use Rattle.litmus_step.specs.Kept.{AreKept}
-use Rattle.litmus_step.specs.Leads.{LeadsTask, LeadsToAll, MakesNextIn}
+use Rattle.litmus_step.specs.Leads.{AreAtPoints, LeadsTask, LeadsToAll, MakesNextIn}
 use Rattle.task_log.specs.declared.log.TaskLog.{TaskLog}
 use Rattle.litmus_step.specs.Runs.{CanBeMade, tasks_of}
 use Rattle.task_plan.specs.Counts.{up_to_last}
@@ -137,10 +137,11 @@ module _ (leads_on : AnAnswerLeadsOn) (names : StepsNameWords) where
       → LeadsToAll run records words machines steps logs reports room → (next : MakesNextIn machines task step) → Answers step answer
       → answer ≡ (step_line words step).answer → LeadsOn next.machine after answer
       → ((list : RunList run (made task step answer ∷ records)) → AreKept list more_logs more_reports more_room)
+      → ((list : RunList run (made task step answer ∷ records)) → AreAtPoints list (set machines task after))
       → LeadsToAll run (made task step answer ∷ records) (step_line words step).after (set machines task after)
       (up_to_last (steps + 1)) more_logs more_reports more_room
   leads_more run records words machines steps logs more_logs reports more_reports room more_room task step answer after leads next
-      answers is on keeps =
+      answers is on keeps points =
       let latest = made task step answer in
       let there : task < length machines = slice_get_within machines task next.machine next.stands in
       let below : task < tasks_of run = subst (λ n. task < n) leads.tasks.all there in
@@ -192,4 +193,5 @@ module _ (leads_on : AnAnswerLeadsOn) (names : StepsNameWords) where
         };
         counts = counted steps records latest leads.counts;
         kept = keeps list;
+        points = points list;
       }

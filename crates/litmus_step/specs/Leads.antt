@@ -1,9 +1,10 @@
 -- Which lists of steps lead to tasks over their words.
-use Rattle.std.specs.Prelude.{◌≡◌, ◌++◌, ◌∷◌, [], ℕ, List, Some, length, reverse, slice_get}
+use Rattle.std.specs.Prelude.{◌≡◌, ◌++◌, ◌∷◌, [], ℕ, List, Some, is_some, length, map, reverse, slice_get}
 use Rattle.access_types.specs.declared.report.Report.{Report}
 use Rattle.litmus_syntax.specs.Tree.{Block}
 use Rattle.run_lists.specs.Run.{Run, first_words, task_of, task_setting}
 use Rattle.run_lists.specs.RunList.{RunList}
+use Rattle.run_logs.specs.Noted.{Notes}
 use Rattle.setup_access.specs.Parts.{made}
 use Rattle.slot_table.specs.Records.{records_of, words_after}
 use Rattle.slot_table.specs.Words.{Words}
@@ -13,8 +14,10 @@ use Rattle.slot_table.specs.declared.step.Step.{Step}
 use Rattle.litmus_step.specs.Kept.{AreKept}
 use Rattle.litmus_step.specs.Runs.{CanBeMade, tasks_of}
 use Rattle.task_log.specs.declared.log.TaskLog.{TaskLog}
+use Rattle.task_log.specs.declared.noted.Noted.{Noted}
 use Rattle.task_plan.specs.Counts.{up_to_last}
 use Rattle.task_run.specs.Leads as task_run
+use Rattle.task_run.specs.Points.{HasMade, Stepped}
 use Rattle.task_run.specs.Says.{Says}
 use Rattle.task_run.specs.declared.run.TaskRun.{TaskRun}
 use Rattle.written_order.specs.Standing.{Setting}
@@ -32,6 +35,21 @@ pub record LeadsTasks (run : Run) (records : List Record) (machines : List TaskR
   pub each : (task : ℕ) (machine : TaskRun) → slice_get machines task ≡ Some machine
       → LeadsTask run task records machine
 
+-- the steps that are noted of a task, each with whether an access begins with it
+abbrev pub steps_noted : List Noted → List Stepped
+steps_noted noted = map (λ one. record { step = one.step; begins = is_some one.begins }) noted
+
+-- what a machine keeps of its task's last steps is what the list notes of them
+pub record IsAtPoint {run : Run} {records : List Record} (list : RunList run records) (task : ℕ) (machine : TaskRun) :
+    Type 0 where
+  pub noted : List Noted
+  pub notes : Notes list task noted
+  pub made : HasMade (steps_noted noted) machine
+
+-- so it is of each task
+abbrev pub AreAtPoints : {run : Run} {records : List Record} → RunList run records → List TaskRun → Type 0
+AreAtPoints list machines = (task : ℕ) (machine : TaskRun) → slice_get machines task ≡ Some machine → IsAtPoint list task machine
+
 -- The list, the latest record first, is a run list, and leads to these words, to these machines and to
 -- this count of steps. What is kept of its steps is what it says, and what is reported is what it reports, as long
 -- as there is room for it.
@@ -43,6 +61,7 @@ pub record LeadsToAll (run : Run) (records : List Record) (words : Words) (machi
   pub tasks : LeadsTasks run records machines
   pub counts : steps ≡ up_to_last (length records)
   pub kept : AreKept list logs reports room
+  pub points : AreAtPoints list machines
 
 -- some run list leads there
 pub record IsLedTo (words : Words) (machines : List TaskRun) (steps : ℕ) (logs : List TaskLog) (reports : List Report)
@@ -62,8 +81,14 @@ pub record MakesNext (machine : TaskRun) (step : Step) : Type 0 where
       → (answer : Answer)
       → WithinTurns s.rules.turns (reverse (records ++ made s.text.task step answer ∷ []))
 
+-- whatever records lead to the machine, it is in no wait with as many vain tries as are allowed
+abbrev pub IsNotStuck : TaskRun → Type 0
+IsNotStuck machine = (s : Setting) (registers : ℕ) (body : Block) (records : List Record)
+    → (leads : task_run.Leads s registers body records machine) → ¬ task_run.IsStuck leads
+
 -- so it is of the machine of a task
 pub record MakesNextIn (machines : List TaskRun) (task : ℕ) (step : Step) : Type 0 where
   pub machine : TaskRun
   pub stands : slice_get machines task ≡ Some machine
   pub makes : MakesNext machine step
+  pub free : IsNotStuck machine

@@ -15,6 +15,8 @@ ghost use Rattle.litmus_step.specs.Settings.{rules_of};
 ghost use Rattle.litmus_step.specs.declared.error.WorldError.TheVariants.{BadPlace, BadSlots, OutOfMemory};
 ghost use Rattle.task_log.specs.Keeps.{Keeps};
 ghost use Rattle.task_log.specs.declared.log.TaskLog.{TaskLog};
+ghost use Rattle.task_run.specs.Points.{HasMade};
+ghost use Rattle.task_run.specs.declared.run.TaskRun.{TaskRun};
 
 use crate::error::WorldError;
 use crate::settings::Settings;
@@ -80,6 +82,7 @@ fn first_task<'a>(
     ensures led { IfOk result (λ machine. (sites : AccessMap)
         → AreSitesOf (program_of program.now) (places_of settings.now.places.items) sites
         → LeadsTask (run_of program.now settings.now sites) number [] machine) }
+    ensures points { IfOk result (HasMade []) }
     ensures bad_slots { IsErrOf result BadSlots → (settings.now.slots < 3 ⊎ 1024 < settings.now.slots) }
     ensures bad_place { IsErrOf result BadPlace → AreFit program.now.variables settings.now.places.items → ⊥ }
     ensures errors { IfErr result (λ error. (error ≡ BadSlots) ⊎ ((error ≡ BadPlace) ⊎ (error ≡ OutOfMemory))) }
@@ -101,6 +104,8 @@ pub fn first_tasks<'a>(
     ensures led { IfOk result (λ machines. (sites : AccessMap)
         → AreSitesOf (program_of program.now) (places_of settings.now.places.items) sites
         → LeadsTasks (run_of program.now settings.now sites) [] machines.items) }
+    ensures points { IfOk result (λ machines. (task : ℕ) (machine : TaskRun)
+        → slice_get machines.items task ≡ Some machine → HasMade [] machine) }
     ensures bad_slots { IsErrOf result BadSlots → (settings.now.slots < 3 ⊎ 1024 < settings.now.slots) }
     ensures bad_place { IsErrOf result BadPlace → AreFit program.now.variables settings.now.places.items → ⊥ }
     ensures errors { IfErr result (λ error. (error ≡ BadSlots) ⊎ ((error ≡ BadPlace) ⊎ (error ≡ OutOfMemory))) }

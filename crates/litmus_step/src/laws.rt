@@ -1,6 +1,6 @@
 //! What is true of lists that lead to tasks over their words.
 
-ghost use Rattle.std.specs.Prelude.{◌≡◌, ◌+◌, ◌*◌, ◌<◌, ◌≤◌, ◌^◌, ◌∷◌, [], ℕ, List, Option, Some, length, slice_get, slice_set};
+ghost use Rattle.std.specs.Prelude.{◌≡◌, ◌+◌, ◌*◌, ◌<◌, ◌≤◌, ◌^◌, ◌∷◌, [], ℕ, List, Option, Some, is_some, length, slice_get, slice_set};
 ghost use Rattle.access_types.specs.Arms.{Arm};
 ghost use Rattle.access_types.specs.Stamped.{Stamped};
 ghost use Rattle.access_types.specs.Takes.{Take};
@@ -27,7 +27,7 @@ ghost use Rattle.slot_table.specs.declared.records.Record.{Record};
 ghost use Rattle.slot_table.specs.declared.step.Answer.{Answer};
 ghost use Rattle.slot_table.specs.declared.step.Step.{Step};
 ghost use Rattle.litmus_step.specs.Kept.{Added, AreKept, IsKept, IsNotedIn, watches_kept};
-ghost use Rattle.litmus_step.specs.Leads.{LeadsTask, LeadsToAll, MakesNextIn};
+ghost use Rattle.litmus_step.specs.Leads.{AreAtPoints, LeadsTask, LeadsToAll, MakesNextIn};
 ghost use Rattle.litmus_step.specs.Readers.{IsMeant};
 ghost use Rattle.litmus_step.specs.Runs.{CanBeMade, HasEnded, tasks_of};
 ghost use Rattle.litmus_step.specs.Steps.{LeadsTo};
@@ -42,21 +42,22 @@ ghost use Rattle.task_log.specs.declared.noted.Noted.{Noted};
 ghost use Rattle.task_plan.specs.Counts.{up_to_last};
 ghost use Rattle.task_run.specs.Fell.{FellAt};
 ghost use Rattle.task_run.specs.Leads.{BeginsNext, LeadsOn, stands_at};
+ghost use Rattle.task_run.specs.Points.{HasMade, Stepped};
 ghost use Rattle.task_run.specs.Says.{Says};
 ghost use Rattle.task_run.specs.declared.run.TaskRun.{TaskRun};
 ghost use Rattle.written_order.specs.WrittenOrder.{stands_after};
 
-use run_kept::bounds::{few_are_reported, few_watches_are_over};
 use run_headline::histories::run_lists_tell_runs_of_the_program;
 use run_kept::accesses::a_log_keeps_just_the_accesses;
+use run_kept::bounds::{few_are_reported, few_watches_are_over};
 use run_logs::laws::{
     a_log_keeps_just_the_arms, a_log_keeps_just_the_takes, a_log_reports_what_the_list_does,
     a_machine_says_what_is_noted, counters_of_tasks_add_up, few_accesses_are_noted,
     one_more_is_noted,
 };
-use task_laws::spelled::{texts_within_limits_are_spelled, variables_of_programs_are_placed};
 use run_logs::standing::{ended_tasks_stand_at_the_end, machines_stand_where_the_records_tell};
 use task_laws::laws::an_answer_leads_on;
+use task_laws::spelled::{texts_within_limits_are_spelled, variables_of_programs_are_placed};
 use task_run::laws::no_task_stops;
 use written_tellings::steps_name_words_of_the_run;
 
@@ -84,6 +85,7 @@ pub fn steps_lead_on()
         → (next : MakesNextIn machines task step)
         → Answers step answer → answer ≡ (step_line words step).answer → LeadsOn next.machine after answer
         → ((list : RunList run (made task step answer ∷ records)) → AreKept list more_logs more_reports more_room)
+        → ((list : RunList run (made task step answer ∷ records)) → AreAtPoints list (slice_set machines task after))
         → LeadsToAll run (made task step answer ∷ records) (step_line words step).after (slice_set machines task after)
         (up_to_last (steps + 1)) more_logs more_reports more_room }
 {
@@ -92,7 +94,8 @@ pub fn steps_lead_on()
 }
 
 /// Law: before the first step a list notes nothing. Where a task's log notes the step that its machine makes, the access
-/// that begins with it, and the outcome that falls at it, what is kept is what the list says still.
+/// that begins with it, and the outcome that falls at it, what is kept is what the list says still. So is what its machine
+/// keeps of the task's last steps.
 pub fn steps_are_kept()
     ensures none { (run : Run) (list : RunList run []) → (task : ℕ) → Notes list task [] }
     ensures more { (run : Run) (records : List Record) (task : ℕ) (old : TaskRun) (step : Step) (answer : Answer) (begins : Option Begun)
@@ -106,6 +109,15 @@ pub fn steps_are_kept()
         → IsNotedIn log (record { step = step; answer = answer; begins = begins; outcome = fell }) after report
         → Added report room reports more_reports
         → AreKept other (slice_set logs task after) more_reports room }
+    ensures points { (run : Run) (records : List Record) (task : ℕ) (old after : TaskRun) (step : Step) (answer : Answer)
+        (begins : Option Begun) (fell : Option Outcome) (machines : List TaskRun)
+        → (one : RunList run records) → (other : RunList run (made task step answer ∷ records))
+        → (leads : LeadsTask run task records old) → Says old step
+        → ((later : List Record) → BeginsNext (task_setting run task) leads.part (stands_at leads later) leads.mine begins)
+        → FellAt old fell answer
+        → AreAtPoints one machines → slice_get machines task ≡ Some old → task < length machines
+        → ((steps : List Stepped) → HasMade steps old → HasMade (record { step = step; begins = is_some begins } ∷ steps) after)
+        → AreAtPoints other (slice_set machines task after) }
 {
     one_more_is_noted();
     a_machine_says_what_is_noted();

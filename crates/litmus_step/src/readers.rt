@@ -15,18 +15,18 @@ use crate::laws::{machines_stand_where_the_list_does, reports_have_room};
 use crate::logs::{accesses_of, arms_of, counters_of, takes_of};
 use crate::world::World;
 use access_types::{Arm, Report, Sites, Stamped, Take};
-use run_headline::laws::the_headline_holds;
 use run_headline::histories::{cells_hold_the_content, reports_are_true};
+use run_headline::laws::the_headline_holds;
+use run_logs::laws::a_machine_says_what_begins;
 use task_log::Counters;
 use task_run::{After, Before};
 
 impl<'a> World<'a> {
-    ghost use Rattle.litmus_step.specs.Readers.{AreRegisters, IsBefore, IsMeant};
+    ghost use Rattle.litmus_step.specs.Readers.{AreRegisters, IsBefore, IsMeant, steps_told};
     ghost use Rattle.run_logs.specs.Lists.{AreAccesses, AreArms, AreTakes};
     ghost use Rattle.run_logs.specs.Totals.{CountsList, IsUnbalanced};
-    ghost use Rattle.litmus_step.specs.Steps.{IsMachine, LeadsTo, tasks_in};
-    ghost use Rattle.task_run.specs.Points.{HasMade, Stepped, last_was};
-    ghost use Rattle.task_run.specs.declared.run.TaskRun.{TaskRun};
+    ghost use Rattle.litmus_step.specs.Steps.{LeadsTo, tasks_in};
+    ghost use Rattle.task_run.specs.Points.{last_was};
 
     /// How many tasks there are.
     pub fn tasks(&self) -> usize
@@ -130,19 +130,23 @@ impl<'a> World<'a> {
         takes_of(self.alloc, self.logs.as_slice())
     }
 
-    /// What the next step of a task is.
+    /// What the next step of a task is. One that has ended or is stuck has none.
     pub fn before(&self, task: usize) -> Before
         requires { task < tasks_in self.now }
-        ensures { (machine : TaskRun) → IsMachine self.now task machine → IsBefore machine result }
+        ensures { (run : Run) (records : List Record) → (leads : LeadsTo run records self.now) → IsBefore leads.list task result }
     {
-        self.tasks[task].before()
+        a_machine_says_what_begins();
+        match self.tasks[task].next() {
+            Some(_) => self.tasks[task].before(),
+            None => Before::Other,
+        }
     }
 
     /// What the last step of a task was.
     pub fn after(&self, task: usize) -> After
         requires { task < tasks_in self.now }
-        ensures { (machine : TaskRun) → IsMachine self.now task machine → (steps : List Stepped) → HasMade steps machine
-            → result ≡ last_was steps }
+        ensures { (run : Run) (records : List Record) → (leads : LeadsTo run records self.now)
+            → result ≡ last_was (steps_told leads.list task) }
     {
         self.tasks[task].after()
     }

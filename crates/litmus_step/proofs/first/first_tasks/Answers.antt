@@ -6,6 +6,7 @@ use Rattle.litmus_step.proofs.FirstLemmas.{each_push}
 use Rattle.litmus_step.proofs.first.first_tasks.Goals as goal
 use Rattle.litmus_step.specs.Leads.{LeadsTask}
 use Rattle.litmus_step.specs.Runs.{run_of}
+use Rattle.task_run.specs.Points.{HasMade}
 use Rattle.task_run.specs.declared.run.TaskRun.{TaskRun}
 
 pub loop-number-preserved : goal.loop-number-preserved
@@ -23,6 +24,10 @@ loop-number-preserved c =
           (each_push (λ task machine. LeadsTask run task [] machine) c.loop-number.machines.items c.in_ok-machine.machine
           (c.loop-number.invariant.led sites are)
           (subst (λ n. LeadsTask run n [] c.in_ok-machine.machine) number (c.in_ok-machine.ensures.led sites are)));
+      points = subst (λ (items : List TaskRun). (task : ℕ) (machine : TaskRun) → slice_get items task ≡ Some machine → HasMade [] machine)
+          (sym c.push_reserved.ensures.items)
+          (each_push (λ task machine. HasMade [] machine) c.loop-number.machines.items c.in_ok-machine.machine c.loop-number.invariant.points
+          c.in_ok-machine.ensures.points);
     }
 
 pub returns-clause-led : goal.returns-clause-led

@@ -7,6 +7,7 @@ use Rattle.program_sites.specs.Sites.{AreSitesOf}
 use Rattle.litmus_step.proofs.first.first_tasks.Given as goal
 use Rattle.litmus_step.specs.Leads.{LeadsTask}
 use Rattle.litmus_step.specs.Runs.{run_of}
+use Rattle.task_run.specs.Points.{HasMade}
 use Rattle.task_run.specs.declared.run.TaskRun.{TaskRun}
 
 abbrev pub invariant-loop-number : goal.invariant-loop-number
@@ -16,4 +17,5 @@ invariant-loop-number l = record {
   led : (sites : AccessMap) → AreSitesOf (program_of l.program) (places_of l.settings.places.items) sites
       → (task : ℕ) (machine : TaskRun) → slice_get l.machines.items task ≡ Some machine
       → LeadsTask (run_of l.program l.settings sites) task [] machine;
+  points : (task : ℕ) (machine : TaskRun) → slice_get l.machines.items task ≡ Some machine → HasMade [] machine;
 }

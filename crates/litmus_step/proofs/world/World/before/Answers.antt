@@ -1,11 +1,28 @@
--- By the task's machine.
-use Rattle.std.proofs.Common.{subst}
-use Rattle.litmus_step.proofs.TurnLemmas.{same_machine}
+-- By the step that the task's machine makes next, and the access that begins with it.
+use Rattle.std.proofs.Common.{inl, inr, refl, subst}
+use Rattle.litmus_step.proofs.PointLemmas.{TellsBefore, next_told}
+use Rattle.litmus_step.proofs.TurnLemmas.{machine_at, reaches, same_machine}
 use Rattle.litmus_step.proofs.world.World.before.Goals as goal
-use Rattle.litmus_step.specs.Readers.{IsBefore}
 use Rattle.task_run.specs.declared.run.TaskRun.{TaskRun}
 
-pub returns : goal.returns
-returns c = λ machine stands.
-    subst (λ (m : TaskRun). IsBefore m c.before-2.result)
-    (same_machine c.args.self.now c.args.task c.index.result.now machine c.requires c.index.ensures stands) c.before-2.ensures
+pub returns-in-Some : goal.returns-in-Some
+returns-in-Some c = λ run records leads.
+    let machine = c.index.result.now in
+    let stands = machine_at c.args.self.now c.args.task machine c.requires c.index.ensures in
+    let reach = reaches run records c.args.self.now c.args.task machine leads stands in
+    let same = same_machine c.args.self.now c.args.task c.index-in-Some.result.now machine c.requires c.index-in-Some.ensures stands in
+    let tells = subst (λ (m : TaskRun). TellsBefore m c.before-in-Some.result) same c.before-in-Some.ensures in
+    inr (
+      (λ over. let none = (c.in-Some.ensures.over _ _ _ _ reach.leads reach.written reach.scopes reach.rises).1 over in cc),
+      next_told c.a_machine_says_what_begins.ensures run records leads.list c.args.task machine c.in-Some.field-0 c.before-in-Some.result
+          reach.leads c.in-Some.ensures.says (c.in-Some.ensures.only _ _ _ _ reach.leads)
+          (λ stuck. let none = (c.in-Some.ensures.none _ _ _ _ reach.leads).1 (inr (inl stuck)) in cc)
+          (leads.points c.args.task machine stands) tells,
+    )
+
+pub returns-in-None : goal.returns-in-None
+returns-in-None c = λ run records leads.
+    let machine = c.index.result.now in
+    let stands = machine_at c.args.self.now c.args.task machine c.requires c.index.ensures in
+    let reach = reaches run records c.args.self.now c.args.task machine leads stands in
+    inl ((c.in-None.ensures.over _ _ _ _ reach.leads reach.written reach.scopes reach.rises).0 refl, refl)

@@ -7,6 +7,7 @@ use Rattle.setup_access.specs.Parts.{made}
 use Rattle.std.proofs.lemmas.Option.{slice_get_within}
 use Rattle.litmus_step.proofs.MakeLemmas.{SaysBegin, fell_in, noted_more, world_leads}
 use Rattle.litmus_step.proofs.NameLemmas.{names_prop}
+use Rattle.litmus_step.proofs.PointLemmas.{world_points}
 use Rattle.litmus_step.proofs.StepLemmas.{set_other}
 use Rattle.litmus_step.proofs.TurnLemmas.{same_machine}
 use Rattle.litmus_step.proofs.world.World.make.Goals as goal
@@ -45,6 +46,10 @@ invariant_of-self c =
     c.index_mut.ensures.value
     c.requires.next.stands in
     let there = slice_get_within c.args.self.now.tasks.items c.args.task c.requires.next.machine c.requires.next.stands in
+    let begun = subst (λ (machine : TaskRun). SaysBegin machine c.begins-begins.result) same c.begins-begins.ensures in
+    let fallen = fell_in c.args.self.now.tasks.items c.args.task c.requires.next.machine c.index_mut.result.now c.answer.new.self
+    c.index-2.result.now c.fell-outcome.result c.step-answer.result there same_mut c.index-2.ensures c.fell-outcome.ensures
+    c.answer.ensures.fell in
     record {
       led = ∥∥₁_map c.args.self.now.led (λ is. record {
         run = is.run;
@@ -59,12 +64,12 @@ invariant_of-self c =
             c.requires.next.machine c.begins-begins.result
             c.fell-outcome.result c.note.new.logs.items c.note.new.reports.items
             (vec_capacity c.note.new.reports) c.requires.there c.requires.next.stands
-            c.requires.next.makes.says
-            (subst (λ (machine : TaskRun). SaysBegin machine c.begins-begins.result) same c.begins-begins.ensures)
-            (fell_in c.args.self.now.tasks.items c.args.task c.requires.next.machine c.index_mut.result.now c.answer.new.self
-            c.index-2.result.now
-            c.fell-outcome.result c.step-answer.result there same_mut c.index-2.ensures c.fell-outcome.ensures c.answer.ensures.fell)
-            c.note.ensures.noted c.note.ensures.room is.run is.records is.leads));
+            c.requires.next.makes.says begun fallen
+            c.note.ensures.noted c.note.ensures.room is.run is.records is.leads)
+            (world_points c.steps_are_kept.ensures.points c.args.self.now c.args.task c.args.step c.step-answer.result
+            c.requires.next.machine c.index_mut.result.now c.answer.new.self c.begins-begins.result c.fell-outcome.result
+            c.requires.next.stands same_mut c.requires.next.makes.says c.requires.next.free begun fallen c.answer.ensures.points
+            is.run is.records is.leads));
       });
     }
 
@@ -76,6 +81,10 @@ returns-clause-moves c =
     c.index_mut.ensures.value
     c.requires.next.stands in
     let there = slice_get_within c.args.self.now.tasks.items c.args.task c.requires.next.machine c.requires.next.stands in
+    let begun = subst (λ (machine : TaskRun). SaysBegin machine c.begins-begins.result) same c.begins-begins.ensures in
+    let fallen = fell_in c.args.self.now.tasks.items c.args.task c.requires.next.machine c.index_mut.result.now c.answer.new.self
+    c.index-2.result.now c.fell-outcome.result c.step-answer.result there same_mut c.index-2.ensures c.fell-outcome.ensures
+    c.answer.ensures.fell in
     λ run records leads. record {
       made = made c.args.task c.args.step c.step-answer.result;
       own = refl;
@@ -88,11 +97,12 @@ returns-clause-moves c =
           c.begins-begins.result
           c.fell-outcome.result c.note.new.logs.items c.note.new.reports.items
           (vec_capacity c.note.new.reports) c.requires.there c.requires.next.stands
-          c.requires.next.makes.says (subst (λ (machine : TaskRun). SaysBegin machine c.begins-begins.result) same c.begins-begins.ensures)
-          (fell_in c.args.self.now.tasks.items c.args.task c.requires.next.machine c.index_mut.result.now c.answer.new.self
-          c.index-2.result.now
-          c.fell-outcome.result c.step-answer.result there same_mut c.index-2.ensures c.fell-outcome.ensures c.answer.ensures.fell)
-          c.note.ensures.noted c.note.ensures.room run records leads));
+          c.requires.next.makes.says begun fallen
+          c.note.ensures.noted c.note.ensures.room run records leads)
+          (world_points c.steps_are_kept.ensures.points c.args.self.now c.args.task c.args.step c.step-answer.result
+          c.requires.next.machine c.index_mut.result.now c.answer.new.self c.begins-begins.result c.fell-outcome.result
+          c.requires.next.stands same_mut c.requires.next.makes.says c.requires.next.free begun fallen c.answer.ensures.points
+          run records leads));
     }
 
 pub returns-clause-others : goal.returns-clause-others

@@ -3,7 +3,7 @@ use Rattle.std.proofs.Common.{◌≡◌, ◌∙◌, ◌*◌, ◌≤◌, [], ap, 
 use Rattle.std.proofs.lemmas.Grind.{merely}
 use Rattle.std.proofs.lemmas.List.{length-map}
 use Rattle.litmus_syntax.specs.Views.{task_of}
-use Rattle.litmus_step.proofs.MakeLemmas.{first_kept, first_world}
+use Rattle.litmus_step.proofs.MakeLemmas.{first_kept, first_points, first_world}
 use Rattle.litmus_step.proofs.world.World.new.Goals as goal
 use Rattle.litmus_step.specs.Kept.{watches_kept}
 use Rattle.litmus_step.specs.Runs.{run_of, tasks_of}
@@ -26,6 +26,7 @@ returns-clause-leads c =
     (first_kept c.steps_are_kept.ensures.none run list c.in_ok-logs.logs.items c.in_ok-reports.reports.items
     (vec_capacity c.in_ok-reports.reports)
     (c.in_ok-logs.ensures.all ∙ count) c.in_ok-logs.ensures.each c.in_ok-reports.ensures.items space)
+    (first_points c.steps_are_kept.ensures.none run list c.in_ok-tasks.tasks.items c.in_ok-tasks.ensures.points)
 
 pub invariant_of-result : goal.invariant_of-result
 invariant_of-result c =
@@ -48,6 +49,7 @@ invariant_of-result c =
             can list (c.in_ok-board.ensures.words c.in_ok-sites.sites) (c.in_ok-tasks.ensures.led c.in_ok-sites.sites are)
             (first_kept c.steps_are_kept.ensures.none run list c.in_ok-logs.logs.items c.in_ok-reports.reports.items
             (vec_capacity c.in_ok-reports.reports)
-            (c.in_ok-logs.ensures.all ∙ count) c.in_ok-logs.ensures.each c.in_ok-reports.ensures.items space);
+            (c.in_ok-logs.ensures.all ∙ count) c.in_ok-logs.ensures.each c.in_ok-reports.ensures.items space)
+            (first_points c.steps_are_kept.ensures.none run list c.in_ok-tasks.tasks.items c.in_ok-tasks.ensures.points);
       });
     }
