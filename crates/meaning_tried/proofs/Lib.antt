@@ -1,0 +1,5 @@
+pub mod WalkLemmas
+pub mod StepLemmas
+pub mod Work
+pub mod CountLemmas
+pub mod TextLemmas

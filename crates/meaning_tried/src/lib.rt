@@ -1,0 +1,16 @@
+//! A slow plain program beside the definition of what a text means: it walks a text, statement by statement, with values
+//! given for its reads, and says what the task does and what its registers hold then. Nothing stands on this crate.
+#![tactic(auto)]
+
+pub mod access;
+pub mod call;
+pub mod count;
+pub mod load;
+pub mod store;
+#[cfg(test)]
+mod tests;
+pub mod text;
+pub mod walk;
+
+pub use text::means;
+pub use walk::{Given, NoMeaning, Walk};
