@@ -28,3 +28,6 @@ pub mod NamesSpelled
 pub mod Numbered
 pub mod Declared
 pub mod TextComplete
+pub mod Rises
+pub mod RegistersTyped
+pub mod GrammarKeeps

@@ -1,6 +1,6 @@
 -- The names of a program are among the symbols that spell it: what holds of each name among these holds of the program's.
-use Rattle.std.proofs.Common.{◌≡◌, ◌<◌, ℕ, zero, suc, List, [], ◌∷◌, ◌++◌, Option, Some, length, map, refl, sym, subst, arith}
-use Rattle.std.specs.Prelude.{All, Contains, set, slice_get, slice_index_or}
+use Rattle.std.proofs.Common.{◌≡◌, ℕ, zero, suc, List, [], ◌∷◌, ◌++◌, Option, Some, map, sym, subst, arith}
+use Rattle.std.specs.Prelude.{All, Contains, set, slice_get}
 use Rattle.litmus_syntax.specs.declared.statement.Call.{Call}
 use Rattle.litmus_syntax.specs.declared.program.Variable.{Variable}
 use Rattle.litmus_syntax.specs.declared.proposition.Quantifier.{Quantifier}

@@ -1,6 +1,6 @@
 -- What is spelled as processes is read so, before what is no process.
-use Rattle.std.proofs.Common.{◌≡◌, ◌∙◌, ◌++◌, ◌<◌, ◌≤◌, ℕ, zero, suc, List, [], ◌∷◌, Bool, true, false, Option, Some, None, length, map, refl}
-use Rattle.std.proofs.Common.{sym, ap, subst, append_assoc, arith}
+use Rattle.std.proofs.Common.{◌≡◌, ◌∙◌, ◌++◌, ◌<◌, ◌≤◌, ℕ, suc, List, [], ◌∷◌, true, false, Option, Some, length, map, refl}
+use Rattle.std.proofs.Common.{ap, subst, append_assoc, arith}
 use Rattle.std.specs.Prelude.{Contains, flat_map}
 use Rattle.std.proofs.lemmas.List.{length-append}
 use Rattle.litmus_lex.specs.declared.sign.Sign.TheVariants.{OpenBrace, OpenParen}
@@ -11,11 +11,9 @@ use Rattle.litmus_cursor.specs.Front.{◌>>=◌, first}
 use Rattle.litmus_cursor.specs.Words.{Symbol, identifier, sign}
 use Rattle.litmus_expression.specs.Followed.{Differ}
 use Rattle.litmus_expression.specs.Names.{Names, Parameter}
-use Rattle.litmus_expression.specs.Places.{outermost}
-use Rattle.litmus_expression.specs.States.{State, entering}
+use Rattle.litmus_expression.specs.States.{State}
 use Rattle.litmus_expression.proofs.Complete.{placed}
 use Rattle.litmus_expression.proofs.Named.{among, in_front, in_none, in_rest, is_itself}
-use Rattle.litmus_body.specs.StatementReader.{block_at}
 use Rattle.litmus_body.specs.Statements.{Statements}
 use Rattle.statement_laws.proofs.Named.{statements_named}
 use Rattle.statement_laws.proofs.Whole.{whole_is_read}
@@ -28,7 +26,6 @@ use Rattle.litmus_parse.specs.Headers as grammar
 use Rattle.litmus_parse.specs.Headers.{IsProcess, Parameters, Process, Processes, mention_of, name_of, process_name}
 use Rattle.litmus_parse.specs.ItemReader.{Heading}
 use Rattle.litmus_parse.specs.Mentions.{Mention}
-use Rattle.litmus_parse.specs.ParameterReader.{parameters_at}
 use Rattle.litmus_parse.specs.ProcessReader.{Course, is_process, process_at, process_of, process_with, processes_at, seen}
 use Rattle.litmus_parse.specs.Typed.{AreTyped}
 use Rattle.litmus_parse.proofs.Fits.{Behind, Fits}

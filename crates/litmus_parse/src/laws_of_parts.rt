@@ -1,13 +1,13 @@
 //! What is true of the readers of processes and conditions and of the grammar: what is spelled is read.
 
-ghost use Rattle.std.specs.Prelude.{◌≡◌, ◌≤◌, ℕ, All, Bool, Contains, List, [], ◌∷◌, Some, false, flat_map, get_or, map};
+ghost use Rattle.std.specs.Prelude.{◌≡◌, ◌≤◌, ℕ, All, Bool, Contains, List, [], ◌∷◌, Some, false, flat_map, get_or, length, map};
 ghost use Rattle.litmus_lex.specs.declared.sign.Sign.TheVariants.{OpenBrace};
 ghost use Rattle.litmus_cursor.specs.Front.{first};
 ghost use Rattle.litmus_cursor.specs.Words.{Symbol, identifier, sign};
 ghost use Rattle.litmus_expression.specs.NameReader.{index_of};
 ghost use Rattle.litmus_expression.specs.Names.{Names};
 ghost use Rattle.litmus_expression.specs.States.{State};
-ghost use Rattle.litmus_syntax.specs.Limits.{connectives, operators_limit};
+ghost use Rattle.litmus_syntax.specs.Limits.{KeepsLimits, connectives, file_bytes, operators_limit};
 ghost use Rattle.litmus_syntax.specs.Tree as tree;
 ghost use Rattle.litmus_parse.specs.Conditions.{Disjoined, IsKnown};
 ghost use Rattle.litmus_parse.specs.Distinct.{AllDistinct, body_of};
@@ -53,4 +53,11 @@ pub fn names_of_a_program_are_spelled()
     ensures { (symbols : List Symbol) (program : tree.Program) → Grammar symbols program
         → All (λ variable. Contains symbols (identifier variable.name)) program.variables
         × All (λ task. All (λ name. Contains symbols (identifier name)) task.registers) program.tasks }
+{}
+
+/// Law: a program that symbols spell keeps the limits and the rules of types, where the symbols are no more than the bytes that
+/// a text may have.
+pub fn a_program_that_is_spelled_keeps_limits()
+    ensures { (symbols : List Symbol) (program : tree.Program) → Grammar symbols program → length symbols ≤ file_bytes
+        → KeepsLimits program }
 {}
