@@ -31,3 +31,4 @@ pub mod TextComplete
 pub mod Rises
 pub mod RegistersTyped
 pub mod GrammarKeeps
+pub mod NamesUtf8

@@ -1,6 +1,7 @@
 //! What is true of the readers of processes and conditions and of the grammar: what is spelled is read.
 
 ghost use Rattle.std.specs.Prelude.{◌≡◌, ◌≤◌, ℕ, All, Bool, Contains, List, [], ◌∷◌, Some, false, flat_map, get_or, length, map};
+ghost use Rattle.std.specs.Str.{IsUtf8};
 ghost use Rattle.litmus_lex.specs.declared.sign.Sign.TheVariants.{OpenBrace};
 ghost use Rattle.litmus_cursor.specs.Front.{first};
 ghost use Rattle.litmus_cursor.specs.Words.{Symbol, identifier, sign};
@@ -12,7 +13,7 @@ ghost use Rattle.litmus_syntax.specs.Tree as tree;
 ghost use Rattle.litmus_parse.specs.Conditions.{Disjoined, IsKnown};
 ghost use Rattle.litmus_parse.specs.Distinct.{AllDistinct, body_of};
 ghost use Rattle.litmus_parse.specs.Entries.{Entry};
-ghost use Rattle.litmus_parse.specs.Grammar.{Grammar, mentions_of};
+ghost use Rattle.litmus_parse.specs.Grammar.{Grammar, SpellsProgram, mentions_of};
 ghost use Rattle.litmus_parse.specs.Headers.{Items, Process, Processes};
 ghost use Rattle.litmus_parse.specs.ItemReader.{initialization_at, unnamed};
 ghost use Rattle.litmus_parse.specs.Mentions.{AreNumbered, Mention};
@@ -60,4 +61,11 @@ pub fn names_of_a_program_are_spelled()
 pub fn a_program_that_is_spelled_keeps_limits()
     ensures { (symbols : List Symbol) (program : tree.Program) → Grammar symbols program → length symbols ≤ file_bytes
         → KeepsLimits program }
+{}
+
+/// Law: a program that a text spells keeps the limits and the rules of types.
+pub fn a_text_spells_what_keeps_limits()
+    ensures limits { (text : List ℕ) (program : tree.Program) → SpellsProgram text program → KeepsLimits program }
+    ensures names { (text : List ℕ) (program : tree.Program) → SpellsProgram text program → IsUtf8 program.name
+        × All (λ variable. IsUtf8 variable.name) program.variables × All (λ task. All IsUtf8 task.registers) program.tasks }
 {}
