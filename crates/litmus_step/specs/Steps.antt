@@ -25,6 +25,16 @@ LeadsTo run records world =
 abbrev pub tasks_in : World → ℕ
 tasks_in world = vec_len world.tasks
 
+-- how much room there is for what a world keeps: tasks, what they did, and reports
+pub record Room : Type 0 where
+  pub tasks : ℕ
+  pub logs : ℕ
+  pub reports : ℕ
+
+abbrev pub room_in : World → Room
+room_in world =
+    record { tasks = vec_capacity world.tasks; logs = vec_capacity world.logs; reports = vec_capacity world.reports }
+
 -- the machine of a task
 abbrev pub IsMachine : World → ℕ → TaskRun → Type 0
 IsMachine world task machine = slice_get world.tasks.items task ≡ Some machine

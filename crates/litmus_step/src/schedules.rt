@@ -15,7 +15,7 @@ use step_bounds::laws::few_steps_are_made;
 use step_schedule::Schedule;
 
 impl<'a> World<'a> {
-    ghost use Rattle.litmus_step.specs.Steps.{LeadsTo, tasks_in};
+    ghost use Rattle.litmus_step.specs.Steps.{LeadsTo, room_in, tasks_in};
     ghost use Rattle.litmus_step.specs.Turns.{AllHaveEnded, Asked, IsStuckAt, LeadsFurther, NobodyIsStuck, RunsOn, StopsAt};
 
     /// Makes the steps that the schedule says, and then one step of each task that has not ended, in
@@ -33,6 +33,7 @@ impl<'a> World<'a> {
         ensures errors { IfErr result (λ error. (error ≡ WorldError.BadSchedule) ⊎ ((task : ℕ) × (error ≡ WorldError.Stuck task))) }
         ensures tasks { tasks_in self.new ≡ tasks_in self.old }
         ensures sites { self.new.sites ≡ self.old.sites }
+        ensures room { room_in self.new ≡ room_in self.old }
         ensures headline { (run : Run) (records : List Record) → (leads : LeadsTo run records self.new) → Headline leads.list }
     {
         the_headline_holds();
@@ -66,6 +67,7 @@ impl<'a> World<'a> {
         ensures stops { IfErr result (StopsAt self.old (asked_by (entries_of schedule.now)) self.new) }
         ensures tasks { tasks_in self.new ≡ tasks_in self.old }
         ensures sites { self.new.sites ≡ self.old.sites }
+        ensures room { room_in self.new ≡ room_in self.old }
     {
         for entry in schedule.entries() {
             self.steps_of(entry.task as usize, entry.steps)?;
@@ -81,6 +83,7 @@ impl<'a> World<'a> {
         ensures stops { IfErr result (StopsAt self.old (replicate count task) self.new) }
         ensures tasks { tasks_in self.new ≡ tasks_in self.old }
         ensures sites { self.new.sites ≡ self.old.sites }
+        ensures room { room_in self.new ≡ room_in self.old }
     {
         for _made in 0..count {
             match self.step(task) {
@@ -100,6 +103,7 @@ impl<'a> World<'a> {
         ensures stops { IfErr result (λ error. (rounds : ℕ) × StopsAt self.old (in_rounds (tasks_in self.old) rounds) self.new error) }
         ensures tasks { tasks_in self.new ≡ tasks_in self.old }
         ensures sites { self.new.sites ≡ self.old.sites }
+        ensures room { room_in self.new ≡ room_in self.old }
     {
         few_steps_are_made();
         for _round in 0..u128::MAX {
@@ -119,6 +123,7 @@ impl<'a> World<'a> {
         ensures stops { IfErr result (StopsAt self.old (range_with_len 0 (tasks_in self.old)) self.new) }
         ensures tasks { tasks_in self.new ≡ tasks_in self.old }
         ensures sites { self.new.sites ≡ self.old.sites }
+        ensures room { room_in self.new ≡ room_in self.old }
     {
         let mut goes_on = false;
         for task in 0..self.tasks() {

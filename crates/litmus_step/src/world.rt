@@ -72,13 +72,14 @@ fn note(logs: &mut Vec<TaskLog>, reports: &mut Vec<Report>, task: usize, noted: 
         × (logs.new.items ≡ slice_set logs.old.items task after)
         × Added report (vec_capacity reports.old) reports.old.items reports.new.items }
     ensures room { vec_capacity reports.new ≡ vec_capacity reports.old }
+    ensures logs { vec_capacity logs.new ≡ vec_capacity logs.old }
 {
     let report = logs[task].note(noted);
     add(reports, report);
 }
 
 impl<'a> World<'a> {
-    ghost use Rattle.litmus_step.specs.Steps.{IsMachine, LeadsTo, MovesOn, StepsOn, Tells, tasks_in};
+    ghost use Rattle.litmus_step.specs.Steps.{IsMachine, LeadsTo, MovesOn, StepsOn, Tells, room_in, tasks_in};
 
     /// A program before its first step. It takes all its room, and `step` and `run` take no memory.
     ///
@@ -127,6 +128,7 @@ impl<'a> World<'a> {
         ensures others { (other : ℕ) → task ≢ other → slice_get self.new.tasks.items other ≡ slice_get self.old.tasks.items other }
         ensures tasks { tasks_in self.new ≡ tasks_in self.old }
         ensures sites { self.new.sites ≡ self.old.sites }
+        ensures room { room_in self.new ≡ room_in self.old }
         ensures headline { (run : Run) (records : List Record) → (leads : LeadsTo run records self.new) → Headline leads.list }
     {
         the_headline_holds();
@@ -145,6 +147,7 @@ impl<'a> World<'a> {
         ensures others { (other : ℕ) → task ≢ other → slice_get self.new.tasks.items other ≡ slice_get self.old.tasks.items other }
         ensures tasks { tasks_in self.new ≡ tasks_in self.old }
         ensures sites { self.new.sites ≡ self.old.sites }
+        ensures room { room_in self.new ≡ room_in self.old }
     {
         steps_lead_on();
         steps_are_kept();

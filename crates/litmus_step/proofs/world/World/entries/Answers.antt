@@ -10,7 +10,7 @@ use Rattle.litmus_step.proofs.world.World.entries.Goals as goal
 use Rattle.litmus_step.specs.Turns.{Asked, StopsAt}
 
 pub loop-entry-init : goal.loop-entry-init
-loop-entry-init c = record { asked = asked_nothing c.args.self.now; nobody = c.requires.nobody; tasks = refl; sites = refl }
+loop-entry-init c = record { asked = asked_nothing c.args.self.now; nobody = c.requires.nobody; tasks = refl; sites = refl; room = refl }
 
 pub returns-in_err-steps_of-clause-stops : goal.returns-in_err-steps_of-clause-stops
 returns-in_err-steps_of-clause-stops c =
@@ -46,6 +46,7 @@ loop-entry-preserved c =
       nobody = c.in_ok-steps_of.ensures.asked.1;
       tasks = c.steps_of.ensures.tasks ∙ c.loop-entry.invariant.tasks;
       sites = c.steps_of.ensures.sites ∙ c.loop-entry.invariant.sites;
+      room = c.steps_of.ensures.room ∙ c.loop-entry.invariant.room;
     }
 
 pub returns-clause-asked : goal.returns-clause-asked

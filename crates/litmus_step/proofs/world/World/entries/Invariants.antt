@@ -3,7 +3,7 @@ use Rattle.std.proofs.Common.{◌≡◌, take}
 use Rattle.step_schedule.specs.Order.{asked_by}
 use Rattle.step_schedule.specs.Schedule.{entries_of}
 use Rattle.litmus_step.proofs.world.World.entries.Given as goal
-use Rattle.litmus_step.specs.Steps.{tasks_in}
+use Rattle.litmus_step.specs.Steps.{room_in, tasks_in}
 use Rattle.litmus_step.specs.Turns.{Asked, NobodyIsStuck}
 
 abbrev pub invariant-loop-entry : goal.invariant-loop-entry
@@ -12,4 +12,5 @@ invariant-loop-entry l = record {
   nobody : NobodyIsStuck l.self;
   tasks : tasks_in l.self ≡ tasks_in l.fn.self;
   sites : l.self.sites ≡ l.fn.self.sites;
+  room : room_in l.self ≡ room_in l.fn.self;
 }

@@ -19,6 +19,7 @@ loop-task-init c = record {
   no_less = further_none c.args.self.now;
   tasks = refl;
   sites = refl;
+  room = refl;
 }
 
 pub returns-in-Stuck-clause-stops : goal.returns-in-Stuck-clause-stops
@@ -67,6 +68,7 @@ loop-task-preserved c =
         no_less = no_less;
         tasks = c.step.ensures.tasks ∙ c.loop-task.invariant.tasks;
         sites = c.step.ensures.sites ∙ c.loop-task.invariant.sites;
+        room = c.step.ensures.room ∙ c.loop-task.invariant.room;
       }
       | in-Ended w ↦ record {
         asked = asked;
@@ -86,6 +88,7 @@ loop-task-preserved c =
         no_less = no_less;
         tasks = c.step.ensures.tasks ∙ c.loop-task.invariant.tasks;
         sites = c.step.ensures.sites ∙ c.loop-task.invariant.sites;
+        room = c.step.ensures.room ∙ c.loop-task.invariant.room;
       }
     ]
 

@@ -2,7 +2,7 @@
 use Rattle.std.proofs.Common.{◌≡◌, ◌<◌, ℕ, false, true}
 use Rattle.std.specs.List.{range_with_len}
 use Rattle.litmus_step.proofs.world.World.round.Given as goal
-use Rattle.litmus_step.specs.Steps.{IsMachine, IsOver, tasks_in}
+use Rattle.litmus_step.specs.Steps.{IsMachine, IsOver, room_in, tasks_in}
 use Rattle.litmus_step.specs.Turns.{Asked, LeadsFurther, NobodyIsStuck}
 use Rattle.task_run.specs.declared.run.TaskRun.{TaskRun}
 
@@ -15,4 +15,5 @@ invariant-loop-task l = record {
   no_less : LeadsFurther 0 l.fn.self l.self;
   tasks : tasks_in l.self ≡ tasks_in l.fn.self;
   sites : l.self.sites ≡ l.fn.self.sites;
+  room : room_in l.self ≡ room_in l.fn.self;
 }

@@ -19,6 +19,7 @@ loop-round-init c = record {
   further = further_none c.args.self.now;
   tasks = refl;
   sites = refl;
+  room = refl;
 }
 
 pub returns-in_err-round-clause-stops : goal.returns-in_err-round-clause-stops
@@ -61,6 +62,7 @@ loop-round-preserved c =
           (c.in_ok-round.ensures.further (ap Ok c.if-not-branch.false));
       tasks = c.round.ensures.tasks ∙ c.loop-round.invariant.tasks;
       sites = c.round.ensures.sites ∙ c.loop-round.invariant.sites;
+      room = c.round.ensures.room ∙ c.loop-round.invariant.room;
     }
 
 -- so many rounds would be more steps than there are

@@ -2,7 +2,7 @@
 use Rattle.std.proofs.Common.{◌≡◌, ◌-◌, ◌^◌}
 use Rattle.step_schedule.specs.Order.{in_rounds}
 use Rattle.litmus_step.proofs.world.World.rounds.Given as goal
-use Rattle.litmus_step.specs.Steps.{tasks_in}
+use Rattle.litmus_step.specs.Steps.{room_in, tasks_in}
 use Rattle.litmus_step.specs.Turns.{Asked, LeadsFurther, NobodyIsStuck}
 
 abbrev pub invariant-loop-round : goal.invariant-loop-round
@@ -12,6 +12,7 @@ invariant-loop-round l = record {
   further : LeadsFurther l._round l.fn.self l.self;
   tasks : tasks_in l.self ≡ tasks_in l.fn.self;
   sites : l.self.sites ≡ l.fn.self.sites;
+  room : room_in l.self ≡ room_in l.fn.self;
 }
 
 abbrev pub decreases-loop-round : goal.decreases-loop-round

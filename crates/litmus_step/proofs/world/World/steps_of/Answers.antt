@@ -7,7 +7,7 @@ use Rattle.litmus_step.proofs.world.World.steps_of.Goals as goal
 use Rattle.litmus_step.specs.declared.world.Stepped.TheVariants.{Ended, Moved, Stuck}
 
 pub loop-made-init : goal.loop-made-init
-loop-made-init c = record { asked = asked_nothing c.args.self.now; nobody = c.requires.nobody; tasks = refl; sites = refl }
+loop-made-init c = record { asked = asked_nothing c.args.self.now; nobody = c.requires.nobody; tasks = refl; sites = refl; room = refl }
 
 pub returns-in-Ended-clause-asked : goal.returns-in-Ended-clause-asked
 returns-in-Ended-clause-asked c =
@@ -56,4 +56,5 @@ loop-made-preserved c = record {
       c.in-Moved.ensures.tells (λ (no : Moved ≡ Stuck). cc);
   tasks = c.step.ensures.tasks ∙ c.loop-made.invariant.tasks;
   sites = c.step.ensures.sites ∙ c.loop-made.invariant.sites;
+  room = c.step.ensures.room ∙ c.loop-made.invariant.room;
 }
