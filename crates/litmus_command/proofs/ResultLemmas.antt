@@ -12,11 +12,11 @@ use Rattle.std.specs.Option.{option_map}
 use Rattle.litmus_step.specs.declared.error.WorldError.{WorldError}
 use Rattle.litmus_step.specs.declared.error.WorldError.TheVariants.{BadPlace, BadSchedule, BadSlots, OutOfMemory, Stuck}
 
--- three facts of what a call answers are one
-pub all_ok : {X E : Type 0} {P Q R S : X → Type 0} (result : Result X E) → ((x : X) → P x → Q x → R x → S x)
-    → IfOk result P → IfOk result Q → IfOk result R → IfOk result S
-all_ok (Ok x) all p q r = all x p q r
-all_ok (Err e) all p q r = tt
+-- four facts of what a call answers are one
+pub all_ok : {X E : Type 0} {P Q R S T : X → Type 0} (result : Result X E) → ((x : X) → P x → Q x → R x → S x → T x)
+    → IfOk result P → IfOk result Q → IfOk result R → IfOk result S → IfOk result T
+all_ok (Ok x) all p q r s = all x p q r s
+all_ok (Err e) all p q r s = tt
 
 -- one fact of what a call answers follows from another
 pub map_ok : {X E : Type 0} {P Q : X → Type 0} (result : Result X E) → ((x : X) → P x → Q x) → IfOk result P → IfOk result Q

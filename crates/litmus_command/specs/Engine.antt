@@ -1,10 +1,7 @@
 -- What is left of the run of a litmus text, and why there is none.
 use Rattle.std.specs.Prelude.{◌≡◌, ◌<◌, ◌==◌, ◌↔◌, ◌⊎◌, ◌++◌, ◌∷◌, ℕ, List, [], Option, Bool, IfSome, IsTrue, length, not}
 use Rattle.std.specs.List.{flat_map}
-use Rattle.access_types.specs.Arms.{Arm}
 use Rattle.access_types.specs.Sites.{AccessMap}
-use Rattle.access_types.specs.Stamped.{Stamped}
-use Rattle.access_types.specs.Takes.{Take}
 use Rattle.litmus_command.specs.Finals.{HoldsAtEnd}
 use Rattle.litmus_command.specs.declared.engine.EngineError.{EngineError}
 use Rattle.litmus_command.specs.declared.engine.EngineError.TheVariants as engine
@@ -19,12 +16,10 @@ use Rattle.litmus_syntax.specs.declared.program.Program.{Program}
 use Rattle.program_layout.specs.Places.{AreFit}
 use Rattle.report_text.specs.ReportOf.{report_text}
 use Rattle.report_text.specs.Sink.{HoldsBeginning, appended}
-use Rattle.report_text.specs.TraceText.{written_trace}
 use Rattle.run_headline.specs.Headline.{Headline}
 use Rattle.run_lists.specs.Reports.{reports_of}
 use Rattle.run_lists.specs.Run.{Run}
 use Rattle.run_lists.specs.RunList.{AllHaveEnded, RunList}
-use Rattle.run_logs.specs.Lists.{AreAccesses, AreArms, AreTakes}
 use Rattle.run_logs.specs.Totals.{CountsList, IsUnbalanced}
 use Rattle.run_output.specs.Output.{output_text}
 use Rattle.slot_table.specs.declared.records.Record.{Record}
@@ -32,6 +27,7 @@ use Rattle.step_schedule.specs.Order.{AreAsked, IsOrder, Tasks}
 use Rattle.step_schedule.specs.Schedule.{names_stranger}
 use Rattle.step_schedule.specs.declared.schedule.Entry.{Entry}
 use Rattle.task_log.specs.declared.counters.Counters.{Counters}
+use Rattle.traced_worlds.specs.Traces.{IsToBeAccepted, IsTraceOf}
 
 -- what the engine answers for a text that is refused
 abbrev pub parse_fault : ParseError → EngineError
@@ -62,16 +58,9 @@ pub record AreStepped (run : Run) (entries : List Entry) (records : List Record)
   pub in_order : IsOrder entries (tasks_of run) order
   pub asked : AreAsked (tasks_known run) (tasks_of run) [] order records
 
--- the trace of the list's accesses, armings, takings and reports
-pub record IsTrace (settings : Settings) {run : Run} {records : List Record} (list : RunList run records) (bytes : List ℕ) :
-    Type 0 where
-  pub accesses : List Stamped
-  pub accesses_are : AreAccesses list accesses
-  pub arms : List Arm
-  pub arms_are : AreArms list arms
-  pub takes : List Take
-  pub takes_are : AreTakes list takes
-  pub spelled : bytes ≡ written_trace settings.slots settings.layout accesses arms takes (reports_of list)
+-- the trace of the list, under these settings
+abbrev pub IsTrace : Settings → {run : Run} {records : List Record} → RunList run records → List ℕ → Type 0
+IsTrace settings list bytes = IsTraceOf settings.slots settings.layout list bytes
 
 -- the output of a list: its reports in order, its counters, and whether the condition of the program held at its end
 pub record IsOutput {run : Run} {records : List Record} (list : RunList run records) (output : List ℕ) : Type 0 where
@@ -85,7 +74,7 @@ pub record IsOutput {run : Run} {records : List Record} (list : RunList run reco
       (record { counters = counters; unbalanced = unbalanced; held = held })
 
 -- What is left of one run of the program, under these settings and this schedule, in which all tasks ended: its output and its trace, if
--- there is one. There was a race if there is a report. And of that run the headline holds.
+-- there is one, which `replay` accepts. There was a race if there is a report. And of that run the headline holds.
 pub record Leaves (program : Program) (settings : Settings) (entries : List Entry) (raced : Bool) (output : List ℕ)
     (trace : Option (List ℕ)) : Type 0 where
   pub sites : AccessMap
@@ -94,6 +83,7 @@ pub record Leaves (program : Program) (settings : Settings) (entries : List Entr
   pub over : AllHaveEnded (run_of program settings sites) records
   pub output_is : IsOutput stepped.list output
   pub trace_is : IfSome trace (IsTrace settings stepped.list)
+  pub accepted : IfSome trace IsToBeAccepted
   pub raced_is : raced ≡ not (length (reports_of stepped.list) == 0)
   pub headline : Headline stepped.list
 

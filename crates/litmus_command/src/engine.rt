@@ -13,20 +13,23 @@ ghost use Rattle.litmus_syntax.specs.Views.{program_of};
 ghost use Rattle.report_text.specs.Sink.{CountsFailure};
 ghost use Rattle.run_lists.specs.Reports.{reports_of};
 ghost use Rattle.run_lists.specs.Run.{Run};
+ghost use Rattle.run_lists.specs.RunList.{AllHaveEnded};
 ghost use Rattle.slot_table.specs.declared.records.Record.{Record};
 ghost use Rattle.step_schedule.specs.Schedule.{entries_of};
+ghost use Rattle.traced_worlds.specs.Traces.{IsToBeAccepted};
 
 use crate::finals::finals_of;
 use final_condition::holds;
 use litmus_parse::{Limit, ParseError, Program, parse};
 use litmus_step::{Settings, World, WorldError};
 use program_layout::LayoutError;
-use report_text::{MemorySink, Sink, write_all, write_trace};
+use report_text::{MemorySink, Sink, write_all};
 use run_headline::laws::the_headline_holds;
 use run_output::{Found, write_output};
 use std::alloc::{AllocError, Global};
 use step_schedule::Schedule;
 use thiserror::Error;
+use traced_worlds::trace_of;
 
 /// Why a stepped run has no whole output.
 #[derive(Clone, Copy, Debug, PartialEq, Eq, Error)]
@@ -195,6 +198,9 @@ fn left_of(
         → IfOk result (λ written. IsOutput leads.list written.output.items) }
     ensures trace { (run : Run) (records : List Record) → (leads : LeadsTo run records world.now)
         → IfOk result (λ written. IfSome written.trace (λ trace. IsTrace settings.now leads.list trace.items)) }
+    ensures accepted { (run : Run) (records : List Record) → LeadsTo run records world.now → AllHaveEnded run records
+        → run.rules.slots ≡ settings.now.slots → run.rules.layout ≡ settings.now.layout → settings.now.slots ≤ 1024
+        → IfOk result (λ written. IfSome written.trace (λ trace. IsToBeAccepted trace.items)) }
     ensures traced { IfOk result (λ written. is_some written.trace ≡ traced) }
     ensures raced { (run : Run) (records : List Record) → (leads : LeadsTo run records world.now)
         → IfOk result (λ written. written.raced ≡ not (length (reports_of leads.list) == 0)) }
@@ -236,30 +242,7 @@ fn output_of(
     }
 }
 
-/// The trace of a run that led to this world.
-fn trace_of(alloc: Global, settings: &Settings, world: &World<'_>) -> Result<Vec<u8>, AllocError>
-    ensures { (run : Run) (records : List Record) → (leads : LeadsTo run records world.now)
-        → IfOk result (λ trace. IsTrace settings.now leads.list trace.items) }
-{
-    let (Ok(accesses), Ok(arms), Ok(takes)) = (world.accesses(), world.arms(), world.takes()) else {
-        return Err(AllocError);
-    };
-    let mut sink = MemorySink::new(alloc);
-    match write_trace(
-        settings.slots,
-        settings.layout,
-        accesses.as_slice(),
-        arms.as_slice(),
-        takes.as_slice(),
-        world.reports(),
-        &mut sink,
-    ) {
-        Ok(()) => Ok(sink.into_bytes()),
-        Err(_) => Err(AllocError),
-    }
-}
-
-/// The trace of a run that led to this world, if it is wanted.
+/// The trace of a run that led to this world, if it is wanted. Once all tasks have ended `replay` accepts it, memory aside.
 fn trace_if(
     traced: bool,
     alloc: Global,
@@ -268,10 +251,14 @@ fn trace_if(
 ) -> Result<Option<Vec<u8>>, AllocError>
     ensures trace { (run : Run) (records : List Record) → (leads : LeadsTo run records world.now)
         → IfOk result (λ trace. IfSome trace (λ trace. IsTrace settings.now leads.list trace.items)) }
+    ensures accepted { (run : Run) (records : List Record) → LeadsTo run records world.now → AllHaveEnded run records
+        → run.rules.slots ≡ settings.now.slots → run.rules.layout ≡ settings.now.layout → settings.now.slots ≤ 1024
+        → IfOk result (λ trace. IfSome trace (λ trace. IsToBeAccepted trace.items)) }
     ensures traced { IfOk result (λ trace. is_some trace ≡ traced) }
 {
     if traced {
-        Ok(Some(trace_of(alloc, settings, world)?))
+        let trace = trace_of(alloc, settings.slots, settings.layout, world)?;
+        Ok(Some(trace))
     } else {
         Ok(None)
     }

@@ -1,5 +1,5 @@
 -- the run that was made is the one that is left
-use Rattle.std.proofs.Common.{◌≡◌, ◌∙◌, [], Err, ap, arith, rules, subst, sym}
+use Rattle.std.proofs.Common.{◌≡◌, ◌∙◌, [], Err, ap, arith, refl, rules, subst, sym}
 use Rattle.litmus_command.proofs.AskedLemmas.{seen_so}
 use Rattle.litmus_command.proofs.ResultLemmas.{all_ok, items_if_some, map_err, no_error, stuck_is_other}
 use Rattle.litmus_command.specs.Engine.{GetsStuck, Stops, tasks_known}
@@ -24,7 +24,8 @@ returns-in-Ok-run-clause-leaves c =
     let runs = c.run.ensures.runs (λ bad. no_error _ _ _ c.in-Ok-run.is bad) in
     let asked = runs.asked run [] begins in
     let leads = asked.1 in
-    all_ok c.left_of.result (λ written output trace raced. record {
+    let over = c.in-Ok-run.ensures.over run asked.0 leads in
+    all_ok c.left_of.result (λ written output trace accepted raced. record {
       sites = sites;
       records = asked.0;
       stepped = record {
@@ -36,12 +37,14 @@ returns-in-Ok-run-clause-leaves c =
             (λ task at. ((λ ended. ended), (λ ended. ended))) (λ task at stuck. stuck) (tasks_of run) (point [] first) runs.order
             (point asked.0 last) asked.2;
       };
-      over = c.in-Ok-run.ensures.over run asked.0 leads;
+      over = over;
       output_is = output;
       trace_is = items_if_some _ written.trace trace;
+      accepted = items_if_some _ written.trace accepted;
       raced_is = raced;
       headline = c.the_headline_holds.ensures run asked.0 leads.list;
-    }) (c.left_of.ensures.output asked.0 leads) (c.left_of.ensures.trace run asked.0 leads) (c.left_of.ensures.raced run asked.0 leads)
+    }) (c.left_of.ensures.output asked.0 leads) (c.left_of.ensures.trace run asked.0 leads)
+    (c.left_of.ensures.accepted run asked.0 leads over refl refl c.in-Ok.ensures.slots.1) (c.left_of.ensures.raced run asked.0 leads)
 
 pub returns-in-Ok-run-clause-stops : goal.returns-in-Ok-run-clause-stops
 returns-in-Ok-run-clause-stops c =
