@@ -16,7 +16,7 @@ told_on index ticket (Some number) (Some both) before met h = (suc h.0, let belo
 told_on index ticket None both before met h = h
 told_on index ticket (Some number) None before met h = h
 
-told_after : (task : ℕ) (step : Step) (earlier : List Record) (before : List Meeting) (met : Meeting) → Contains before met
+pub told_after : (task : ℕ) (step : Step) (earlier : List Record) (before : List Meeting) (met : Meeting) → Contains before met
     → Contains (told_by task step earlier before) met
 told_after task (Tell index ticket) earlier before met h =
     told_on index ticket (last_arming_number index earlier) (heard index (records_of task earlier)) before met h

@@ -2,12 +2,15 @@
 
 use crate::headline::holds;
 use crate::lists::{Part, Program, play};
-use crate::told::Told;
+use crate::meetings::setters_heard;
+use crate::told::{Came, Told};
 use access_types::{Access, Claim, Kind, Operation};
 use setup_access::{Outcome, Rules};
+use slot_table::{Answer, Record, Step};
 use std::alloc::Global;
 use std::process::Abort;
 use std::test::Fail;
+use value_filter::Reason;
 use watch_word::Layout;
 
 pub(crate) const RULES: Rules = Rules {
@@ -193,19 +196,44 @@ fn raced(rt: &impl Abort, alloc: Global) -> Result<Told, Fail> {
         &[Part::Writes(write(rt, 1)?, 1)],
     ];
     let program = program(&tasks, RULES);
-    try_row(rt, alloc, &program, &[(0, 7), (1, 9), (0, 7)], (1, 0, 0))
+    let told = try_row(rt, alloc, &program, &[(0, 7), (1, 9), (0, 7)], (1, 0, 0))?;
+    assert!(rt; told.ended);
+    Ok(told)
+}
+
+/// The list of `race` in which nobody hits the watch, with a report of unknown origin.
+fn changed(rt: &impl Abort, alloc: Global) -> Result<Told, Fail> {
+    let tasks: [&[Part]; 2] = [
+        &[Part::Reads(read(rt, 0)?)],
+        &[Part::Writes(write(rt, 1)?, 1)],
+    ];
+    let program = program(&tasks, RULES);
+    let runs = [(1, 4), (0, 7), (1, 3), (0, 6)];
+    let told = try_row(rt, alloc, &program, &runs, (0, 1, 0))?;
+    assert!(rt; told.ended);
+    Ok(told)
+}
+
+/// The last outcome is told once more.
+fn repeat_last(rt: &impl Abort, told: &mut Told) -> Result<(), Fail> {
+    let last = told.outcomes.as_slice().last().copied();
+    told.outcomes.push(last.expect(rt, "an outcome"))?;
+    Ok(())
+}
+
+/// Only the totals are against it.
+fn expect_totals_off(rt: &impl Abort, alloc: Global, mut told: Told) -> Result<(), Fail> {
+    assert!(rt; !holds(alloc, &told)?);
+    told.ended = false;
+    assert!(rt; holds(alloc, &told)?);
+    Ok(())
 }
 
 #[test]
 fn a_report_twice_is_refused(rt: HostRuntime) -> Result<(), Fail> {
     let mut told = raced(&rt, rt.alloc())?;
-    let last = told
-        .outcomes
-        .as_slice()
-        .last()
-        .copied()
-        .expect(&rt, "a report");
-    told.outcomes.push(last)?;
+    repeat_last(&rt, &mut told)?;
+    told.ended = false;
     assert!(&rt; !holds(rt.alloc(), &told)?);
     Ok(())
 }
@@ -215,6 +243,74 @@ fn a_taking_without_its_answer_is_refused(rt: HostRuntime) -> Result<(), Fail> {
     let mut told = raced(&rt, rt.alloc())?;
     let _ = told.outcomes.pop();
     assert!(&rt; !holds(rt.alloc(), &told)?);
+    Ok(())
+}
+
+/// The setter looks at the word where it would clear its pair, so nobody hears that its arming was taken.
+#[test]
+fn a_taking_that_was_never_heard_of_is_refused(rt: HostRuntime) -> Result<(), Fail> {
+    let mut told = raced(&rt, rt.alloc())?;
+    for record in told.records.as_mut_slice() {
+        if let Step::Clear(index) = record.step {
+            record.step = Step::Load(index);
+        }
+    }
+    let heard = setters_heard(rt.alloc(), told.records.as_slice())?;
+    assert!(&rt; heard.is_empty());
+    let _ = told.outcomes.pop();
+    told.ended = false;
+    assert!(&rt; !holds(rt.alloc(), &told)?);
+    Ok(())
+}
+
+#[test]
+fn an_answer_too_many_is_refused(rt: HostRuntime) -> Result<(), Fail> {
+    for reason in [Reason::Encoding, Reason::SameValue, Reason::MaskedBits] {
+        let mut told = raced(&rt, rt.alloc())?;
+        told.outcomes.push(Came {
+            access: read(&rt, 0)?,
+            outcome: Outcome::Dropped(reason),
+            arming: None,
+        })?;
+        expect_totals_off(&rt, rt.alloc(), told)?;
+    }
+    Ok(())
+}
+
+#[test]
+fn more_changes_than_quiet_watches_are_refused(rt: HostRuntime) -> Result<(), Fail> {
+    let mut told = changed(&rt, rt.alloc())?;
+    repeat_last(&rt, &mut told)?;
+    expect_totals_off(&rt, rt.alloc(), told)
+}
+
+/// One more step at the end, which nobody made.
+fn with_step(rt: &impl Abort, alloc: Global, step: Step, flag: bool) -> Result<Told, Fail> {
+    let mut told = changed(rt, alloc)?;
+    let answer = Answer::Flag(flag);
+    told.records.insert(
+        0,
+        Record {
+            task: 0,
+            step,
+            answer,
+        },
+    )?;
+    told.moments.push(told.history.len())?;
+    Ok(told)
+}
+
+#[test]
+fn steps_too_many_are_refused(rt: HostRuntime) -> Result<(), Fail> {
+    for (step, flag) in [
+        (Step::Insert(9, 2), true),
+        (Step::Consume(9), true),
+        (Step::Consume(9), false),
+        (Step::TryConsume(9, 2), true),
+    ] {
+        let told = with_step(&rt, rt.alloc(), step, flag)?;
+        expect_totals_off(&rt, rt.alloc(), told)?;
+    }
     Ok(())
 }
 
