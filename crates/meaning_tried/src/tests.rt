@@ -1,10 +1,13 @@
 //! Worked programs: what a task does where its reads have given values, and its registers then. All of it is written out
 //! by hand.
 
+ghost use Rattle.std.specs.Prelude.{◌<◌};
+
 use crate::text::means;
 use crate::walk::{Given, NoMeaning, Walk};
-use access_types::Happening::{Begin, End, Lock, Read, Unlock, Write};
-use access_types::{Access, AccessError, Bytes, Claim, Happening, Kind, Mark, Operation};
+use access_types::Happening::{Begin, End, Lock, Mark as Made, Read, Unlock, Write};
+use access_types::Mark::{Disable, Enable, Next};
+use access_types::{Access, AccessError, Bytes, Claim, Happening, Kind, Operation};
 use litmus_parse::parse;
 use std::alloc::Global;
 use std::process::Abort;
@@ -166,18 +169,11 @@ fn values_that_do_not_fit_a_loop(rt: HostRuntime) -> Result<(), Fail> {
 fn deadlock(rt: HostRuntime) -> Result<(), Fail> {
     let text = "C deadlock\n{}\nP0(spinlock_t *a, spinlock_t *b) { spin_lock(a); spin_lock(b); }\n\
         P1(spinlock_t *a, spinlock_t *b) { spin_lock(b); spin_lock(a); }\nexists (true)\n";
-    for (task, locks) in [(0, [Lock(0), Lock(1)]), (1, [Lock(1), Lock(0)])] {
-        expect_walk(
-            &rt,
-            rt.alloc(),
-            (text, task),
-            &[LOCK, LOCK],
-            &[],
-            &[&locks],
-            &[],
-        )?;
-    }
-    Ok(())
+    let bytes = [LOCK, LOCK];
+    let locks = [Lock(0), Lock(1)];
+    expect_walk(&rt, rt.alloc(), (text, 0), &bytes, &[], &[&locks], &[])?;
+    let locks = [Lock(1), Lock(0)];
+    expect_walk(&rt, rt.alloc(), (text, 1), &bytes, &[], &[&locks], &[])
 }
 
 /// `WRITE_ONCE(*x, 7)` and a read of x, which may have any value.
@@ -298,7 +294,7 @@ fn exclusive_bits(rt: HostRuntime) -> Result<(), Fail> {
     let text = "C bits\n{}\nP0(int *x) { ASSERT_EXCLUSIVE_BITS(*x, 0xf); }\n\
         P1(int *x) { WRITE_ONCE(*x, 16); }\nexists (true)\n";
     let bits = Access::new(0, 0, 0x10000, 4, Kind::Assert(Claim::NoWrites), Some(0xf))?;
-    let checks = [Begin(bits), End(bits), Happening::Mark(Mark::Next(1))];
+    let checks = [Begin(bits), End(bits), Made(Next(1))];
     expect_walk(&rt, rt.alloc(), (text, 0), &[X], &[], &[&checks], &[])?;
     let write = access(1, 0, X, WRITE_ONCE)?;
     let writes = [Begin(write), Write(X, 16), End(write)];
@@ -370,16 +366,28 @@ fn marks_and_calls(rt: HostRuntime) -> Result<(), Fail> {
         addr: 0x10040,
         size: 1,
     };
-    let disable = Happening::Mark(Mark::Disable);
-    let enable = Happening::Mark(Mark::Enable);
     let write = access(0, 0, X, WRITE)?;
     let read = access(0, 1, X, READ)?;
     let check = Access::new(0, 2, 0x10000, 16, WRITE, None)?;
     let add = access(0, 3, c, UPDATE)?;
-    let parts: [&[Happening]; 5] = [
-        &[Happening::Mark(Mark::Next(2))],
-        &[disable, Begin(write), Write(X, 9), End(write), enable],
-        &[disable, Begin(read), Read(X, 2), End(read), enable],
+    let silent = [
+        Made(Next(2)),
+        Made(Disable),
+        Begin(write),
+        Write(X, 9),
+        End(write),
+        Made(Enable),
+    ];
+    let loaded = [
+        Made(Disable),
+        Begin(read),
+        Read(X, 2),
+        End(read),
+        Made(Enable),
+    ];
+    let parts: [&[Happening]; 4] = [
+        &silent,
+        &loaded,
         &[Begin(check), End(check)],
         &[Begin(add), Read(c, 0x80), Write(c, 0xac), End(add)],
     ];
