@@ -7,3 +7,5 @@ pub mod Counts
 pub mod HeaderComplete
 pub mod Complete
 pub mod Whole
+pub mod Low
+pub mod Kept

@@ -62,11 +62,11 @@ pub record Sound (R : Readers) : Type 0 where
   pub more : (p : Place) (before : tree.Block) (counters : List ℕ) (s : State) (x : tree.Block × State) → Stands p counters s → R.more p before s ≡ Some x
       → ReadsMore p counters before s x
 
-stands_with : (p : Place) (counters : List ℕ) (s u : State) → Stands p counters s → length u.names ≤ 32 → Stands p counters u
+pub stands_with : (p : Place) (counters : List ℕ) (s u : State) → Stands p counters s → length u.names ≤ 32 → Stands p counters u
 stands_with p counters s u stands few_names =
     record { are = stands.are; depth = stands.depth; scopes = stands.scopes; registers = few_names }
 
-stands_deeper : (p q : Place) (counters : List ℕ) (s : State) → Stands p counters s → Deeper p q → Stands q counters s
+pub stands_deeper : (p q : Place) (counters : List ℕ) (s : State) → Stands p counters s → Deeper p q → Stands q counters s
 stands_deeper p q counters s stands d = record {
   are = subst (λ (f : List Bool). AreCounters f counters) (sym d.counters) stands.are;
   depth = omega (arith, d.depth, d.below);

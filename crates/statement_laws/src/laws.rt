@@ -7,7 +7,7 @@ ghost use Rattle.litmus_cursor.specs.Words.{Symbol};
 ghost use Rattle.litmus_expression.specs.Followed.{Differ, name_of};
 ghost use Rattle.litmus_expression.specs.Names.{Names, Parameter};
 ghost use Rattle.litmus_expression.specs.Places.{Place, outermost};
-ghost use Rattle.litmus_expression.specs.States.{State};
+ghost use Rattle.litmus_expression.specs.States.{State, entering};
 ghost use Rattle.litmus_body.specs.StatementReader.{block_at, body_at, statement_at};
 ghost use Rattle.litmus_body.specs.Statements.{Statements};
 ghost use Rattle.statement_laws.specs.Reads.{ReadsBody, ReadsStatement, ReadsWhole, Stands};
@@ -24,6 +24,12 @@ pub fn what_is_read_as_a_statement_is_spelled()
 /// Law: what is read as the whole body of a process is spelled so.
 pub fn what_is_read_as_a_whole_body_is_spelled()
     ensures { (s : State) (x : tree.Block × State) → s.names ≡ [] → block_at outermost s ≡ Some x → ReadsWhole s x }
+{}
+
+/// Law: what is read as the whole body of a process keeps the limits.
+pub fn what_is_read_as_a_whole_body_keeps_the_limits()
+    ensures { (parameters : List Parameter) (symbols : List Symbol) (x : tree.Block × State)
+        → block_at outermost (entering parameters symbols) ≡ Some x → BodyKeepsLimits x.0 }
 {}
 
 /// Law: what is spelled as the whole body of a process, and keeps the limits, is read so, whatever follows it.
