@@ -1,0 +1,2 @@
+pub mod PrintedSymbols
+pub mod PrintedNesting

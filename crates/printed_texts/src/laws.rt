@@ -1,0 +1,38 @@
+//! What is true of the printed form of litmus programs and of their grammar.
+
+ghost use Rattle.std.specs.Prelude.{◌≡◌, ℕ, Contains, List, ◌∷◌, Some, slice_get};
+ghost use Rattle.litmus_lex.specs.declared.sign.Sign.TheVariants.{CloseBrace};
+ghost use Rattle.litmus_syntax.specs.PrintedForm.{variable_name};
+ghost use Rattle.litmus_syntax.specs.Tree as tree;
+ghost use Rattle.litmus_syntax.specs.declared.program.Variable.{Variable};
+ghost use Rattle.litmus_cursor.specs.Words.{Symbol, sign};
+ghost use Rattle.litmus_cursor.specs.declared.words.VariableType.{VariableType};
+ghost use Rattle.litmus_expression.specs.Expressions.{Expression};
+ghost use Rattle.litmus_expression.specs.Names.{Names, Parameter};
+ghost use Rattle.litmus_body.specs.Statements.{Statements};
+ghost use Rattle.printed_texts.specs.PrintedNesting.{BlockNests, ExpressionNests};
+ghost use Rattle.printed_texts.specs.PrintedSymbols.{block_symbols, expression_symbols};
+
+/// Law: where some symbols spell an expression, those of its printed form spell it too, among registers that have the names and
+/// numbers that they had there, if the printed form keeps the limit of nesting.
+pub fn printed_expressions_are_spelled()
+    ensures { (parameters : List Parameter) (variables : List Variable) (registers before after : Names) (depth there : ℕ)
+        (symbols behind rest : List Symbol) (e : tree.Expression)
+        → ((name : List ℕ) (number : ℕ) (type : VariableType)
+        → Contains parameters (record { name = name; variable = number; type = type }) → variable_name variables number ≡ name)
+        → ((number : ℕ) (name : List ℕ) → slice_get after number ≡ Some name → slice_get registers number ≡ Some name)
+        → Expression parameters there before symbols e behind after → ExpressionNests depth e
+        → Expression parameters depth registers (expression_symbols variables registers e rest) e rest registers }
+{}
+
+/// Law: where some symbols spell the statements of a block, those of their printed form spell them too, among registers that
+/// have the names and numbers that they had there, if the printed form keeps the limit of nesting.
+pub fn printed_bodies_are_spelled()
+    ensures { (parameters : List Parameter) (variables : List Variable) (registers before after : Names) (depth there : ℕ)
+        (counters : List ℕ) (symbols behind rest : List Symbol) (body : tree.Block)
+        → ((name : List ℕ) (number : ℕ) (type : VariableType)
+        → Contains parameters (record { name = name; variable = number; type = type }) → variable_name variables number ≡ name)
+        → ((number : ℕ) (name : List ℕ) → slice_get after number ≡ Some name → slice_get registers number ≡ Some name)
+        → Statements parameters there counters before symbols body behind after → BlockNests depth body
+        → Statements parameters depth counters registers (block_symbols variables registers body (sign CloseBrace ∷ rest)) body rest registers }
+{}
