@@ -1,0 +1,121 @@
+//! Makes a task of a program, and says by its status where memory was refused. With each growth of memory refused in turn it
+//! shows that the task, whose room is taken as it is made, answers each by want of memory.
+#![tactic(auto)]
+
+ghost use Rattle.std.specs.Prelude.{IfOk};
+ghost use Rattle.litmus_syntax.specs.Limits.{KeepsLimits};
+ghost use Rattle.litmus_syntax.specs.Views.{program_of};
+
+use litmus_parse::{ParseError, Program, parse};
+use program_layout::{Layout, LayoutError};
+use program_sites::{SitesError, sites_of};
+use setup_access::Rules;
+use std::alloc::{AllocError, Global};
+use std::process::ExitCode;
+use task_run::{TaskRun, TaskRunError};
+
+/// The status where the task's own room is refused.
+const OUT_OF_MEMORY: u8 = 71;
+
+/// The status where memory is refused before.
+const BEFORE: u8 = 75;
+
+/// The status of all else.
+const OTHERWISE: u8 = 1;
+
+/// Loops, conditions and a scoped assertion in each other.
+const TEXT: &str = "C t\n{}\nP0(int *x, spinlock_t *l) { int r0; int i; ASSERT_EXCLUSIVE_WRITER_SCOPED(*x); \
+    for (i = 0; i < 3; i++) { spin_lock(l); if (*x) { r0 = READ_ONCE(*x); } spin_unlock(l); } }\nexists (0:r0=1)\n";
+
+const RULES: Rules = Rules {
+    slots: 64,
+    skip: 0,
+    randomize: false,
+    seed: 1,
+    value_change_only: true,
+    plain_writes_atomic: true,
+    layout: watch_word::Layout::W64,
+    turns: 1000,
+};
+
+/// Where it ended.
+#[derive(Clone, Copy, Debug)]
+enum End {
+    Before,
+    Task(TaskRunError),
+}
+
+impl From<ParseError> for End {
+    fn from(_: ParseError) -> End {
+        End::Before
+    }
+}
+
+impl From<LayoutError> for End {
+    fn from(_: LayoutError) -> End {
+        End::Before
+    }
+}
+
+impl From<SitesError> for End {
+    fn from(_: SitesError) -> End {
+        End::Before
+    }
+}
+
+impl From<AllocError> for End {
+    fn from(_: AllocError) -> End {
+        End::Before
+    }
+}
+
+impl From<TaskRunError> for End {
+    fn from(error: TaskRunError) -> End {
+        End::Task(error)
+    }
+}
+
+/// The program that the text spells.
+fn parsed(alloc: Global) -> Result<Program, ParseError>
+    ensures { IfOk result (λ program. KeepsLimits (program_of program)) }
+{
+    parse(alloc, TEXT.as_bytes())
+}
+
+/// Whether the task has a first step.
+fn has_step(alloc: Global, program: &Program) -> Result<bool, End>
+    requires { KeepsLimits (program_of program.now) }
+{
+    let layout = Layout::new(alloc, program.variables.as_slice(), &[])?;
+    let cells = layout.cells(alloc)?;
+    let sites = sites_of(alloc, program, &[])?;
+    let Some(task) = program.tasks.as_slice().get(0) else {
+        return Ok(false);
+    };
+    let run = TaskRun::new(
+        alloc,
+        program,
+        0,
+        task,
+        &RULES,
+        &[],
+        cells.as_slice(),
+        sites,
+    )?;
+    Ok(run.next().is_some())
+}
+
+/// Reads the text, and makes its task.
+fn made(alloc: Global) -> Result<bool, End> {
+    let program = parsed(alloc)?;
+    has_step(alloc, &program)
+}
+
+fn main(rt: HostRuntime) -> ExitCode {
+    match made(rt.alloc()) {
+        Ok(true) => ExitCode::SUCCESS,
+        Err(End::Task(TaskRunError::OutOfMemory)) => ExitCode::from(OUT_OF_MEMORY),
+        Err(End::Before) => ExitCode::from(BEFORE),
+        Ok(false) | Err(_) => ExitCode::from(OTHERWISE),
+    }
+}
