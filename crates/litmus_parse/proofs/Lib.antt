@@ -32,3 +32,4 @@ pub mod Rises
 pub mod RegistersTyped
 pub mod GrammarKeeps
 pub mod NamesUtf8
+pub mod Refusals

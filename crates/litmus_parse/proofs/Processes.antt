@@ -17,6 +17,7 @@ use Rattle.litmus_expression.proofs.Named.{same_name}
 use Rattle.litmus_expression.proofs.Taken.{front, same_given}
 use Rattle.litmus_body.specs.StatementReader.{block_at}
 use Rattle.statement_laws.specs.Reads.{ReadsWhole}
+use Rattle.statement_laws.proofs.Kept.{whole_keeps}
 use Rattle.statement_laws.proofs.Sound.{whole_reads}
 use Rattle.litmus_parse.specs.Grammar.{mentions_of}
 use Rattle.litmus_parse.specs.Headers as grammar
@@ -41,8 +42,7 @@ Found = (State × tree.Block) × Heading
 
 -- a process behind its name
 pub record ReadsProcess (h : Heading) (x : Found) : Type 0 where
-  pub spelled : (task : ℕ) → BodyKeepsLimits x.0.1
-      → IsProcess task h.names (identifier (process_name task) ∷ h.symbols) (process_of x.0.0 x.0.1) x.1.symbols x.1.names
+  pub spelled : (task : ℕ) → IsProcess task h.names (identifier (process_name task) ∷ h.symbols) (process_of x.0.0 x.0.1) x.1.symbols x.1.names
   pub said : Said (map mention_of x.0.0.parameters) h x.1
   pub within : length x.0.0.names ≤ 32
 
@@ -53,12 +53,12 @@ process_read h x tidy e =
     behind_it (block_at outermost (entering p.0 p.1.symbols)) (λ b. Some ((b.1, b.0), record p.1 { symbols = b.1.symbols }))
     (λ (y : Found). ReadsProcess h y) x e (λ b body e.
     at_last _ (λ (y : Found). ReadsProcess h y) x e (one h p b (parameters_read h p tidy is)
-    (whole_reads (entering p.0 p.1.symbols) b refl body))))
+    (whole_reads (entering p.0 p.1.symbols) b refl body) (whole_keeps p.0 p.1.symbols b body))))
   where
     one : (h : Heading) (p : Listing) (b : tree.Block × State) → ReadsParameters h p → ReadsWhole (entering p.0 p.1.symbols) b
-        → ReadsProcess h ((b.1, b.0), record p.1 { symbols = b.1.symbols })
-    one h p b r w = record {
-      spelled = λ task keeps.
+        → BodyKeepsLimits b.0 → ReadsProcess h ((b.1, b.0), record p.1 { symbols = b.1.symbols })
+    one h p b r w keeps = record {
+      spelled = λ task.
           subst (λ (l : List Symbol). IsProcess task h.names (identifier (process_name task) ∷ l)
           (process_of b.1 b.0) b.1.symbols p.1.names) (sym r.opens)
           (subst (λ (ps : List Parameter). IsProcess task h.names (identifier (process_name task) ∷ sign OpenParen ∷ r.inside)
@@ -87,11 +87,6 @@ body x = x.1
 abbrev pub grew : Course → Found → Course
 grew c p = record { heading = p.1; states = c.states ++ p.0.0 ∷ []; bodies = c.bodies ++ p.0.1 ∷ [] }
 
--- each body keeps the limits
-abbrev pub AllKeep : List Pair → Type 0
-AllKeep [] = Unit {0}
-AllKeep (x ∷ later) = BodyKeepsLimits x.1 × AllKeep later
-
 abbrev pub SomeProcesses : Course → List Pair → Course → Type 0
 SomeProcesses c [] d = Unit {0}
 SomeProcesses c (x ∷ later) d =
@@ -102,7 +97,7 @@ pub record Reads (c : Course) (later : List Pair) (d : Course) : Type 0 where
   pub states : d.states ≡ c.states ++ map state later
   pub bodies : d.bodies ≡ c.bodies ++ map body later
   pub none : later ≡ [] → c ≡ d
-  pub spelled : AllKeep later → SomeProcesses c later d
+  pub spelled : SomeProcesses c later d
   pub said : Said (flat_map mentions_of (map proc later)) c.heading d.heading
   pub some : length c.states ≡ 0 → later ≡ [] → ⊥
   pub few : AllFew (map state later)
@@ -125,32 +120,32 @@ mentions_same ps s b is = ap (λ (l : List Parameter). map mention_of l) is
 module _ (c d : Course) (p : Found) (tidy : Tidy c.heading.names c.heading.table) (few : length c.states < 16)
     (begins : c.heading.symbols ≡ identifier (process_name (length c.states)) ∷ others c.heading.symbols)
     (r : ReadsProcess (past c.heading) p) where
-  process_first : (later : List Pair) → Reads (grew c p) later d → BodyKeepsLimits p.0.1 → AllKeep later
+  process_first : (later : List Pair) → Reads (grew c p) later d
       → Processes (length c.states) c.heading.names c.heading.symbols (map proc (p.0 ∷ later)) d.heading.symbols d.heading.names
-  process_first [] rest keeps all =
+  process_first [] rest =
       let is : IsProcess (length c.states) c.heading.names c.heading.symbols (proc p.0) p.1.symbols p.1.names =
       subst (λ (l : List Symbol). IsProcess (length c.states) c.heading.names l (proc p.0) p.1.symbols p.1.names) (sym begins)
-      (r.spelled (length c.states) keeps) in
+      (r.spelled (length c.states)) in
       let same = rest.none refl in
       subst (λ (e : Course). Processes (length c.states) c.heading.names c.heading.symbols
       (proc p.0 ∷ []) e.heading.symbols e.heading.names) same
       (grammar.last few is)
-  process_first (x ∷ later) rest keeps all =
+  process_first (x ∷ later) rest =
       let is : IsProcess (length c.states) c.heading.names c.heading.symbols (proc p.0) p.1.symbols p.1.names =
       subst (λ (l : List Symbol). IsProcess (length c.states) c.heading.names l (proc p.0) p.1.symbols p.1.names) (sym begins)
-      (r.spelled (length c.states) keeps) in
+      (r.spelled (length c.states)) in
       let count : length (c.states ++ p.0.0 ∷ []) ≡ suc (length c.states) =
       (let n = length-append c.states (p.0.0 ∷ []) in omega (arith, n)) in
       grammar.more few is
       (subst (λ (n : ℕ). Processes n p.1.names p.1.symbols (map proc (x ∷ later)) d.heading.symbols d.heading.names) count
-      (rest.spelled all))
+      rest.spelled)
 
   one_more : (later : List Pair) → Reads (grew c p) later d → Reads c (p.0 ∷ later) d
   one_more later rest = record {
     states = rest.states ∙ append_assoc c.states (p.0.0 ∷ []) (map state later);
     bodies = rest.bodies ∙ append_assoc c.bodies (p.0.1 ∷ []) (map body later);
     none = λ none. absurd cc;
-    spelled = λ keeps. process_first later rest keeps.0 keeps.1;
+    spelled = process_first later rest;
     said = record {
       tidy = rest.said.tidy;
       tells = λ name. told_both (map mention_of p.0.0.parameters) (flat_map mentions_of (map proc later)) name
@@ -207,7 +202,7 @@ no_more f c d tidy false some e =
         states = append_nothing c.states;
         bodies = append_nothing c.bodies;
         none = λ none. refl;
-        spelled = λ keeps. tt;
+        spelled = tt;
         said = record { tidy = tidy; tells = λ name. refl };
         some = λ zero none. eqb-false (length c.states) 0 some zero;
         few = tt;

@@ -1,9 +1,10 @@
 -- A text that is read is spelled so, with its head.
-use Rattle.std.proofs.Common.{◌≡◌, ◌∙◌, ◌≤◌, ℕ, List, [], ◌∷◌, Some, length, map, refl, sym, ap, subst}
-use Rattle.std.specs.Prelude.{All, Err, IfOk, Ok, Result}
+use Rattle.std.proofs.Common.{◌≡◌, ◌∙◌, ◌≤◌, ℕ, List, [], ◌∷◌, Option, Some, length, map, refl, sym, ap, subst}
+use Rattle.std.specs.Prelude.{All, Err, IfErr, IfOk, Ok, Result}
 use Rattle.litmus_syntax.specs.Views.{program_of}
 use Rattle.litmus_syntax.specs.declared.program.Program.{Program}
 use Rattle.litmus_cursor.specs.declared.cursor.Refusal.{Refusal}
+use Rattle.litmus_cursor.specs.declared.cursor.Refusal.TheVariants.{Limit, OutOfMemory, Syntax, Unsupported}
 use Rattle.litmus_lex.specs.declared.token.Part.{Part}
 use Rattle.litmus_lex.specs.declared.token.Part.TheVariants.{Init}
 use Rattle.litmus_lex.specs.declared.token.Place.{Place}
@@ -12,7 +13,7 @@ use Rattle.litmus_lex.specs.declared.token.Token.TheVariants as tokens
 use Rattle.litmus_lex.specs.Head.{IsHead}
 use Rattle.litmus_lex.specs.Token.{Terminal, terminal_of}
 use Rattle.litmus_lex.specs.Tokens.{Placed, TokensAt}
-use Rattle.litmus_syntax.specs.Limits.{BodyKeepsLimits, KeepsLimits, file_bytes}
+use Rattle.litmus_syntax.specs.Limits.{file_bytes}
 use Rattle.litmus_syntax.specs.Tree as tree
 use Rattle.litmus_cursor.specs.declared.cursor.Spot.{Spot}
 use Rattle.litmus_cursor.specs.Front.{symbol_of_spot, symbol_of_token}
@@ -20,8 +21,10 @@ use Rattle.litmus_cursor.specs.Spots.{AreSpots, AreTokensFrom}
 use Rattle.litmus_cursor.specs.Words.{Symbol, symbol_of}
 use Rattle.litmus_expression.proofs.Taken.{same_given}
 use Rattle.litmus_parse.specs.Grammar.{Grammar, SpellsProgram, symbol_at}
+use Rattle.litmus_parse.specs.Refused.{HasUtf8Names, Refuses}
 use Rattle.litmus_parse.specs.Text.{IsTextByte}
 use Rattle.litmus_parse.specs.TextReader.{program_at}
+use Rattle.litmus_parse.proofs.TextComplete.{text_complete}
 use Rattle.litmus_parse.proofs.Texts.{text_read}
 
 terminal_symbol : (token : Token) (t : Terminal) → terminal_of token ≡ Some t → symbol_of t ≡ symbol_of_token token
@@ -42,15 +45,12 @@ spots_symbols (s ∷ spots) (t ∷ found) are =
     ap (λ (y : Symbol). y ∷ map symbol_of_spot spots) (sym (terminal_symbol s.token t.terminal are.0))
     ∙ ap (λ (l : List Symbol). symbol_at t ∷ l) (spots_symbols spots found are.1.1)
 
-bodies_keep : (p : tree.Program) → KeepsLimits p → All (λ (t : tree.Task). BodyKeepsLimits t.body) p.tasks
-bodies_keep p keeps = λ k d lt. (keeps.each_task k d lt).body
-
 pub text_is_spelled : (text : List ℕ) (place : Place) (name : List ℕ) (spots : List Spot) (p : tree.Program) → length text ≤ file_bytes
     → All IsTextByte text
     → place.part ≡ Init → IsHead text name place.at → AreTokensFrom text place spots → ((found : List Placed) × AreSpots spots found)
-    → program_at name (map symbol_of_spot spots) ≡ Some p → KeepsLimits p → SpellsProgram text p
-text_is_spelled text place name spots p size bytes init head are found read keeps =
-    let whole = text_read name (map symbol_of_spot spots) p read (bodies_keep p keeps) in
+    → program_at name (map symbol_of_spot spots) ≡ Some p → SpellsProgram text p
+text_is_spelled text place name spots p size bytes init head are found read =
+    let whole = text_read name (map symbol_of_spot spots) p read in
     record {
       tokens = found.0;
       size = size;
@@ -67,10 +67,41 @@ text_is_spelled text place name spots p size bytes init head are found read keep
 pub result_is_spelled : (text : List ℕ) (place : Place) (title name : List ℕ) (spots left : List Spot) (result : Result Program Refusal)
     → length text ≤ file_bytes → All IsTextByte text → place.part ≡ Init → IsHead text title place.at → AreTokensFrom text place spots
     → ((found : List Placed) × AreSpots spots found) → name ≡ title → left ≡ spots
-    → IfOk result (λ p. program_at name (map symbol_of_spot left) ≡ Some (program_of p)) → IfOk result (λ p. KeepsLimits (program_of p))
+    → IfOk result (λ p. program_at name (map symbol_of_spot left) ≡ Some (program_of p))
     → IfOk result (λ p. SpellsProgram text (program_of p))
-result_is_spelled text place title name spots left (Ok p) size bytes init head are found named stand reads keeps =
+result_is_spelled text place title name spots left (Ok p) size bytes init head are found named stand reads =
     text_is_spelled text place name spots (program_of p) size bytes init
     (subst (λ (n : List ℕ). IsHead text n place.at) (sym named) head) are found
-    (subst (λ (l : List Spot). program_at name (map symbol_of_spot l) ≡ Some (program_of p)) stand reads) keeps
-result_is_spelled text place title name spots left (Err refusal) size bytes init head are found named stand reads keeps = tt
+    (subst (λ (l : List Spot). program_at name (map symbol_of_spot l) ≡ Some (program_of p)) stand reads)
+result_is_spelled text place title name spots left (Err refusal) size bytes init head are found named stand reads = tt
+
+-- ---- the other way round
+
+-- a text that spells a program is read as it
+pub spelled_is_read : (text : List ℕ) (place : Place) (title name : List ℕ) (spots left : List Spot) → place.part ≡ Init
+    → ((other : List ℕ) (at : ℕ) → IsHead text other at → (title ≡ other) × (place.at ≡ at)) → AreTokensFrom text place spots → name ≡ title
+    → left ≡ spots → (p : tree.Program) → SpellsProgram text p → program_at name (map symbol_of_spot left) ≡ Some p
+spelled_is_read text place title name spots left init only are named stand p spells =
+    let lexed = spells.lexed in
+    let heads = only p.name lexed.at lexed.head in
+    let body : TokensAt text place.part place.at spells.tokens =
+    subst (λ (part : Part). TokensAt text part place.at spells.tokens) (sym init)
+    (subst (λ (at : ℕ). TokensAt text Init at spells.tokens) (sym heads.1) lexed.body) in
+    let same = spots_symbols spots spells.tokens ((are spells.tokens).0 body) in
+    ap (λ (l : List Spot). program_at name (map symbol_of_spot l)) stand
+    ∙ ap (λ (n : List ℕ). program_at n (map symbol_of_spot spots)) (named ∙ heads.0)
+    ∙ ap (λ (l : List Symbol). program_at p.name l) same
+    ∙ text_complete (map symbol_at spells.tokens) p spells.parsed
+
+-- a refusal that isn't want of memory can't be
+pub memory_alone : (refusal : Refusal) → ((refusal ≡ OutOfMemory → ⊥) → ⊥) → refusal ≡ OutOfMemory
+memory_alone OutOfMemory never = refl
+memory_alone (Syntax at) never = absurd (never (λ e. cc))
+memory_alone (Unsupported at) never = absurd (never (λ e. cc))
+memory_alone (Limit excess) never = absurd (never (λ e. cc))
+
+-- what a text that spells a program is answered with
+pub complete_if : (result : Result Program Refusal) (read : Option tree.Program) (p : tree.Program) → read ≡ Some p → HasUtf8Names p
+    → IfErr result (λ refusal. Refuses refusal read) → IfErr result (λ refusal. refusal ≡ OutOfMemory)
+complete_if (Ok found) read p is names refuses = tt
+complete_if (Err refusal) read p is names refuses = memory_alone refusal (λ other. refuses other p is names)

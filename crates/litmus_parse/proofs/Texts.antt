@@ -31,7 +31,7 @@ use Rattle.litmus_parse.specs.Told.{all_told}
 use Rattle.litmus_parse.specs.VariableReader.{is_lock_type}
 use Rattle.litmus_parse.proofs.Known as known
 use Rattle.litmus_parse.proofs.Known.{AreItems, AreParameters, has_type, lock_is, not_both, value_is}
-use Rattle.litmus_parse.proofs.Processes.{AllKeep, Pair, Reads, SomeProcesses, body, proc, processes_read, seen_is, state, told_both}
+use Rattle.litmus_parse.proofs.Processes.{Pair, Reads, SomeProcesses, body, proc, processes_read, seen_is, state, told_both}
 use Rattle.litmus_parse.proofs.PropositionSound.{AllFew, whole_reads}
 use Rattle.litmus_parse.proofs.Quantifiers.{quantifier_spelled}
 use Rattle.litmus_parse.proofs.Spelled.{ReadsBlock, initialization_read}
@@ -120,15 +120,6 @@ module _ (items : List Mention) (processes : List Process) (are : AreItems items
             (sym (locks_at table v) ∙ no_lock);
       }
 
--- ---- bodies keep the limits
-
-pub keeps_all : (states : List State) (pairs : List Pair) → length states ≡ length pairs
-    → All (λ (t : tree.Task). BodyKeepsLimits t.body) (map task_of (seen states (map body pairs))) → AllKeep pairs
-keeps_all states [] sized all = tt
-keeps_all [] (x ∷ pairs) sized all = absurd (omega arith)
-keeps_all (s ∷ states) (x ∷ pairs) sized all =
-    (all 0 (task_of (process_of s x.1)) (omega arith), keeps_all states pairs (omega arith) (λ k d lt. all (suc k) d (omega arith)))
-
 -- ---- the whole
 
 some_processes : (c d : Course) (later : List Pair) → (later ≡ [] → ⊥) → SomeProcesses c later d
@@ -172,7 +163,6 @@ module _ (name : List ℕ) (symbols : List Symbol) (h : Heading) (b : ReadsBlock
   text_spelled : (q : Quantifier × List Symbol) (x : tree.Proposition × List State) → quantifier_at c.heading.symbols ≡ Some q
       → has_contradiction table ≡ false
       → whole_at names (locks_in table) q.1 c.states ≡ Some x
-      → All (λ (t : tree.Task). BodyKeepsLimits t.body) (map task_of (seen x.1 c.bodies))
       → Grammar symbols (record {
         name = name;
         variables = variables_in names table;
@@ -180,15 +170,11 @@ module _ (name : List ℕ) (symbols : List Symbol) (h : Heading) (b : ReadsBlock
         quantifier = q.0;
         condition = x.0;
       })
-  text_spelled q x quantified peace asked keep =
+  text_spelled q x quantified peace asked =
       let are = items_are b.items.spelled in
       let few = subst (λ (l : List State). AllFew l) (sym r.states) r.few in
       let w = whole_reads (said_by b.items.mentions processes) names (locks_in table) c.bodies
       (is_known b.items.mentions processes are names table peace told_at) q.1 c.states x few asked in
-      let sized : length x.1 ≡ length later =
-      w.sized ∙ ap (λ (l : List State). length l) r.states ∙ length-map later state in
-      let keeps = keeps_all x.1 later sized
-      (subst (λ (l : List tree.Block). All (λ (t : tree.Task). BodyKeepsLimits t.body) (map task_of (seen x.1 l))) r.bodies keep) in
       record {
         items = b.items.mentions;
         item_names = h.names;
@@ -202,7 +188,7 @@ module _ (name : List ℕ) (symbols : List Symbol) (h : Heading) (b : ReadsBlock
         begins = b.opens;
         initialization = b.items.spelled;
         numbered = b.items.numbered;
-        bodies = some_processes (unbegun h) c later (r.some refl) (r.spelled keeps);
+        bodies = some_processes (unbegun h) c later (r.some refl) r.spelled;
         quantifier = quantifier_spelled c.heading.symbols q quantified;
         condition = subst (λ (ps : List Process). Disjoined (said_by b.items.mentions processes) names 0 ps q.1 x.0 []
             (seen x.1 c.bodies)) course_seen w.spelled;
@@ -212,7 +198,7 @@ module _ (name : List ℕ) (symbols : List Symbol) (h : Heading) (b : ReadsBlock
       }
 
 abbrev Spelled : List ℕ → List Symbol → tree.Program → Type 0
-Spelled name symbols p = All (λ (t : tree.Task). BodyKeepsLimits t.body) p.tasks → (p.name ≡ name) × Grammar symbols p
+Spelled name symbols p = (p.name ≡ name) × Grammar symbols p
 
 pub text_read : (name : List ℕ) (symbols : List Symbol) (p : tree.Program) → program_at name symbols ≡ Some p → Spelled name symbols p
 unfolding program_at
@@ -232,7 +218,7 @@ text_read name symbols p e =
       quantifier = q.0;
       condition = x.0;
     })) (Spelled name symbols) p e (λ peace e.
-    at_last _ (Spelled name symbols) p e (λ keep.
-    let b = initialization_read (unnamed symbols) h tidy_at_first begins in
+    at_last _ (Spelled name symbols) p e
+    (let b = initialization_read (unnamed symbols) h tidy_at_first begins in
     let f = processes_read (unbegun h) c b.items.said.tidy (omega arith) follows in
-    (refl, text_spelled name symbols h b c f.later f.reads q x quantified peace asked keep)))))))
+    (refl, text_spelled name symbols h b c f.later f.reads q x quantified peace asked)))))))

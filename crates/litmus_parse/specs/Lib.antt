@@ -16,3 +16,4 @@ pub mod Told
 pub mod Typed
 pub mod TextReader
 pub mod Distinct
+pub mod Refused

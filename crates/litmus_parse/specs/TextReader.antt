@@ -3,7 +3,7 @@ use Rattle.std.specs.Prelude.{ℕ, List, [], ◌∷◌, Option, Some, None, Bool
 use Rattle.litmus_syntax.specs.declared.statement.Statement.{Statement}
 use Rattle.std.specs.Global.{Global}
 use Rattle.litmus_syntax.specs.Tree as tree
-use Rattle.litmus_syntax.specs.Views.{block_of}
+use Rattle.litmus_syntax.specs.Views.{block_of, proposition_of}
 use Rattle.litmus_syntax.specs.declared.program.Variable.{Variable}
 use Rattle.litmus_syntax.specs.declared.proposition.Quantifier.{Quantifier}
 use Rattle.litmus_cursor.specs.declared.words.VariableType.TheVariants.{Int}
@@ -13,14 +13,15 @@ use Rattle.litmus_expression.specs.Names.{Names}
 use Rattle.litmus_expression.specs.States.{State, state_of}
 use Rattle.litmus_parse.specs.declared.initialization.Header.{Header}
 use Rattle.litmus_parse.specs.declared.text.Processes.{Processes}
+use Rattle.litmus_parse.specs.declared.text.Reading.{Reading}
 use Rattle.litmus_parse.specs.ConditionReader.{quantifier_at}
-use Rattle.litmus_parse.specs.Entries.{Entry, has_two_types}
+use Rattle.litmus_parse.specs.Entries.{Entry, has_two_types, table_of}
 use Rattle.litmus_parse.specs.Grammar.{task_of}
 use Rattle.litmus_parse.specs.ItemReader.{heading_of, initialization_at, unnamed}
 use Rattle.litmus_parse.specs.Mentions.{contents_of}
 use Rattle.litmus_parse.specs.ProcessReader.{Course, processes_at, seen, unbegun}
 use Rattle.litmus_parse.specs.PropositionReader.{whole_at}
-use Rattle.litmus_parse.specs.VariableReader.{is_lock_type}
+use Rattle.litmus_parse.specs.VariableReader.{is_lock_type, names_of}
 
 -- the bodies of processes
 abbrev pub bodies_of : List (Vec Statement Global) → List tree.Block
@@ -78,3 +79,52 @@ condition_at name c =
 unfoldable pub program_at : (name : List ℕ) → List Symbol → Option tree.Program
 program_at name symbols =
     initialization_at (unnamed symbols) >>= λ h. processes_at (unbegun h) >>= λ c. condition_at name c
+
+-- what is read of a text, of which its program is put together
+pub record Parts : Type 0 where
+  pub names : Names
+  pub table : List Entry
+  pub states : List State
+  pub bodies : List tree.Block
+  pub quantifier : Quantifier
+  pub condition : tree.Proposition
+
+abbrev pub parts_of : Reading → Parts
+parts_of read = record {
+  names = names_of read.declarations;
+  table = table_of read.declarations;
+  states = map state_of read.processes.items;
+  bodies = bodies_of read.bodies.items;
+  quantifier = read.quantifier;
+  condition = proposition_of read.proposition;
+}
+
+-- the program of a test's name and of what is read
+abbrev pub put_together : (name : List ℕ) → Parts → tree.Program
+put_together name parts = record {
+  name = name;
+  variables = variables_in parts.names parts.table;
+  tasks = map task_of (seen parts.states parts.bodies);
+  quantifier = parts.quantifier;
+  condition = parts.condition;
+}
+
+-- what was read in all, if no variable has two types
+abbrev pub parts_behind : Course → Quantifier → tree.Proposition × List State → Option Parts
+parts_behind c quantifier x =
+    if has_contradiction c.heading.table
+    then None
+    else Some (record {
+      names = c.heading.names;
+      table = c.heading.table;
+      states = x.1;
+      bodies = c.bodies;
+      quantifier = quantifier;
+      condition = x.0;
+    })
+
+-- the symbols behind the head
+unfoldable pub parts_at : List Symbol → Option Parts
+parts_at symbols =
+    initialization_at (unnamed symbols) >>= λ h. processes_at (unbegun h) >>= λ c. quantifier_at c.heading.symbols >>= λ q.
+    whole_at c.heading.names (locks_in c.heading.table) q.1 c.states >>= λ x. parts_behind c q.0 x

@@ -230,6 +230,8 @@ fn first_contradiction(mut variables: &[Declared<'_>]) -> Option<usize>
 fn variables_of(alloc: Global, mut all: &[Declared<'_>]) -> Result<Vec<Variable>, Refusal>
     ensures ok { IfOk result (λ variables. variables.items
         ≡ texts.variables_in (map reader.name_of all.entry.now) (map entry_of all.entry.now)) }
+    ensures err { IfErr result (λ refusal. All (λ variable. IsUtf8 variable.name)
+        (texts.variables_in (map reader.name_of all.entry.now) (map entry_of all.entry.now)) → refusal ≡ OutOfMemory) }
 {
     let mut variables = Vec::new(alloc);
     while let [declared, rest @ ..] = all {
@@ -361,6 +363,8 @@ impl<'a> Declarations<'a> {
     /// The variables that they are in the end.
     pub fn variables(&self, alloc: Global) -> Result<Vec<Variable>, Refusal>
         ensures ok { IfOk result (λ variables. variables.items ≡ texts.variables_in (names_of self.now) (table_of self.now)) }
+        ensures err { IfErr result (λ refusal. All (λ variable. IsUtf8 variable.name)
+            (texts.variables_in (names_of self.now) (table_of self.now)) → refusal ≡ OutOfMemory) }
     {
         variables_of(alloc, &self.variables)
     }

@@ -43,10 +43,10 @@ pub fn variables_are_numbered_as_they_appear()
         → Numbered variables_limit names name number later ↔ (number_at names name ≡ Some (number, later)) }
 {}
 
-/// Law: what is read as a text behind its head is spelled so, where its bodies keep their limits.
+/// Law: what is read as a text behind its head is spelled so.
 pub fn what_is_read_as_a_text_is_spelled()
     ensures { (name : List ℕ) (symbols : List Symbol) (program : tree.Program) → program_at name symbols ≡ Some program
-        → All (λ task. BodyKeepsLimits task.body) program.tasks → (program.name ≡ name) × Grammar symbols program }
+        → (program.name ≡ name) × Grammar symbols program }
 {}
 
 /// Law: what is spelled as an initialization block is read, with the names and the numbers that its items give, where the

@@ -3,6 +3,7 @@
 ghost use Rattle.std.specs.Prelude.{◌≡◌, ◌≢◌, ◌≤◌, ◌<◌, ◌↔◌, ℕ, Some, length, map, vec_len, All, Any, IfErr, IfOk, IsTrue, IsErrOf, OnOk};
 ghost use Rattle.std.specs.Str.{IsUtf8};
 ghost use Rattle.litmus_syntax.specs.Limits.{KeepsLimits, tasks_limit};
+ghost use Rattle.litmus_syntax.specs.Tree as tree;
 ghost use Rattle.litmus_syntax.specs.Views.{block_of, program_of, task_of};
 ghost use Rattle.litmus_cursor.specs.Cursor.{count_left};
 ghost use Rattle.litmus_cursor.specs.Front.{Answers, first, now, symbols_left};
@@ -12,18 +13,23 @@ ghost use Rattle.litmus_parse.specs.Grammar.{SpellsProgram, variable_of};
 ghost use Rattle.litmus_parse.specs.Grammar.{task_of as reads_task};
 ghost use Rattle.litmus_parse.specs.Headers.{process_name};
 ghost use Rattle.litmus_parse.specs.ItemReader.{heading_of};
+ghost use Rattle.litmus_parse.specs.Refused.{Refuses};
 ghost use Rattle.litmus_parse.specs.ProcessReader.{is_process, process_at, process_of, processes_at, seen, unbegun};
-ghost use Rattle.litmus_parse.specs.TextReader.{bodies_of, course_of, program_at};
+ghost use Rattle.litmus_parse.specs.TextReader.{bodies_of, course_of, parts_at, parts_of, program_at};
 ghost use Rattle.litmus_parse.specs.Text.{file_bytes, IsTextByte};
 
 use crate::condition::Condition;
 use crate::declaration::{Declarations, name_of};
 use crate::initialization::Header;
+use crate::laws::a_text_spells_one_program;
+use crate::laws_of_parts::a_text_spells_what_keeps_limits;
 use litmus_body::read_block;
 use litmus_cursor::{Cursor, Excess, Refusal, tokens};
 use litmus_expression::{Parameter, Process, Surroundings};
 use litmus_lex::{line_of, read_head};
-use litmus_syntax::{Limit, Name, ParseError, Program, Sequence, Statement, Task};
+use litmus_syntax::{
+    Limit, Name, ParseError, Program, Proposition, Quantifier, Sequence, Statement, Task,
+};
 use std::alloc::{AllocError, Global};
 
 /// How many bytes a litmus text can have.
@@ -41,7 +47,11 @@ pub fn parse(alloc: Global, text: &[u8]) -> Result<Program, ParseError>
         ((length text.now ≤ file_bytes) × Any (λ byte. ¬ IsTextByte byte) text.now) }
     ensures keeps_limits { IfOk result (λ program. KeepsLimits (program_of program)) }
     ensures spelled { IfOk result (λ program. SpellsProgram text.now (program_of program)) }
+    ensures complete { (program : tree.Program) → SpellsProgram text.now program
+        → IfOk result (λ found. program_of found ≡ program) × IfErr result (λ error. error ≡ ParseError.OutOfMemory) }
 {
+    a_text_spells_one_program();
+    a_text_spells_what_keeps_limits();
     if text.len() > FILE_BYTES {
         return Err(ParseError::Limit(Limit::File));
     }
@@ -63,6 +73,7 @@ fn is_text_byte(byte: u8) -> bool
 
 /// The error for a text that is refused, with the line where the token that offends begins.
 fn placed(text: &[u8], refusal: Refusal) -> ParseError
+    ensures memory { refusal ≡ Refusal.OutOfMemory → result ≡ ParseError.OutOfMemory }
     ensures not_file { result ≢ ParseError.Limit Limit.File }
     ensures not_ascii { result ≢ ParseError.NotAscii }
 {
@@ -98,9 +109,9 @@ fn limit_of(excess: Excess) -> Limit
 
 /// Reads the whole text, from left to right.
 fn read(alloc: Global, text: &[u8]) -> Result<Program, Refusal>
-    ensures keeps_limits { IfOk result (λ program. KeepsLimits (program_of program)) }
     ensures spelled { length text.now ≤ file_bytes → All IsTextByte text.now
         → IfOk result (λ program. SpellsProgram text.now (program_of program)) }
+    ensures complete { (program : tree.Program) → SpellsProgram text.now program → IfErr result (λ refusal. refusal ≡ OutOfMemory) }
 {
     let head = match read_head(text) {
         Ok(head) => head,
@@ -108,27 +119,24 @@ fn read(alloc: Global, text: &[u8]) -> Result<Program, Refusal>
     };
     let spots = tokens(alloc, text, head.after)?;
     let cursor = Cursor::new(&spots, text.len());
-    program(alloc, name_of(alloc, head.name)?, cursor)
+    whole(alloc, name_of(alloc, head.name)?, cursor)
 }
 
-/// Reads the tokens of a text whose test has the name.
-fn program(alloc: Global, name: Name, cursor: Cursor<'_>) -> Result<Program, Refusal>
-    ensures keeps_limits { IfOk result (λ program. KeepsLimits (program_of program)) }
-    ensures reads { IfOk result (λ program. program_at name (symbols_left cursor.entry) ≡ Some (program_of program)) }
-{
-    let end = Refusal::Syntax { at: cursor.at() };
-    let program = whole(alloc, name, cursor)?;
-    // Each limit and each type is looked at where it is read. That all are kept is known by this look at the whole.
-    if !program.keeps_limits() {
-        return Err(end);
-    }
-    Ok(program)
+/// What is read of a text, of which its program is put together.
+#[derive(Drop)]
+struct Reading<'a> {
+    declarations: Declarations<'a>,
+    processes: Vec<Process<'a>>,
+    bodies: Vec<Vec<Statement>>,
+    quantifier: Quantifier,
+    proposition: Proposition,
 }
 
-/// Reads the tokens of a text whose test has the name, where each limit is looked at as it is passed.
-#[tactic(auto, using(crate::proofs::Tables::locks_are), unfolding(crate::specs::TextReader::program_at))]
-fn whole(alloc: Global, name: Name, cursor: Cursor<'_>) -> Result<Program, Refusal>
-    ensures reads { IfOk result (λ program. program_at name (symbols_left cursor.entry) ≡ Some (program_of program)) }
+/// Reads the tokens of a text. Each limit and each type is looked at where it is read.
+#[tactic(auto, using(crate::proofs::Tables::locks_are), unfolding(crate::specs::TextReader::parts_at))]
+fn parts<'a>(alloc: Global, cursor: Cursor<'a>) -> Result<Reading<'a>, Refusal>
+    ensures sized { IfOk result (λ read. vec_len read.processes ≡ vec_len read.bodies) }
+    ensures reads { Answers result parts_of (parts_at (symbols_left cursor.entry)) }
 {
     let mut header = Header {
         alloc,
@@ -148,12 +156,29 @@ fn whole(alloc: Global, name: Name, cursor: Cursor<'_>) -> Result<Program, Refus
     if let Some(at) = condition.declarations.contradiction() {
         return Err(Refusal::Unsupported { at });
     }
+    Ok(Reading {
+        declarations: condition.declarations,
+        processes: condition.processes,
+        bodies,
+        quantifier,
+        proposition,
+    })
+}
+
+/// Reads the tokens of a text whose test has the name.
+#[tactic(auto, using(crate::proofs::Refusals::program_reads, crate::proofs::Refusals::nothing_reads))]
+fn whole(alloc: Global, name: Name, cursor: Cursor<'_>) -> Result<Program, Refusal>
+    ensures reads { IfOk result (λ program. program_at name (symbols_left cursor.entry) ≡ Some (program_of program)) }
+    ensures refuses { IfErr result (λ refusal. Refuses refusal (program_at name (symbols_left cursor.entry))) }
+{
+    let read = parts(alloc, cursor)?;
+    let bodies = read.bodies;
     Ok(Program {
         name,
-        variables: Sequence::from_vec(condition.declarations.variables(alloc)?),
-        tasks: Sequence::from_vec(tasks(alloc, &condition.processes, bodies)?),
-        quantifier,
-        condition: proposition,
+        variables: Sequence::from_vec(read.declarations.variables(alloc)?),
+        tasks: Sequence::from_vec(tasks(alloc, &read.processes, bodies)?),
+        quantifier: read.quantifier,
+        condition: read.proposition,
     })
 }
 
@@ -246,8 +271,10 @@ fn tasks(
     mut bodies: Vec<Vec<Statement>>,
 ) -> Result<Vec<Task>, Refusal>
     requires { length processes.now ≡ vec_len bodies }
-    ensures { IfOk result (λ tasks. map task_of tasks.items
+    ensures ok { IfOk result (λ tasks. map task_of tasks.items
         ≡ map reads_task (seen (map state_of processes.entry.now) (bodies_of bodies.items))) }
+    ensures err { IfErr result (λ refusal. All (λ task. All IsUtf8 task.registers)
+        (map reads_task (seen (map state_of processes.entry.now) (bodies_of bodies.items))) → refusal ≡ OutOfMemory) }
 {
     let mut tasks = Vec::new(alloc);
     while let [process, rest @ ..] = processes {
@@ -261,6 +288,7 @@ fn tasks(
 /// The task that a process is in the end.
 fn task(alloc: Global, process: &Process<'_>, body: Vec<Statement>) -> Result<Task, Refusal>
     ensures ok { IfOk result (λ task. task_of task ≡ reads_task (process_of (state_of process.now) (block_of body.items))) }
+    ensures err { IfErr result (λ refusal. All IsUtf8 (map now process.now.registers.items) → refusal ≡ OutOfMemory) }
 {
     Ok(Task {
         parameters: Sequence::from_vec(variables_of(alloc, &process.parameters)?),
@@ -284,6 +312,7 @@ fn variables_of(alloc: Global, mut parameters: &[Parameter<'_>]) -> Result<Vec<u
 /// The names that are spelled by bytes.
 fn names_of(alloc: Global, mut all: &[&[u8]]) -> Result<Vec<Name>, Refusal>
     ensures ok { IfOk result (λ names. names.items ≡ map now all.entry.now) }
+    ensures err { IfErr result (λ refusal. All IsUtf8 (map now all.entry.now) → refusal ≡ OutOfMemory) }
 {
     let mut names = Vec::new(alloc);
     while let [bytes, rest @ ..] = all {

@@ -1,5 +1,5 @@
 -- The task of the first process that is left, with the first body.
-use Rattle.std.proofs.Common.{◌≡◌, ◌++◌, ◌-◌, ◌<◌, List, [], ◌∷◌, Vec, Global, drop, length, map, sym, subst, take, arith}
+use Rattle.std.proofs.Common.{All, ◌≡◌, ◌++◌, ◌-◌, ◌<◌, List, [], ◌∷◌, Vec, Global, drop, length, map, sym, subst, take, arith}
 use Rattle.litmus_syntax.specs.Tree as tree
 use Rattle.litmus_syntax.specs.Views as views
 use Rattle.litmus_syntax.specs.declared.program.Task.{Task}
@@ -8,6 +8,9 @@ use Rattle.litmus_expression.specs.States.{state_of}
 use Rattle.litmus_parse.specs.Grammar.{task_of}
 use Rattle.litmus_parse.specs.ProcessReader.{seen}
 use Rattle.litmus_parse.specs.TextReader.{bodies_of}
+use Rattle.std.specs.Str.{IsUtf8}
+use Rattle.litmus_cursor.specs.declared.cursor.Refusal.TheVariants.{OutOfMemory}
+use Rattle.litmus_parse.proofs.Refusals.{err_holds, task_there}
 use Rattle.litmus_parse.proofs.Tasks.{next_task, rest_sized}
 use Rattle.litmus_parse.proofs.text.tasks.Goals as goal
 
@@ -27,3 +30,12 @@ loop-processes-preserved c =
           (next_task l.tasks.items c.in_ok-task.field-0 l.processes.now c.process-item.result l.bodies.items c.remove-body.result whole c.in-len1-up.len_at_least
           c.process-item.is some c.remove-body.ensures.value c.in_ok-task.ensures.ok l.invariant.made));
     }
+
+pub returns-in_err-task-clause-err : goal.returns-in_err-task-clause-err
+returns-in_err-task-clause-err c =
+    let l = c.loop-processes in
+    err_holds (λ refusal. All (λ (t : tree.Task). All IsUtf8 t.registers) (map task_of (seen (map state_of c.args.processes.now)
+    (bodies_of c.args.bodies.items))) → refusal ≡ OutOfMemory) c.from_residual.result c.in_err-task.field-0.0 c.from_residual.ensures.1
+    (λ named. c.in_err-task.ensures.err
+    (task_there l.processes.now (bodies_of l.bodies.items) (map views.task_of l.tasks.items) _ c.process-item.result c.in-len1-up.len_at_least
+    c.process-item.is l.invariant.made named))
