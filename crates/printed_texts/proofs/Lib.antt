@@ -1,3 +1,4 @@
 pub mod Grown
 pub mod Expressions
 pub mod Statements
+pub mod Propositions

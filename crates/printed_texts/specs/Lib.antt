@@ -1,2 +1,4 @@
 pub mod PrintedSymbols
 pub mod PrintedNesting
+pub mod PrintedCondition
+pub mod Covered

@@ -1,6 +1,6 @@
 //! What is true of the printed form of litmus programs and of their grammar.
 
-ghost use Rattle.std.specs.Prelude.{◌≡◌, ℕ, Contains, List, ◌∷◌, Some, slice_get};
+ghost use Rattle.std.specs.Prelude.{◌≡◌, ℕ, Contains, List, ◌∷◌, Some, map, slice_get};
 ghost use Rattle.litmus_lex.specs.declared.sign.Sign.TheVariants.{CloseBrace};
 ghost use Rattle.litmus_syntax.specs.PrintedForm.{variable_name};
 ghost use Rattle.litmus_syntax.specs.Tree as tree;
@@ -10,6 +10,12 @@ ghost use Rattle.litmus_cursor.specs.declared.words.VariableType.{VariableType};
 ghost use Rattle.litmus_expression.specs.Expressions.{Expression};
 ghost use Rattle.litmus_expression.specs.Names.{Names, Parameter};
 ghost use Rattle.litmus_body.specs.Statements.{Statements};
+ghost use Rattle.litmus_parse.specs.Conditions.{Disjoined, IsKnown};
+ghost use Rattle.litmus_parse.specs.Grammar.{task_of};
+ghost use Rattle.litmus_parse.specs.Headers.{Process};
+ghost use Rattle.litmus_parse.specs.Mentions.{Mention};
+ghost use Rattle.printed_texts.specs.Covered.{Covers};
+ghost use Rattle.printed_texts.specs.PrintedCondition.{PropositionNests, proposition_symbols};
 ghost use Rattle.printed_texts.specs.PrintedNesting.{BlockNests, ExpressionNests};
 ghost use Rattle.printed_texts.specs.PrintedSymbols.{block_symbols, expression_symbols};
 
@@ -35,4 +41,16 @@ pub fn printed_bodies_are_spelled()
         → ((number : ℕ) (name : List ℕ) → slice_get after number ≡ Some name → slice_get registers number ≡ Some name)
         → Statements parameters there counters before symbols body behind after → BlockNests depth body
         → Statements parameters depth counters registers (block_symbols variables registers body (sign CloseBrace ∷ rest)) body rest registers }
+{}
+
+/// Law: where some symbols spell a proposition, those of its printed form spell it too, over processes that have all the registers
+/// that are named in the end, if the printed form keeps the limit of nesting.
+pub fn printed_propositions_are_spelled()
+    ensures { (mentions said : List Mention) (names : Names) (variables : List Variable) (before later last : List Process)
+        (depth there : ℕ) (symbols behind rest : List Symbol) (proposition : tree.Proposition)
+        → ((name : List ℕ) (number : ℕ) → IsKnown mentions names name number
+        → IsKnown said names (variable_name variables number) number)
+        → Disjoined mentions names there before symbols proposition behind later → Covers later last
+        → PropositionNests depth proposition
+        → Disjoined said names depth last (proposition_symbols variables (map task_of last) proposition rest) proposition rest last }
 {}
