@@ -1,4 +1,6 @@
 pub mod PrintedSymbols
 pub mod PrintedNesting
 pub mod PrintedCondition
+pub mod PrintedProcess
+pub mod PrintedNames
 pub mod Covered

@@ -1,7 +1,8 @@
 //! What is true of the printed form of litmus programs and of their grammar.
 
-ghost use Rattle.std.specs.Prelude.{◌≡◌, ℕ, Contains, List, ◌∷◌, Some, map, slice_get};
+ghost use Rattle.std.specs.Prelude.{◌≡◌, ℕ, Contains, List, [], ◌∷◌, Some, map, slice_get};
 ghost use Rattle.litmus_lex.specs.declared.sign.Sign.TheVariants.{CloseBrace};
+ghost use Rattle.litmus_syntax.specs.Limits.{BodyKeepsLimits};
 ghost use Rattle.litmus_syntax.specs.PrintedForm.{variable_name};
 ghost use Rattle.litmus_syntax.specs.Tree as tree;
 ghost use Rattle.litmus_syntax.specs.declared.program.Variable.{Variable};
@@ -12,11 +13,13 @@ ghost use Rattle.litmus_expression.specs.Names.{Names, Parameter};
 ghost use Rattle.litmus_body.specs.Statements.{Statements};
 ghost use Rattle.litmus_parse.specs.Conditions.{Disjoined, IsKnown};
 ghost use Rattle.litmus_parse.specs.Grammar.{task_of};
-ghost use Rattle.litmus_parse.specs.Headers.{Process};
+ghost use Rattle.litmus_parse.specs.Headers.{IsProcess, Process};
 ghost use Rattle.litmus_parse.specs.Mentions.{Mention};
 ghost use Rattle.printed_texts.specs.Covered.{Covers};
 ghost use Rattle.printed_texts.specs.PrintedCondition.{PropositionNests, proposition_symbols};
+ghost use Rattle.printed_texts.specs.PrintedNames.{AreNames};
 ghost use Rattle.printed_texts.specs.PrintedNesting.{BlockNests, ExpressionNests};
+ghost use Rattle.printed_texts.specs.PrintedProcess.{task_symbols};
 ghost use Rattle.printed_texts.specs.PrintedSymbols.{block_symbols, expression_symbols};
 
 /// Law: where some symbols spell an expression, those of its printed form spell it too, among registers that have the names and
@@ -53,4 +56,16 @@ pub fn printed_propositions_are_spelled()
         → Disjoined mentions names there before symbols proposition behind later → Covers later last
         → PropositionNests depth proposition
         → Disjoined said names depth last (proposition_symbols variables (map task_of last) proposition rest) proposition rest last }
+{}
+
+/// Law: where some symbols spell the body of a process, which keeps its limits, the symbols of the process's printed form spell the
+/// process with these registers, if they have the names and numbers that they had there, and the printed form keeps the limit of
+/// nesting.
+pub fn printed_processes_are_spelled()
+    ensures { (variables : List Variable) (names before : Names) (task : ℕ) (symbols behind rest : List Symbol) (process : Process)
+        → AreNames variables names process.parameters process.registers
+        → Statements process.parameters 1 [] [] symbols process.body behind before → BodyKeepsLimits process.body
+        → ((number : ℕ) (name : List ℕ) → slice_get before number ≡ Some name → slice_get process.registers number ≡ Some name)
+        → BlockNests 1 process.body
+        → IsProcess task names (task_symbols variables task (task_of process) rest) process rest names }
 {}
