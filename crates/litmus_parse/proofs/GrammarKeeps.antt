@@ -303,14 +303,16 @@ module _ (all : List Mention) (names : Names) (variables : List Variable) (decla
 
   all_keep : (ps : List Process) → AllRead names ps → ((m : Mention) → Contains (flat_map mentions_of ps) m → Contains all m) → AllKeep ps
   all_keep [] reads said = tt
-  all_keep (p ∷ ps) reads said =
-      (record {
-        named = reads.0.named;
-        keeps = reads.0.keeps;
-        rises = reads.0.rises;
-        typed = reads.0.typed (sorted p.parameters reads.0.at
-            (λ m there. said m (contains_first (map mention_of p.parameters) (flat_map mentions_of ps) m there)));
-      }, all_keep ps reads.1 (λ m there. said m (contains_rest (map mention_of p.parameters) (flat_map mentions_of ps) m there)))
+  all_keep (p ∷ ps) reads said = (
+    record {
+      named = reads.0.named;
+      keeps = reads.0.keeps;
+      rises = reads.0.rises;
+      typed = reads.0.typed (sorted p.parameters reads.0.at
+          (λ m there. said m (contains_first (map mention_of p.parameters) (flat_map mentions_of ps) m there)));
+    },
+    all_keep ps reads.1 (λ m there. said m (contains_rest (map mention_of p.parameters) (flat_map mentions_of ps) m there)),
+  )
 
   -- ---- the condition
 

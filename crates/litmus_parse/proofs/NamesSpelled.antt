@@ -243,9 +243,11 @@ module _ (P : List ℕ → Type 0) where
   atom_kept h conditions.never = (h.0, h.1.1)
   atom_kept h (conditions.variable_is is v) = (h.0, signed_kept h.1.1.1 v)
   atom_kept h (conditions.in_brackets is v) = (h.0, signed_kept h.1.1.1.1.1 v)
-  atom_kept h (conditions.register_is {before = before} {task = task} {process = p} {registers = registers} there is v) =
-      (registered_set before task (with_registers p registers) h.0
-      (numbered_kept (registered_at before task p h.0 there) h.1.1.1.0 is.numbered), signed_kept h.1.1.1.1.1 v)
+  atom_kept h (conditions.register_is {before = before} {task = task} {process = p} {registers = registers} there is v) = (
+    registered_set before task (with_registers p registers) h.0
+        (numbered_kept (registered_at before task p h.0 there) h.1.1.1.0 is.numbered),
+    signed_kept h.1.1.1.1.1 v,
+  )
 
   mutual
     disjoined_kept : {ms : List Mention} {names : Names} {d : ℕ} {before later : List Process} {symbols rest : List Symbol} {a : tree.Proposition}

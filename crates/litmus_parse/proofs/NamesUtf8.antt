@@ -81,9 +81,10 @@ of_tokens part at bytes [] plain are = tt
 of_tokens part at bytes (token ∷ tokens) plain are =
     let first = are.0 in
     let whole = subst (λ (l : List ℕ). Plain l) first.whole plain in
-    let behind = plain_rest first.gap (first.spelled ++ first.rest) whole in
-    (of_terminal token.terminal first.spelled first.rest first.spells (plain_first first.spelled first.rest behind),
-      of_tokens (part_after part token.terminal) _ first.rest tokens (plain_rest first.spelled first.rest behind) are.1)
+    let behind = plain_rest first.gap (first.spelled ++ first.rest) whole in (
+      of_terminal token.terminal first.spelled first.rest first.spells (plain_first first.spelled first.rest behind),
+      of_tokens (part_after part token.terminal) _ first.rest tokens (plain_rest first.spelled first.rest behind) are.1,
+    )
 
 -- the names of a program that a text spells are UTF-8
 pub names_are_utf8 : (text : List ℕ) (p : tree.Program) → SpellsProgram text p

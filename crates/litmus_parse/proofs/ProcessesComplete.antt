@@ -173,13 +173,13 @@ module _ (all : List Mention) where
       → AreTyped all (flat_map mentions_of ps) → ((n : ℕ) → is_process n (first rest) ≡ false)
       → ProcessesGo (course (heading symbols before table) states bodies) ps rest later
   processes_go (grammar.last {task = task} {before = before} {after = later} {rest = rest} lt
-    (grammar.process {registers = registers} {parameters = ps} {symbols = inside} {middle = middle} {body = body} listed spelled keeps))
+      (grammar.process {registers = registers} {parameters = ps} {symbols = inside} {middle = middle} {body = body} listed spelled keeps))
       table states bodies is fits typed ends =
       last_goes task (sign OpenParen ∷ inside) before table states bodies _ rest later is lt ends
       (process_goes inside middle rest before later registers table ps body listed spelled keeps fits
       (typed_first all (map mention_of ps) [] typed))
   processes_go (grammar.more {task = task} {before = before} {between = between} {after = later} {processes = later_ones} {middle = behind_it} {rest = rest} lt
-    (grammar.process {registers = registers} {parameters = ps} {symbols = inside} {middle = middle} {body = body} listed spelled keeps) others)
+      (grammar.process {registers = registers} {parameters = ps} {symbols = inside} {middle = middle} {body = body} listed spelled keeps) others)
       table states bodies is fits typed ends =
       let one = process_goes inside middle behind_it before between registers table ps body listed spelled keeps fits
       (typed_first all (map mention_of ps) (flat_map mentions_of later_ones) typed) in

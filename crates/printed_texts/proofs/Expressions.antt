@@ -1,5 +1,5 @@
 -- The symbols of an expression's printed form spell it, where some symbols do and the form keeps the limit of nesting.
-use Rattle.std.proofs.Common.{◌≡◌, ◌∙◌, ◌+◌, ◌<◌, ◌≤◌, ℕ, zero, suc, List, [], ◌∷◌, Option, Some, refl, sym, ap, subst, arith}
+use Rattle.std.proofs.Common.{◌≡◌, ◌+◌, ◌<◌, ◌≤◌, ℕ, zero, suc, List, [], ◌∷◌, Option, Some, refl, sym, ap, subst, arith}
 use Rattle.std.specs.Prelude.{Contains, slice_get, unwrap_or}
 use Rattle.litmus_lex.specs.declared.sign.Sign.TheVariants.{OpenParen, CloseParen, Comma}
 use Rattle.litmus_syntax.specs.declared.expression.BinaryOperator.{BinaryOperator}
@@ -10,13 +10,12 @@ use Rattle.litmus_syntax.specs.PrintedForm.{name_at, variable_name}
 use Rattle.litmus_syntax.specs.Limits.{operators, pure_operators}
 use Rattle.litmus_syntax.specs.Tree as tree
 use Rattle.litmus_cursor.specs.declared.words.VariableType.{VariableType}
-use Rattle.litmus_cursor.specs.declared.words.Word.TheVariants as words
-use Rattle.litmus_cursor.specs.Words.{Symbol, sign, word}
+use Rattle.litmus_cursor.specs.Words.{Symbol, sign}
 use Rattle.litmus_expression.specs.Expressions as grammar
 use Rattle.litmus_expression.specs.Expressions.{Applied, Combined, Expression, Level, Load, Operand, Pure, bare, level_of, sign_of_binary, sign_of_unary}
 use Rattle.litmus_expression.specs.Names.{IsChanged, IsRegister, IsVariable, Names, Parameter, known}
 use Rattle.printed_texts.specs.PrintedNesting.{ExpressionNests, FetchNests, PureNests}
-use Rattle.printed_texts.specs.PrintedSymbols.{closes, expression_symbols, fetch_symbols, load_symbols, opens, pure_symbols}
+use Rattle.printed_texts.specs.PrintedSymbols.{expression_symbols, fetch_symbols, load_symbols, pure_symbols}
 use Rattle.printed_texts.proofs.Grown.{Grown, level_grows, numbered_at, pure_grows, then}
 
 -- ---- levels

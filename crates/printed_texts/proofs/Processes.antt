@@ -1,14 +1,13 @@
 -- The symbols of a process's printed form spell it with all its registers, where some symbols spell its body.
-use Rattle.std.proofs.Common.{◌≡◌, ◌∙◌, ◌+◌, ◌<◌, ◌≤◌, ℕ, zero, suc, List, [], ◌∷◌, ◌++◌, Option, Some, None, length, map, refl, sym, ap, subst, append_assoc, arith}
+use Rattle.std.proofs.Common.{◌≡◌, ◌∙◌, ◌<◌, ◌≤◌, ℕ, List, [], ◌∷◌, ◌++◌, Option, None, length, map, refl, sym, ap, subst, append_assoc, arith}
 use Rattle.std.specs.Prelude.{Contains, option_map, slice_get, unwrap_or}
 use Rattle.std.proofs.lemmas.List.{length-append}
-use Rattle.litmus_lex.specs.declared.sign.Sign.TheVariants.{CloseBrace, CloseParen, Comma, OpenBrace, OpenParen, Semicolon, Star}
+use Rattle.litmus_lex.specs.declared.sign.Sign.TheVariants.{CloseBrace, CloseParen, OpenBrace, Star}
 use Rattle.litmus_syntax.specs.declared.program.Variable.{Variable}
 use Rattle.litmus_syntax.specs.Limits.{BodyKeepsLimits}
 use Rattle.litmus_syntax.specs.PrintedForm.{variable_name}
 use Rattle.litmus_syntax.specs.Tree as tree
 use Rattle.litmus_cursor.specs.declared.words.VariableType.{VariableType}
-use Rattle.litmus_cursor.specs.declared.words.VariableType.TheVariants.{Int}
 use Rattle.litmus_cursor.specs.declared.words.Word.TheVariants as words
 use Rattle.litmus_cursor.specs.Words.{Symbol, identifier, sign, word}
 use Rattle.litmus_expression.specs.Followed.{Differ, name_of}
@@ -21,7 +20,7 @@ use Rattle.litmus_parse.specs.Headers as headers
 use Rattle.litmus_parse.specs.Headers.{IsProcess, Listed, Parameters, Process, process_name}
 use Rattle.printed_texts.specs.PrintedNames.{AreNames, IsOf}
 use Rattle.printed_texts.specs.PrintedNesting.{BlockNests}
-use Rattle.printed_texts.specs.PrintedProcess.{continued_symbols, declarations_symbols, listed_symbols, parameter_symbols, task_symbols, type_of}
+use Rattle.printed_texts.specs.PrintedProcess.{continued_symbols, declarations_symbols, listed_symbols, parameter_symbols, task_symbols}
 use Rattle.printed_texts.specs.PrintedSymbols.{block_symbols}
 use Rattle.printed_texts.proofs.Grown.{Grown}
 use Rattle.printed_texts.proofs.Statements.{statements_printed}

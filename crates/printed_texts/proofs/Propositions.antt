@@ -1,12 +1,12 @@
 -- The symbols of a proposition's printed form spell it, where some symbols do and the form keeps the limit of nesting.
-use Rattle.std.proofs.Common.{◌≡◌, ◌∙◌, ◌<◌, ℕ, zero, suc, List, [], ◌∷◌, Option, Some, map, refl, sym, ap, subst}
-use Rattle.std.specs.Prelude.{Contains, option_map, set, slice_get, unwrap_or}
-use Rattle.litmus_lex.specs.declared.sign.Sign.TheVariants.{CloseParen, Conjunction, Disjunction, OpenParen, Tilde}
+use Rattle.std.proofs.Common.{◌≡◌, ◌∙◌, ℕ, zero, suc, List, [], ◌∷◌, Option, Some, map, refl, sym, ap, subst}
+use Rattle.std.specs.Prelude.{set, slice_get, unwrap_or}
+use Rattle.litmus_lex.specs.declared.sign.Sign.TheVariants.{CloseParen, Conjunction, Disjunction}
 use Rattle.litmus_syntax.specs.declared.program.Variable.{Variable}
 use Rattle.litmus_syntax.specs.declared.proposition.Quantifier.{Quantifier}
 use Rattle.litmus_syntax.specs.PrintedForm.{name_at, registers_of, variable_name}
 use Rattle.litmus_syntax.specs.Tree as tree
-use Rattle.litmus_cursor.specs.Words.{Symbol, identifier, number, sign}
+use Rattle.litmus_cursor.specs.Words.{Symbol, sign}
 use Rattle.litmus_expression.specs.Names.{IsFree, IsRegister, Names, Parameter, known}
 use Rattle.litmus_parse.specs.Conditions as conditions
 use Rattle.litmus_parse.specs.Conditions.{Atom, Conjoined, Disjoined, IsKnown, Negation, Quantifies, with_registers}
@@ -16,7 +16,7 @@ use Rattle.litmus_parse.specs.Headers.{Process}
 use Rattle.litmus_parse.specs.Mentions.{Mention}
 use Rattle.printed_texts.specs.Covered.{Covers, Extends}
 use Rattle.printed_texts.specs.PrintedCondition.{PropositionNests, proposition_symbols, quantifier_symbols}
-use Rattle.printed_texts.proofs.Grown.{Grown, numbered_at, numbered_grows}
+use Rattle.printed_texts.proofs.Grown.{numbered_at, numbered_grows}
 
 -- ---- processes that have more registers
 
@@ -33,11 +33,14 @@ covers_then : (before between later : List Process) → Covers before between �
 covers_then before between later one two = record {
   covers = λ k p is.
       let c = one.covers k p is in
-      let d = two.covers k c.0 c.1 in
-      (d.0, d.1, record {
-        parameters = d.2.parameters ∙ c.2.parameters;
-        registers = λ n name there. d.2.registers n name (c.2.registers n name there);
-      });
+      let d = two.covers k c.0 c.1 in (
+        d.0,
+        d.1,
+        record {
+          parameters = d.2.parameters ∙ c.2.parameters;
+          registers = λ n name there. d.2.registers n name (c.2.registers n name there);
+        },
+      );
 }
 
 set_there : (ps : List Process) (task : ℕ) (p q : Process) → slice_get ps task ≡ Some p → slice_get (set ps task q) task ≡ Some q

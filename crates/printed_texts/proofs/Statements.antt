@@ -1,5 +1,5 @@
 -- The symbols of a body's printed form spell it, where some symbols do and the form keeps the limit of nesting.
-use Rattle.std.proofs.Common.{◌≡◌, ◌+◌, ◌<◌, ℕ, zero, suc, List, [], ◌∷◌, Bool, true, false, Option, Some, None, refl, sym, ap, subst, arith}
+use Rattle.std.proofs.Common.{◌≡◌, ◌+◌, ℕ, zero, suc, List, ◌∷◌, Bool, true, false, Option, Some, None, refl, ap, subst, arith}
 use Rattle.std.specs.Prelude.{Contains}
 use Rattle.access_types.specs.declared.history.Mark.{Mark}
 use Rattle.access_types.specs.declared.history.Mark.TheVariants as marks
@@ -11,19 +11,18 @@ use Rattle.litmus_syntax.specs.declared.statement.Call.{Call}
 use Rattle.litmus_syntax.specs.declared.statement.Call.TheVariants as call_variants
 use Rattle.litmus_syntax.specs.declared.statement.WriteForm.{WriteForm}
 use Rattle.litmus_syntax.specs.declared.statement.WriteForm.TheVariants as writes
-use Rattle.litmus_syntax.specs.PrintedForm.{name_at, variable_name}
+use Rattle.litmus_syntax.specs.PrintedForm.{variable_name}
 use Rattle.litmus_syntax.specs.Tree as tree
 use Rattle.litmus_cursor.specs.declared.words.VariableType.{VariableType}
 use Rattle.litmus_cursor.specs.declared.words.Word.{Word}
 use Rattle.litmus_cursor.specs.declared.words.Word.TheVariants as words
 use Rattle.litmus_cursor.specs.Front.{first}
 use Rattle.litmus_cursor.specs.Words.{Symbol, word, identifier, number, sign, fault}
-use Rattle.litmus_expression.specs.Expressions.{Load}
 use Rattle.litmus_expression.specs.Names.{Names, Parameter}
 use Rattle.litmus_body.specs.Statements as statements
 use Rattle.litmus_body.specs.Statements.{Body, Calls, Enclosable, IsNoDataRace, IsNoElse, Simple, Statement, Statements, alone, kept, raced}
-use Rattle.printed_texts.specs.PrintedNesting.{AssignmentNests, BlockNests, FetchNests, StatementNests}
-use Rattle.printed_texts.specs.PrintedSymbols.{assignment_symbols, block_symbols, call_symbols, closes, fetch_symbols, load_symbols, mark_symbols, opens, read_symbols, statement_symbols, write_symbols}
+use Rattle.printed_texts.specs.PrintedNesting.{AssignmentNests, BlockNests, StatementNests}
+use Rattle.printed_texts.specs.PrintedSymbols.{assignment_symbols, block_symbols, call_symbols, closes, fetch_symbols, mark_symbols, opens, read_symbols, statement_symbols, write_symbols}
 use Rattle.printed_texts.proofs.Expressions.{PrintedFetch, expression_printed, load_printed, printed_changed, printed_variable, pure_printed, whole_load}
 use Rattle.printed_texts.proofs.Grown.{Grown, body_grows, level_grows, statements_grow, then}
 

@@ -13,7 +13,6 @@ use Rattle.litmus_syntax.specs.declared.statement.WriteForm.{WriteForm}
 use Rattle.litmus_syntax.specs.declared.statement.WriteForm.TheVariants as writes
 use Rattle.litmus_syntax.specs.declared.statement.Call.{Call}
 use Rattle.litmus_syntax.specs.declared.statement.Call.TheVariants as calls
-use Rattle.litmus_cursor.specs.declared.words.Word.{Word}
 use Rattle.litmus_cursor.specs.declared.words.Word.TheVariants as words
 use Rattle.litmus_cursor.specs.declared.words.LoadWord.TheVariants as loads
 use Rattle.litmus_cursor.specs.declared.words.StoreWord.TheVariants as stores
