@@ -77,7 +77,13 @@ fn is_arming(made: &Record, earlier: &[Record], index: usize, number: usize) -> 
 }
 
 /// The record is the arming with this number at the index, made for an access that has ended since.
-fn is_ended_arming(told: &Told, made: &Record, earlier: &[Record], index: usize, number: usize) -> bool
+fn is_ended_arming(
+    told: &Told,
+    made: &Record,
+    earlier: &[Record],
+    index: usize,
+    number: usize,
+) -> bool
     ensures { (setter word : ℕ) → IsArming index number setter word made.now earlier.now
         → HasEnded told.now.history.items made.now.task (moments_by told.now (length earlier.now))
         → IsTrue result }

@@ -467,19 +467,25 @@ fn have_ended(program: &Program<'_>, tasks: &[Task]) -> bool {
 
 /// What the list tells.
 fn told_of(alloc: Global, program: &Program<'_>, going: Going) -> Result<Told, Fail> {
-    let ended = have_ended(program, going.tasks.as_slice());
-    let records = latest_first(alloc, going.list.made.as_slice())?;
+    let Going {
+        accesses,
+        list,
+        moments,
+        tasks,
+    } = going;
+    let ended = have_ended(program, tasks.as_slice());
+    let records = latest_first(alloc, list.made.as_slice())?;
     let List {
         history,
         outcomes,
         ..
-    } = going.list;
+    } = list;
     Ok(Told {
         atomic: program.rules.plain_writes_atomic,
-        accesses: going.accesses,
+        accesses,
         records,
         history,
-        moments: going.moments,
+        moments,
         outcomes,
         ended,
     })

@@ -14,21 +14,30 @@ use value_filter::Reason;
 fn is_arming(made: &Record) -> bool
     ensures { result ≡ counted.is_arming made.now.step made.now.answer }
 {
-    matches!((made.step, made.answer), (Step::Insert(..), Answer::Flag(true)))
+    matches!(
+        (made.step, made.answer),
+        (Step::Insert(..), Answer::Flag(true))
+    )
 }
 
 /// It ends a watchpoint that nobody hit.
 fn is_quiet(made: &Record) -> bool
     ensures { result ≡ counted.is_quiet made.now.step made.now.answer }
 {
-    matches!((made.step, made.answer), (Step::Consume(_), Answer::Flag(true)))
+    matches!(
+        (made.step, made.answer),
+        (Step::Consume(_), Answer::Flag(true))
+    )
 }
 
 /// It ends a watchpoint that an access hit.
 fn is_taken(made: &Record) -> bool
     ensures { result ≡ counted.is_taken made.now.step made.now.answer }
 {
-    matches!((made.step, made.answer), (Step::Consume(_), Answer::Flag(false)))
+    matches!(
+        (made.step, made.answer),
+        (Step::Consume(_), Answer::Flag(false))
+    )
 }
 
 /// It tries to take a watchpoint.
@@ -42,7 +51,10 @@ fn is_try(made: &Record) -> bool
 fn is_lost(made: &Record) -> bool
     ensures { result ≡ counted.is_lost made.now.step made.now.answer }
 {
-    matches!((made.step, made.answer), (Step::TryConsume(..), Answer::Flag(false)))
+    matches!(
+        (made.step, made.answer),
+        (Step::TryConsume(..), Answer::Flag(false))
+    )
 }
 
 /// A race of two accesses is reported.
