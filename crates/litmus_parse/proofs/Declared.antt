@@ -1,11 +1,11 @@
 -- What is known of a name in the end is the variable that the grammar gives it.
-use Rattle.std.proofs.Common.{inl, inr, ◌≡◌, ◌≢◌, ◌⊎◌, ◌∙◌, ℕ, zero, suc, List, [], ◌∷◌, Bool, true, false, cond, get_or, Option, Some, None, length}
+use Rattle.std.proofs.Common.{inl, inr, ◌≡◌, ◌⊎◌, ◌∙◌, ℕ, zero, suc, List, [], ◌∷◌, Bool, true, false, cond, get_or, Option, Some, None, length}
 use Rattle.std.proofs.Common.{refl, sym, ap, subst, arith}
 use Rattle.std.specs.Prelude.{Contains, slice_get, unwrap_or}
 use Rattle.litmus_syntax.specs.declared.program.Contents.{Contents}
 use Rattle.litmus_syntax.specs.declared.program.Variable.{Variable}
 use Rattle.litmus_cursor.specs.declared.words.VariableType.{VariableType}
-use Rattle.litmus_cursor.specs.declared.words.VariableType.TheVariants.{Int, Lock}
+use Rattle.litmus_cursor.specs.declared.words.VariableType.TheVariants.{Int}
 use Rattle.litmus_cursor.specs.Front.{◌>>=◌}
 use Rattle.litmus_cursor.specs.Words.{is_same}
 use Rattle.litmus_expression.specs.Names.{Names}
@@ -20,7 +20,7 @@ use Rattle.litmus_parse.specs.TextReader.{has_contradiction, variable_in, variab
 use Rattle.litmus_parse.specs.Told.{all_told, told, told_of}
 use Rattle.litmus_parse.specs.VariableReader.{is_lock_type}
 use Rattle.litmus_parse.proofs.Fits.{Fit}
-use Rattle.litmus_parse.proofs.Known.{Ended, has_type, not_both, settles, value_is, with_type}
+use Rattle.litmus_parse.proofs.Known.{Ended, has_type, not_both, settles, value_is}
 
 -- ---- what one mention shows
 
@@ -102,7 +102,7 @@ here_shows m ms name e f g same s later =
           | inr here ↦ inr (
             here.0,
             subst (λ (x : Mention). Contains (m ∷ ms) x) (ap (λ (x : List ℕ). mention x m.said) named ∙ ap (λ (x : Said). mention name x) here.1)
-            (in_front m ms),
+                (in_front m ms),
           )
         ]
         | inr there ↦ inr (there.0, in_rest m (mention name (item None there.0)) ms there.1)

@@ -1,7 +1,7 @@
 -- What is known of a name fits the type that it has, and a mention that the type allows is noted.
-use Rattle.std.proofs.Common.{◌≡◌, ◌≢◌, ◌∙◌, ◌<◌, ◌==◌, ℕ, List, Bool, true, false, cond, get_or, Option, Some, None, length, refl, sym, ap}
+use Rattle.std.proofs.Common.{◌≡◌, ◌≢◌, ◌∙◌, ◌==◌, ℕ, List, Bool, true, false, cond, get_or, Option, Some, None, refl, sym, ap}
 use Rattle.std.proofs.Common.{[], subst, arith, eq-eqb}
-use Rattle.std.specs.Prelude.{Contains, set, slice_get}
+use Rattle.std.specs.Prelude.{Contains, set}
 use Rattle.std.proofs.lemmas.Option.{slice_get-get_or}
 use Rattle.litmus_cursor.specs.declared.words.VariableType.{VariableType}
 use Rattle.litmus_cursor.specs.declared.words.VariableType.TheVariants.{Char, Short, Int, Long, Atomic, Lock}
@@ -15,8 +15,7 @@ use Rattle.litmus_parse.specs.Entries.{Entry, changed, changed_from, fresh, give
 use Rattle.litmus_parse.specs.Entries.{named_untyped, noted, odd_type, settled, settled_from, type_number, valued}
 use Rattle.litmus_parse.specs.ItemReader.{Heading}
 use Rattle.litmus_parse.specs.Mentions.{HasType, Mention, Said, Says, item, parameter}
-use Rattle.litmus_parse.specs.Told.{Noted, told, told_of}
-use Rattle.litmus_parse.specs.Typed.{AreTyped}
+use Rattle.litmus_parse.specs.Told.{Noted, told}
 use Rattle.litmus_parse.specs.VariableReader.{is_lock_type}
 use Rattle.litmus_parse.proofs.Numbers.{number_read}
 use Rattle.litmus_parse.proofs.Spelled as spelled

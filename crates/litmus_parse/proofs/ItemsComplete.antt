@@ -1,33 +1,29 @@
 -- What is spelled as items is read, where what is said of each name fits its type.
-use Rattle.std.proofs.Common.{◌≡◌, ◌≢◌, ◌∙◌, ℕ, List, [], ◌∷◌, Bool, false, cond, get_or, Option, Some, None, length, refl, sym, ap, subst}
+use Rattle.std.proofs.Common.{◌≡◌, ◌∙◌, ℕ, List, [], ◌∷◌, Bool, false, cond, Option, Some, None, refl, sym, ap}
 use Rattle.std.specs.Prelude.{Contains, is_some, set, slice_get}
 use Rattle.litmus_lex.specs.declared.sign.Sign.TheVariants.{OpenBrace, CloseBrace, Semicolon, Assign}
 use Rattle.litmus_cursor.specs.declared.words.VariableType.{VariableType}
-use Rattle.litmus_cursor.specs.declared.words.VariableType.TheVariants.{Lock}
-use Rattle.litmus_cursor.specs.declared.words.Word.TheVariants as words
 use Rattle.litmus_cursor.specs.Front.{◌>>=◌, first, is_sign, others, take_sign}
-use Rattle.litmus_cursor.specs.Words.{Symbol, word, identifier, sign}
+use Rattle.litmus_cursor.specs.Words.{Symbol, identifier, sign}
 use Rattle.litmus_expression.specs.NameReader.{index_of}
 use Rattle.litmus_expression.specs.Names.{Names, Numbered}
-use Rattle.litmus_expression.proofs.Named.{among, in_front, in_rest}
-use Rattle.litmus_expression.proofs.Taken.{same_given}
+use Rattle.litmus_expression.proofs.Named.{in_front, in_rest}
 use Rattle.litmus_parse.specs.Entries.{Entry, changed, changed_from, grown, named_item, valued}
-use Rattle.litmus_parse.specs.HeaderReader.{type_at, value_at}
+use Rattle.litmus_parse.specs.HeaderReader.{value_at}
 use Rattle.litmus_parse.specs.Headers as grammar
 use Rattle.litmus_parse.specs.Headers.{Item, Items, Value}
-use Rattle.litmus_parse.specs.ItemReader.{Heading, behind_item, behind_name, given_in, initialization_at, item_at, item_of, items_at, items_by}
+use Rattle.litmus_parse.specs.ItemReader.{Heading, behind_item, behind_name, given_in, initialization_at, item_at, item_of, items_at}
 use Rattle.litmus_parse.specs.ItemReader.{noted_in, past, variable_in}
 use Rattle.litmus_parse.specs.Mentions as mentions
 use Rattle.litmus_parse.specs.Mentions.{AreNumbered, HasType, Mention, Said, item, parameter}
-use Rattle.litmus_parse.specs.Told.{Noted, told, told_item}
-use Rattle.litmus_parse.specs.Turns.{Turn, again, done, turned}
+use Rattle.litmus_parse.specs.Told.{Noted, told_item}
+use Rattle.litmus_parse.specs.Turns.{done, turned}
 use Rattle.litmus_parse.specs.Typed.{AreTyped}
-use Rattle.litmus_parse.specs.VariableReader.{is_lock_type, number_at}
+use Rattle.litmus_parse.specs.VariableReader.{is_lock_type}
 use Rattle.litmus_parse.proofs.Fits.{Allows, Behind, Fits, Notes, allows, no_lock_type, notes}
 use Rattle.litmus_parse.proofs.Items.{set_there, set_twice}
-use Rattle.litmus_parse.proofs.Spelled as spelled
 use Rattle.litmus_parse.proofs.Spelled.{nothing_said, one_told}
-use Rattle.litmus_parse.proofs.Tidy.{Tells, entry_in, noted_tells}
+use Rattle.litmus_parse.proofs.Tidy.{entry_in, noted_tells}
 use Rattle.litmus_parse.proofs.Unrolled.{items_unroll}
 use Rattle.litmus_parse.proofs.Values.{value_read}
 

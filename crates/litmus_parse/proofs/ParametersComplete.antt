@@ -12,12 +12,12 @@ use Rattle.litmus_expression.specs.NameReader.{index_of}
 use Rattle.litmus_expression.specs.Names.{Names, Numbered, Parameter}
 use Rattle.litmus_expression.proofs.Named.{in_front, in_none, in_rest, index_there}
 use Rattle.litmus_expression.proofs.Taken.{same_given}
-use Rattle.litmus_parse.specs.Entries.{Entry, changed, grown, named_parameter}
+use Rattle.litmus_parse.specs.Entries.{Entry, grown}
 use Rattle.litmus_parse.specs.Headers as grammar
 use Rattle.litmus_parse.specs.Headers.{Listed, Parameters, mention_of, name_of, parameter_of}
 use Rattle.litmus_parse.specs.ItemReader.{Heading}
 use Rattle.litmus_parse.specs.Mentions.{Mention}
-use Rattle.litmus_parse.specs.ParameterReader.{behind_paren, behind_parameter, has_variable, listed_at, numbered_parameter, parameter_at}
+use Rattle.litmus_parse.specs.ParameterReader.{behind_parameter, has_variable, listed_at, numbered_parameter, parameter_at}
 use Rattle.litmus_parse.specs.ParameterReader.{parameter_of_type, parameters_at}
 use Rattle.litmus_parse.specs.Told.{Noted}
 use Rattle.litmus_parse.specs.Turns.{turned}
@@ -25,8 +25,8 @@ use Rattle.litmus_parse.specs.Typed.{AreTyped}
 use Rattle.litmus_parse.proofs.Fits.{Behind, Fits, Notes}
 use Rattle.litmus_parse.proofs.ItemsComplete.{behind_more, behind_none, first_notes, heading, rest_typed}
 use Rattle.litmus_parse.proofs.Listed.{Stand, before_or_last}
-use Rattle.litmus_parse.proofs.Tidy.{Tells, keeps_number, noted_tells}
-use Rattle.litmus_parse.proofs.Unrolled.{Listing, listed_unroll}
+use Rattle.litmus_parse.proofs.Tidy.{keeps_number, noted_tells}
+use Rattle.litmus_parse.proofs.Unrolled.{listed_unroll}
 
 -- ---- one parameter
 
@@ -144,8 +144,8 @@ listed_go all (grammar.more {before = names} {between} {after = later} {type} {n
     let one = first_notes all (mention_of p) (map mention_of ps) names between table variable fits numbered are in
     let free = not_there all before ps p names between table fits stand numbered one apart in
     let go = listed_go all others_are (before ++ p ∷ []) one.after one.fits
-        (stand_on all before ps p names between table fits stand numbered one)
-        (apart_on before ps p apart alone) (rest_typed all (mention_of p) (map mention_of ps) are) in
+    (stand_on all before ps p names between table fits stand numbered one)
+    (apart_on before ps p apart alone) (rest_typed all (mention_of p) (map mention_of ps) are) in
     record {
       behind = behind_more all (mention_of p) (map mention_of ps) h variable between later symbols rest fits one go.behind;
       reads = listed_then before h p (heading (sign Comma ∷ symbols) between one.after)

@@ -1,6 +1,6 @@
 -- What is spelled as a proposition is read so, whatever follows it that can't continue it.
 use Rattle.std.proofs.Common.{◌≡◌, ◌∙◌, ℕ, zero, suc, ◌+◌, ◌-◌, ◌<◌, ◌≤◌, ◌==◌, nat_lt, List, [], ◌∷◌, Bool, true, false, cond, get_or}
-use Rattle.std.proofs.Common.{Option, Some, None, length, map, refl, sym, ap, subst, arith, eq-eqb}
+use Rattle.std.proofs.Common.{Option, Some, None, refl, sym, ap, subst, arith, eq-eqb}
 use Rattle.std.specs.Prelude.{set, slice_get}
 use Rattle.std.proofs.lemmas.Bool.{eqb-true, lt-ltb}
 use Rattle.litmus_lex.specs.declared.sign.Sign.{Sign}
@@ -10,10 +10,10 @@ use Rattle.litmus_syntax.specs.Limits.{connectives}
 use Rattle.litmus_syntax.specs.Tree as tree
 use Rattle.litmus_cursor.specs.declared.words.Word.TheVariants as words
 use Rattle.litmus_cursor.specs.Front.{◌>>=◌, first, is_sign, others, sign_number, take_sign, take_signed}
-use Rattle.litmus_cursor.specs.Words.{Symbol, word, identifier, number, sign}
-use Rattle.litmus_expression.specs.NameReader.{index_of, register_at, take_register}
-use Rattle.litmus_expression.specs.Names.{IsRegister, Names, Parameter}
-use Rattle.litmus_expression.specs.States.{State, after, with_left}
+use Rattle.litmus_cursor.specs.Words.{Symbol, word, identifier, sign}
+use Rattle.litmus_expression.specs.NameReader.{index_of, take_register}
+use Rattle.litmus_expression.specs.Names.{IsRegister, Names}
+use Rattle.litmus_expression.specs.States.{State, after}
 use Rattle.litmus_expression.proofs.Complete.{numbered_differ, placed, register_back}
 use Rattle.litmus_expression.proofs.Taken.{same_given}
 use Rattle.litmus_parse.specs.ConditionReader.{given_value}

@@ -1,5 +1,5 @@
 -- What a refusal means where names are made of what is read.
-use Rattle.std.proofs.Common.{◌≡◌, ◌∙◌, ◌++◌, ◌<◌, ◌≤◌, ℕ, suc, List, [], ◌∷◌, Bool, true, false, cond, Option, Some, None, Bor, get_or, length, map, refl}
+use Rattle.std.proofs.Common.{◌≡◌, ◌∙◌, ◌++◌, ◌≤◌, ℕ, suc, List, [], ◌∷◌, Bool, true, false, cond, Option, Some, None, Bor, get_or, length, map, refl}
 use Rattle.std.proofs.Common.{sym, ap, subst, arith}
 use Rattle.std.specs.Prelude.{All, Err, IfErr, Ok, Result}
 use Rattle.std.specs.Result.{IsErrAnd}
@@ -78,17 +78,37 @@ ended_put : (name : List ℕ) (c : Course) (q : Quantifier) (x : tree.Propositio
     → ended name c q x ≡ put_if name (parts_behind c q x)
 ended_put name c q x true is =
     ap (λ (b : Bool). cond b None (Some (put_together name (record {
-      names = c.heading.names; table = c.heading.table; states = x.1; bodies = c.bodies; quantifier = q; condition = x.0;
+      names = c.heading.names;
+      table = c.heading.table;
+      states = x.1;
+      bodies = c.bodies;
+      quantifier = q;
+      condition = x.0;
     })))) is
     ∙ sym (ap (λ (b : Bool). put_if name (cond b None (Some (record {
-      names = c.heading.names; table = c.heading.table; states = x.1; bodies = c.bodies; quantifier = q; condition = x.0;
+      names = c.heading.names;
+      table = c.heading.table;
+      states = x.1;
+      bodies = c.bodies;
+      quantifier = q;
+      condition = x.0;
     })))) is)
 ended_put name c q x false is =
     ap (λ (b : Bool). cond b None (Some (put_together name (record {
-      names = c.heading.names; table = c.heading.table; states = x.1; bodies = c.bodies; quantifier = q; condition = x.0;
+      names = c.heading.names;
+      table = c.heading.table;
+      states = x.1;
+      bodies = c.bodies;
+      quantifier = q;
+      condition = x.0;
     })))) is
     ∙ sym (ap (λ (b : Bool). put_if name (cond b None (Some (record {
-      names = c.heading.names; table = c.heading.table; states = x.1; bodies = c.bodies; quantifier = q; condition = x.0;
+      names = c.heading.names;
+      table = c.heading.table;
+      states = x.1;
+      bodies = c.bodies;
+      quantifier = q;
+      condition = x.0;
     })))) is)
 
 condition_put : (name : List ℕ) (c : Course) (q : Quantifier) (o : Option (tree.Proposition × List State))

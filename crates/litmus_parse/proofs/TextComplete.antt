@@ -1,30 +1,27 @@
 -- What spells a program behind a head is read as that program.
-use Rattle.std.proofs.Common.{◌≡◌, ◌∙◌, ◌++◌, ℕ, List, [], ◌∷◌, Bool, false, cond, get_or, Option, Some, None, length, map, refl, sym, ap, subst}
+use Rattle.std.proofs.Common.{◌≡◌, ◌∙◌, ◌++◌, ℕ, List, [], ◌∷◌, Bool, false, cond, get_or, Option, Some, None, map, refl, sym, ap, subst}
 use Rattle.std.specs.Prelude.{Contains, flat_map, slice_get}
-use Rattle.litmus_lex.specs.declared.sign.Sign.TheVariants.{OpenBrace}
 use Rattle.litmus_syntax.specs.Tree as tree
 use Rattle.litmus_syntax.specs.declared.program.Variable.{Variable}
 use Rattle.litmus_syntax.specs.declared.proposition.Quantifier.{Quantifier}
 use Rattle.litmus_cursor.specs.declared.words.VariableType.{VariableType}
 use Rattle.litmus_cursor.specs.Front.{◌>>=◌}
-use Rattle.litmus_cursor.specs.Words.{Symbol, sign}
+use Rattle.litmus_cursor.specs.Words.{Symbol}
 use Rattle.litmus_expression.specs.NameReader.{index_of}
 use Rattle.litmus_expression.specs.Names.{Names}
 use Rattle.litmus_expression.specs.States.{State}
 use Rattle.litmus_expression.proofs.Named as Named
 use Rattle.litmus_expression.proofs.Named.{found_at, in_none, in_rest}
-use Rattle.litmus_expression.proofs.Taken.{same_given}
-use Rattle.litmus_parse.specs.ConditionReader.{quantifier_at}
 use Rattle.litmus_parse.specs.Conditions.{IsKnown}
 use Rattle.litmus_parse.specs.Distinct.{body_of}
 use Rattle.litmus_parse.specs.Entries.{Entry, fresh}
 use Rattle.litmus_parse.specs.Grammar.{Grammar, mentions_of, said_by, task_of}
 use Rattle.litmus_parse.specs.Headers.{Process}
-use Rattle.litmus_parse.specs.ItemReader.{Heading, initialization_at, unnamed}
-use Rattle.litmus_parse.specs.Mentions.{HasType, Mention, Said, Says}
+use Rattle.litmus_parse.specs.ItemReader.{Heading}
+use Rattle.litmus_parse.specs.Mentions.{HasType, Mention}
 use Rattle.litmus_parse.specs.ProcessReader.{Course, processes_at, seen, unbegun}
 use Rattle.litmus_parse.specs.PropositionReader.{whole_at}
-use Rattle.litmus_parse.specs.TextReader.{condition_at, ended, is_lock_entry, locks_in, program_at, variables_in}
+use Rattle.litmus_parse.specs.TextReader.{condition_at, ended, locks_in, program_at, variables_in}
 use Rattle.litmus_parse.specs.Told.{all_told}
 use Rattle.litmus_parse.specs.Typed.{AreTyped}
 use Rattle.litmus_parse.specs.VariableReader.{is_lock_type}
@@ -72,7 +69,7 @@ module _ (all : List Mention) (names : Names) (table : List Entry) (fits : Fits 
   is_open name v k = (
     found_at names name v fits.tidy.differ k.stands,
     locks_at table v
-    ∙ no_lock_of (get_or table v fresh).type k.type (fit_at v name k.type k.stands k.typed).type (no_lock_type k.type k.no_lock),
+        ∙ no_lock_of (get_or table v fresh).type k.type (fit_at v name k.type k.stands k.typed).type (no_lock_type k.type k.no_lock),
   )
 
 -- ---- the whole

@@ -1,9 +1,7 @@
 -- What is read as a text behind its head is spelled so.
 use Rattle.std.proofs.Common.{◌≡◌, ◌∙◌, ◌++◌, ℕ, zero, suc, List, [], ◌∷◌, Bool, true, false, cond, get_or, Option, Some, length, map, refl}
 use Rattle.std.proofs.Common.{sym, ap, subst, arith}
-use Rattle.std.specs.Prelude.{All, flat_map, slice_get, unwrap_or}
-use Rattle.std.proofs.lemmas.List.{length-map}
-use Rattle.litmus_syntax.specs.Limits.{BodyKeepsLimits}
+use Rattle.std.specs.Prelude.{flat_map, slice_get, unwrap_or}
 use Rattle.litmus_syntax.specs.Tree as tree
 use Rattle.litmus_syntax.specs.declared.proposition.Quantifier.{Quantifier}
 use Rattle.litmus_cursor.specs.declared.words.VariableType.{VariableType}
@@ -23,7 +21,7 @@ use Rattle.litmus_parse.specs.Headers.{Item, Items, Process, Processes, mention_
 use Rattle.litmus_parse.specs.ItemReader.{Heading, initialization_at, unnamed}
 use Rattle.litmus_parse.specs.Mentions as mentions
 use Rattle.litmus_parse.specs.Mentions.{AreDeclared, AreNumbered, Mention, contents_of}
-use Rattle.litmus_parse.specs.ProcessReader.{Course, process_of, processes_at, seen, unbegun}
+use Rattle.litmus_parse.specs.ProcessReader.{Course, processes_at, seen, unbegun}
 use Rattle.litmus_parse.specs.PropositionReader.{whole_at}
 use Rattle.litmus_parse.specs.TextReader.{condition_at, ended, has_contradiction, is_lock_entry, locks_in, program_at, variable_in}
 use Rattle.litmus_parse.specs.TextReader.{variables_in}
@@ -31,7 +29,7 @@ use Rattle.litmus_parse.specs.Told.{all_told}
 use Rattle.litmus_parse.specs.VariableReader.{is_lock_type}
 use Rattle.litmus_parse.proofs.Known as known
 use Rattle.litmus_parse.proofs.Known.{AreItems, AreParameters, has_type, lock_is, not_both, value_is}
-use Rattle.litmus_parse.proofs.Processes.{Pair, Reads, SomeProcesses, body, proc, processes_read, seen_is, state, told_both}
+use Rattle.litmus_parse.proofs.Processes.{Pair, Reads, SomeProcesses, proc, processes_read, seen_is, state, told_both}
 use Rattle.litmus_parse.proofs.PropositionSound.{AllFew, whole_reads}
 use Rattle.litmus_parse.proofs.Quantifiers.{quantifier_spelled}
 use Rattle.litmus_parse.proofs.Spelled.{ReadsBlock, initialization_read}

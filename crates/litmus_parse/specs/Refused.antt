@@ -1,5 +1,5 @@
 -- What a refusal means.
-use Rattle.std.specs.Prelude.{◌≡◌, All, Option, Some, None}
+use Rattle.std.specs.Prelude.{◌≡◌, All, Option, Some}
 use Rattle.std.specs.Str.{IsUtf8}
 use Rattle.litmus_syntax.specs.Tree as tree
 use Rattle.litmus_cursor.specs.declared.cursor.Refusal.{Refusal}

@@ -1,5 +1,5 @@
 -- The text has one name and one list of tokens, and both programs are what is read of these.
-use Rattle.std.proofs.Common.{◌≡◌, ◌∙◌, ℕ, List, ap, map, subst, sym}
+use Rattle.std.proofs.Common.{◌∙◌, ℕ, List, ap, map, subst, sym}
 use Rattle.litmus_lex.specs.Tokens.{Placed}
 use Rattle.litmus_expression.proofs.Taken.{same_given}
 use Rattle.litmus_parse.specs.Grammar.{Grammar, symbol_at}

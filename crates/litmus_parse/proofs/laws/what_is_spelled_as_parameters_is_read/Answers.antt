@@ -1,5 +1,5 @@
 -- Parameter by parameter, behind the items.
-use Rattle.std.proofs.Common.{◌≡◌, ◌∙◌, List, ap, sym, subst, refl}
+use Rattle.std.proofs.Common.{◌∙◌, List, ap, sym, subst, refl}
 use Rattle.litmus_expression.proofs.Taken.{same_given}
 use Rattle.litmus_parse.specs.Entries.{Entry}
 use Rattle.litmus_parse.specs.ItemReader.{Heading}

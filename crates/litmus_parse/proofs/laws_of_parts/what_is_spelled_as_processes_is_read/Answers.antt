@@ -1,5 +1,5 @@
 -- Process by process, behind the items.
-use Rattle.std.proofs.Common.{◌≡◌, ◌∙◌, List, ap, sym, subst}
+use Rattle.std.proofs.Common.{◌∙◌, List, ap, sym, subst}
 use Rattle.litmus_expression.proofs.Taken.{same_given}
 use Rattle.litmus_parse.specs.Entries.{Entry}
 use Rattle.litmus_parse.specs.ItemReader.{Heading}
