@@ -3,3 +3,5 @@ pub mod Expressions
 pub mod Statements
 pub mod Propositions
 pub mod Processes
+pub mod Items
+pub mod Declarations

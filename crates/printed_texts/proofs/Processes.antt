@@ -35,7 +35,7 @@ behind_others : (xs ys : Names) (n : List ℕ) → Contains ys n → Contains (x
 behind_others [] ys n there = there
 behind_others (x ∷ xs) ys n there = in_rest x n (xs ++ ys) (behind_others xs ys n there)
 
-not_before : (before more : Names) (r : List ℕ) → Differ (before ++ r ∷ more) → ¬ Contains before r
+pub not_before : (before more : Names) (r : List ℕ) → Differ (before ++ r ∷ more) → ¬ Contains before r
 not_before [] more r differ = λ there. in_none r there
 not_before (b ∷ before) more r differ = λ there.
     among b r before ⊥ there

@@ -4,3 +4,4 @@ pub mod PrintedCondition
 pub mod PrintedProcess
 pub mod PrintedNames
 pub mod Covered
+pub mod PrintedProgram

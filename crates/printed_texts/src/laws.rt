@@ -1,25 +1,27 @@
 //! What is true of the printed form of litmus programs and of their grammar.
 
-ghost use Rattle.std.specs.Prelude.{◌≡◌, ℕ, Contains, List, [], ◌∷◌, Some, map, slice_get};
+ghost use Rattle.std.specs.Prelude.{◌≡◌, ◌≤◌, ℕ, Contains, List, [], ◌∷◌, Some, length, map, slice_get};
 ghost use Rattle.litmus_lex.specs.declared.sign.Sign.TheVariants.{CloseBrace};
-ghost use Rattle.litmus_syntax.specs.Limits.{BodyKeepsLimits};
+ghost use Rattle.litmus_syntax.specs.Limits.{BodyKeepsLimits, variables_limit};
 ghost use Rattle.litmus_syntax.specs.PrintedForm.{variable_name};
 ghost use Rattle.litmus_syntax.specs.Tree as tree;
 ghost use Rattle.litmus_syntax.specs.declared.program.Variable.{Variable};
 ghost use Rattle.litmus_cursor.specs.Words.{Symbol, sign};
 ghost use Rattle.litmus_cursor.specs.declared.words.VariableType.{VariableType};
 ghost use Rattle.litmus_expression.specs.Expressions.{Expression};
+ghost use Rattle.litmus_expression.specs.Followed.{Differ};
 ghost use Rattle.litmus_expression.specs.Names.{Names, Parameter};
 ghost use Rattle.litmus_body.specs.Statements.{Statements};
 ghost use Rattle.litmus_parse.specs.Conditions.{Disjoined, IsKnown};
-ghost use Rattle.litmus_parse.specs.Grammar.{task_of};
-ghost use Rattle.litmus_parse.specs.Headers.{IsProcess, Process};
-ghost use Rattle.litmus_parse.specs.Mentions.{Mention};
+ghost use Rattle.litmus_parse.specs.Grammar.{said_by, task_of};
+ghost use Rattle.litmus_parse.specs.Headers.{IsProcess, Items, Process};
+ghost use Rattle.litmus_parse.specs.Mentions.{AreDeclared, AreNumbered, Mention};
 ghost use Rattle.printed_texts.specs.Covered.{Covers};
 ghost use Rattle.printed_texts.specs.PrintedCondition.{PropositionNests, proposition_symbols};
-ghost use Rattle.printed_texts.specs.PrintedNames.{AreNames};
+ghost use Rattle.printed_texts.specs.PrintedNames.{AreNames, IsOf};
 ghost use Rattle.printed_texts.specs.PrintedNesting.{BlockNests, ExpressionNests};
 ghost use Rattle.printed_texts.specs.PrintedProcess.{task_symbols};
+ghost use Rattle.printed_texts.specs.PrintedProgram.{items_symbols, mention_of};
 ghost use Rattle.printed_texts.specs.PrintedSymbols.{block_symbols, expression_symbols};
 
 /// Law: where some symbols spell an expression, those of its printed form spell it too, among registers that have the names and
@@ -68,4 +70,21 @@ pub fn printed_processes_are_spelled()
         → ((number : ℕ) (name : List ℕ) → slice_get before number ≡ Some name → slice_get process.registers number ≡ Some name)
         → BlockNests 1 process.body
         → IsProcess task names (task_symbols variables task (task_of process) rest) process rest names }
+{}
+
+/// Law: the symbols of the printed initialization block spell items that give the variables the numbers that they have.
+pub fn printed_items_are_spelled()
+    ensures { (all : List Mention) (names : Names) (variables : List Variable) (rest : List Symbol) → AreDeclared all names variables
+        → Differ names → length names ≤ variables_limit
+        → Items (items_symbols variables (sign CloseBrace ∷ rest)) (map mention_of variables) rest
+        × AreNumbered [] (map mention_of variables) names }
+{}
+
+/// Law: the printed initialization block declares the variables with the types and the values that they have, beside parameters of
+/// their types.
+pub fn printed_items_declare_their_variables()
+    ensures { (all : List Mention) (names : Names) (variables : List Variable) (processes : List Process)
+        → AreDeclared all names variables → Differ (map (λ (v : Variable). v.name) variables)
+        → ((q : Process) → Contains processes q → (p : Parameter) → Contains q.parameters p → IsOf variables names p)
+        → AreDeclared (said_by (map mention_of variables) processes) names variables }
 {}
