@@ -5,7 +5,7 @@ use Rattle.litmus_syntax.specs.declared.program.Contents.{Contents}
 use Rattle.litmus_syntax.specs.declared.program.Contents.TheVariants as contents
 use Rattle.litmus_syntax.specs.declared.program.Variable.{Variable}
 use Rattle.litmus_cursor.specs.declared.words.VariableType.{VariableType}
-use Rattle.litmus_cursor.specs.declared.words.VariableType.TheVariants.{Char, Short, Int, Long, Atomic, Lock}
+use Rattle.litmus_cursor.specs.declared.words.VariableType.TheVariants.{Int, Lock}
 use Rattle.litmus_cursor.specs.Words.{is_same}
 use Rattle.litmus_expression.specs.Followed.{Differ}
 use Rattle.litmus_expression.specs.Names.{Names, Parameter}
@@ -44,7 +44,7 @@ unique (x ∷ vs) differ v w at there same =
     (λ is. absurd (differ.0 (subst (λ (n : List ℕ). Contains (map named vs) n) (same ∙ sym (ap named is)) (name_among vs v later))))
     (λ also. unique vs differ.1 v w later also same))
 
-split : {A : Type 0} (xs ys : List A) (m : A) (R : Type 0) → Contains (xs ++ ys) m → (Contains xs m → R) → (Contains ys m → R) → R
+pub split : {A : Type 0} (xs ys : List A) (m : A) (R : Type 0) → Contains (xs ++ ys) m → (Contains xs m → R) → (Contains ys m → R) → R
 split [] ys m R there f g = g there
 split (x ∷ xs) ys m R there f g =
     among x m (xs ++ ys) R there

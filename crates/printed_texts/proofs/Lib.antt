@@ -5,3 +5,4 @@ pub mod Propositions
 pub mod Processes
 pub mod Items
 pub mod Declarations
+pub mod Programs

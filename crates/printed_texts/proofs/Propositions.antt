@@ -26,7 +26,7 @@ given_is x y e = ap (λ (o : Option _). unwrap_or o x) e
 extends_itself : (p : Process) → Extends p p
 extends_itself p = record { parameters = refl; registers = λ n name is. is }
 
-covers_themselves : (ps : List Process) → Covers ps ps
+pub covers_themselves : (ps : List Process) → Covers ps ps
 covers_themselves ps = record { covers = λ k p is. (p, is, extends_itself p) }
 
 covers_then : (before between later : List Process) → Covers before between → Covers between later → Covers before later

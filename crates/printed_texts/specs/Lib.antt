@@ -5,3 +5,4 @@ pub mod PrintedProcess
 pub mod PrintedNames
 pub mod Covered
 pub mod PrintedProgram
+pub mod Whole
