@@ -8,7 +8,8 @@ use Rattle.headline_tried.proofs.headline.holds.Goals as goal
 
 pub returns-clause-headline : goal.returns-clause-headline
 returns-clause-headline c = λ told_so. record {
-  taken_once = subst (λ (r : List Record). AllPairs ◌≢◌ (armings_taken r)) c.as_slice.ensures.value (c.in_ok-taken_once.ensures c.if-not-branch.false);
+  taken_once = subst (λ (r : List Record). AllPairs ◌≢◌ (armings_taken r)) c.as_slice.ensures.value
+      (c.in_ok-taken_once.ensures c.if-not-branch.false);
   reports = c.in_ok-all_true.ensures c.if-not-branch-2.false;
   one_answer = subst (λ (r : List Record). TakingsAnswered (account_of c.args.told.now) r) c.as_slice-2.ensures.value
       (c.takings_answered.ensures c.if-not-takings_answered.false);
