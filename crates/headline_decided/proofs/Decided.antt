@@ -1,5 +1,5 @@
 -- The headline of a run list, and that of what it tells.
-use Rattle.std.proofs.Common.{◌≡◌, ◌∷◌, ◌++◌, ◌∙◌, [], ℕ, Bool, All, Contains, IsTrue, List, Option, ap, map, slice_index_or, subst, sym}
+use Rattle.std.proofs.Common.{◌∷◌, ◌++◌, ◌∙◌, [], ℕ, Bool, All, Contains, IsTrue, List, Option, ap, map, slice_index_or, subst, sym}
 use Rattle.std.specs.Option.{option_map}
 use Rattle.std.proofs.lemmas.List.Elements.{All-map}
 use Rattle.access_types.specs.Access.{Access}

@@ -1,8 +1,8 @@
 -- What a run list tells, as what is told of a list that is given.
-use Rattle.std.specs.Prelude.{◌≡◌, ◌≢◌, ◌-◌, ℕ, Bool, List, All, AllPairs, Contains, IsTrue, Some, drop, length, map}
+use Rattle.std.specs.Prelude.{◌≡◌, ◌≢◌, ◌-◌, ℕ, Bool, List, All, AllPairs, Contains, IsTrue, drop, length, map}
 use Rattle.std.specs.Option.{option_map}
 use Rattle.access_types.specs.Access.{Access}
-use Rattle.access_types.specs.Race.{ChangedUnderWatch, TrueRace}
+use Rattle.access_types.specs.Race.{TrueRace}
 use Rattle.access_types.specs.Ticket.{ticket_number}
 use Rattle.headline_tried.specs.Tried.{Account}
 use Rattle.headline_tried.specs.declared.told.Armed as given

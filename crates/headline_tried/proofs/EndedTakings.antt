@@ -1,7 +1,7 @@
 -- A taking of a list is the latest record or one of the rest.
 use Rattle.std.proofs.Common.{◌≡◌, ◌<◌, ◌≤◌, ◌-◌, ◌∷◌, [], inl, inr, ℕ, suc, List, arith, drop, length, slice_index_or, subst, sym, take}
 use Rattle.std.proofs.Math.Seq.{take-length}
-use Rattle.headline_tried.specs.Tried.{Account, Answered, HasEnded, TakingsAnswered, WasArmed, WasTaken}
+use Rattle.headline_tried.specs.Tried.{Account, Answered, HasEnded, TakingsAnswered, WasArmed}
 use Rattle.slot_table.specs.Hearings.{IsArming, IsTaking}
 use Rattle.slot_table.specs.declared.records.Record.{Record}
 

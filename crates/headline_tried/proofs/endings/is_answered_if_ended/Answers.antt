@@ -1,5 +1,5 @@
 -- The arming is the one that the record takes.
-use Rattle.std.proofs.Common.{◌≡◌, ◌∙◌, ℕ, List, ap, false, subst, sym, true}
+use Rattle.std.proofs.Common.{◌≡◌, ◌∙◌, ℕ, List, false, subst, sym, true}
 use Rattle.headline_tried.specs.Tried.{Answered, WasArmed, account_of}
 use Rattle.slot_table.specs.declared.records.Record.{Record}
 use Rattle.headline_tried.proofs.endings.is_answered_if_ended.Goals as goal
