@@ -24,7 +24,6 @@ use litmus_parse::{Limit, ParseError, Program, parse};
 use litmus_step::{Settings, World, WorldError};
 use program_layout::LayoutError;
 use report_text::{MemorySink, Sink, write_all};
-use run_headline::laws::the_headline_holds;
 use run_output::{Found, write_output};
 use std::alloc::{AllocError, Global};
 use step_schedule::Schedule;
@@ -171,7 +170,6 @@ fn run_program(
     ensures traced { IfOk result (λ written. is_some written.trace ≡ traced) }
     ensures stops { IfErr result (Stops program.now settings.now (entries_of schedule.now)) }
 {
-    the_headline_holds();
     match World::new(alloc, program, settings) {
         Ok(mut world) => match world.run(schedule) {
             Ok(()) => left_of(alloc, program, settings, &world, traced),

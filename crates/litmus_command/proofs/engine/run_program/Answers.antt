@@ -42,7 +42,7 @@ returns-in-Ok-run-clause-leaves c =
       trace_is = items_if_some _ written.trace trace;
       accepted = items_if_some _ written.trace accepted;
       raced_is = raced;
-      headline = c.the_headline_holds.ensures run asked.0 leads.list;
+      headline = c.run.ensures.headline run asked.0 leads;
     }) (c.left_of.ensures.output asked.0 leads) (c.left_of.ensures.trace run asked.0 leads)
     (c.left_of.ensures.accepted run asked.0 leads over refl refl c.in-Ok.ensures.slots.1) (c.left_of.ensures.raced run asked.0 leads)
 
