@@ -167,7 +167,8 @@ module _ (variables : List Variable) (names : Names) (differ : Differ (map named
   said = said_by (map mention_of variables) ps
 
   -- the parameter that a mention is
-  parameter_among : (qs : List Process) (m : Mention) → ((q : Process) → Contains qs q → Contains ps q) → Contains (flat_map mentions_of qs) m
+  parameter_among : (qs : List Process) (m : Mention) → ((q : Process) → Contains qs q → Contains ps q)
+      → Contains (flat_map mentions_of qs) m
       → (p : Parameter) × IsOf variables names p × (headers.mention_of p ≡ m)
   parameter_among [] m in_all there = absurd (in_none m there)
   parameter_among (q ∷ qs) m in_all there =

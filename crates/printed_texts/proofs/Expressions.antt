@@ -47,7 +47,8 @@ module _ (P : List Parameter) (variables : List Variable) (names : Names)
   abbrev At : ℕ → ℕ → List Symbol → tree.Expression → List Symbol → Type 0
   At k d symbols e rest = Level P k d names symbols e rest names
 
-  lifted : (k : ℕ) (d : ℕ) (symbols : List Symbol) (e : tree.Expression) (rest : List Symbol) → At 0 d symbols e rest → At k d symbols e rest
+  lifted : (k : ℕ) (d : ℕ) (symbols : List Symbol) (e : tree.Expression) (rest : List Symbol) → At 0 d symbols e rest
+      → At k d symbols e rest
   lifted zero d symbols e rest l = l
   lifted (suc k) d symbols e rest l = grammar.stronger (lifted k d symbols e rest l)
 

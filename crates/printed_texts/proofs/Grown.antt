@@ -22,7 +22,8 @@ append_there : (names : Names) (x : List ℕ) → slice_get (names ++ x ∷ []) 
 append_there [] x = refl
 append_there (n ∷ names) x = append_there names x
 
-pub numbered_grows : {limit number : ℕ} {name : List ℕ} {before later : Names} → Numbered limit before name number later → Grown before later
+pub numbered_grows : {limit number : ℕ} {name : List ℕ} {before later : Names} → Numbered limit before name number later
+    → Grown before later
 numbered_grows (known there) = record { keeps = λ k x is. is }
 numbered_grows {name = name} {before = before} (new out lt) = record { keeps = λ k x is. append_before before name x k is }
 

@@ -48,7 +48,8 @@ module _ (variables : List Variable) (names : Names) where
 
   -- ---- the condition names more registers
 
-  whole_at : (ps : List Process) (task : ℕ) (p : Process) → AllWhole variables names ps → slice_get ps task ≡ Some p → Whole variables names p
+  whole_at : (ps : List Process) (task : ℕ) (p : Process) → AllWhole variables names ps → slice_get ps task ≡ Some p
+      → Whole variables names p
   whole_at [] task p whole is = absurd cc
   whole_at (q ∷ ps) zero p whole is = subst (λ (r : Process). Whole variables names r) (given_is q p is) whole.0
     where
@@ -62,11 +63,13 @@ module _ (variables : List Variable) (names : Names) where
   whole_set (q ∷ ps) zero p whole is = (is, whole.1)
   whole_set (q ∷ ps) (suc task) p whole is = (whole.0, whole_set ps task p whole.1 is)
 
-  few_more : {number : ℕ} {name : List ℕ} {before later : Names} → length before ≤ 32 → Numbered 32 before name number later → length later ≤ 32
+  few_more : {number : ℕ} {name : List ℕ} {before later : Names} → length before ≤ 32 → Numbered 32 before name number later
+      → length later ≤ 32
   few_more few (known there) = few
   few_more {name = name} {before = before} few (new out lt) = let n = length-append before (name ∷ []) in omega (arith, n, lt)
 
-  free_more : (P : List Parameter) {number : ℕ} {name : List ℕ} {before later : Names} → ((m : List ℕ) → Contains before m → IsFree P m) → IsFree P name
+  free_more : (P : List Parameter) {number : ℕ} {name : List ℕ} {before later : Names} → ((m : List ℕ) → Contains before m → IsFree P m)
+      → IsFree P name
       → Numbered 32 before name number later → (m : List ℕ) → Contains later m → IsFree P m
   free_more P free is (known there) m at = free m at
   free_more P {name = name} {before = before} free is (new out lt) m at =
@@ -113,19 +116,22 @@ module _ (variables : List Variable) (names : Names) where
         }
 
     mutual
-      disjoined_still : {d : ℕ} {before later : List Process} {symbols rest : List Symbol} {a : tree.Proposition} → AllWhole variables names before
+      disjoined_still : {d : ℕ} {before later : List Process} {symbols rest : List Symbol} {a : tree.Proposition}
+          → AllWhole variables names before
           → Disjoined all names d before symbols a rest later → Still before later
       disjoined_still whole (conditions.conjunction c) = conjoined_still whole c
       disjoined_still {before = before} {later = later} whole (conditions.or {between = between} l c) =
           let one = disjoined_still whole l in still_then before between later one (conjoined_still one.whole c)
 
-      conjoined_still : {d : ℕ} {before later : List Process} {symbols rest : List Symbol} {a : tree.Proposition} → AllWhole variables names before
+      conjoined_still : {d : ℕ} {before later : List Process} {symbols rest : List Symbol} {a : tree.Proposition}
+          → AllWhole variables names before
           → Conjoined all names d before symbols a rest later → Still before later
       conjoined_still whole (conditions.negation n) = negation_still whole n
       conjoined_still {before = before} {later = later} whole (conditions.and {between = between} l n) =
           let one = conjoined_still whole l in still_then before between later one (negation_still one.whole n)
 
-      negation_still : {d : ℕ} {before later : List Process} {symbols rest : List Symbol} {a : tree.Proposition} → AllWhole variables names before
+      negation_still : {d : ℕ} {before later : List Process} {symbols rest : List Symbol} {a : tree.Proposition}
+          → AllWhole variables names before
           → Negation all names d before symbols a rest later → Still before later
       negation_still whole (conditions.atom a) = atom_still whole a
       negation_still whole (conditions.not n) = negation_still whole n
@@ -144,7 +150,8 @@ module _ (variables : List Variable) (names : Names) where
       (λ later. parameters_of ps whole.1 q later)
 
 -- how many processes there are
-processes_sized : {task : ℕ} {before later : Names} {symbols rest : List Symbol} {ps : List Process} → Processes task before symbols ps rest later
+processes_sized : {task : ℕ} {before later : Names} {symbols rest : List Symbol} {ps : List Process}
+    → Processes task before symbols ps rest later
     → (0 < length ps) × (task + length ps ≤ 16)
 processes_sized (headers.last lt p) = (omega arith, omega arith)
 processes_sized (headers.more lt p others) = let r = processes_sized others in let le = r.1 in (omega arith, omega arith)

@@ -20,9 +20,11 @@ proposition_symbols variables tasks (tree.variable_is x n) rest = identifier (va
 proposition_symbols variables tasks (tree.negation p) rest =
     sign OpenParen ∷ sign Tilde ∷ proposition_symbols variables tasks p (sign CloseParen ∷ rest)
 proposition_symbols variables tasks (tree.both p q) rest =
-    sign OpenParen ∷ proposition_symbols variables tasks p (sign Conjunction ∷ proposition_symbols variables tasks q (sign CloseParen ∷ rest))
+    sign OpenParen ∷ proposition_symbols variables tasks p (sign Conjunction
+    ∷ proposition_symbols variables tasks q (sign CloseParen ∷ rest))
 proposition_symbols variables tasks (tree.either p q) rest =
-    sign OpenParen ∷ proposition_symbols variables tasks p (sign Disjunction ∷ proposition_symbols variables tasks q (sign CloseParen ∷ rest))
+    sign OpenParen ∷ proposition_symbols variables tasks p (sign Disjunction
+    ∷ proposition_symbols variables tasks q (sign CloseParen ∷ rest))
 
 abbrev pub quantifier_symbols : Quantifier → List Symbol → List Symbol
 quantifier_symbols Exists rest = word words.Exists ∷ rest

@@ -32,9 +32,12 @@ closes (suc n) rest = closes n (sign CloseParen ∷ rest)
 
 abbrev pub read_symbols : ReadForm → List ℕ → List Symbol → List Symbol
 read_symbols reads.Plain x rest = sign Star ∷ identifier x ∷ rest
-read_symbols reads.Once x rest = word (words.Load (loads.Read reads.Once)) ∷ sign OpenParen ∷ sign Star ∷ identifier x ∷ sign CloseParen ∷ rest
-read_symbols reads.Acquire x rest = word (words.Load (loads.Read reads.Acquire)) ∷ sign OpenParen ∷ identifier x ∷ sign CloseParen ∷ rest
-read_symbols reads.Atomic x rest = word (words.Load (loads.Read reads.Atomic)) ∷ sign OpenParen ∷ identifier x ∷ sign CloseParen ∷ rest
+read_symbols reads.Once x rest =
+    word (words.Load (loads.Read reads.Once)) ∷ sign OpenParen ∷ sign Star ∷ identifier x ∷ sign CloseParen ∷ rest
+read_symbols reads.Acquire x rest =
+    word (words.Load (loads.Read reads.Acquire)) ∷ sign OpenParen ∷ identifier x ∷ sign CloseParen ∷ rest
+read_symbols reads.Atomic x rest =
+    word (words.Load (loads.Read reads.Atomic)) ∷ sign OpenParen ∷ identifier x ∷ sign CloseParen ∷ rest
 
 abbrev pub mark_symbols : Mark → List Symbol → List Symbol
 mark_symbols Disable rest = word (words.Call (asks.Mark Disable)) ∷ sign OpenParen ∷ sign CloseParen ∷ rest
@@ -94,9 +97,11 @@ module _ (variables : List Variable) (registers : Names) where
       word (words.Store (stores.Write writes.Once)) ∷ sign OpenParen ∷ sign Star ∷ identifier x ∷ sign Comma
       ∷ pure_symbols e (sign CloseParen ∷ rest)
   write_symbols writes.Release x e rest =
-      word (words.Store (stores.Write writes.Release)) ∷ sign OpenParen ∷ identifier x ∷ sign Comma ∷ pure_symbols e (sign CloseParen ∷ rest)
+      word (words.Store (stores.Write writes.Release)) ∷ sign OpenParen ∷ identifier x ∷ sign Comma
+      ∷ pure_symbols e (sign CloseParen ∷ rest)
   write_symbols writes.Atomic x e rest =
-      word (words.Store (stores.Write writes.Atomic)) ∷ sign OpenParen ∷ identifier x ∷ sign Comma ∷ pure_symbols e (sign CloseParen ∷ rest)
+      word (words.Store (stores.Write writes.Atomic)) ∷ sign OpenParen ∷ identifier x ∷ sign Comma
+      ∷ pure_symbols e (sign CloseParen ∷ rest)
 
   abbrev pub assignment_symbols : Assignment → List Symbol → List Symbol
   assignment_symbols (tree.to_register r e) rest = identifier (name_at registers r) ∷ sign Assign ∷ expression_symbols e rest
@@ -119,9 +124,11 @@ module _ (variables : List Variable) (registers : Names) where
   call_symbols (calls.Unlock l) rest =
       word (words.Call asks.Unlock) ∷ sign OpenParen ∷ identifier (variable_name variables l) ∷ sign CloseParen ∷ rest
   call_symbols (calls.AssertWriter x scoped) rest =
-      word (words.Call (asks.AssertWriter scoped)) ∷ sign OpenParen ∷ sign Star ∷ identifier (variable_name variables x) ∷ sign CloseParen ∷ rest
+      word (words.Call (asks.AssertWriter scoped)) ∷ sign OpenParen ∷ sign Star ∷ identifier (variable_name variables x)
+      ∷ sign CloseParen ∷ rest
   call_symbols (calls.AssertAccess x scoped) rest =
-      word (words.Call (asks.AssertAccess scoped)) ∷ sign OpenParen ∷ sign Star ∷ identifier (variable_name variables x) ∷ sign CloseParen ∷ rest
+      word (words.Call (asks.AssertAccess scoped)) ∷ sign OpenParen ∷ sign Star ∷ identifier (variable_name variables x)
+      ∷ sign CloseParen ∷ rest
   call_symbols (calls.AssertBits x mask) rest =
       word (words.Call asks.AssertBits) ∷ sign OpenParen ∷ sign Star ∷ identifier (variable_name variables x) ∷ sign Comma ∷ number mask
       ∷ sign CloseParen ∷ rest
@@ -136,7 +143,8 @@ module _ (variables : List Variable) (registers : Names) where
     statement_symbols (tree.assign data_race a) rest = assign_symbols data_race (assignment_symbols a) rest
     statement_symbols (tree.call c) rest = call_symbols c (sign Semicolon ∷ rest)
     statement_symbols (tree.if_block e body) rest =
-        word words.If ∷ sign OpenParen ∷ expression_symbols e (sign CloseParen ∷ sign OpenBrace ∷ block_symbols body (sign CloseBrace ∷ rest))
+        word words.If ∷ sign OpenParen ∷ expression_symbols e (sign CloseParen ∷ sign OpenBrace
+        ∷ block_symbols body (sign CloseBrace ∷ rest))
     statement_symbols (tree.if_else e body otherwise) rest =
         word words.If ∷ sign OpenParen ∷ expression_symbols e (sign CloseParen ∷ sign OpenBrace
         ∷ block_symbols body (sign CloseBrace ∷ word words.Else ∷ sign OpenBrace ∷ block_symbols otherwise (sign CloseBrace ∷ rest)))

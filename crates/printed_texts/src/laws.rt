@@ -46,7 +46,8 @@ pub fn printed_bodies_are_spelled()
         → Contains parameters (record { name = name; variable = number; type = type }) → variable_name variables number ≡ name)
         → ((number : ℕ) (name : List ℕ) → slice_get after number ≡ Some name → slice_get registers number ≡ Some name)
         → Statements parameters there counters before symbols body behind after → BlockNests depth body
-        → Statements parameters depth counters registers (block_symbols variables registers body (sign CloseBrace ∷ rest)) body rest registers }
+        → Statements parameters depth counters registers
+        (block_symbols variables registers body (sign CloseBrace ∷ rest)) body rest registers }
 {}
 
 /// Law: where some symbols spell a proposition, those of its printed form spell it too, over processes that have all the registers
