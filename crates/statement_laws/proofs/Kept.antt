@@ -1,13 +1,13 @@
 -- What is read of statements and blocks keeps the limits, and is counted.
 use Rattle.std.proofs.Common.{◌≡◌, ◌∙◌, ℕ, zero, suc, ◌+◌, ◌*◌, ◌<◌, ◌≤◌, ◌==◌, nat_lt, List, [], ◌∷◌, Bool, true, false, cond, Option, Some, None, length, refl, sym}
-use Rattle.std.proofs.Common.{ap, subst, arith, eq-eqb}
+use Rattle.std.proofs.Common.{subst, arith, eq-eqb}
 use Rattle.std.proofs.lemmas.Bool.{ltb-false}
 use Rattle.access_types.specs.declared.history.Mark.{Mark}
 use Rattle.access_types.specs.declared.history.Mark.TheVariants as marks
 use Rattle.litmus_lex.specs.declared.sign.Sign.TheVariants.{OpenParen, CloseParen, OpenBrace, CloseBrace, Semicolon, Comma, Assign, Increment}
 use Rattle.litmus_lex.specs.declared.sign.Sign.TheVariants as signs
 use Rattle.litmus_syntax.specs.Limits.{BlockScopes, BlockTurns, BodyKeepsLimits, StatementScopes, StatementTurns, block_count, block_repeats, call_scopes}
-use Rattle.litmus_syntax.specs.Limits.{own_repeats, scopes_of, statement_count, statement_repeats}
+use Rattle.litmus_syntax.specs.Limits.{own_repeats, statement_count, statement_repeats}
 use Rattle.litmus_syntax.specs.Sites.{has_access}
 use Rattle.litmus_syntax.specs.Tree as tree
 use Rattle.litmus_syntax.specs.declared.statement.Call.{Call}
@@ -15,15 +15,13 @@ use Rattle.litmus_syntax.specs.declared.statement.Call.TheVariants as calls
 use Rattle.litmus_cursor.specs.declared.words.CallWord.{CallWord}
 use Rattle.litmus_cursor.specs.declared.words.CallWord.TheVariants as asks
 use Rattle.litmus_cursor.specs.declared.words.StoreWord.{StoreWord}
-use Rattle.litmus_cursor.specs.declared.words.Word.TheVariants as words
 use Rattle.litmus_cursor.specs.Front.{◌>>=◌, begins_call, first, is_sign, others, take_number, take_sign}
-use Rattle.litmus_cursor.specs.Words.{Symbol, word, identifier, number, sign, fault}
+use Rattle.litmus_cursor.specs.Words.{Symbol}
 use Rattle.litmus_expression.specs.Counters.{AreCounters}
 use Rattle.litmus_expression.specs.declared.process.Takes.TheVariants.{Integers, Locks, Memory}
-use Rattle.litmus_expression.specs.ExpressionReader.{closed, expression_at, load_at, opened, take_star}
-use Rattle.litmus_expression.specs.Followed.{accesses}
+use Rattle.litmus_expression.specs.ExpressionReader.{expression_at, load_at, take_star}
 use Rattle.litmus_expression.specs.NameReader.{count_access, register_at, register_name, take_variable}
-use Rattle.litmus_expression.specs.Names.{Names, Parameter}
+use Rattle.litmus_expression.specs.Names.{Parameter}
 use Rattle.litmus_expression.specs.PlaceReader.{count_statement, take_changed}
 use Rattle.litmus_expression.specs.Places.{Place, asserting, deeper, in_loop, is_counter, outermost, repeats_of}
 use Rattle.litmus_expression.specs.States.{State, after, entering, with_left}
@@ -38,8 +36,8 @@ use Rattle.litmus_body.specs.CallReader.{arguments, call_at, check, count_assert
 use Rattle.litmus_body.specs.Reads.{ReadsSimple}
 use Rattle.litmus_body.specs.SimpleReader.{Start, star, parenthesis, a_store, a_load, a_name, nothing, behind_variable, data_race_at, increment}
 use Rattle.litmus_body.specs.SimpleReader.{register_assignment, simple_at, simple_with, start_of, starred}
-use Rattle.litmus_body.specs.StatementReader.{Readers, added, begins_scope, behind, behind_body, behind_register, block_at, bound_at, by, counter_at, declaration_at, deep}
-use Rattle.litmus_body.specs.StatementReader.{header_at, idle, is_else, is_scoped, is_the_register, joined, more_declared, opening_at, statement_with, step_at}
+use Rattle.litmus_body.specs.StatementReader.{Readers, added, behind, behind_body, behind_register, block_at, bound_at, by, counter_at, declaration_at, deep}
+use Rattle.litmus_body.specs.StatementReader.{header_at, idle, is_else, is_the_register, joined, more_declared, opening_at, statement_with, step_at}
 use Rattle.litmus_body.specs.StatementReader.{take_again, take_zero}
 use Rattle.litmus_body.specs.Statements.{Enclosable, alone, assignment, kept, load, raced}
 use Rattle.litmus_body.specs.StoreReader.{store_at, stored}

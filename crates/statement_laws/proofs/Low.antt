@@ -1,6 +1,6 @@
 -- What is read of expressions makes no more accesses than may be, and counts no statement.
-use Rattle.std.proofs.Common.{◌≡◌, ◌∙◌, ℕ, zero, suc, ◌+◌, ◌-◌, ◌*◌, ◌≤◌, ◌==◌, nat_lt, List, [], ◌∷◌, ◌++◌, Bool, true, false, cond, Option, Some, None, length, refl, sym}
-use Rattle.std.proofs.Common.{ap, subst, arith}
+use Rattle.std.proofs.Common.{◌≡◌, ◌∙◌, ℕ, zero, suc, ◌+◌, ◌-◌, ◌*◌, ◌≤◌, ◌==◌, nat_lt, List, [], ◌∷◌, ◌++◌, true, false, cond, Option, Some, None, length, refl, sym}
+use Rattle.std.proofs.Common.{subst}
 use Rattle.std.proofs.lemmas.Bool.{ltb-false}
 use Rattle.litmus_lex.specs.declared.sign.Sign.TheVariants.{OpenParen, CloseParen, Comma}
 use Rattle.litmus_syntax.specs.declared.expression.BinaryOperator.{BinaryOperator}
@@ -23,7 +23,6 @@ use Rattle.litmus_expression.specs.States.{State, after, with_left}
 use Rattle.litmus_expression.proofs.Fewer.{at_last, behind_it, either_way, unless_it}
 use Rattle.litmus_expression.proofs.Shorter.{Found}
 use Rattle.litmus_expression.proofs.Sound.{variable_reads}
-use Rattle.litmus_expression.proofs.Taken.{same_given}
 use Rattle.litmus_expression.proofs.Whole.{star_reads}
 
 -- no more accesses than may be
