@@ -6,3 +6,5 @@ pub mod Processes
 pub mod Items
 pub mod Declarations
 pub mod Programs
+pub mod Free
+pub mod Wholes

@@ -22,7 +22,6 @@ ghost use Rattle.printed_texts.specs.PrintedNames.{AreNames, IsOf};
 ghost use Rattle.printed_texts.specs.PrintedNesting.{BlockNests, ExpressionNests};
 ghost use Rattle.printed_texts.specs.PrintedProcess.{task_symbols};
 ghost use Rattle.printed_texts.specs.PrintedProgram.{Nests, items_symbols, mention_of, program_symbols};
-ghost use Rattle.printed_texts.specs.Whole.{AllWhole};
 ghost use Rattle.printed_texts.specs.PrintedSymbols.{block_symbols, expression_symbols};
 
 /// Law: where some symbols spell an expression, those of its printed form spell it too, among registers that have the names and
@@ -91,12 +90,10 @@ pub fn printed_items_declare_their_variables()
         → AreDeclared (said_by (map mention_of variables) processes) names variables }
 {}
 
-/// Law: where some symbols spell a program, those of its printed form spell it too, if this keeps the limit of nesting: over variables
-/// with names of their own, processes with names that may be printed, and a condition that knows the variables by their types.
+/// Law: where some symbols spell a program, those of its printed form spell it too, if this keeps the limit of nesting, and what the
+/// condition knows of variables is known beside the items of the printed form.
 pub fn printed_programs_are_spelled()
-    ensures { (symbols : List Symbol) (program : tree.Program) (grammar : Grammar symbols program) → Differ grammar.names
-        → length grammar.names ≤ variables_limit → Differ (map (λ (v : Variable). v.name) program.variables)
-        → AllWhole program.variables grammar.names grammar.processes
+    ensures { (symbols : List Symbol) (program : tree.Program) (grammar : Grammar symbols program)
         → ((name : List ℕ) (number : ℕ) → IsKnown (said_by grammar.items grammar.processes) grammar.names name number
         → IsKnown (said_by (map mention_of program.variables) grammar.later) grammar.names (variable_name program.variables number) number)
         → Nests program → Grammar (program_symbols program) program }
