@@ -58,7 +58,7 @@ mapped f (x ∷ xs) m there =
     (λ same. (x, in_front x xs, same))
     (λ later. let r = mapped f xs m later in (r.0, in_rest x r.0 xs r.1, r.2))
 
-got : {A : Type 0} (xs : List A) (k : ℕ) (x : A) → slice_get xs k ≡ Some x → Contains xs x
+pub got : {A : Type 0} (xs : List A) (k : ℕ) (x : A) → slice_get xs k ≡ Some x → Contains xs x
 got [] k x is = absurd cc
 got (y ∷ xs) zero x is = subst (λ (z : _). Contains (y ∷ xs) z) (given_is y x is) (in_front y xs)
   where
@@ -192,7 +192,7 @@ module _ (variables : List Variable) (names : Names) (differ : Differ (map named
       (is.named ∙ ap (λ (m : Mention). m.name) r.2) in
       g r.0.type (ap (λ (w : Variable). type_of w.contents) (sym same) ∙ is.typed) (ap (λ (m : Mention). m.said) r.2))
 
-  typed : (v : Variable) → Contains variables v → HasType said v.name (type_of v.contents)
+  pub typed : (v : Variable) → Contains variables v → HasType said v.name (type_of v.contents)
   typed v at = record {
     items = λ given value says. told v at (item (Some given) value) (type_of v.contents ≡ given) says
         (λ e. says_type v.contents ∙ ap type_said e) (λ t is e. absurd (no_item t (Some given) value e));

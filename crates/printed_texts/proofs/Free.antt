@@ -1,5 +1,5 @@
 -- Names of registers are no parameters' behind what is spelled.
-use Rattle.std.proofs.Common.{◌≡◌, ℕ, List, [], ◌∷◌, ◌++◌, Option, subst}
+use Rattle.std.proofs.Common.{ℕ, List, [], ◌∷◌, Option, subst}
 use Rattle.std.specs.Prelude.{Contains}
 use Rattle.litmus_syntax.specs.Tree as tree
 use Rattle.litmus_cursor.specs.Words.{Symbol}

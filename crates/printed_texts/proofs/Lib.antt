@@ -8,3 +8,4 @@ pub mod Declarations
 pub mod Programs
 pub mod Free
 pub mod Wholes
+pub mod Knowing

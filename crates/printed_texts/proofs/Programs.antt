@@ -4,7 +4,6 @@ use Rattle.std.specs.Prelude.{Contains, set, slice_get}
 use Rattle.std.proofs.lemmas.List.{length-append, length-set}
 use Rattle.litmus_lex.specs.declared.sign.Sign.TheVariants.{CloseBrace}
 use Rattle.litmus_syntax.specs.declared.program.Variable.{Variable}
-use Rattle.litmus_syntax.specs.PrintedForm.{variable_name}
 use Rattle.litmus_syntax.specs.Tree as tree
 use Rattle.litmus_cursor.specs.Words.{Symbol, sign}
 use Rattle.litmus_expression.specs.Followed.{Differ}
@@ -24,6 +23,7 @@ use Rattle.printed_texts.specs.Whole.{AllWhole, Whole}
 use Rattle.printed_texts.proofs.Declarations.{declared_printed, split}
 use Rattle.printed_texts.proofs.Grown.{numbered_grows}
 use Rattle.printed_texts.proofs.Items.{items_printed, numbers_printed}
+use Rattle.printed_texts.proofs.Knowing.{known_printed}
 use Rattle.printed_texts.proofs.Processes.{process_printed}
 use Rattle.printed_texts.proofs.Propositions.{covers_themselves, proposition_printed, quantifier_printed}
 
@@ -158,12 +158,12 @@ processes_sized (headers.more lt p others) = let r = processes_sized others in l
 
 pub program_printed : (symbols : List Symbol) (p : tree.Program) (g : Grammar symbols p) → Differ g.names → length g.names ≤ 32
     → Differ (map (λ (v : Variable). v.name) p.variables) → AllWhole p.variables g.names g.processes
-    → ((name : List ℕ) (v : ℕ) → IsKnown (said_by g.items g.processes) g.names name v
-    → IsKnown (said_by (map mention_of p.variables) g.later) g.names (variable_name p.variables v) v)
     → Nests p → Grammar (program_symbols p) p
-program_printed symbols p g differ few own whole is_known nests =
+program_printed symbols p g differ few own whole nests =
     let all : List Mention = said_by g.items g.processes in
     let still = disjoined_still p.variables g.names all whole g.condition in
+    let are = λ (q : Process) (there : Contains g.later q) (r : Parameter) (at : Contains q.parameters r).
+    (parameters_of p.variables g.names g.later still.whole q there).are.parameters_are r at in
     let size = processes_sized g.bodies in
     let sized = still.sized in
     let some = size.0 in
@@ -190,7 +190,7 @@ program_printed symbols p g differ few own whole is_known nests =
       quantifier = quantifier_printed g.quantifier condition;
       condition = subst (λ (l : List tree.Task). Disjoined (said_by (map mention_of p.variables) g.later) g.names 0 g.later
           (proposition_symbols p.variables l p.condition []) p.condition [] g.later) (sym g.tasks)
-          (proposition_printed all (said_by (map mention_of p.variables) g.later) g.names p.variables g.later is_known g.condition
+          (proposition_printed all (said_by (map mention_of p.variables) g.later) g.names p.variables g.later (known_printed symbols p g own are) g.condition
           (covers_themselves g.later) 0 nests.condition []);
       operators = g.operators;
       declared = declared_printed p.variables g.names own g.later

@@ -1,5 +1,5 @@
 -- The processes of a program have names that may be printed.
-use Rattle.std.proofs.Common.{◌≡◌, ◌∙◌, ◌<◌, ◌≤◌, ℕ, zero, suc, List, [], ◌∷◌, ◌++◌, Option, Some, length, map, refl, sym, ap, subst, arith}
+use Rattle.std.proofs.Common.{◌≡◌, ◌∙◌, ◌≤◌, ℕ, zero, suc, List, [], ◌∷◌, ◌++◌, Some, length, map, refl, ap, subst, arith}
 use Rattle.std.specs.Prelude.{Contains, flat_map, slice_get}
 use Rattle.litmus_syntax.specs.declared.program.Contents.{Contents}
 use Rattle.litmus_syntax.specs.declared.program.Variable.{Variable}
@@ -8,7 +8,7 @@ use Rattle.litmus_cursor.specs.declared.words.VariableType.{VariableType}
 use Rattle.litmus_cursor.specs.declared.words.VariableType.TheVariants.{Char, Short, Int, Long, Atomic, Lock}
 use Rattle.litmus_cursor.specs.Words.{Symbol}
 use Rattle.litmus_expression.specs.Followed.{Differ, name_of}
-use Rattle.litmus_expression.specs.Names.{IsFree, Names, Numbered, Parameter, known, new}
+use Rattle.litmus_expression.specs.Names.{Names, Numbered, Parameter}
 use Rattle.litmus_expression.proofs.Named.{among, in_front, in_none, in_rest}
 use Rattle.litmus_expression.proofs.Taken.{same_given}
 use Rattle.statement_laws.proofs.Named.{Named, numbered_named, statements_named}
@@ -17,7 +17,7 @@ use Rattle.litmus_parse.specs.Headers as headers
 use Rattle.litmus_parse.specs.Headers.{IsProcess, Listed, Parameters, Process, Processes, mention_of}
 use Rattle.litmus_parse.specs.Mentions as mentions
 use Rattle.litmus_parse.specs.Mentions.{AreDeclared, AreNumbered, IsDeclared, Mention, contents_of}
-use Rattle.printed_texts.specs.PrintedNames.{AreNames, IsOf}
+use Rattle.printed_texts.specs.PrintedNames.{IsOf}
 use Rattle.printed_texts.specs.PrintedProcess.{type_of}
 use Rattle.printed_texts.specs.Whole.{AllWhole, Whole}
 use Rattle.printed_texts.proofs.Free.{statements_free}
@@ -29,14 +29,14 @@ Grown before later = (k : ℕ) (x : List ℕ) → slice_get before k ≡ Some x 
 numbered_grown : {limit number : ℕ} {name : List ℕ} {before later : Names} → Numbered limit before name number later → Grown before later
 numbered_grown n = (numbered_grows n).keeps
 
-contains_first : {A : Type 0} (xs ys : List A) (m : A) → Contains xs m → Contains (xs ++ ys) m
+pub contains_first : {A : Type 0} (xs ys : List A) (m : A) → Contains xs m → Contains (xs ++ ys) m
 contains_first [] ys m there = absurd (in_none m there)
 contains_first (x ∷ xs) ys m there =
     among x m xs (Contains (x ∷ (xs ++ ys)) m) there
     (λ same. subst (λ (y : _). Contains (x ∷ (xs ++ ys)) y) same (in_front x (xs ++ ys)))
     (λ later. in_rest x m (xs ++ ys) (contains_first xs ys m later))
 
-contains_rest : {A : Type 0} (xs ys : List A) (m : A) → Contains ys m → Contains (xs ++ ys) m
+pub contains_rest : {A : Type 0} (xs ys : List A) (m : A) → Contains ys m → Contains (xs ++ ys) m
 contains_rest [] ys m there = there
 contains_rest (x ∷ xs) ys m there = in_rest x m (xs ++ ys) (contains_rest xs ys m there)
 
@@ -106,12 +106,12 @@ parameters_are {before} named headers.none = record { becomes = becomes_same bef
 parameters_are named (headers.some l) = listed_is named l
 
 -- the variable of a number
-record DeclaredAt (all : List Mention) (variables : List Variable) (k : ℕ) (name : List ℕ) : Type 0 where
-  variable : Variable
-  there : slice_get variables k ≡ Some variable
-  is : IsDeclared all name variable
+pub record DeclaredAt (all : List Mention) (variables : List Variable) (k : ℕ) (name : List ℕ) : Type 0 where
+  pub variable : Variable
+  pub there : slice_get variables k ≡ Some variable
+  pub is : IsDeclared all name variable
 
-declared_at : {all : List Mention} {names : Names} {variables : List Variable} → AreDeclared all names variables → (k : ℕ) (name : List ℕ)
+pub declared_at : {all : List Mention} {names : Names} {variables : List Variable} → AreDeclared all names variables → (k : ℕ) (name : List ℕ)
     → slice_get names k ≡ Some name → DeclaredAt all variables k name
 declared_at mentions.none k name there = absurd cc
 declared_at {all} (mentions.more {name = first} {variable = v} is later) zero name there =
@@ -119,7 +119,7 @@ declared_at {all} (mentions.more {name = first} {variable = v} is later) zero na
 declared_at {all} (mentions.more is later) (suc k) name there =
     let d = declared_at later k name there in record { variable = d.variable; there = d.there; is = d.is }
 
-type_kept : (t : VariableType) (value : ℕ) → type_of (contents_of t value) ≡ t
+pub type_kept : (t : VariableType) (value : ℕ) → type_of (contents_of t value) ≡ t
 type_kept Char value = refl
 type_kept Short value = refl
 type_kept Int value = refl

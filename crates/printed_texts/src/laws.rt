@@ -90,11 +90,8 @@ pub fn printed_items_declare_their_variables()
         → AreDeclared (said_by (map mention_of variables) processes) names variables }
 {}
 
-/// Law: where some symbols spell a program, those of its printed form spell it too, if this keeps the limit of nesting, and what the
-/// condition knows of variables is known beside the items of the printed form.
+/// Law: where some symbols spell a program, those of its printed form spell it too, if this keeps the limit of nesting.
 pub fn printed_programs_are_spelled()
-    ensures { (symbols : List Symbol) (program : tree.Program) (grammar : Grammar symbols program)
-        → ((name : List ℕ) (number : ℕ) → IsKnown (said_by grammar.items grammar.processes) grammar.names name number
-        → IsKnown (said_by (map mention_of program.variables) grammar.later) grammar.names (variable_name program.variables number) number)
-        → Nests program → Grammar (program_symbols program) program }
+    ensures { (symbols : List Symbol) (program : tree.Program) → Grammar symbols program → Nests program
+        → Grammar (program_symbols program) program }
 {}

@@ -1,5 +1,5 @@
 -- Part by part.
-use Rattle.std.proofs.Common.{List, ℕ, sym, subst}
+use Rattle.std.proofs.Common.{sym, subst}
 use Rattle.litmus_expression.specs.Followed.{Differ}
 use Rattle.litmus_expression.specs.Names.{Names}
 use Rattle.printed_texts.proofs.Programs.{program_printed}
@@ -7,7 +7,7 @@ use Rattle.printed_texts.proofs.Wholes.{names_are, own_names}
 use Rattle.printed_texts.proofs.laws.printed_programs_are_spelled.Goals as goal
 
 pub returns : goal.returns
-returns c = λ symbols program grammar is_known nests.
+returns c = λ symbols program grammar nests.
     let n = names_are symbols program grammar in
     program_printed symbols program grammar n.differ n.few
-    (subst (λ (l : Names). Differ l) (sym (own_names grammar.declared)) n.differ) n.whole is_known nests
+    (subst (λ (l : Names). Differ l) (sym (own_names grammar.declared)) n.differ) n.whole nests
