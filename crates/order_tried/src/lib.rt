@@ -1,0 +1,14 @@
+//! A slow plain program beside the definition of the written order, for texts of locks, registers, conditions and loops: it
+//! reads the records of a task by its text, statement by statement. It makes no step. Nothing stands on this crate.
+#![tactic(auto)]
+
+pub mod locks;
+pub mod text;
+pub mod walk;
+
+
+#[cfg(test)]
+mod tests;
+
+pub use text::spells;
+pub use walk::{Given, NotSpelled, Walk};
