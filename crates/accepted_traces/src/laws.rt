@@ -20,20 +20,20 @@ ghost use Rattle.trace_replay.specs.declared.accepted.Accepted.TheVariants as ac
 ghost use Rattle.watch_word.specs.declared.layout.Layout.{Layout};
 
 use litmus_meaning::laws::tickets_have_room;
+use run_headline::histories::{reports_are_true, unknown_origins_changed};
 use run_kept::bags::{armings_have_their_own_verdicts, the_bags_are_equal};
 use run_kept::bounds::few_are_reported;
-use run_headline::histories::{reports_are_true, unknown_origins_changed};
 use run_kept::lengths::few_are_kept;
+use run_kept::watched::{
+    accesses_of_ended_tasks_have_ended, accesses_that_begin_fit, stamps_tell_the_order,
+    watched_accesses_are_unmarked_and_heard,
+};
 use run_lists::laws::{reports_name_two_sides, run_lists_keep_the_discipline};
 use run_verdicts::laws::{
     answers_are_on_a_watch_and_a_find, records_tell_their_events, verdicts_are_on_watches,
 };
 use slot_table::laws::heard_is_told;
 use watch_word::words_read_back;
-use run_kept::watched::{
-    accesses_of_ended_tasks_have_ended, accesses_that_begin_fit, stamps_tell_the_order,
-    watched_accesses_are_unmarked_and_heard,
-};
 
 /// Law: what is written of the parts of one true trace is a true trace, of these lines, and no longer than a trace may be.
 pub fn parts_make_a_true_trace()

@@ -10,8 +10,8 @@ use crate::histories::{
     reports_are_true, run_lists_tell_runs_of_the_program,
     takings_of_ended_accesses_have_one_answer, unknown_origins_changed,
 };
-use run_lists::laws::{reports_name_two_sides, roles_of_run_lists};
 use crate::totals::totals_agree;
+use run_lists::laws::{reports_name_two_sides, roles_of_run_lists};
 use run_verdicts::laws::{
     answers_are_on_a_watch_and_a_find, watchpoints_are_of_accesses_in_progress,
 };

@@ -24,7 +24,8 @@ const BEFORE: u8 = 75;
 const OTHERWISE: u8 = 1;
 
 /// Loops, conditions and a scoped assertion in each other.
-const TEXT: &str = "C t\n{}\nP0(int *x, spinlock_t *l) { int r0; int i; ASSERT_EXCLUSIVE_WRITER_SCOPED(*x); \
+const TEXT: &str =
+    "C t\n{}\nP0(int *x, spinlock_t *l) { int r0; int i; ASSERT_EXCLUSIVE_WRITER_SCOPED(*x); \
     for (i = 0; i < 3; i++) { spin_lock(l); if (*x) { r0 = READ_ONCE(*x); } spin_unlock(l); } }\nexists (0:r0=1)\n";
 
 const RULES: Rules = Rules {
