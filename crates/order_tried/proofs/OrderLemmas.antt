@@ -39,9 +39,11 @@ after_assigning standing records r value =
 pub assigned : (s : Setting) (site r : ℕ) (e : Pure) (standing : Standing) (records : List Record)
     → StepsInDataRace s site false (tree.to_register r (tree.pure e)) standing records
     (after_assigning standing records r (pure_value standing.progress.registers e)) records
-assigned s site r e standing records =
-    (registered (marked_so_often 0 (happenings.Mark marks.Disable) standing records) records r (pure_value standing.progress.registers e),
-    (pure_value standing.progress.registers e, marked_so_often 0 (happenings.Mark marks.Disable) standing records, (refl, refl, refl), refl), refl)
+assigned s site r e standing records = (
+  registered (marked_so_often 0 (happenings.Mark marks.Disable) standing records) records r (pure_value standing.progress.registers e),
+  (pure_value standing.progress.registers e, marked_so_often 0 (happenings.Mark marks.Disable) standing records, (refl, refl, refl), refl),
+  refl,
+)
 
 pub assigned_progress : (standing : Standing) (records : List Record) (r value : ℕ)
     → (after_assigning standing records r value).progress ≡ meaning.assigning standing.progress r value
@@ -124,7 +126,10 @@ block_first s site next statement later before between after none is own more =
     let others = subst (λ (n : ℕ). Goes (StepsOfBlock s n later) between after) is more in
     λ standing same.
     let first = own standing same in
-    let end = others first.0 first.2 in
-    (end.0, plain s site (scoped_assertion statement) none (λ b records a rest. StepsOf s site statement b records a rest)
-    (λ b records a rest. StepsOfBlock s (site + length (accesses_of statement)) later b records a rest)
-    standing first.0 end.0 before.left.items between.left.items after.left.items first.1 end.1, end.2)
+    let end = others first.0 first.2 in (
+      end.0,
+      plain s site (scoped_assertion statement) none (λ b records a rest. StepsOf s site statement b records a rest)
+          (λ b records a rest. StepsOfBlock s (site + length (accesses_of statement)) later b records a rest)
+          standing first.0 end.0 before.left.items between.left.items after.left.items first.1 end.1,
+      end.2,
+    )

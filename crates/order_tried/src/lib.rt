@@ -3,12 +3,10 @@
 #![tactic(auto)]
 
 pub mod locks;
-pub mod text;
-pub mod walk;
-
-
 #[cfg(test)]
 mod tests;
+pub mod text;
+pub mod walk;
 
 pub use text::spells;
 pub use walk::{Given, NotSpelled, Walk};

@@ -39,7 +39,13 @@ fn expect_spelled(
         variables: program.variables.as_slice(),
     };
     let names = body.registers.as_slice().len();
-    let spelled = spells(alloc, &given, names, body.body.as_slice(), records.as_slice());
+    let spelled = spells(
+        alloc,
+        &given,
+        names,
+        body.body.as_slice(),
+        records.as_slice(),
+    );
     let end = spelled.expect(rt, "a walk");
     assert_eq!(rt; end.did.as_slice(), did);
     assert_eq!(rt; end.registers.as_slice(), registers);
@@ -121,9 +127,15 @@ fn other_records_spell_nothing(rt: HostRuntime) -> Result<(), Fail> {
         (&[first], NotSpelled::Other),
         (&[first, second, second], NotSpelled::TooMany),
         (&[second, first], NotSpelled::Other),
-        (&[first, of(1, LockTry(1, 1), Flag(true))], NotSpelled::Other),
+        (
+            &[first, of(1, LockTry(1, 1), Flag(true))],
+            NotSpelled::Other,
+        ),
         (&[first, of(0, LockTry(1, 0), Word(0))], NotSpelled::Other),
-        (&[first, of(0, LockTry(1, 0), Flag(false))], NotSpelled::Other),
+        (
+            &[first, of(0, LockTry(1, 0), Flag(false))],
+            NotSpelled::Other,
+        ),
     ];
     for (records, why) in rows.iter() {
         expect_other(&rt, rt.alloc(), (DEADLOCK, 0), records, *why)?;

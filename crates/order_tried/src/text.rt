@@ -57,11 +57,7 @@ fn unlocks(given: &Given<'_>, variable: usize, before: Walk) -> Result<Walk, Not
 }
 
 /// After a call of a site that makes no access and no mark.
-fn calls(
-    given: &Given<'_>,
-    call: Call,
-    before: Walk,
-) -> Result<Walk, NotSpelled>
+fn calls(given: &Given<'_>, call: Call, before: Walk) -> Result<Walk, NotSpelled>
     ensures { (s : Setting) (site : ℕ) → IsOf s given.now
         → IfOk result (Goes (StepsOfCall s site call) before) }
 {

@@ -29,8 +29,9 @@ returns-then-has_lock c = λ s site is standing same.
     (c.lock_number.ensures s is) by_task in
     let made = subst (λ (xs : List Record). MakesDone s.text.task (LockStore (lock_number s c.args.variable)) (λ later. xs ≡ later) c.args.before.left.items)
     (sym c.in_ok-after.ensures.left) by_number in
-    let unlock = happenings.Unlock c.args.variable ∷ [] in
-    (doing standing c.in_ok-after.after.left.items unlock,
-    held s site c.args.variable standing c.args.before.left.items c.in_ok-after.after.left.items has made,
-    ap (λ (p : Progress). meaning.doing p unlock) (same ∙ sym c.in_ok-given_back.ensures.stays)
-    ∙ (ap (λ (n : ℕ). meaning.doing (stands c.in_ok-given_back.given_back) (happenings.Unlock n ∷ [])) (sym c.in_ok-lock.ensures) ∙ sym c.in_ok-after.ensures.comes))
+    let unlock = happenings.Unlock c.args.variable ∷ [] in (
+      doing standing c.in_ok-after.after.left.items unlock,
+      held s site c.args.variable standing c.args.before.left.items c.in_ok-after.after.left.items has made,
+      ap (λ (p : Progress). meaning.doing p unlock) (same ∙ sym c.in_ok-given_back.ensures.stays)
+          ∙ (ap (λ (n : ℕ). meaning.doing (stands c.in_ok-given_back.given_back) (happenings.Unlock n ∷ [])) (sym c.in_ok-lock.ensures) ∙ sym c.in_ok-after.ensures.comes),
+    )
