@@ -1,6 +1,6 @@
 -- One step more of a task at its seat.
-use Rattle.std.proofs.Common.{◌≡◌, ◌⊎◌, ◌<◌, ◌≤◌, ◌+◌, ◌++◌, ◌∙◌, ◌∷◌, [], ℕ, suc, List, Option, None, Some, All, ap, append_assoc, arith, inl, inr, length, refl, reverse, subst, sym}
-use Rattle.std.proofs.lemmas.List.{append-nil, length-reverse, reverse-append, reverse-reverse}
+use Rattle.std.proofs.Common.{◌≡◌, ◌<◌, ◌≤◌, ◌++◌, ◌∙◌, ◌∷◌, [], ℕ, List, Option, None, Some, ap, append_assoc, arith, inl, inr, length, refl, reverse, subst, sym}
+use Rattle.std.proofs.lemmas.List.{append-nil, reverse-reverse}
 use Rattle.std.specs.Option.{option_to_list}
 use Rattle.access_types.specs.declared.report.Report.{Report}
 use Rattle.litmus_step.proofs.NameLemmas.{last_of_all, some_answer}

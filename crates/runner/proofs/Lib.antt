@@ -1,2 +1,8 @@
 pub mod DoneWith
 pub mod LedLemmas
+pub mod SeatedLemmas
+pub mod StartLemmas
+pub mod Sent
+pub mod PartLemmas
+pub mod OutcomeLemmas
+pub mod ResultLemmas

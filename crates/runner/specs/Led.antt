@@ -1,5 +1,5 @@
 -- A task that a list of its own steps leads to.
-use Rattle.std.specs.Prelude.{◌≡◌, ◌<◌, ℕ, List, length, reverse}
+use Rattle.std.specs.Prelude.{ℕ, List, length, reverse}
 use Rattle.access_types.specs.declared.report.Report.{Report}
 use Rattle.litmus_step.specs.Kept.{accesses_kept, watches_kept}
 use Rattle.run_lists.specs.Run.{Run, task_of, task_setting}

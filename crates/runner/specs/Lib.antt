@@ -1,3 +1,9 @@
 pub mod Kept
 pub mod Machine
 pub mod Led
+pub mod Errors
+pub mod Terms
+pub mod Seated
+pub mod Found
+pub mod Starts
+pub mod Result

@@ -1,13 +1,25 @@
 //! What is true of tasks at their seats.
 
-ghost use Rattle.std.specs.Prelude.{◌≡◌, ◌<◌, ◌∷◌, [], ℕ, List, Option};
+ghost use Rattle.std.specs.Prelude.{◌≡◌, ◌<◌, ◌∷◌, [], ℕ, All, List, Option};
+ghost use Rattle.accepted_traces.specs.Parts.{ReportFits};
+ghost use Rattle.access_types.specs.Stamped.{Stamped};
 ghost use Rattle.access_types.specs.declared.report.Report.{Report};
 ghost use Rattle.litmus_step.specs.Kept.{Added, IsNotedIn};
 ghost use Rattle.litmus_step.specs.Leads.{MakesNext};
+ghost use Rattle.litmus_step.specs.Readers.{IsMeant};
 ghost use Rattle.litmus_step.specs.Runs.{CanBeMade, tasks_of};
+ghost use Rattle.litmus_syntax.specs.Limits.{KeepsLimits};
+ghost use Rattle.run_headline.specs.Cells.{CellsHold, memory_after, run_cells};
+ghost use Rattle.run_headline.specs.Reported.{IsTrueReport};
+ghost use Rattle.run_lists.specs.Reports.{reports_of};
 ghost use Rattle.run_lists.specs.Run.{Run, first_words};
+ghost use Rattle.run_lists.specs.RunList.{AllHaveEnded, RunList};
+ghost use Rattle.run_lists.specs.Told.{history_of};
+ghost use Rattle.run_logs.specs.Lists.{AreAccesses};
 ghost use Rattle.runner.specs.Led.{IsLed};
 ghost use Rattle.runner.specs.Machine.{SaysBegin};
+ghost use Rattle.runner.specs.Result.{IsOf};
+ghost use Rattle.runner.specs.declared.result.RunResult.{RunResult};
 ghost use Rattle.setup_access.specs.Parts.{made};
 ghost use Rattle.setup_access.specs.declared.begun.Begun.{Begun};
 ghost use Rattle.setup_access.specs.declared.outcome.Outcome.{Outcome};
@@ -22,7 +34,16 @@ ghost use Rattle.task_run.specs.Fell.{FellAt};
 ghost use Rattle.task_run.specs.Leads.{LeadsOn};
 ghost use Rattle.task_run.specs.declared.run.TaskRun.{TaskRun};
 
+use litmus_meaning::laws::tickets_have_room;
+use litmus_step::laws::machines_stand_where_the_list_does;
+use run_headline::histories::{cells_hold_the_content, reports_are_true, unknown_origins_changed};
+use run_kept::watched::{
+    accesses_of_ended_tasks_have_ended, accesses_that_begin_fit, stamps_tell_the_order,
+    watched_accesses_are_unmarked_and_heard,
+};
+use run_lists::laws::reports_name_two_sides;
 use run_logs::laws::one_more_is_noted;
+use run_verdicts::laws::records_tell_their_events;
 use task_laws::laws::an_answer_leads_on;
 use written_order::laws::the_written_order_keeps_the_discipline;
 use written_tellings::steps_name_words_of_the_run;
@@ -47,4 +68,36 @@ pub fn seats_lead_on()
     steps_name_words_of_the_run();
     the_written_order_keeps_the_discipline();
     one_more_is_noted();
+}
+
+/// Law: once all tasks of a run list have ended each of its reports is of accesses that ended there. One of two sides names
+/// two that race, of which each began before the other's end by their stamps; one of unknown origin names one that may have
+/// seen its bytes change.
+pub fn reports_are_of_ended_accesses()
+    ensures { (run : Run) (records : List Record) (list : RunList run records) → KeepsLimits run.program → AllHaveEnded run records
+        → (accesses : List Stamped) → AreAccesses list accesses → All (ReportFits accesses) (reports_of list) }
+{
+    records_tell_their_events();
+    stamps_tell_the_order();
+    accesses_that_begin_fit();
+    accesses_of_ended_tasks_have_ended();
+    watched_accesses_are_unmarked_and_heard();
+    tickets_have_room();
+    reports_name_two_sides();
+    unknown_origins_changed();
+    reports_are_true();
+}
+
+/// Law: what came of a run on threads is of its program. What a task did, and its registers at the end, are what its text
+/// means with the values that it read; the cells hold what the history leaves in memory; and each report is true.
+pub fn results_are_of_the_program()
+    ensures meant { (run : Run) (records : List Record) (list : RunList run records) (result : RunResult) → IsOf list result
+        → (task : ℕ) → IsMeant list task }
+    ensures content { (run : Run) (records : List Record) (list : RunList run records) (result : RunResult) → IsOf list result
+        → CellsHold (run_cells run) (memory_after run (history_of list)) result.gathered.cells }
+    ensures true_reports { (run : Run) (records : List Record) (list : RunList run records) (result : RunResult) → IsOf list result
+        → All (IsTrueReport list) result.reports.items }
+{
+    machines_stand_where_the_list_does();
+    cells_hold_the_content();
 }

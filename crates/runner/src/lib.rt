@@ -1,4 +1,19 @@
-//! What is true of tasks at their seats on the shared words, for runs on threads. No code yet.
+//! A program on real threads, one a task, over the shared words and without a lock.
 #![tactic(auto)]
 
+pub mod error;
+mod first;
+pub mod hooks;
 pub mod laws;
+pub mod result;
+pub mod run;
+mod seated;
+mod terms;
+#[cfg(test)]
+mod tests;
+mod threads;
+
+pub use error::RunError;
+pub use hooks::{Gate, NoStall, Open, Point, Stall};
+pub use result::RunResult;
+pub use run::run_once;

@@ -1,0 +1,155 @@
+-- By what each start is of.
+use Rattle.std.proofs.Common.{rules, ◌≡◌, ◌≤◌, ◌<◌, ◌+◌, ◌∷◌, ◌++◌, ◌∙◌, [], ℕ, suc, List, Result, Some, ap, arith, length, slice_get, slice_index_or, subst, sym, refl, vec_len}
+use Rattle.std.proofs.alloc.Global.TheSendSync as global
+use denote.Exit.{yes}
+use denote.Param.{param}
+use denote.RattleType.{RattleType}
+use denote.Struct.Declared as declared
+use denote.Struct.Field.{shr_ref_field}
+use denote.Struct.Tuple.{type_at}
+use mir.Syntax.{named}
+use Rattle.access_types.specs.contracts.sites.Sites as sites_row
+use Rattle.litmus_step.specs.contracts.settings.Settings as settings_row
+use Rattle.litmus_syntax.specs.contracts.program.Program as program_row
+use Rattle.runner.specs.contracts.first.TaskStart as start_row
+use Rattle.shared_table.specs.contracts.table.SharedTable as table_row
+use Rattle.std.specs.contracts.alloc.Global as global_row
+use Rattle.runner.proofs.threads.fn.on_threads.scope.Lts as lts
+use Rattle.std.proofs.lemmas.Option.{get_or_from_slice_get, slice_get_read, slice_get_within}
+use Rattle.std.specs.Vec.Iter.{into_iter_items, into_iter_len}
+use denote.Param.Send.{AllSend, IsSend, arg_send, param_send, recorded_send, shr_send, struct_send}
+use denote.Struct.Struct.{Struct}
+use Rattle.litmus_step.proofs.FirstLemmas.{each_push}
+use Rattle.litmus_step.specs.Runs.{run_of, tasks_of}
+use Rattle.run_lists.specs.Run.{Run}
+use Rattle.access_types.proofs.sites.Sites.TheSendSync as sites
+use Rattle.litmus_step.proofs.settings.Settings.TheSendSync as settings
+use Rattle.runner.proofs.Sent.{program_shared}
+use Rattle.runner.proofs.first.TaskStart.TheSendSync as start
+use Rattle.shared_table.proofs.table.SharedTable.TheSendSync as table
+use Rattle.runner.proofs.threads.fn.on_threads.scope.Goals as goal
+use Rattle.runner.specs.Starts.{IsOutcome, IsStart}
+use Rattle.runner.specs.Terms.{run_by}
+use Rattle.runner.specs.declared.error.RunError.{RunError}
+use Rattle.runner.specs.declared.first.TaskStart.{TaskStart}
+use Rattle.runner.specs.declared.seated.Found.{Found}
+use Rattle.runner.specs.declared.threads.OfTask.{OfTask}
+use Rattle.shared_table.specs.Seats.{Opened}
+
+pub loop-start-init : goal.loop-start-init
+loop-start-init g c = record {
+  made = omega (arith, c.in_ok-handles.ensures.len);
+  room = omega (arith, c.in_ok-handles.ensures.capacity, c.len.ensures, c.into_iter-start-iterator.ensures.into_iter_gives.1);
+  rest = λ at start is. subst (λ (n : ℕ). IsStart c.captures.table.now n start) (omega (arith, c.in_ok-handles.ensures.len))
+      (c.requires.starts.each at start
+      (ap (λ (xs : List TaskStart). slice_get xs at) (sym c.into_iter-start-iterator.ensures.into_iter_gives.0) ∙ is));
+  runs = λ task handle is. absurd (let none : slice_get [] task ≡ Some handle = ap (λ (xs : List _). slice_get xs task) (sym c.in_ok-handles.ensures.items) ∙ is in cc);
+  tables = λ task handle is. absurd (let none : slice_get [] task ≡ Some handle = ap (λ (xs : List _). slice_get xs task) (sym c.in_ok-handles.ensures.items) ∙ is in cc);
+  tasks = λ task handle is. absurd (let none : slice_get [] task ≡ Some handle = ap (λ (xs : List _). slice_get xs task) (sym c.in_ok-handles.ensures.items) ∙ is in cc);
+}
+
+-- a closure may be sent where each that it captures may
+closure_send : (T : declared.Declared) → AllSend (declared.shape T).fields → IsSend (declared.row T)
+closure_send T all = recorded_send (Struct (declared.shape T)) T.D T.to T.to_one (struct_send (declared.shape T) all)
+
+pub spawn_with-requires-send-F : goal.spawn_with-requires-send-F
+spawn_with-requires-send-F g c κs within =
+    let rows : List RattleType =
+    (shr_ref_field (record { mir = named 6; lft = κs.1.1.1.1.1.1.0 }) program_row.the_row tt).row
+    ∷ (shr_ref_field (record { mir = named 7; lft = κs.1.1.1.1.1.1.1.0 }) settings_row.the_row tt).row
+    ∷ (shr_ref_field (record { mir = named 8; lft = κs.1.1.1.1.1.1.1.1.0 }) sites_row.the_row tt).row
+    ∷ (shr_ref_field (record { mir = named 9; lft = κs.1.1.1.1.1.1.1.1.1.0 }) table_row.the_row tt).row
+    ∷ start_row.the_row
+    ∷ (shr_ref_field (record { mir = named 10; lft = κs.1.1.1.1.1.1.1.1.1.1.0 }) (param 0 g.row.R) tt).row
+    ∷ global_row.the_row
+    ∷ (shr_ref_field (record { mir = named 11; lft = κs.1.1.1.1.1.1.1.1.1.1.1.0 }) (param 1 g.row.S) tt).row
+    ∷ (shr_ref_field (record { mir = named 12; lft = κs.1.1.1.1.1.1.1.1.1.1.1.1.0 }) (param 2 g.row.G) tt).row
+    ∷ [] in
+    let all : AllSend rows =
+    (shr_send _ _ _ program_shared, (shr_send _ _ _ settings.the_sync, (shr_send _ _ _ sites.the_sync, (shr_send _ _ _ table.the_sync, (start.the_send, (shr_send _ _ _ c.requires.sync.0, (global.the_send, (shr_send _ _ _ c.requires.sync.1, (shr_send _ _ _ c.requires.sync.2, tt))))))))) in
+    param_send 2 (lts.arg-7-2 g.row.R g.row.S g.row.G g.R.laws g.S.laws g.G.laws g.R.Threads-dict g.R.Wait-dict g.S.Stall-dict g.G.Gate-dict κs)
+    (arg_send _ yes _ (closure_send (type_at _ rows) all))
+
+pub spawn_with-requires-clause-runs : goal.spawn_with-requires-clause-runs
+spawn_with-requires-clause-runs g c κs within =
+    let was = c.loop-start.invariant in
+    let steps = c.in-Some.ensures.steps in
+    let it : IsStart c.captures.table.now (vec_len c.loop-start.handles + 0) c.in-Some.start =
+    was.rest 0 c.in-Some.start (ap (λ (xs : List TaskStart). slice_get xs 0) steps.0) in
+    let all : length c.captures.starts.items ≡ tasks_of (run_of c.captures.program.now c.captures.settings.now c.captures.sites.now) =
+    c.requires.starts.all ∙ c.requires.terms.tasks in
+    let below : c.in-Some.start.number < tasks_of (run_of c.captures.program.now c.captures.settings.now c.captures.sites.now) =
+    omega (arith, it.number, was.made, steps.1, all, c.into_iter-start-iterator.ensures.into_iter_gives.1, c.captures.starts.ok.0) in
+    (c.requires.terms, (subst (λ (n : ℕ). IsStart c.captures.table.now n c.in-Some.start) (sym it.number) it, (below, search rules)))
+
+pub spawn_with-requires-clause-keeps : goal.spawn_with-requires-clause-keeps
+spawn_with-requires-clause-keeps g c κs within = λ r kept. kept
+
+pub push_reserved-requires : goal.push_reserved-requires
+push_reserved-requires g c =
+    let was = c.loop-start.invariant in
+    let steps = c.in-Some.ensures.steps in
+    omega (arith, was.made, was.room, steps.1)
+
+pub loop-start-preserved : goal.loop-start-preserved
+loop-start-preserved g c =
+    let was = c.loop-start.invariant in
+    let steps = c.in-Some.ensures.steps in
+    let pushed = c.push_reserved.ensures in
+    let run : Run = run_of c.captures.program.now c.captures.settings.now c.captures.sites.now in
+    let it : IsStart c.captures.table.now (vec_len c.loop-start.handles + 0) c.in-Some.start =
+    was.rest 0 c.in-Some.start (ap (λ (xs : List TaskStart). slice_get xs 0) steps.0) in
+    record {
+      made = omega (arith, was.made, steps.1, pushed.len);
+      room = omega (arith, was.room, pushed.capacity);
+      rest = λ at start is. subst (λ (n : ℕ). IsStart c.captures.table.now n start) (omega (arith, pushed.len))
+          (was.rest (suc at) start (ap (λ (xs : List TaskStart). slice_get xs (suc at)) steps.0 ∙ is));
+      runs = subst (λ (all : List _). (task : ℕ) (handle : _) → slice_get all task ≡ Some handle → run_by handle.promise.terms ≡ run) (sym pushed.items)
+          (each_push (λ task handle. run_by handle.promise.terms ≡ run) c.loop-start.handles.items c.in-Ok.handle was.runs
+          (ap (λ (p : OfTask). run_by p.terms) c.in-Ok.ensures.ok));
+      tables = subst (λ (all : List _). (task : ℕ) (handle : _) → slice_get all task ≡ Some handle → handle.promise.terms.table.now ≡ c.captures.table.now)
+          (sym pushed.items)
+          (each_push (λ task handle. handle.promise.terms.table.now ≡ c.captures.table.now) c.loop-start.handles.items c.in-Ok.handle was.tables
+          (ap (λ (p : OfTask). p.terms.table.now) c.in-Ok.ensures.ok));
+      tasks = subst (λ (all : List _). (task : ℕ) (handle : _) → slice_get all task ≡ Some handle → handle.promise.task ≡ task) (sym pushed.items)
+          (each_push (λ task handle. handle.promise.task ≡ task) c.loop-start.handles.items c.in-Ok.handle was.tasks
+          (ap (λ (p : OfTask). p.task) c.in-Ok.ensures.ok ∙ (it.number ∙ omega (arith, c.loop-start.handles.ok.0))));
+    }
+
+pub returns-in-Ok-join_promised : goal.returns-in-Ok-join_promised
+returns-in-Ok-join_promised g c =
+    let was = c.loop-start.invariant in
+    let none = c.in-None.ensures.steps.0 in
+    let run : Run = run_of c.captures.program.now c.captures.settings.now c.captures.sites.now in
+    let handles = c.loop-start.handles.items in
+    let outcomes = c.in-Ok-join_promised.outcomes.items in
+    let joined : vec_len c.in-Ok-join_promised.outcomes ≡ vec_len c.loop-start.handles = c.in-Ok-join_promised.ensures.len in
+    let tasks : length c.captures.starts.items ≡ tasks_of run = c.requires.starts.all ∙ c.requires.terms.tasks in
+    record {
+      outcomes = record {
+        all = omega (
+          arith,
+          joined,
+          was.made,
+          none,
+          tasks,
+          c.in-Ok-join_promised.outcomes.ok.0,
+          c.into_iter-start-iterator.ensures.into_iter_gives.1,
+          c.captures.starts.ok.0,
+        );
+        each = λ task outcome is.
+            let within : task < length outcomes = slice_get_within outcomes task outcome is in
+            let below : task < vec_len c.loop-start.handles = omega (arith, within, joined, c.in-Ok-join_promised.outcomes.ok.0) in
+            let kept = (c.in-Ok-join_promised.ensures.each task outcome below).1 in
+            let same = get_or_from_slice_get outcomes task outcome outcome is in
+            let stands = slice_get_read handles (length handles) task kept.handle refl (let b : task < length handles = omega (arith, below, c.loop-start.handles.ok.0) in b)
+            kept.handle_is in
+            let promise : OfTask = kept.handle.promise in
+            let found : Result Found RunError = slice_index_or outcomes task outcome in
+            subst (λ (o : Result Found RunError). IsOutcome run c.captures.table.now task o) same
+            (subst (λ (n : ℕ). IsOutcome run c.captures.table.now n found) (was.tasks task kept.handle stands)
+            (subst (λ (t : Opened). IsOutcome run t promise.task found) (was.tables task kept.handle stands)
+            (subst (λ (r : Run). IsOutcome r promise.terms.table.now promise.task found) (was.runs task kept.handle stands) kept.kept)));
+      };
+      errors = tt;
+    }

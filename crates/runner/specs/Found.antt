@@ -1,0 +1,51 @@
+-- What is found of a task that has made the steps of its whole text.
+use Rattle.std.specs.Prelude.{◌≡◌, ℕ, zero, suc, List, Option, None, Some, length, reverse, slice_get}
+use Rattle.litmus_step.specs.Kept.{accesses_kept, watches_kept}
+use Rattle.litmus_step.specs.Runs.{tasks_of}
+use Rattle.run_lists.specs.Run.{Run, task_of, task_setting}
+use Rattle.run_lists.specs.RunList.{InWrittenOrder}
+use Rattle.run_logs.specs.Noted.{AreNoted}
+use Rattle.runner.specs.declared.seated.Found.{Found}
+use Rattle.shared_table.specs.Seats.{Opened}
+use Rattle.slot_table.specs.declared.records.Record.{Record}
+use Rattle.task_log.specs.Counters.{together}
+use Rattle.task_log.specs.Keeps.{Keeps}
+use Rattle.task_log.specs.Reports.{reported_in}
+use Rattle.task_log.specs.declared.noted.Noted.{Noted}
+use Rattle.task_plan.specs.Counts.{up_to_last}
+use Rattle.written_order.specs.Waits.{IsStuck, WithinTurns}
+use Rattle.written_order.specs.WrittenOrder.{SpellsAll, stands_after}
+
+-- The task of a number has made the steps of its whole text, which its seat holds. What was kept of them is what is noted of them, what
+-- was reported is what is reported at them, and its registers are those that they leave.
+pub record IsFound (run : Run) (opened : Opened) (task : ℕ) (found : Found) : Type 0 where
+  pub table : found.seat.table ≡ opened
+  pub own : found.seat.task ≡ task
+  pub written : InWrittenOrder run task found.seat.records
+  pub within : WithinTurns run.rules.turns found.seat.records
+  pub whole : SpellsAll (task_setting run task) (length (task_of run task).registers) (task_of run task).body (reverse found.seat.records)
+  pub noted : List Noted
+  pub notes : AreNoted written found.seat.records noted
+  pub keeps : Keeps accesses_kept watches_kept noted found.log
+  pub reported : found.reports.items ≡ reported_in noted
+  pub registers : found.registers.items ≡ (stands_after written).progress.registers
+  pub unbalanced : found.unbalanced ≡ up_to_last (stands_after written).unbalanced
+
+-- some steps of the task, in the order of its text, end in a wait with as many vain tries as are allowed
+abbrev pub IsInVain : Run → ℕ → Type 0
+IsInVain run task = (own : List Record)
+    × IsStuck (task_setting run task) (length (task_of run task).registers) (task_of run task).body (reverse own)
+
+-- each task is found so
+pub record AreFound (run : Run) (opened : Opened) (found : List Found) : Type 0 where
+  pub all : length found ≡ tasks_of run
+  pub each : (task : ℕ) (one : Found) → slice_get found task ≡ Some one → IsFound run opened task one
+
+abbrev pub calls_of : Option Found → ℕ
+calls_of None = 0
+calls_of (Some found) = found.unbalanced
+
+-- how many calls of the first so many tasks had nothing to end; the sum rests at the largest number of 64 bits
+abbrev pub calls_below : List Found → ℕ → ℕ
+calls_below found zero = 0
+calls_below found (suc n) = together (calls_below found n) (calls_of (slice_get found n))

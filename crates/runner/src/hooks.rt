@@ -1,0 +1,67 @@
+//! What a run calls on the way of its tasks.
+
+ghost use Rattle.std.specs.Prelude.{◌≡◌};
+
+use task_run::{After, Before};
+
+/// A point on a task's way.
+#[derive(Clone, Copy, Debug, PartialEq, Eq)]
+pub enum Point {
+    /// Directly before the clock step of the begin of an access.
+    Begin,
+    /// Directly before the stall of a watchpoint.
+    Armed,
+    /// Directly after a finder has told.
+    Taken,
+    /// Directly after the clock step of the end of an access.
+    End,
+}
+
+/// The delay between the two loads of a watch, as KCSAN's `udelay` there.
+pub trait Stall: Sync {
+    /// A task has set up the watchpoint at an index.
+    fn stall(&self, task: usize, index: usize);
+}
+
+/// Where a test may hold a task.
+pub trait Gate: Sync {
+    /// A task comes to a point.
+    fn pass(&self, task: usize, point: Point);
+}
+
+/// A stall that spends no time.
+#[derive(Clone, Copy, Debug)]
+pub struct NoStall;
+
+impl Stall for NoStall {
+    fn stall(&self, _task: usize, _index: usize) {}
+}
+
+/// A gate that holds nobody.
+#[derive(Clone, Copy, Debug)]
+pub struct Open;
+
+impl Gate for Open {
+    fn pass(&self, _task: usize, _point: Point) {}
+}
+
+/// What comes before a step of a task.
+pub(crate) fn comes_to<S: Stall, G: Gate>(stall: &S, gate: &G, task: usize, before: Before) {
+    match before {
+        Before::Begin => gate.pass(task, Point::Begin),
+        Before::Stall { index } => {
+            gate.pass(task, Point::Armed);
+            stall.stall(task, index);
+        }
+        Before::Other => {}
+    }
+}
+
+/// What comes after a step of a task.
+pub(crate) fn has_passed<G: Gate>(gate: &G, task: usize, after: After) {
+    match after {
+        After::Told { .. } => gate.pass(task, Point::Taken),
+        After::Ended => gate.pass(task, Point::End),
+        After::Other => {}
+    }
+}

@@ -1,0 +1,104 @@
+//! What came of a run on threads.
+
+ghost use Rattle.std.specs.Prelude.{◌≡◌, ◌<◌, All, IfErr, IfOk, List, length, slice_index_or};
+ghost use Rattle.accepted_traces.specs.Parts.{ReportFits};
+ghost use Rattle.run_lists.specs.Run.{Run};
+ghost use Rattle.run_lists.specs.RunList.{RunList};
+ghost use Rattle.run_logs.specs.Lists.{AreAccesses, AreArms, AreTakes};
+ghost use Rattle.run_logs.specs.Totals.{CountsList};
+ghost use Rattle.runner.specs.Result.{IsOf};
+ghost use Rattle.slot_table.specs.declared.records.Record.{Record};
+
+use crate::error::RunError;
+use crate::laws::reports_are_of_ended_accesses;
+use access_types::{Arm, Report, Stamped, Take};
+use litmus_step::logs::{accesses_of, arms_of, counters_of, takes_of};
+use shared_table::Gathered;
+use std::alloc::Global;
+use task_log::{Counters, TaskLog};
+
+/// What came of a run on threads: what was kept of the steps of its tasks, and the words at its end.
+#[derive(Drop)]
+pub struct RunResult {
+    pub(crate) alloc: Global,
+    pub(crate) logs: Vec<TaskLog>,
+    pub(crate) reports: Vec<Report>,
+    pub(crate) registers: Vec<Vec<u64>>,
+    pub(crate) unbalanced: u64,
+    pub(crate) gathered: Gathered,
+}
+
+impl RunResult {
+    /// What was reported, by the setter's task, and then in that task's order.
+    pub fn reports(&self) -> &[Report]
+        ensures { result.now ≡ self.now.reports.items }
+    {
+        self.reports.as_slice()
+    }
+
+    /// How often each thing came of the checks of all tasks.
+    pub fn counters(&self) -> Counters
+        ensures { (run : Run) (records : List Record) → (list : RunList run records) → IsOf list self.now → CountsList list result }
+    {
+        counters_of(self.logs.as_slice())
+    }
+
+    /// How many calls of all tasks had nothing to end, up to the largest number that there is.
+    pub fn unbalanced(&self) -> u64
+        ensures { result ≡ self.now.unbalanced }
+    {
+        self.unbalanced
+    }
+
+    /// The accesses, by task, and then in the order of their begins. The reports are of these.
+    pub fn accesses(&self) -> Result<Vec<Stamped>, RunError>
+        ensures all { (run : Run) (records : List Record) → (list : RunList run records) → IsOf list self.now
+            → IfOk result (λ all. AreAccesses list all.items) }
+        ensures races { (run : Run) (records : List Record) → (list : RunList run records) → IsOf list self.now
+            → IfOk result (λ all. All (ReportFits all.items) self.now.reports.items) }
+        ensures errors { IfErr result (λ error. error ≡ RunError.OutOfMemory) }
+    {
+        reports_are_of_ended_accesses();
+        Ok(accesses_of(self.alloc, self.logs.as_slice())?)
+    }
+
+    /// The armings, by task, and then in the order of their removes.
+    pub fn arms(&self) -> Result<Vec<Arm>, RunError>
+        ensures all { (run : Run) (records : List Record) → (list : RunList run records) → IsOf list self.now
+            → IfOk result (λ all. AreArms list all.items) }
+        ensures errors { IfErr result (λ error. error ≡ RunError.OutOfMemory) }
+    {
+        Ok(arms_of(self.alloc, self.logs.as_slice())?)
+    }
+
+    /// The takings, by task, and then in the order of their tells.
+    pub fn takes(&self) -> Result<Vec<Take>, RunError>
+        ensures all { (run : Run) (records : List Record) → (list : RunList run records) → IsOf list self.now
+            → IfOk result (λ all. AreTakes list all.items) }
+        ensures errors { IfErr result (λ error. error ≡ RunError.OutOfMemory) }
+    {
+        Ok(takes_of(self.alloc, self.logs.as_slice())?)
+    }
+
+    /// How many tasks there were.
+    pub fn tasks(&self) -> usize
+        ensures { result ≡ length self.now.registers.items }
+    {
+        self.registers.len()
+    }
+
+    /// The values of a task's registers at the end, by number.
+    pub fn registers(&self, task: usize) -> &[u64]
+        requires { task < length self.now.registers.items }
+        ensures { (d : _) → result.now ≡ (slice_index_or self.now.registers.items task d).items }
+    {
+        self.registers[task].as_slice()
+    }
+
+    /// What the cells of memory hold at the end.
+    pub fn memory(&self) -> &[u64]
+        ensures { result.now ≡ self.now.gathered.cells }
+    {
+        self.gathered.cells()
+    }
+}

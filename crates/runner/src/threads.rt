@@ -1,0 +1,105 @@
+//! One scoped thread a task.
+
+ghost use Rattle.std.specs.Prelude.{◌≡◌, ◌<◌, IfErr, IfOk, ◌⊎◌};
+ghost use Rattle.std.specs.Thread.{IsSync};
+ghost use Rattle.litmus_step.specs.Runs.{run_of, tasks_of};
+ghost use Rattle.runner.specs.Starts.{AreOutcomes, AreStarts, IsOutcome, IsStart};
+ghost use Rattle.runner.specs.Terms.{AreGiven, AreTerms, run_by};
+ghost use Rattle.runner.specs.declared.error.RunError.TheVariants.{NoThread, OutOfMemory};
+
+use crate::error::RunError;
+use crate::first::TaskStart;
+use crate::hooks::{Gate, Stall};
+use crate::seated::Found;
+use crate::terms::Terms;
+use access_types::Sites;
+use litmus_step::Settings;
+use litmus_syntax::Program;
+use shared_table::SharedTable;
+use std::alloc::Global;
+use std::sync::Wait;
+use std::thread;
+use std::thread::{Promise, Threads};
+
+/// What a thread promises: what comes of the task of this number.
+#[derive(Clone, Copy)]
+pub(crate) struct OfTask<'t> {
+    terms: Terms<'t>,
+    task: u32,
+}
+
+impl<'t> Promise<Result<Found, RunError>> for OfTask<'t> {
+    ghost kept_by = { λ promise outcome. IsOutcome (run_by promise.terms) promise.terms.table.now promise.task outcome };
+}
+
+/// Makes the steps of each task on a thread of its own, and says what comes of each. All threads that were started are joined.
+///
+/// `NoThread`: one couldn't be started.
+pub(crate) fn on_threads<'t, R: Threads + Wait + Sync, S: Stall, G: Gate>(
+    rt: &'t R,
+    alloc: Global,
+    terms: Terms<'t>,
+    starts: Vec<TaskStart>,
+    stall: &'t S,
+    gate: &'t G,
+) -> Result<Vec<Result<Found, RunError>>, RunError>
+    requires terms { AreTerms terms }
+    requires starts { AreStarts terms.table.now starts.items }
+    ensures outcomes { IfOk result (λ all. AreOutcomes (run_by terms.entry) terms.entry.table.now (tasks_of (run_by terms.entry)) all.items) }
+    ensures errors { IfErr result (λ error. (error ≡ NoThread) ⊎ (error ≡ OutOfMemory)) }
+{
+    let Terms {
+        program,
+        settings,
+        sites,
+        table,
+    } = terms;
+    thread::scope(
+        thread::scope_env(),
+        rt,
+        move |scope| -> Result<Vec<Result<Found, RunError>>, RunError>
+            requires sync { IsSync R.row × IsSync S.row × IsSync G.row }
+            requires terms { AreGiven program.now settings.now sites.now table.now }
+            requires starts { AreStarts table.now starts.items }
+            ensures outcomes { IfOk result (λ all. AreOutcomes (run_of program.entry.now settings.entry.now sites.entry.now) table.entry.now
+                (tasks_of (run_of program.entry.now settings.entry.now sites.entry.now)) all.items) }
+            ensures errors { IfErr result (λ error. (error ≡ NoThread) ⊎ (error ≡ OutOfMemory)) }
+        {
+            let mut handles = Vec::with_capacity(alloc, starts.len())?;
+            for start in starts {
+                let terms = Terms {
+                    program,
+                    settings,
+                    sites,
+                    table,
+                };
+                let promise = OfTask {
+                    terms,
+                    task: start.number,
+                };
+                let steps = move || -> Result<Found, RunError>
+                    requires terms { AreGiven program.now settings.now sites.now table.now }
+                    requires start { IsStart table.now start.number start }
+                    requires there { start.number < tasks_of (run_of program.now settings.now sites.now) }
+                    ensures { IsOutcome (run_of program.entry.now settings.entry.now sites.entry.now) table.entry.now start.number result }
+                {
+                    let terms = Terms {
+                        program,
+                        settings,
+                        sites,
+                        table,
+                    };
+                    start.found(rt, alloc, terms, stall, gate)
+                };
+                match scope.spawn_with(promise, steps) {
+                    Ok(handle) => handles.push_reserved(handle),
+                    Err(_) => return Err(RunError::NoThread),
+                }
+            }
+            match thread::join_promised(rt, handles) {
+                Ok(outcomes) => Ok(outcomes),
+                Err(_) => Err(RunError::OutOfMemory),
+            }
+        },
+    )
+}
