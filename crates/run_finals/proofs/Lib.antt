@@ -1,0 +1,2 @@
+mod CellValues
+pub mod FinalLemmas

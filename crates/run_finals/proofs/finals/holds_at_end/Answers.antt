@@ -1,0 +1,28 @@
+-- what is looked at is what registers and variables hold
+use Rattle.std.proofs.Common.{◌≡◌, ap, map, subst, sym}
+use Rattle.final_condition.specs.Holds.{Holds}
+use Rattle.litmus_syntax.specs.Views.{proposition_of}
+use Rattle.program_layout.specs.Places.{places_of}
+use Rattle.run_finals.proofs.FinalLemmas.{all_registers_same, holds_alike, holds_back, registers_same}
+use Rattle.run_finals.specs.Finals.{AreAllRegisters, register_value, variable_value}
+use Rattle.run_lists.specs.Told.{history_of}
+use Rattle.run_finals.proofs.finals.holds_at_end.Goals as goal
+
+pub returns-clause-held : goal.returns-clause-held
+returns-clause-held c = λ sites records list registers_are is.
+    let finals = c.in_ok-finals.finals in
+    let p = proposition_of c.args.program.now.condition in
+    let registers = map (λ values. values.items) finals.registers.items in
+    let are = subst (λ all. AreAllRegisters list (map (λ values. values.items) all.items)) (sym c.in_ok-finals.ensures.registers)
+    registers_are in
+    let variables = variable_value (places_of c.args.settings.now.places.items) c.args.program.now.variables (history_of list) in
+    let told = c.in_ok-finals.ensures.variables sites records list is in (
+      λ held. record {
+        registers = registers;
+        registers_are = are;
+        holds = holds_alike _ _ _ _ (registers_same finals) told p (c.holds.ensures.0 held);
+      },
+      λ at_end. c.holds.ensures.1 (holds_back _ _ _ _ (registers_same finals) told p
+          (subst (λ values. Holds (register_value values) variables p)
+          (all_registers_same list _ _ at_end.registers_are are) at_end.holds)),
+    )

@@ -1,0 +1,3 @@
+mod MadeLemmas
+mod NameLemmas
+mod TallyLemmas

@@ -1,0 +1,21 @@
+-- what is left of the program's runs is left of those of its text
+use Rattle.run_tally.proofs.MadeLemmas.{map_ok, refused_of}
+use Rattle.run_tally.specs.Errors.{IsReadAs}
+use Rattle.run_tally.proofs.runs.run_text_often.Goals as goal
+
+pub returns-clause-leaves : goal.returns-clause-leaves
+returns-clause-leaves g c =
+    let read : IsReadAs c.args.text.now c.in_ok-program.program = record {
+      spelled = c.in_ok-program.ensures.spelled;
+      limits = c.in_ok-program.ensures.keeps_limits;
+    } in
+    map_ok c.run_often.result (λ left leave. record { program = c.in_ok-program.program; read = read; leave = leave })
+    c.run_often.ensures.leaves
+
+pub returns-clause-refused : goal.returns-clause-refused
+returns-clause-refused g c =
+    let read : IsReadAs c.args.text.now c.in_ok-program.program = record {
+      spelled = c.in_ok-program.ensures.spelled;
+      limits = c.in_ok-program.ensures.keeps_limits;
+    } in
+    refused_of c.args.text.now c.in_ok-program.program c.args.settings.now c.run_often.result read c.run_often.ensures.stops

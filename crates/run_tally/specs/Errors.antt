@@ -1,0 +1,48 @@
+-- Why runs have no output.
+use Rattle.std.specs.Prelude.{◌<◌, ◌⊎◌, ℕ, List}
+use Rattle.litmus_parse.specs.Grammar.{SpellsProgram}
+use Rattle.litmus_step.specs.declared.settings.Settings.{Settings}
+use Rattle.litmus_syntax.specs.Limits.{KeepsLimits}
+use Rattle.litmus_syntax.specs.Views.{program_of}
+use Rattle.litmus_syntax.specs.declared.program.Program.{Program}
+use Rattle.program_layout.specs.Places.{AreFit}
+use Rattle.program_layout.specs.declared.layout.LayoutError.{LayoutError}
+use Rattle.program_layout.specs.declared.layout.LayoutError.TheVariants as layouts
+use Rattle.program_sites.specs.declared.sites.SitesError.{SitesError}
+use Rattle.program_sites.specs.declared.sites.SitesError.TheVariants as sites
+use Rattle.run_tally.specs.declared.error.RunsError.{RunsError}
+use Rattle.run_tally.specs.declared.error.RunsError.TheVariants.{Run, Text}
+use Rattle.runner.specs.declared.error.RunError.{RunError}
+use Rattle.runner.specs.declared.error.RunError.TheVariants.{BadPlace, BadSlots, NoThread, OutOfMemory, Stuck}
+
+abbrev pub of_layout : LayoutError → RunsError
+of_layout layouts.BadPlace = Run BadPlace
+of_layout layouts.OutOfMemory = Run OutOfMemory
+
+abbrev pub of_sites : SitesError → RunsError
+of_sites sites.BadPlace = Run BadPlace
+of_sites sites.OutOfMemory = Run OutOfMemory
+
+-- a text is read as a program: it spells it, and the program keeps the limits
+pub record IsReadAs (text : List ℕ) (program : Program) : Type 0 where
+  pub spelled : SpellsProgram text (program_of program)
+  pub limits : KeepsLimits (program_of program)
+
+-- why a program can't be run on threads, or a run of it doesn't come to its end: too few slots or too many, places that don't suit its
+-- variables, or what the machine decides
+abbrev pub StopsRun : Program → Settings → RunError → Type 0
+StopsRun program settings BadSlots = (settings.slots < 3) ⊎ (1024 < settings.slots)
+StopsRun program settings BadPlace = ¬ AreFit program.variables settings.places.items
+StopsRun program settings OutOfMemory = Unit {0}
+StopsRun program settings (Stuck task) = Unit {0}
+StopsRun program settings NoThread = Unit {0}
+
+-- why the runs of a program stop
+abbrev pub Stops : Program → Settings → RunsError → Type 0
+Stops program settings (Text error) = ⊥
+Stops program settings (Run error) = StopsRun program settings error
+
+-- why a text has no output of its runs: it is not read as a program, or the program's runs stop
+abbrev pub IsRefused : (text : List ℕ) → Settings → RunsError → Type 0
+IsRefused text settings (Text error) = Unit {0}
+IsRefused text settings (Run error) = (program : Program) × IsReadAs text program × StopsRun program settings error

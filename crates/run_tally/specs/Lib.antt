@@ -1,0 +1,4 @@
+pub mod Errors
+pub mod Runs
+pub mod Output
+pub mod Tally

@@ -1,0 +1,90 @@
+-- What is written of runs.
+use Rattle.std.specs.Prelude.{◌≡◌, ◌++◌, ◌∷◌, [], ◌==◌, ℕ, Bool, List, Option, IfSome, count_by, length, map, not}
+use Rattle.std.specs.List.{flat_map, sum_by}
+use Rattle.access_types.specs.Arms.{Arm}
+use Rattle.access_types.specs.Sites.{AccessMap}
+use Rattle.access_types.specs.Stamped.{Stamped}
+use Rattle.access_types.specs.Takes.{Take}
+use Rattle.access_types.specs.declared.report.Report.{Report}
+use Rattle.litmus_step.specs.declared.settings.Settings.{Settings}
+use Rattle.litmus_syntax.specs.Views.{program_of}
+use Rattle.litmus_syntax.specs.declared.program.Program.{Program}
+use Rattle.program_layout.specs.Places.{places_of}
+use Rattle.program_sites.specs.Sites.{AreSitesOf}
+use Rattle.report_text.specs.Groups.{AreGroupsOf, Group, group_text}
+use Rattle.report_text.specs.ReportOf.{report_text}
+use Rattle.report_text.specs.TraceText.{written_trace}
+use Rattle.run_logs.specs.Lists.{AreAccesses, AreArms, AreTakes}
+use Rattle.run_output.specs.Lines.{condition_line, counters_line}
+use Rattle.run_tally.specs.Errors.{IsReadAs}
+use Rattle.run_tally.specs.Runs.{OneRun}
+use Rattle.task_log.specs.Counters.{resting}
+use Rattle.task_log.specs.declared.counters.Counters.{Counters}
+
+-- the reports of all runs, one run after the other
+abbrev pub reports_in : {program : Program} {settings : Settings} → List (OneRun program settings) → List Report
+reports_in runs = flat_map (λ one. one.result.reports.items) runs
+
+-- how often each thing came of the checks of all: each sum rests at the largest number of 64 bits
+pub record AreSums (all : List Counters) (sums : Counters) : Type 0 where
+  pub arms : sums.arms ≡ resting (sum_by (λ one. one.arms) all)
+  pub quiet : sums.quiet ≡ resting (sum_by (λ one. one.quiet) all)
+  pub taken : sums.taken ≡ resting (sum_by (λ one. one.taken) all)
+  pub lost : sums.lost ≡ resting (sum_by (λ one. one.lost) all)
+  pub two_sided : sums.two_sided ≡ resting (sum_by (λ one. one.two_sided) all)
+  pub unknown : sums.unknown ≡ resting (sum_by (λ one. one.unknown) all)
+  pub encoding : sums.encoding ≡ resting (sum_by (λ one. one.encoding) all)
+  pub same : sums.same ≡ resting (sum_by (λ one. one.same) all)
+  pub masked : sums.masked ≡ resting (sum_by (λ one. one.masked) all)
+  pub capacity : sums.capacity ≡ resting (sum_by (λ one. one.capacity) all)
+  pub unencodable : sums.unencodable ≡ resting (sum_by (λ one. one.unencodable) all)
+
+-- how many calls of all runs had nothing to end; the sum rests at the largest number of 64 bits
+abbrev pub unbalanced_in : {program : Program} {settings : Settings} → List (OneRun program settings) → ℕ
+unbalanced_in runs = resting (sum_by (λ one. one.result.unbalanced) runs)
+
+-- in how many of the runs the condition held
+abbrev pub held_in : {program : Program} {settings : Settings} → List (OneRun program settings) → ℕ
+held_in runs = count_by (λ one. one.held) runs
+
+-- The output of runs: each distinct report, in the order in which they were first seen, with how often it was seen, the sums of the
+-- counters, and in how many of the runs the condition held.
+pub record IsOutput {program : Program} {settings : Settings} (runs : List (OneRun program settings)) (output : List ℕ) : Type 0 where
+  pub sites : AccessMap
+  pub sites_are : AreSitesOf (program_of program) (places_of settings.places.items) sites
+  pub groups : List Group
+  pub groups_are : AreGroupsOf (map (report_text sites) (reports_in runs)) groups
+  pub sums : Counters
+  pub sums_are : AreSums (map (λ one. one.counters) runs) sums
+  pub spelled : output ≡ flat_map group_text groups ++ counters_line sums (unbalanced_in runs)
+      ++ condition_line (held_in runs) (length runs)
+
+-- the trace of the last of the runs: of its accesses, armings, takings and reports
+pub record IsTraceOfLast {program : Program} {settings : Settings} (runs : List (OneRun program settings)) (bytes : List ℕ) : Type 0 where
+  pub before : List (OneRun program settings)
+  pub last : OneRun program settings
+  pub runs_are : runs ≡ before ++ last ∷ []
+  pub accesses : List Stamped
+  pub accesses_are : AreAccesses last.once.list accesses
+  pub arms : List Arm
+  pub arms_are : AreArms last.once.list arms
+  pub takes : List Take
+  pub takes_are : AreTakes last.once.list takes
+  pub spelled : bytes ≡ written_trace settings.slots settings.layout accesses arms takes last.result.reports.items
+
+-- This is left of so many runs of the program on threads, under these settings: whether there was a report, the output, and the trace of
+-- the last run, if there is one.
+pub record Leave (program : Program) (settings : Settings) (many : ℕ) (raced : Bool) (output : List ℕ) (trace : Option (List ℕ)) :
+    Type 0 where
+  pub runs : List (OneRun program settings)
+  pub many_are : length runs ≡ many
+  pub output_is : IsOutput runs output
+  pub trace_is : IfSome trace (IsTraceOfLast runs)
+  pub raced_is : raced ≡ not (length (reports_in runs) == 0)
+
+-- so it is of the program that the text is read as
+pub record TextLeaves (text : List ℕ) (settings : Settings) (many : ℕ) (raced : Bool) (output : List ℕ) (trace : Option (List ℕ)) :
+    Type 0 where
+  pub program : Program
+  pub read : IsReadAs text program
+  pub leave : Leave program settings many raced output trace

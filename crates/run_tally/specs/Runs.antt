@@ -1,0 +1,27 @@
+-- What is seen of runs on threads.
+use Rattle.std.specs.Prelude.{◌≡◌, ◌++◌, ◌∷◌, [], ◌↔◌, Bool, IsTrue, List, Option, None, Some}
+use Rattle.litmus_step.specs.declared.settings.Settings.{Settings}
+use Rattle.litmus_syntax.specs.declared.program.Program.{Program}
+use Rattle.run_finals.specs.Finals.{HoldsAtEnd}
+use Rattle.run_headline.specs.Headline.{Headline}
+use Rattle.run_logs.specs.Totals.{CountsList}
+use Rattle.runner.specs.Result.{IsRunOnce}
+use Rattle.runner.specs.declared.result.RunResult.{RunResult}
+use Rattle.task_log.specs.declared.counters.Counters.{Counters}
+
+-- One run of the program on threads: its result, which the list of all its steps gives; how often each thing came of its checks; and
+-- whether the condition of the program held at its end. Of the list the headline holds.
+pub record OneRun (program : Program) (settings : Settings) : Type 0 where
+  pub result : RunResult
+  pub once : IsRunOnce program settings result
+  pub headline : Headline once.list
+  pub counters : Counters
+  pub counters_are : CountsList once.list counters
+  pub held : Bool
+  pub held_is : IsTrue held ↔ HoldsAtEnd once.list
+
+-- this is the result of the last of the runs, if there is one
+abbrev pub IsLast : {program : Program} {settings : Settings} → List (OneRun program settings) → Option RunResult → Type 0
+IsLast runs None = runs ≡ []
+IsLast {program = program} {settings = settings} runs (Some result) =
+    (before : List (OneRun program settings)) × (last : OneRun program settings) × (runs ≡ before ++ last ∷ []) × (last.result ≡ result)

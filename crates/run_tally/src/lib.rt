@@ -1,0 +1,10 @@
+//! A litmus text, run on threads as often as it is asked, and what is found of the runs, taken together.
+#![tactic(auto)]
+
+pub mod delay;
+pub mod error;
+pub mod runs;
+pub mod tally;
+
+pub use error::RunsError;
+pub use runs::{Outcome, Progress, Times, run_text_often};
