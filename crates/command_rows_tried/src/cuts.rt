@@ -5,6 +5,8 @@ use crate::row::words_of;
 use crate::texts::Texts;
 use litmus_command::command::command;
 use std::alloc::{AllocError, Global};
+use std::sync::Wait;
+use std::thread::Threads;
 
 /// The status where a file is refused.
 const REFUSED: u8 = 65;
@@ -48,9 +50,13 @@ impl<'t> Cuts<'t> {
     }
 
     /// Each beginning is refused as it has to be.
-    pub fn come_as_said(&self, alloc: Global) -> Result<bool, AllocError> {
+    pub fn come_as_said<R: Threads + Wait + Sync>(
+        &self,
+        rt: &R,
+        alloc: Global,
+    ) -> Result<bool, AllocError> {
         for bytes in 0..self.bytes.min(self.file.len()) {
-            if !self.comes_as_said(alloc, &self.file[..bytes])? {
+            if !self.comes_as_said(rt, alloc, &self.file[..bytes])? {
                 return Ok(false);
             }
         }
@@ -58,9 +64,14 @@ impl<'t> Cuts<'t> {
     }
 
     /// A beginning is refused as it has to be.
-    fn comes_as_said(&self, alloc: Global, file: &[u8]) -> Result<bool, AllocError> {
+    fn comes_as_said<R: Threads + Wait + Sync>(
+        &self,
+        rt: &R,
+        alloc: Global,
+        file: &[u8],
+    ) -> Result<bool, AllocError> {
         let mut table = Table::new(alloc, Given::of(Some(file)));
-        let status = command(alloc, &self.words, &mut table);
+        let status = command(rt, alloc, &self.words, &mut table);
         let line = 1 + file.iter().filter(|byte| **byte == b'\n').count() as u64;
         let fault = &self.fault;
         let said = format!(in alloc; "kcsan_litmus: line {line}: {fault}\n")?;

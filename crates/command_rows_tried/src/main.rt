@@ -13,6 +13,8 @@ use row::Row;
 use std::alloc::{AllocError, Global};
 use std::io;
 use std::process::ExitCode;
+use std::sync::Wait;
+use std::thread::Threads;
 use texts::Texts;
 
 /// The status where something else comes of a row, or a line is no row.
@@ -38,7 +40,9 @@ fn main(rt: HostRuntime) -> ExitCode {
 
 /// Keeps each text, tries each row, and counts the rows of which something else comes. Lines that are empty or begin with
 /// `#` are neither.
-fn try_rows(rt: &HostRuntime) -> io::Result<u64> {
+fn try_rows<R: Threads + Wait + Sync + Input + Print + Alloc<A = Global>>(
+    rt: &R,
+) -> io::Result<u64> {
     let mut texts = Texts::new(rt.alloc());
     let mut rows = 0u64;
     let mut others = 0u64;
@@ -48,7 +52,7 @@ fn try_rows(rt: &HostRuntime) -> io::Result<u64> {
             continue;
         }
         rows = rows.saturating_add(1);
-        if !comes_as_said(rt.alloc(), &texts, &line)? {
+        if !comes_as_said(rt, rt.alloc(), &texts, &line)? {
             others = others.saturating_add(1);
             println!(rt; "otherwise: {line}")?;
         }
@@ -72,13 +76,18 @@ fn is_text(texts: &mut Texts, line: &str) -> Result<bool, AllocError> {
 
 /// Tries what a line says: a row, one of which each write is also tried failing, for writes of several sizes, or the beginnings
 /// of a file.
-fn comes_as_said(alloc: Global, texts: &Texts, line: &str) -> Result<bool, AllocError> {
+fn comes_as_said<R: Threads + Wait + Sync>(
+    rt: &R,
+    alloc: Global,
+    texts: &Texts,
+    line: &str,
+) -> Result<bool, AllocError> {
     let (kind, rest) = line.split_once(' ').unwrap_or((line, ""));
     match kind {
-        "row" => row_comes_as_said(alloc, texts, rest, &[]),
-        "writes" => row_comes_as_said(alloc, texts, rest, &[0, 1, 7, usize::MAX]),
+        "row" => row_comes_as_said(rt, alloc, texts, rest, &[]),
+        "writes" => row_comes_as_said(rt, alloc, texts, rest, &[0, 1, 7, usize::MAX]),
         "cuts" => match Cuts::read(alloc, texts, rest)? {
-            Some(cuts) => cuts.come_as_said(alloc),
+            Some(cuts) => cuts.come_as_said(rt, alloc),
             None => Ok(false),
         },
         _ => Ok(false),
@@ -86,7 +95,8 @@ fn comes_as_said(alloc: Global, texts: &Texts, line: &str) -> Result<bool, Alloc
 }
 
 /// Tries a row, also with each write failing, for writes of these sizes.
-fn row_comes_as_said(
+fn row_comes_as_said<R: Threads + Wait + Sync>(
+    rt: &R,
     alloc: Global,
     texts: &Texts,
     line: &str,
@@ -94,7 +104,8 @@ fn row_comes_as_said(
 ) -> Result<bool, AllocError> {
     match Row::read(alloc, texts, line)? {
         Some(row) => Ok(
-            row.comes_as_said(alloc) && rooms.iter().all(|room| row.fails_as_said(alloc, *room)),
+            row.comes_as_said(rt, alloc)
+                && rooms.iter().all(|room| row.fails_as_said(rt, alloc, *room)),
         ),
         None => Ok(false),
     }

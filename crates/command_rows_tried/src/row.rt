@@ -6,6 +6,8 @@ use crate::wanted::{Trace, Wanted};
 use escaped_text::unescaped;
 use litmus_command::command::command;
 use std::alloc::{AllocError, Global};
+use std::sync::Wait;
+use std::thread::Threads;
 
 /// The status where standard output can't be written.
 const UNWRITABLE: u8 = 74;
@@ -84,20 +86,25 @@ impl<'t> Row<'t> {
     }
 
     /// The program over its desk comes to what the row says, and a trace that it writes is accepted.
-    pub fn comes_as_said(&self, alloc: Global) -> bool {
+    pub fn comes_as_said<R: Threads + Wait + Sync>(&self, rt: &R, alloc: Global) -> bool {
         let mut table = Table::new(alloc, self.given());
-        let status = command(alloc, &self.words, &mut table);
+        let status = command(rt, alloc, &self.words, &mut table);
         status == self.status
             && self.output.is_in(table.output())
             && self.errors.is_in(table.errors())
             && self.trace.is_in(table.trace())
-            && is_accepted(alloc, table.trace())
+            && is_accepted(rt, alloc, table.trace())
     }
 
     /// The same, and with room for so many bytes a write, whichever write is the first that fails.
-    pub fn fails_as_said(&self, alloc: Global, room: usize) -> bool {
+    pub fn fails_as_said<R: Threads + Wait + Sync>(
+        &self,
+        rt: &R,
+        alloc: Global,
+        room: usize,
+    ) -> bool {
         let mut table = Table::new(alloc, self.given());
-        let _ = command(alloc, &self.words, &mut table);
+        let _ = command(rt, alloc, &self.words, &mut table);
         let whole = table.output();
         let writes = if room == 0 {
             1
@@ -105,7 +112,7 @@ impl<'t> Row<'t> {
             whole.len().div_ceil(room)
         };
         for left in 0..writes {
-            if !self.fails_after(alloc, room, left, whole) {
+            if !self.fails_after(rt, alloc, room, left, whole) {
                 return false;
             }
         }
@@ -114,14 +121,21 @@ impl<'t> Row<'t> {
 
     /// With room for so many bytes a write, of which so many succeed, the program ends as it has to where standard output can't
     /// be written, and has written a beginning of the whole.
-    fn fails_after(&self, alloc: Global, room: usize, writes: usize, whole: &[u8]) -> bool {
+    fn fails_after<R: Threads + Wait + Sync>(
+        &self,
+        rt: &R,
+        alloc: Global,
+        room: usize,
+        writes: usize,
+        whole: &[u8],
+    ) -> bool {
         let given = Given {
             room,
             writes: writes as u64,
             ..self.given()
         };
         let mut table = Table::new(alloc, given);
-        command(alloc, &self.words, &mut table) == UNWRITABLE
+        command(rt, alloc, &self.words, &mut table) == UNWRITABLE
             && table.errors() == CANNOT_WRITE
             && table.output().len() == room.saturating_mul(writes)
             && whole.starts_with(table.output())
@@ -130,9 +144,10 @@ impl<'t> Row<'t> {
 }
 
 /// A trace that was written is accepted.
-fn is_accepted(alloc: Global, trace: Option<&[u8]>) -> bool {
+fn is_accepted<R: Threads + Wait + Sync>(rt: &R, alloc: Global, trace: Option<&[u8]>) -> bool {
     match trace {
         Some(_) => command(
+            rt,
             alloc,
             &["kcsan_litmus", "replay", "t"],
             &mut Table::new(alloc, Given::of(trace)),

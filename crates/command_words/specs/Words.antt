@@ -12,9 +12,11 @@ use Rattle.clap.specs.declared.builder.command.Command.{Command}
 use Rattle.clap.specs.declared.error.kind.ErrorKind.{ErrorKind}
 use Rattle.clap.specs.declared.error.kind.ErrorKind.TheVariants as kinds
 use Rattle.clap.specs.declared.builder.value_parser.ValueParser.TheVariants as values
+use Rattle.command_words.specs.declared.request.RunOptions.{RunOptions}
 use Rattle.command_words.specs.declared.request.ReplayRequest.{ReplayRequest}
 use Rattle.command_words.specs.declared.request.Request.{Request}
 use Rattle.command_words.specs.declared.request.Request.TheVariants as requests
+use Rattle.command_words.specs.declared.request.RunRequest.{RunRequest}
 use Rattle.command_words.specs.declared.request.StepRequest.{StepRequest}
 use Rattle.watch_word.specs.declared.layout.Layout.{Layout}
 use Rattle.watch_word.specs.declared.layout.Layout.TheVariants as layouts
@@ -43,19 +45,12 @@ flag_rule name = record (new_rule name) { long = Some name; action = Some SetTru
 abbrev pub name_rule : Text → Bor (List (Bor Text)) → (text : Text) → Rule
 name_rule name names text = record (default_rule name text) { parser = Some (values.Names names) }
 
--- `step`, with its file and what else it takes texts for
-abbrev pub files_app : App
-files_app =
-    with_rule (with_rule (with_rule (with_rule (new_app (codes "step"))
-    (word_rule (codes "FILE")))
-    (default_rule (codes "schedule") []))
+-- a command, also with the options that `step` and `run` both have; its `--word` takes one of these names
+abbrev pub with_options : App → Bor (List (Bor Text)) → App
+with_options app sizes =
+    with_rule (with_rule (with_rule (with_rule (with_rule (with_rule (with_rule (with_rule (with_rule app
     (default_rule (codes "place") []))
-    (text_rule (codes "trace"))
-
--- `step`, also with the options that say how accesses are checked; its `--word` takes one of these names
-abbrev pub step_app : Bor (List (Bor Text)) → App
-step_app sizes =
-    with_rule (with_rule (with_rule (with_rule (with_rule (with_rule (with_rule files_app
+    (text_rule (codes "trace")))
     (number_rule (codes "slots") 3 1024 (codes "64")))
     (number_rule (codes "skip") 0 1000000 (codes "0")))
     (flag_rule (codes "randomize")))
@@ -64,6 +59,21 @@ step_app sizes =
     (name_rule (codes "word") sizes (codes "64")))
     (number_rule (codes "turns") 1 1000000000 (codes "1000000"))
 
+-- `step`, with its file, its schedule and those options
+abbrev pub step_app : Bor (List (Bor Text)) → App
+step_app sizes =
+    with_options (with_rule (with_rule (new_app (codes "step"))
+    (word_rule (codes "FILE")))
+    (default_rule (codes "schedule") [])) sizes
+
+-- `run`, with its file, how many runs there are, the delay of a watch, and those options
+abbrev pub run_app : Bor (List (Bor Text)) → App
+run_app sizes =
+    with_options (with_rule (with_rule (with_rule (new_app (codes "run"))
+    (word_rule (codes "FILE")))
+    (number_rule (codes "runs") 1 18446744073709551615 (codes "100")))
+    (number_rule (codes "delay") 0 18446744073709551615 (codes "64"))) sizes
+
 -- `replay`, with its file
 abbrev pub replay_app : App
 replay_app = with_rule (new_app (codes "replay")) (word_rule (codes "TRACE"))
@@ -71,9 +81,9 @@ replay_app = with_rule (new_app (codes "replay")) (word_rule (codes "TRACE"))
 -- the program, one of whose commands has to be named
 abbrev pub program_app : Bor (List (Bor Text)) → App
 program_app sizes =
-    with_subcommand (with_subcommand
+    with_subcommand (with_subcommand (with_subcommand
     (on_top (λ shape. record shape { subcommand_required = true }) (new_app (codes "kcsan_litmus")))
-    (step_app sizes).top) replay_app.top
+    (step_app sizes).top) (run_app sizes).top) replay_app.top
 
 -- an argument goes by a rule, and is of its own command alone
 pub record IsArg (rule : Rule) (arg : Arg) : Type 0 where
@@ -83,12 +93,6 @@ pub record IsArg (rule : Rule) (arg : Arg) : Type 0 where
 -- these are the names that `--word` takes
 abbrev pub AreSizes : Bor (List (Bor Text)) → Type 0
 AreSizes sizes = map (λ size. size.now) sizes.now ≡ codes "64" ∷ codes "32" ∷ []
-
--- a command is `step`
-pub record IsStep (command : Command) : Type 0 where
-  pub sizes : Bor (List (Bor Text))
-  pub sizes_are : AreSizes sizes
-  pub is : app_of command ≡ step_app sizes
 
 -- a command is the whole program
 pub record IsProgram (command : Command) : Type 0 where
@@ -120,19 +124,30 @@ pub record IsLayout (values : List Row) (option : Text) (layout : Layout) : Type
   pub given : first_of option values ≡ Some bits
   pub is : layout ≡ (if bytes_eq bits (codes "32") then layouts.W32 else layouts.W64)
 
+-- the values ask for this of what `step` and `run` both have
+pub record AskOptions (values : List Row) (options : RunOptions) : Type 0 where
+  pub places : first_of (codes "place") values ≡ Some options.places.now
+  pub trace : first_of (codes "trace") values ≡ option_map (λ path. path.now) options.trace
+  pub slots : IsNumber values (codes "slots") options.slots
+  pub skip : IsNumber values (codes "skip") options.skip
+  pub randomize : IsFlag values (codes "randomize") options.randomize
+  pub seed : IsNumber values (codes "seed") options.seed
+  pub strict : IsFlag values (codes "strict") options.strict
+  pub layout : IsLayout values (codes "word") options.layout
+  pub turns : IsNumber values (codes "turns") options.turns
+
 -- the values of `step` ask for this
 pub record AskStep (values : List Row) (request : StepRequest) : Type 0 where
   pub file : first_of (codes "FILE") values ≡ Some request.file.now
   pub schedule : first_of (codes "schedule") values ≡ Some request.schedule.now
-  pub places : first_of (codes "place") values ≡ Some request.places.now
-  pub trace : first_of (codes "trace") values ≡ option_map (λ path. path.now) request.trace
-  pub slots : IsNumber values (codes "slots") request.slots
-  pub skip : IsNumber values (codes "skip") request.skip
-  pub randomize : IsFlag values (codes "randomize") request.randomize
-  pub seed : IsNumber values (codes "seed") request.seed
-  pub strict : IsFlag values (codes "strict") request.strict
-  pub layout : IsLayout values (codes "word") request.layout
-  pub turns : IsNumber values (codes "turns") request.turns
+  pub options : AskOptions values request.options
+
+-- the values of `run` ask for this
+pub record AskRun (values : List Row) (request : RunRequest) : Type 0 where
+  pub file : first_of (codes "FILE") values ≡ Some request.file.now
+  pub runs : IsNumber values (codes "runs") request.runs
+  pub delay : IsNumber values (codes "delay") request.delay
+  pub options : AskOptions values request.options
 
 -- the values of `replay` ask for this
 abbrev pub AskReplay : List Row → ReplayRequest → Type 0
@@ -141,6 +156,7 @@ AskReplay values request = first_of (codes "TRACE") values ≡ Some request.trac
 -- a command of this name with these values asks for this
 abbrev pub IsAskedBy : Text → List Row → Request → Type 0
 IsAskedBy name values (requests.Step request) = (name ≡ codes "step") × AskStep values request
+IsAskedBy name values (requests.Run request) = (name ≡ codes "run") × AskRun values request
 IsAskedBy name values (requests.Replay request) = (name ≡ codes "replay") × AskReplay values request
 
 -- the command that was called, with its values, if there is one, asks for this

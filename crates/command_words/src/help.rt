@@ -110,3 +110,34 @@ pub const WORD: &str = "How many bits a watch word has, 64 or 32";
 /// What `--turns` says.
 pub const TURNS: &str =
     "At so many vain tries to take a lock or to change a variable a task is stuck, 1 to 1000000000";
+
+/// What `run` does.
+pub const RUN: &str =
+    "Runs the program of a litmus file on threads, and prints what KCSAN would report";
+
+/// What follows the options of `run`.
+pub const AFTER_RUN: &str = "\
+    Each task runs on a thread of its own, and all of them share the memory and the\n\
+    watchpoints. A task that has set up a watchpoint waits for the delay, so that another may\n\
+    hit it. Each run begins anew, with the same settings; which races show in it is left to\n\
+    the machine. For example\n\
+    \n\
+    \x20\x20\x20\x20kcsan_litmus run race.litmus --runs 1000 --delay 640\n\
+    \n\
+    runs the two tasks a thousand times. Each distinct report is printed once, in the order in\n\
+    which they were first seen, with how often it was seen; then what became of the checks of\n\
+    all runs, and in how many of the runs the condition held. While the runs go on, a line on\n\
+    standard error counts them, where that is a terminal. A trace is that of the last run.\n\
+    \n\
+    'kcsan_litmus step --help' says what a place list is.\n\
+    \n\
+    Exit status: 0 no report; 2 a report; 64 usage, or a place list that doesn't read or doesn't\n\
+    suit the file; 65 the file is refused; 66 it can't be read; 70 a task is stuck; 71 out of\n\
+    memory, or a thread couldn't be started; 74 output can't be written. From 64 on standard\n\
+    error says why, and up to 71 nothing goes to standard output or to the trace's file.";
+
+/// What `--runs` says.
+pub const RUNS: &str = "How many runs there are, 1 or more";
+
+/// What `--delay` says.
+pub const DELAY: &str = "How many loads of a word a task waits at each watchpoint that it sets up";

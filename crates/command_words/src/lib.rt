@@ -4,7 +4,7 @@
 pub mod help;
 pub mod request;
 
-pub use request::{ReplayRequest, Request, StepRequest, asked};
+pub use request::{ReplayRequest, Request, RunOptions, RunRequest, StepRequest, asked};
 
 #[cfg(test)]
 mod tests;

@@ -1,9 +1,9 @@
 //! What the words ask for.
 
 ghost use Rattle.std.specs.Prelude.{◌≡◌, ◌≤◌, ◌<◌, ℕ, IfErr, IfOk, IfSome, codes, map};
-ghost use Rattle.command_words.specs.Bounds.{KeepsBounds, MayBeAsked};
-ghost use Rattle.command_words.specs.Words.{Ask, AskStep, IsArg, IsAskedOf, IsLayout, IsNumber, IsProgram, IsStep, MayFail};
-ghost use Rattle.command_words.specs.Words.{files_app, flag_rule, number_rule, replay_app, text_rule, word_rule};
+ghost use Rattle.command_words.specs.Bounds.{KeepsBounds, KeepsRunBounds, MayBeAsked};
+ghost use Rattle.command_words.specs.Words.{AreSizes, Ask, AskOptions, AskRun, AskStep, IsArg, IsAskedOf, IsLayout, IsNumber, IsProgram, MayFail};
+ghost use Rattle.command_words.specs.Words.{flag_rule, number_rule, replay_app, run_app, step_app, text_rule, with_options, word_rule};
 ghost use Rattle.clap.specs.Words.{app_of, found_of, kind_of, rows_of, subcommand_rows_of};
 
 use crate::help;
@@ -13,6 +13,9 @@ use clap::{Arg, ArgAction, ArgMatches, Command};
 use std::alloc::{AllocError, Global};
 use std::convert::AsStr;
 use watch_word::Layout;
+
+/// The fewest and the most runs.
+const RUNS: (u64, u64) = (1, u64::MAX);
 
 /// The fewest and the most page slots.
 const SLOTS: (u64, u64) = (3, 1024);
@@ -31,6 +34,8 @@ static BITS: [&str; 2] = ["64", "32"];
 pub enum Request<'a> {
     /// To step the program of a litmus file.
     Step(StepRequest<'a>),
+    /// To run the program of a litmus file on threads.
+    Run(RunRequest<'a>),
     /// To check a trace.
     Replay(ReplayRequest<'a>),
 }
@@ -49,6 +54,26 @@ pub struct StepRequest<'a> {
     pub file: &'a str,
     /// The text of the schedule.
     pub schedule: &'a str,
+    /// What `run` could be given as well.
+    pub options: RunOptions<'a>,
+}
+
+/// What `run` is asked to do.
+#[derive(Clone, Copy, Debug, PartialEq, Eq)]
+pub struct RunRequest<'a> {
+    /// The name of the litmus file.
+    pub file: &'a str,
+    /// How many runs there are to be.
+    pub runs: u64,
+    /// How many loads of a word the delay of a watch takes.
+    pub delay: u64,
+    /// What `step` could be given as well.
+    pub options: RunOptions<'a>,
+}
+
+/// The options that `step` and `run` both have.
+#[derive(Clone, Copy, Debug, PartialEq, Eq)]
+pub struct RunOptions<'a> {
     /// The text of the place list.
     pub places: &'a str,
     /// The name of the file that the trace goes to, if it goes to one.
@@ -89,6 +114,7 @@ fn request_of<'a>(matches: &ArgMatches<'a>) -> Option<Request<'a>>
 {
     match matches.subcommand()? {
         ("step", step) => Some(Request::Step(step_request(step)?)),
+        ("run", run) => Some(Request::Run(run_request(run)?)),
         ("replay", replay) => Some(Request::Replay(ReplayRequest {
             trace: replay.get_str("TRACE")?,
         })),
@@ -98,21 +124,44 @@ fn request_of<'a>(matches: &ArgMatches<'a>) -> Option<Request<'a>>
 
 /// What `step` is asked to do, by the values of its options.
 fn step_request<'a>(step: &ArgMatches<'a>) -> Option<StepRequest<'a>>
-    ensures bounds { IfSome result KeepsBounds }
+    ensures bounds { IfSome result (λ request. KeepsBounds request.options) }
     ensures asked { IfSome result (AskStep (rows_of (found_of step.now))) }
 {
     Some(StepRequest {
         file: step.get_str("FILE")?,
         schedule: step.get_str("schedule")?,
-        places: step.get_str("place")?,
-        trace: step.get_str("trace"),
-        slots: number(step, "slots", SLOTS)? as usize,
-        skip: number(step, "skip", SKIP)?,
-        randomize: step.get_flag("randomize"),
-        seed: number(step, "seed", (0, u64::MAX))?,
-        strict: step.get_flag("strict"),
-        layout: layout(step)?,
-        turns: number(step, "turns", TURNS)?,
+        options: options(step)?,
+    })
+}
+
+/// What `run` is asked to do, by the values of its options.
+fn run_request<'a>(run: &ArgMatches<'a>) -> Option<RunRequest<'a>>
+    ensures bounds { IfSome result KeepsRunBounds }
+    ensures asked { IfSome result (AskRun (rows_of (found_of run.now))) }
+{
+    Some(RunRequest {
+        file: run.get_str("FILE")?,
+        runs: number(run, "runs", RUNS)?,
+        delay: number(run, "delay", (0, u64::MAX))?,
+        options: options(run)?,
+    })
+}
+
+/// The options that `step` and `run` both have, by their values.
+fn options<'a>(matches: &ArgMatches<'a>) -> Option<RunOptions<'a>>
+    ensures bounds { IfSome result KeepsBounds }
+    ensures asked { IfSome result (AskOptions (rows_of (found_of matches.now))) }
+{
+    Some(RunOptions {
+        places: matches.get_str("place")?,
+        trace: matches.get_str("trace"),
+        slots: number(matches, "slots", SLOTS)? as usize,
+        skip: number(matches, "skip", SKIP)?,
+        randomize: matches.get_flag("randomize"),
+        seed: number(matches, "seed", (0, u64::MAX))?,
+        strict: matches.get_flag("strict"),
+        layout: layout(matches)?,
+        turns: number(matches, "turns", TURNS)?,
     })
 }
 
@@ -141,11 +190,13 @@ fn layout(matches: &ArgMatches<'_>) -> Option<Layout>
 fn program<'a>(alloc: Global) -> Result<Command<'a>, AllocError>
     ensures { IfOk result IsProgram }
 {
+    let sizes = BITS.as_slice();
     Command::new(alloc, "kcsan_litmus")
         .about(help::PROGRAM)
         .after_help(help::AFTER_PROGRAM)
         .subcommand_required(true)
-        .subcommand(step_command(alloc)?)?
+        .subcommand(step_command(alloc, sizes)?)?
+        .subcommand(run_command(alloc, sizes)?)?
         .subcommand(replay_command(alloc)?)
 }
 
@@ -169,29 +220,48 @@ fn file<'a>(alloc: Global, name: &'a str, help: &'a str) -> Arg<'a>
         .action(ArgAction::Set)
 }
 
-/// `step`, with its file and its options.
-fn step_command<'a>(alloc: Global) -> Result<Command<'a>, AllocError>
-    ensures { IfOk result IsStep }
+/// `step`, with its file and its options; its `--word` takes one of these names.
+fn step_command<'a>(
+    alloc: Global,
+    sizes: &'static [&'static str],
+) -> Result<Command<'a>, AllocError>
+    ensures { IfOk result (λ command. app_of command ≡ step_app sizes.entry) }
 {
     let command = Command::new(alloc, "step")
         .about(help::STEP)
         .after_help(help::AFTER_STEP)
         .arg(file(alloc, "FILE", help::FILE))?
-        .arg(text_option(alloc, "schedule", "S", help::SCHEDULE).default_value(""))?
-        .arg(text_option(alloc, "place", "LIST", help::PLACE).default_value(""))?
-        .arg(text_option(alloc, "trace", "PATH", help::TRACE))?;
-    checking(alloc, command)
+        .arg(text_option(alloc, "schedule", "S", help::SCHEDULE).default_value(""))?;
+    with_shared(alloc, command, sizes)
 }
 
-/// The options that say how accesses are checked.
-fn checking<'a>(alloc: Global, command: Command<'a>) -> Result<Command<'a>, AllocError>
-    requires { app_of command ≡ files_app }
-    ensures { IfOk result IsStep }
+/// `run`, with its file and its options; its `--word` takes one of these names.
+fn run_command<'a>(alloc: Global, sizes: &'static [&'static str]) -> Result<Command<'a>, AllocError>
+    ensures { IfOk result (λ command. app_of command ≡ run_app sizes.entry) }
+{
+    let command = Command::new(alloc, "run")
+        .about(help::RUN)
+        .after_help(help::AFTER_RUN)
+        .arg(file(alloc, "FILE", help::FILE))?
+        .arg(number_option(alloc, "runs", help::RUNS, RUNS, "100"))?
+        .arg(number_option(alloc, "delay", help::DELAY, (0, u64::MAX), "64"))?;
+    with_shared(alloc, command, sizes)
+}
+
+/// A command with the options that `step` and `run` both have.
+fn with_shared<'a>(
+    alloc: Global,
+    command: Command<'a>,
+    sizes: &'static [&'static str],
+) -> Result<Command<'a>, AllocError>
+    ensures { IfOk result (λ more. app_of more ≡ with_options (app_of command.entry) sizes.entry) }
 {
     let word = text_option(alloc, "word", "BITS", help::WORD)
-        .value_parser(BITS.as_slice())
+        .value_parser(sizes)
         .default_value("64");
     command
+        .arg(text_option(alloc, "place", "LIST", help::PLACE).default_value(""))?
+        .arg(text_option(alloc, "trace", "PATH", help::TRACE))?
         .arg(number_option(alloc, "slots", help::SLOTS, SLOTS, "64"))?
         .arg(number_option(alloc, "skip", help::SKIP, SKIP, "0"))?
         .arg(flag(alloc, "randomize", help::RANDOMIZE))?

@@ -1,16 +1,14 @@
 //! What words ask for, and which make no sense.
 
-use crate::request::{ReplayRequest, Request, StepRequest, asked};
+use crate::request::{ReplayRequest, Request, RunOptions, RunRequest, StepRequest, asked};
 use clap::error::ErrorKind;
 use std::alloc::Global;
 use std::process::Abort;
 use std::test::Fail;
 use watch_word::Layout;
 
-/// What `step t` asks for.
-const PLAIN: StepRequest<'static> = StepRequest {
-    file: "t",
-    schedule: "",
+/// The options where none is given.
+const OPTIONS: RunOptions<'static> = RunOptions {
     places: "",
     trace: None,
     slots: 64,
@@ -23,38 +21,33 @@ const PLAIN: StepRequest<'static> = StepRequest {
 };
 
 /// These words, after the program's name, ask for this.
-fn ask(
-    rt: &impl Abort,
-    alloc: Global,
-    words: &[&str],
-    wanted: StepRequest<'_>,
-) -> Result<(), Fail> {
+fn ask(rt: &impl Abort, alloc: Global, words: &[&str], wanted: Request<'_>) -> Result<(), Fail> {
     let request = asked(alloc, words)?;
-    assert_eq!(rt; request, Request::Step(wanted));
+    assert_eq!(rt; request, wanted);
     Ok(())
+}
+
+/// What `step t` asks for with these options.
+fn step(options: RunOptions<'_>) -> Request<'_> {
+    Request::Step(StepRequest {
+        file: "t",
+        schedule: "",
+        options,
+    })
 }
 
 #[test]
 fn options_are_read(rt: HostRuntime) -> Result<(), Fail> {
-    ask(&rt, rt.alloc(), &["k", "step", "t"], PLAIN)?;
-    ask(
-        &rt,
-        rt.alloc(),
-        &["k", "step", "--schedule", "0x7,1x9", "t"],
-        StepRequest {
-            schedule: "0x7,1x9",
-            ..PLAIN
-        },
-    )?;
+    ask(&rt, rt.alloc(), &["k", "step", "t"], step(OPTIONS))?;
     ask(
         &rt,
         rt.alloc(),
         &["k", "step", "t", "--place=x=0x1000", "--trace", "r"],
-        StepRequest {
+        step(RunOptions {
             places: "x=0x1000",
             trace: Some("r"),
-            ..PLAIN
-        },
+            ..OPTIONS
+        }),
     )?;
     ask(
         &rt,
@@ -62,12 +55,12 @@ fn options_are_read(rt: HostRuntime) -> Result<(), Fail> {
         &[
             "k", "step", "t", "--slots", "3", "--skip", "05", "--turns", "+7",
         ],
-        StepRequest {
+        step(RunOptions {
             slots: 3,
             skip: 5,
             turns: 7,
-            ..PLAIN
-        },
+            ..OPTIONS
+        }),
     )?;
     ask(
         &rt,
@@ -83,12 +76,12 @@ fn options_are_read(rt: HostRuntime) -> Result<(), Fail> {
             "--turns",
             "1000000000",
         ],
-        StepRequest {
+        step(RunOptions {
             slots: 1024,
             skip: 1_000_000,
             turns: 1_000_000_000,
-            ..PLAIN
-        },
+            ..OPTIONS
+        }),
     )?;
     ask(
         &rt,
@@ -101,21 +94,21 @@ fn options_are_read(rt: HostRuntime) -> Result<(), Fail> {
             "--seed",
             "18446744073709551615",
         ],
-        StepRequest {
+        step(RunOptions {
             randomize: true,
             seed: u64::MAX,
-            ..PLAIN
-        },
+            ..OPTIONS
+        }),
     )?;
     ask(
         &rt,
         rt.alloc(),
         &["k", "step", "t", "--strict", "--word", "32"],
-        StepRequest {
+        step(RunOptions {
             strict: true,
             layout: Layout::W32,
-            ..PLAIN
-        },
+            ..OPTIONS
+        }),
     )?;
     ask(
         &rt,
@@ -131,7 +124,67 @@ fn options_are_read(rt: HostRuntime) -> Result<(), Fail> {
             "--word",
             "64",
         ],
-        PLAIN,
+        step(OPTIONS),
+    )
+}
+
+#[test]
+fn a_schedule_is_asked_for(rt: HostRuntime) -> Result<(), Fail> {
+    ask(
+        &rt,
+        rt.alloc(),
+        &["k", "step", "--schedule", "0x7,1x9", "t"],
+        Request::Step(StepRequest {
+            file: "t",
+            schedule: "0x7,1x9",
+            options: OPTIONS,
+        }),
+    )
+}
+
+#[test]
+fn runs_are_asked_for(rt: HostRuntime) -> Result<(), Fail> {
+    ask(
+        &rt,
+        rt.alloc(),
+        &["k", "run", "t"],
+        Request::Run(RunRequest {
+            file: "t",
+            runs: 100,
+            delay: 64,
+            options: OPTIONS,
+        }),
+    )?;
+    ask(
+        &rt,
+        rt.alloc(),
+        &["k", "run", "t", "--runs", "1", "--delay", "0", "--strict"],
+        Request::Run(RunRequest {
+            file: "t",
+            runs: 1,
+            delay: 0,
+            options: RunOptions {
+                strict: true,
+                ..OPTIONS
+            },
+        }),
+    )?;
+    ask(
+        &rt,
+        rt.alloc(),
+        &[
+            "k",
+            "run",
+            "t",
+            "--runs=18446744073709551615",
+            "--delay=18446744073709551615",
+        ],
+        Request::Run(RunRequest {
+            file: "t",
+            runs: u64::MAX,
+            delay: u64::MAX,
+            options: OPTIONS,
+        }),
     )
 }
 
@@ -213,6 +266,26 @@ fn other_words_make_no_sense(rt: HostRuntime) {
         &["k", "replay", "r", "--strict"],
         ErrorKind::UnknownArgument,
     );
+    for words in [
+        ["k", "run", "t", "--runs", "0"].as_slice(),
+        ["k", "run", "t", "--runs", "18446744073709551616"].as_slice(),
+        ["k", "run", "t", "--delay=-1"].as_slice(),
+        ["k", "run", "t", "--turns", "0"].as_slice(),
+    ] {
+        refuse(&rt, rt.alloc(), words, ErrorKind::ValueValidation);
+    }
+    refuse(
+        &rt,
+        rt.alloc(),
+        &["k", "run", "t", "--schedule", "0x1"],
+        ErrorKind::UnknownArgument,
+    );
+    refuse(
+        &rt,
+        rt.alloc(),
+        &["k", "step", "t", "--runs", "1"],
+        ErrorKind::UnknownArgument,
+    );
     refuse(&rt, rt.alloc(), &["k", "--help"], ErrorKind::DisplayHelp);
     refuse(
         &rt,
@@ -228,6 +301,7 @@ fn some_words_ask_for_help(rt: HostRuntime) {
         ["k", "help"].as_slice(),
         ["k", "--help"].as_slice(),
         ["k", "step", "-h"].as_slice(),
+        ["k", "run", "--help"].as_slice(),
         ["k", "help", "step"].as_slice(),
     ] {
         refuse(&rt, rt.alloc(), words, ErrorKind::DisplayHelp);

@@ -11,7 +11,7 @@ use system::System;
 
 fn main(rt: HostRuntime) -> ExitCode {
     let status = match words(&rt) {
-        Ok(words) => command(rt.alloc(), &words, &mut System::new(rt)),
+        Ok(words) => command(&rt, rt.alloc(), &words, &mut System::new(rt)),
         Err(error) => {
             let _ = eprintln!(rt; "kcsan_litmus: {error}");
             match error.kind() {

@@ -3,12 +3,13 @@
 ghost use Rattle.std.specs.Prelude.{None};
 ghost use Rattle.report_text.specs.Sink.{CountsFailure};
 
+use litmus_command::Progress;
 use litmus_command::desk::{Desk, ReadFault};
 use litmus_lex::{ReadError, Source, SourceFault, read_all};
 use report_text::{Sink, SinkFault, WriteError, write_all};
 use std::alloc::Global;
 use std::fs::File;
-use std::io::Read;
+use std::io::{IsTerminal, Read};
 use std::{fmt, fs};
 
 /// An open file, which can't say what it will give.
@@ -76,6 +77,25 @@ impl System {
     pub fn new(rt: HostRuntime) -> System {
         System {
             output: Output { rt, failures: 0 },
+        }
+    }
+}
+
+/// How many times the line of progress is written, at most.
+const LINES: u64 = 100;
+
+impl Progress for System {
+    /// Where standard error is a terminal, a line there counts the runs. What is written next goes over it.
+    fn ran(&self, runs: u64, of: u64) {
+        let rt = &self.output.rt;
+        let apart = (of / LINES).max(1);
+        if !rt.stderr().is_terminal() {
+            return;
+        }
+        if runs == of {
+            let _ = rt.eprint("\x1b[K");
+        } else if runs.is_multiple_of(apart) {
+            let _ = rt.eprint(format_args!("run {runs} of {of}\x1b[K\r"));
         }
     }
 }

@@ -1,4 +1,2 @@
 mod AskedLemmas
-mod CellValues
-mod FinalLemmas
 mod ResultLemmas

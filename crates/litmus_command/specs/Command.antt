@@ -7,12 +7,22 @@ use Rattle.command_words.specs.Words.{Ask, AskForHelp}
 use Rattle.command_words.specs.declared.request.ReplayRequest.{ReplayRequest}
 use Rattle.command_words.specs.declared.request.Request.{Request}
 use Rattle.command_words.specs.declared.request.Request.TheVariants as requests
+use Rattle.command_words.specs.declared.request.RunOptions.{RunOptions}
+use Rattle.command_words.specs.declared.request.RunRequest.{RunRequest}
 use Rattle.command_words.specs.declared.request.StepRequest.{StepRequest}
 use Rattle.litmus_parse.specs.Text.{file_bytes}
 use Rattle.place_list.specs.Spelling as places
 use Rattle.program_layout.specs.declared.place.Place.{Place}
 use Rattle.report_text.specs.Faults.{size_limit}
 use Rattle.report_text.specs.Sink.{CountsFailure, HoldsBeginning, appended}
+use Rattle.litmus_syntax.specs.declared.error.ParseError.{ParseError}
+use Rattle.litmus_syntax.specs.declared.error.ParseError.TheVariants as parse
+use Rattle.run_tally.specs.Errors as tally
+use Rattle.run_tally.specs.Output as tally_output
+use Rattle.run_tally.specs.declared.error.RunsError.{RunsError}
+use Rattle.run_tally.specs.declared.error.RunsError.TheVariants as runs
+use Rattle.runner.specs.declared.error.RunError.{RunError}
+use Rattle.runner.specs.declared.error.RunError.TheVariants as run
 use Rattle.step_schedule.specs.Spelling as schedules
 use Rattle.step_schedule.specs.declared.schedule.Entry.{Entry}
 use Rattle.litmus_step.specs.declared.settings.Settings.{Settings}
@@ -42,6 +52,27 @@ engine_status_of (engine.Stuck task) = 70
 engine_status_of engine.BadSchedule = 64
 engine_status_of engine.SinkFailed = 74
 
+-- the status for a litmus text that is refused
+abbrev pub text_status_of : ParseError → ℕ
+text_status_of parse.OutOfMemory = 71
+text_status_of (parse.Syntax line) = 65
+text_status_of (parse.Unsupported line) = 65
+text_status_of (parse.Limit limit) = 65
+text_status_of parse.NotAscii = 65
+
+-- the status for a program that can't be run on threads, or whose run doesn't come to its end
+abbrev pub run_status_of : RunError → ℕ
+run_status_of run.BadSlots = 64
+run_status_of run.BadPlace = 64
+run_status_of run.OutOfMemory = 71
+run_status_of (run.Stuck task) = 70
+run_status_of run.NoThread = 71
+
+-- the status for a file that could not be run on threads
+abbrev pub runs_status_of : RunsError → ℕ
+runs_status_of (runs.Text error) = text_status_of error
+runs_status_of (runs.Run error) = run_status_of error
+
 -- the status for a trace that is not accepted
 abbrev pub trace_status_of : TraceError → ℕ
 trace_status_of trace.OutOfMemory = 71
@@ -56,6 +87,7 @@ status_of failure.CannotRead = 66
 status_of failure.CannotWrite = 74
 status_of failure.OutOfMemory = 71
 status_of (failure.Engine error) = engine_status_of error
+status_of (failure.Runs error) = runs_status_of error
 status_of (failure.Trace error) = trace_status_of error
 
 -- what a file that gives no bytes means
@@ -75,24 +107,28 @@ state_of written failures files desk =
     record { written = written desk; failures = failures desk; files = files desk }
 
 -- what a run goes by, as it is asked for, with these places
-abbrev pub settings_of : StepRequest → Vec Place Global → Settings
-settings_of request given = record {
-  slots = request.slots;
-  skip = request.skip;
-  randomize = request.randomize;
-  seed = request.seed;
-  value_change_only = not request.strict;
-  plain_writes_atomic = not request.strict;
-  layout = request.layout;
-  turns = request.turns;
+abbrev pub settings_of : RunOptions → Vec Place Global → Settings
+settings_of options given = record {
+  slots = options.slots;
+  skip = options.skip;
+  randomize = options.randomize;
+  seed = options.seed;
+  value_change_only = not options.strict;
+  plain_writes_atomic = not options.strict;
+  layout = options.layout;
+  turns = options.turns;
   places = given;
 }
 
--- these are the settings and the schedule that are asked for: the numbers of the request, and what its texts spell
+-- these are the settings that are asked for: the numbers of the options, and the places that their text spells
+pub record AskSettings (options : RunOptions) (settings : Settings) : Type 0 where
+  pub bounds : KeepsBounds options
+  pub settings_are : settings ≡ settings_of options settings.places
+  pub places : places.Spells options.places.now settings.places.items
+
+-- and this is the schedule, as the request's text spells it
 pub record AsksFor (request : StepRequest) (settings : Settings) (entries : List Entry) : Type 0 where
-  pub bounds : KeepsBounds request
-  pub settings_are : settings ≡ settings_of request settings.places
-  pub places : places.Spells request.places.now settings.places.items
+  pub settings_are : AskSettings request.options settings
   pub schedule : schedules.Spells request.schedule.now entries
 
 -- what was done with files, where then a trace was written, if it is asked for and there is one
@@ -109,12 +145,21 @@ pub record IsLeft (request : StepRequest) (text : List ℕ) (raced : Bool) (outp
   pub entries : List Entry
   pub asks : AsksFor request settings entries
   pub leaves : TextLeaves text settings entries raced output trace
-  pub traced : is_some trace ≡ is_some request.trace
+  pub traced : is_some trace ≡ is_some request.options.trace
 
--- what was done with files once the file that is asked for gave this text, and then the trace was written, if it is asked for
-abbrev pub files_after : StepRequest → List ℕ → (trace : Option (List ℕ)) → Option (List FileEvent) → Option (List FileEvent)
-files_after request text trace before =
-    with_trace (noted before (Gave request.file.now file_bytes text)) (option_map (λ path. path.now) request.trace) trace
+-- This is left of so many runs on threads of the program that a text spells, under the settings that are asked for: whether there was a
+-- report, the output, and the trace of the last run, if it is asked for.
+pub record AreLeft (request : RunRequest) (text : List ℕ) (raced : Bool) (output : List ℕ) (trace : Option (List ℕ)) : Type 0 where
+  pub settings : Settings
+  pub asks : AskSettings request.options settings
+  pub leaves : tally_output.TextLeaves text settings request.runs raced output trace
+  pub traced : is_some trace ≡ is_some request.options.trace
+
+-- what was done with files once the file of a name gave this text, and then the trace was written, if it is asked for
+abbrev pub files_after : (file : List ℕ) → RunOptions → (text : List ℕ) → (trace : Option (List ℕ)) → Option (List FileEvent)
+    → Option (List FileEvent)
+files_after file options text trace before =
+    with_trace (noted before (Gave file file_bytes text)) (option_map (λ path. path.now) options.trace) trace
 
 -- The file that is asked for was read, and its program was stepped. What is left of that one run was written: its trace, if it is asked
 -- for, and its output, which has a report or none.
@@ -124,7 +169,7 @@ pub record StepIsDone (request : StepRequest) (raced : Bool) (before after : Sta
   pub trace : Option (List ℕ)
   pub left : IsLeft request text raced output trace
   pub written : after.written ≡ appended before.written output
-  pub files : after.files ≡ files_after request text trace before.files
+  pub files : after.files ≡ files_after request.file.now request.options text trace before.files
 
 -- Not all of it could be written. A trace is asked for, and its file could not be written: standard output has what it had. Or that was
 -- done, and standard output took but a beginning of the output.
@@ -134,8 +179,9 @@ pub record StepIsCut (request : StepRequest) (before after : State) : Type 0 whe
   pub output : List ℕ
   pub trace : Option (List ℕ)
   pub left : IsLeft request text raced output trace
-  pub cut : ((is_some request.trace ≡ true) × (after.written ≡ before.written))
-      ⊎ (HoldsBeginning output before.written after.written × (after.files ≡ files_after request text trace before.files))
+  pub cut : ((is_some request.options.trace ≡ true) × (after.written ≡ before.written))
+      ⊎ (HoldsBeginning output before.written after.written
+      × (after.files ≡ files_after request.file.now request.options text trace before.files))
 
 -- The file that is asked for was read, and its text has no output, for a reason that ends with this status. Nothing was written.
 pub record StepIsRefused (request : StepRequest) (status : ℕ) (before after : State) : Type 0 where
@@ -146,6 +192,39 @@ pub record StepIsRefused (request : StepRequest) (status : ℕ) (before after : 
   pub error : EngineError
   pub refused : IsRefused text settings entries error
   pub status_is : status ≡ engine_status_of error
+  pub files : after.files ≡ noted before.files (Gave request.file.now file_bytes text)
+
+-- The file that is asked for was read, and its program was run on threads as often as it is asked. What is left of these runs was
+-- written: the trace of the last one, if it is asked for, and the output, which has a report or none.
+pub record RunIsDone (request : RunRequest) (raced : Bool) (before after : State) : Type 0 where
+  pub text : List ℕ
+  pub output : List ℕ
+  pub trace : Option (List ℕ)
+  pub left : AreLeft request text raced output trace
+  pub written : after.written ≡ appended before.written output
+  pub files : after.files ≡ files_after request.file.now request.options text trace before.files
+
+-- Not all of it could be written. A trace is asked for, and its file could not be written: standard output has what it had. Or that was
+-- done, and standard output took but a beginning of the output.
+pub record RunIsCut (request : RunRequest) (before after : State) : Type 0 where
+  pub text : List ℕ
+  pub raced : Bool
+  pub output : List ℕ
+  pub trace : Option (List ℕ)
+  pub left : AreLeft request text raced output trace
+  pub cut : ((is_some request.options.trace ≡ true) × (after.written ≡ before.written))
+      ⊎ (HoldsBeginning output before.written after.written
+      × (after.files ≡ files_after request.file.now request.options text trace before.files))
+
+-- The file that is asked for was read, and the runs of its text have no output, for a reason that ends with this status. Nothing was
+-- written.
+pub record RunIsRefused (request : RunRequest) (status : ℕ) (before after : State) : Type 0 where
+  pub settings : Settings
+  pub asks : AskSettings request.options settings
+  pub text : List ℕ
+  pub error : RunsError
+  pub refused : tally.IsRefused text settings error
+  pub status_is : status ≡ runs_status_of error
   pub files : after.files ≡ noted before.files (Gave request.file.now file_bytes text)
 
 -- the file that is asked for was read, and is no true trace, for a reason that ends with this status
@@ -178,17 +257,20 @@ pub record ReplayIsCut (request : ReplayRequest) (before after : State) : Type 0
 -- what is asked was done, with a report or without one
 abbrev pub IsDone : Request → Bool → State → State → Type 0
 IsDone (requests.Step request) raced before after = StepIsDone request raced before after
+IsDone (requests.Run request) raced before after = RunIsDone request raced before after
 IsDone (requests.Replay request) true before after = ⊥
 IsDone (requests.Replay request) false before after = ReplayIsDone request before after
 
 -- what is asked was done, and not all of it could be written
 abbrev pub IsCut : Request → State → State → Type 0
 IsCut (requests.Step request) before after = StepIsCut request before after
+IsCut (requests.Run request) before after = RunIsCut request before after
 IsCut (requests.Replay request) before after = ReplayIsCut request before after
 
 -- what is asked was refused of the file that it is about
 abbrev pub IsRefusedOf : Request → (status : ℕ) → State → State → Type 0
 IsRefusedOf (requests.Step request) status before after = StepIsRefused request status before after
+IsRefusedOf (requests.Run request) status before after = RunIsRefused request status before after
 IsRefusedOf (requests.Replay request) status before after = ReplayIsRefused request status before after
 
 -- the status says that a file is refused, or that a task is stuck

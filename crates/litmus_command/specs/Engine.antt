@@ -2,7 +2,7 @@
 use Rattle.std.specs.Prelude.{◌≡◌, ◌<◌, ◌==◌, ◌↔◌, ◌⊎◌, ◌++◌, ◌∷◌, ℕ, List, [], Option, Bool, IfSome, IsTrue, length, not}
 use Rattle.std.specs.List.{flat_map}
 use Rattle.access_types.specs.Sites.{AccessMap}
-use Rattle.litmus_command.specs.Finals.{HoldsAtEnd}
+use Rattle.run_tally.specs.Finals.{HoldsAtEnd}
 use Rattle.litmus_command.specs.declared.engine.EngineError.{EngineError}
 use Rattle.litmus_command.specs.declared.engine.EngineError.TheVariants as engine
 use Rattle.litmus_parse.specs.Grammar.{SpellsProgram}

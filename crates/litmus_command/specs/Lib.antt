@@ -1,4 +1,3 @@
-pub mod Finals
 pub mod Engine
 pub mod Files
 pub mod Replay

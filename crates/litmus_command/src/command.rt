@@ -1,14 +1,14 @@
 //! The command line: what the words ask for is done, and the status that the program ends with.
 
-ghost use Rattle.std.specs.Prelude.{◌≡◌, ◌≢◌, ◌⊎◌, ℕ, List, IfErr, IfOk, OnErr, OnOk, is_some, true, false, map};
-ghost use Rattle.command_words.specs.Bounds.{KeepsBounds, MayBeAsked};
+ghost use Rattle.std.specs.Prelude.{◌≡◌, ◌≢◌, ◌≤◌, ◌⊎◌, ℕ, List, IfErr, IfOk, OnErr, OnOk, is_some, true, false, map};
+ghost use Rattle.command_words.specs.Bounds.{KeepsBounds, KeepsRunBounds, MayBeAsked};
 ghost use Rattle.command_words.specs.Words.{AskForHelp, MayFail};
 ghost use Rattle.clap.specs.Words.{kind_of};
-ghost use Rattle.litmus_command.specs.Command.{AskForOne, AsksFor, EndsAs, HelpIsCut, HelpIsGiven, IsCut, IsDone, IsOfFile, IsRefusedOf};
-ghost use Rattle.litmus_command.specs.Command.{NothingIsWritten, ReplayIsCut, ReplayIsDone, ReplayIsRefused, StepIsCut};
-ghost use Rattle.litmus_command.specs.Command.{StepIsDone, StepIsRefused, engine_status_of, read_failure, settings_of, state_of};
-ghost use Rattle.litmus_command.specs.Command.{status_of, trace_status_of, with_trace};
-ghost use Rattle.litmus_command.specs.declared.command.Failure.TheVariants.{Engine, OutOfMemory, Trace};
+ghost use Rattle.litmus_command.specs.Command.{AskForOne, AskSettings, AsksFor, EndsAs, HelpIsCut, HelpIsGiven, IsCut, IsDone, IsOfFile, IsRefusedOf};
+ghost use Rattle.litmus_command.specs.Command.{NothingIsWritten, ReplayIsCut, ReplayIsRefused, RunIsCut, RunIsDone, RunIsRefused};
+ghost use Rattle.litmus_command.specs.Command.{StepIsCut, StepIsDone, StepIsRefused, engine_status_of, read_failure, run_status_of, runs_status_of};
+ghost use Rattle.litmus_command.specs.Command.{settings_of, state_of, status_of, text_status_of, trace_status_of, with_trace};
+ghost use Rattle.litmus_command.specs.declared.command.Failure.TheVariants.{Engine, OutOfMemory, Runs, Trace};
 ghost use Rattle.report_text.specs.Sink.{CountsFailure};
 ghost use Rattle.std.specs.Option.{option_map};
 ghost use Rattle.step_schedule.specs.Schedule.{entries_of};
@@ -17,13 +17,17 @@ use crate::desk::{Desk, ReadFault};
 use crate::engine::{EngineError, run_text};
 use crate::replay::replayed;
 use clap::error::ErrorKind;
-use command_words::{ReplayRequest, Request, StepRequest, asked};
-use litmus_parse::FILE_BYTES;
+use command_words::{ReplayRequest, Request, RunOptions, RunRequest, StepRequest, asked};
+use litmus_parse::{FILE_BYTES, ParseError};
 use litmus_step::Settings;
 use place_list::parse_places;
 use program_layout::Place;
+use run_tally::{RunsError, Times, run_text_often};
+use runner::RunError;
 use std::alloc::{AllocError, Global};
 use std::convert::AsStr;
+use std::sync::Wait;
+use std::thread::Threads;
 use step_schedule::Schedule;
 use thiserror::Error;
 use trace_replay::{SIZE_LIMIT, TraceError};
@@ -68,6 +72,8 @@ enum Failure {
     #[error("{0}")]
     Engine(EngineError),
     #[error("{0}")]
+    Runs(RunsError),
+    #[error("{0}")]
     Trace(TraceError),
 }
 
@@ -98,6 +104,14 @@ impl From<EngineError> for Failure {
     }
 }
 
+impl From<RunsError> for Failure {
+    ghost from_gives = { λ error failure. failure ≡ Runs error };
+
+    fn from(error: RunsError) -> Failure {
+        Failure::Runs(error)
+    }
+}
+
 impl From<TraceError> for Failure {
     ghost from_gives = { λ error failure. failure ≡ Trace error };
 
@@ -117,6 +131,7 @@ impl Failure {
             Failure::CannotWrite => UNWRITABLE,
             Failure::OutOfMemory => OUT_OF_MEMORY,
             Failure::Engine(error) => engine_status(error),
+            Failure::Runs(error) => runs_status(error),
             Failure::Trace(error) => trace_status(error),
         }
     }
@@ -138,6 +153,40 @@ fn engine_status(error: EngineError) -> u8
     }
 }
 
+/// The status for a litmus text that is refused.
+fn text_status(error: ParseError) -> u8
+    ensures { result ≡ text_status_of error }
+{
+    match error {
+        ParseError::OutOfMemory => OUT_OF_MEMORY,
+        ParseError::Syntax { .. }
+        | ParseError::Unsupported { .. }
+        | ParseError::Limit(_)
+        | ParseError::NotAscii => REFUSED,
+    }
+}
+
+/// The status for a program that can't be run on threads, or whose run doesn't come to its end.
+fn run_status(error: RunError) -> u8
+    ensures { result ≡ run_status_of error }
+{
+    match error {
+        RunError::BadSlots | RunError::BadPlace => USAGE,
+        RunError::OutOfMemory | RunError::NoThread => OUT_OF_MEMORY,
+        RunError::Stuck { .. } => STUCK,
+    }
+}
+
+/// The status for a file that could not be run on threads.
+fn runs_status(error: RunsError) -> u8
+    ensures { result ≡ runs_status_of error }
+{
+    match error {
+        RunsError::Text(error) => text_status(error),
+        RunsError::Run(error) => run_status(error),
+    }
+}
+
 /// The status for a trace that is not accepted.
 fn trace_status(error: TraceError) -> u8
     ensures { result ≡ trace_status_of error }
@@ -153,9 +202,15 @@ fn trace_status(error: TraceError) -> u8
 ///
 /// 0: no report, a trace that is accepted, or help. 2: a report. 64: usage, a schedule that doesn't read or names a task
 /// that isn't there, or a place that doesn't read or doesn't suit. 65: the file is refused. 66: it can't be read. 70: a task
-/// is stuck. 71: out of memory. 74: output can't be written. At 64 to 71 nothing goes to standard output, and no trace is
-/// written. At 74 standard output has what it had, or a beginning of what should have gone there.
-pub fn command<S: AsStr, D: Desk>(alloc: Global, words: &[S], desk: &mut D) -> u8
+/// is stuck. 71: out of memory, or a thread couldn't be started. 74: output can't be written. At 64 to 71 nothing goes to
+/// standard output, and no trace is written. At 74 standard output has what it had, or a beginning of what should have gone
+/// there.
+pub fn command<R: Threads + Wait + Sync, S: AsStr, D: Desk>(
+    rt: &R,
+    alloc: Global,
+    words: &[S],
+    desk: &mut D,
+) -> u8
     ensures reported { result ≡ 2 → AskForOne (map S.text words.now) (λ request.
         IsDone request true (state_of D.written D.failures D.files desk.old)
         (state_of D.written D.failures D.files desk.new)) }
@@ -176,13 +231,18 @@ pub fn command<S: AsStr, D: Desk>(alloc: Global, words: &[S], desk: &mut D) -> u
         (state_of D.written D.failures D.files desk.new) }
 {
     match asked(alloc, words) {
-        Ok(request) => carry_out(alloc, &request, desk),
+        Ok(request) => carry_out(rt, alloc, &request, desk),
         Err(error) => explain(alloc, error, desk),
     }
 }
 
 /// Does what is asked, and answers the status that the program ends with.
-pub fn carry_out<D: Desk>(alloc: Global, request: &Request<'_>, desk: &mut D) -> u8
+pub fn carry_out<R: Threads + Wait + Sync, D: Desk>(
+    rt: &R,
+    alloc: Global,
+    request: &Request<'_>,
+    desk: &mut D,
+) -> u8
     requires { MayBeAsked request.now }
     ensures reported { result ≡ 2 → IsDone request.now true (state_of D.written D.failures D.files desk.old)
         (state_of D.written D.failures D.files desk.new) }
@@ -197,7 +257,8 @@ pub fn carry_out<D: Desk>(alloc: Global, request: &Request<'_>, desk: &mut D) ->
 {
     let done = match request {
         Request::Step(request) => step(alloc, request, desk),
-        Request::Replay(request) => replay(alloc, request, desk).map(|()| false),
+        Request::Run(request) => run(rt, alloc, request, desk),
+        Request::Replay(request) => replay(alloc, request, desk),
     };
     match done {
         Ok(true) => REPORTED,
@@ -209,6 +270,7 @@ pub fn carry_out<D: Desk>(alloc: Global, request: &Request<'_>, desk: &mut D) ->
 /// Says on standard error why the program ends, and answers its status.
 fn fail<D: Desk>(failure: Failure, desk: &mut D) -> u8
     ensures status { result ≡ status_of failure }
+    ensures known { ((64 ≤ result) × (result ≤ 66)) ⊎ ((result ≡ 70) ⊎ ((result ≡ 71) ⊎ (result ≡ 74))) }
     ensures stays { state_of D.written D.failures D.files desk.new ≡ state_of D.written D.failures D.files desk.old }
 {
     desk.complain(format_args!("kcsan_litmus: {failure}\n"));
@@ -216,35 +278,44 @@ fn fail<D: Desk>(failure: Failure, desk: &mut D) -> u8
 }
 
 /// What a run goes by, as it is asked for.
-fn settings(request: &StepRequest<'_>, places: Vec<Place>) -> Settings
-    ensures { result ≡ settings_of request.now places }
+fn settings(options: &RunOptions<'_>, places: Vec<Place>) -> Settings
+    ensures { result ≡ settings_of options.now places }
 {
     Settings {
-        slots: request.slots,
-        skip: request.skip,
-        randomize: request.randomize,
-        seed: request.seed,
-        value_change_only: !request.strict,
-        plain_writes_atomic: !request.strict,
-        layout: request.layout,
-        turns: request.turns,
+        slots: options.slots,
+        skip: options.skip,
+        randomize: options.randomize,
+        seed: options.seed,
+        value_change_only: !options.strict,
+        plain_writes_atomic: !options.strict,
+        layout: options.layout,
+        turns: options.turns,
         places,
+    }
+}
+
+/// The settings that are asked for, with the places that the text of the options spells.
+fn settings_for(alloc: Global, options: &RunOptions<'_>) -> Result<Settings, Failure>
+    requires { KeepsBounds options.now }
+    ensures asks { IfOk result (AskSettings options.now) }
+    ensures early { IfErr result (λ failure. (status_of failure ≡ 64) ⊎ (status_of failure ≡ 71)) }
+{
+    match parse_places(alloc, options.places)? {
+        Some(places) => Ok(settings(options, places)),
+        None => Err(Failure::BadPlace),
     }
 }
 
 /// The settings and the schedule that are asked for, as the request's texts spell them.
 fn asked_for(alloc: Global, request: &StepRequest<'_>) -> Result<(Settings, Schedule), Failure>
-    requires { KeepsBounds request.now }
+    requires { KeepsBounds request.now.options }
     ensures asks { IfOk result (λ run. AsksFor request.now run.0 (entries_of run.1)) }
     ensures early { IfErr result (λ failure. (status_of failure ≡ 64) ⊎ (status_of failure ≡ 71)) }
 {
     let Some(schedule) = Schedule::parse(alloc, request.schedule)? else {
         return Err(Failure::BadSchedule);
     };
-    let Some(places) = parse_places(alloc, request.places)? else {
-        return Err(Failure::BadPlace);
-    };
-    Ok((settings(request, places), schedule))
+    Ok((settings_for(alloc, &request.options)?, schedule))
 }
 
 /// Writes a trace, if one is asked for and there is one.
@@ -275,7 +346,7 @@ fn keep_trace<D: Desk>(
 
 /// Steps a file, and writes the trace, if it is asked for, and then what is found. Whether there was a report.
 fn step<D: Desk>(alloc: Global, request: &StepRequest<'_>, desk: &mut D) -> Result<bool, Failure>
-    requires { KeepsBounds request.now }
+    requires { KeepsBounds request.now.options }
     ensures done { IfOk result (λ raced. StepIsDone request.now raced (state_of D.written D.failures D.files desk.old)
         (state_of D.written D.failures D.files desk.new)) }
     ensures silent { IfErr result (λ failure. status_of failure ≢ 74
@@ -289,8 +360,49 @@ fn step<D: Desk>(alloc: Global, request: &StepRequest<'_>, desk: &mut D) -> Resu
 {
     let (settings, schedule) = asked_for(alloc, request)?;
     let text = desk.read_file(alloc, request.file, FILE_BYTES)?;
-    let written = run_text(alloc, &text, &settings, &schedule, request.trace.is_some())?;
-    keep_trace(request.trace, &written.trace, desk)?;
+    let written = run_text(
+        alloc,
+        &text,
+        &settings,
+        &schedule,
+        request.options.trace.is_some(),
+    )?;
+    keep_trace(request.options.trace, &written.trace, desk)?;
+    match desk.print(written.output.as_slice()) {
+        Ok(()) => Ok(written.raced),
+        Err(_) => Err(Failure::CannotWrite),
+    }
+}
+
+/// Runs a file on threads, and writes the trace of the last run, if it is asked for, and then what is found of the runs. Whether
+/// there was a report.
+fn run<R: Threads + Wait + Sync, D: Desk>(
+    rt: &R,
+    alloc: Global,
+    request: &RunRequest<'_>,
+    desk: &mut D,
+) -> Result<bool, Failure>
+    requires { KeepsRunBounds request.now }
+    ensures done { IfOk result (λ raced. RunIsDone request.now raced (state_of D.written D.failures D.files desk.old)
+        (state_of D.written D.failures D.files desk.new)) }
+    ensures silent { IfErr result (λ failure. status_of failure ≢ 74
+        → NothingIsWritten (state_of D.written D.failures D.files desk.old) (state_of D.written D.failures D.files desk.new)) }
+    ensures failed { IfErr result (λ failure.
+        status_of failure ≡ 74 → CountsFailure (D.failures desk.old) (D.failures desk.new)) }
+    ensures cut { IfErr result (λ failure. status_of failure ≡ 74
+        → RunIsCut request.now (state_of D.written D.failures D.files desk.old) (state_of D.written D.failures D.files desk.new)) }
+    ensures refused { IfErr result (λ failure. IsOfFile (status_of failure) → RunIsRefused request.now (status_of failure)
+        (state_of D.written D.failures D.files desk.old) (state_of D.written D.failures D.files desk.new)) }
+{
+    let settings = settings_for(alloc, &request.options)?;
+    let litmus = desk.read_file(alloc, request.file, FILE_BYTES)?;
+    let times = Times {
+        runs: request.runs,
+        delay: request.delay,
+    };
+    let traced = request.options.trace.is_some();
+    let written = run_text_often(rt, alloc, &litmus, &settings, times, traced, &*desk)?;
+    keep_trace(request.options.trace, &written.trace, desk)?;
     match desk.print(written.output.as_slice()) {
         Ok(()) => Ok(written.raced),
         Err(_) => Err(Failure::CannotWrite),
@@ -298,8 +410,12 @@ fn step<D: Desk>(alloc: Global, request: &StepRequest<'_>, desk: &mut D) -> Resu
 }
 
 /// Checks a trace, and writes what is said of one that is accepted. No report is told of.
-fn replay<D: Desk>(alloc: Global, request: &ReplayRequest<'_>, desk: &mut D) -> Result<(), Failure>
-    ensures done { OnOk result (ReplayIsDone request.now (state_of D.written D.failures D.files desk.old)
+fn replay<D: Desk>(
+    alloc: Global,
+    request: &ReplayRequest<'_>,
+    desk: &mut D,
+) -> Result<bool, Failure>
+    ensures done { IfOk result (λ raced. IsDone (Request.Replay request.now) raced (state_of D.written D.failures D.files desk.old)
         (state_of D.written D.failures D.files desk.new)) }
     ensures silent { IfErr result (λ failure. status_of failure ≢ 74
         → NothingIsWritten (state_of D.written D.failures D.files desk.old) (state_of D.written D.failures D.files desk.new)) }
@@ -313,7 +429,7 @@ fn replay<D: Desk>(alloc: Global, request: &ReplayRequest<'_>, desk: &mut D) -> 
     let bytes = desk.read_file(alloc, request.trace, SIZE_LIMIT)?;
     let line = replayed(alloc, &bytes)?;
     match desk.print(&line) {
-        Ok(()) => Ok(()),
+        Ok(()) => Ok(false),
         Err(_) => Err(Failure::CannotWrite),
     }
 }

@@ -5,6 +5,7 @@ ghost use Rattle.litmus_command.specs.Files.{FileEvent, Gave, Has, noted};
 ghost use Rattle.report_text.specs.Sink.{CountsFailure, Writes};
 
 use report_text::WriteError;
+use run_tally::Progress;
 use std::alloc::Global;
 use std::fmt;
 
@@ -15,8 +16,8 @@ pub enum ReadFault {
     CannotRead,
 }
 
-/// What a program stands on: standard output, standard error and named files.
-pub trait Desk {
+/// What a program stands on: standard output, standard error and named files. It is told how far runs on threads have come.
+pub trait Desk: Progress {
     /// What standard output has taken, or None, which claims nothing, where it can't say.
     ghost written: { Self → Option (List ℕ) };
 

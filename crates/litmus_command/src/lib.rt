@@ -7,3 +7,5 @@ pub mod desk;
 pub mod engine;
 pub mod finals;
 pub mod replay;
+
+pub use run_tally::Progress;

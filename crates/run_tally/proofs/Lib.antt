@@ -1,3 +1,5 @@
+mod CellValues
+pub mod FinalLemmas
 mod MadeLemmas
 mod NameLemmas
 mod TallyLemmas

@@ -13,7 +13,7 @@ use Rattle.access_types.specs.declared.report.Report.{Report}
 use Rattle.litmus_step.specs.Readers.{AreRegisters}
 use Rattle.litmus_step.specs.Runs.{tasks_of}
 use Rattle.report_text.specs.Groups.{Group, counted}
-use Rattle.run_finals.specs.Finals.{AreAllRegisters, AreRegistersFrom}
+use Rattle.run_tally.specs.Finals.{AreAllRegisters, AreRegistersFrom}
 use Rattle.run_lists.specs.Run.{Run}
 use Rattle.run_lists.specs.RunList.{RunList}
 use Rattle.run_logs.specs.Totals.{AddUp}

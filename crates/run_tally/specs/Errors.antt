@@ -1,6 +1,8 @@
 -- Why runs have no output.
 use Rattle.std.specs.Prelude.{◌<◌, ◌⊎◌, ℕ, List}
+use Rattle.access_types.specs.Sites.{AccessMap}
 use Rattle.litmus_parse.specs.Grammar.{SpellsProgram}
+use Rattle.litmus_step.specs.Runs.{run_of}
 use Rattle.litmus_step.specs.declared.settings.Settings.{Settings}
 use Rattle.litmus_syntax.specs.Limits.{KeepsLimits}
 use Rattle.litmus_syntax.specs.Views.{program_of}
@@ -12,6 +14,7 @@ use Rattle.program_sites.specs.declared.sites.SitesError.{SitesError}
 use Rattle.program_sites.specs.declared.sites.SitesError.TheVariants as sites
 use Rattle.run_tally.specs.declared.error.RunsError.{RunsError}
 use Rattle.run_tally.specs.declared.error.RunsError.TheVariants.{Run, Text}
+use Rattle.runner.specs.Found.{IsInVain, IsThrough}
 use Rattle.runner.specs.declared.error.RunError.{RunError}
 use Rattle.runner.specs.declared.error.RunError.TheVariants.{BadPlace, BadSlots, NoThread, OutOfMemory, Stuck}
 
@@ -28,13 +31,19 @@ pub record IsReadAs (text : List ℕ) (program : Program) : Type 0 where
   pub spelled : SpellsProgram text (program_of program)
   pub limits : KeepsLimits (program_of program)
 
+-- some steps of the task end in a wait with as many vain tries as are allowed, and each task below comes to the end of its text
+pub record GetsStuck (program : Program) (settings : Settings) (task : ℕ) : Type 0 where
+  pub sites : AccessMap
+  pub vain : IsInVain (run_of program settings sites) task
+  pub smallest : (below : ℕ) → below < task → IsThrough (run_of program settings sites) below
+
 -- why a program can't be run on threads, or a run of it doesn't come to its end: too few slots or too many, places that don't suit its
--- variables, or what the machine decides
+-- variables, a task that is stuck, or what the machine decides
 abbrev pub StopsRun : Program → Settings → RunError → Type 0
 StopsRun program settings BadSlots = (settings.slots < 3) ⊎ (1024 < settings.slots)
 StopsRun program settings BadPlace = ¬ AreFit program.variables settings.places.items
 StopsRun program settings OutOfMemory = Unit {0}
-StopsRun program settings (Stuck task) = Unit {0}
+StopsRun program settings (Stuck task) = GetsStuck program settings task
 StopsRun program settings NoThread = Unit {0}
 
 -- why the runs of a program stop

@@ -2,7 +2,7 @@
 use Rattle.std.specs.Prelude.{◌≡◌, ◌++◌, ◌∷◌, [], ◌↔◌, Bool, IsTrue, List, Option, None, Some}
 use Rattle.litmus_step.specs.declared.settings.Settings.{Settings}
 use Rattle.litmus_syntax.specs.declared.program.Program.{Program}
-use Rattle.run_finals.specs.Finals.{HoldsAtEnd}
+use Rattle.run_tally.specs.Finals.{HoldsAtEnd}
 use Rattle.run_headline.specs.Headline.{Headline}
 use Rattle.run_logs.specs.Totals.{CountsList}
 use Rattle.runner.specs.Result.{IsRunOnce}

@@ -3,8 +3,10 @@
 
 pub mod delay;
 pub mod error;
+pub mod finals;
 pub mod runs;
 pub mod tally;
 
 pub use error::RunsError;
+pub use finals::{finals_at, holds_at_end};
 pub use runs::{Outcome, Progress, Times, run_text_often};

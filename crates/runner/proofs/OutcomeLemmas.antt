@@ -1,11 +1,11 @@
 -- What is found of all tasks, by what comes of each.
-use Rattle.std.proofs.Common.{◌≡◌, ◌≢◌, ◌⊎◌, ◌<◌, ◌≤◌, ◌∙◌, ◌∷◌, [], ℕ, zero, suc, Err, IfErr, IsOk, List, Ok, Result, Some, All, ap, arith, get_or, inl, inr, length, map, refl, reverse, slice_get, subst, sym}
+use Rattle.std.proofs.Common.{◌≡◌, ◌⊎◌, ◌<◌, ◌≤◌, ◌∙◌, ◌∷◌, [], ℕ, zero, suc, Err, IfErr, List, Ok, Result, Some, All, ap, arith, get_or, inl, inr, length, map, reverse, slice_get, subst, sym}
 use Rattle.std.proofs.lemmas.List.{length-map, reverse-reverse}
 use Rattle.std.proofs.lemmas.Option.{slice_get_cases}
 use Rattle.litmus_step.specs.Runs.{tasks_of}
 use Rattle.litmus_syntax.specs.Tree.{Block}
 use Rattle.run_lists.specs.Run.{Run, task_of, task_setting}
-use Rattle.runner.specs.Found.{AreFound, IsInVain}
+use Rattle.runner.specs.Found.{AreFound, IsFound, IsInVain, IsThrough}
 use Rattle.runner.specs.Starts.{AreOutcomes}
 use Rattle.runner.specs.declared.error.RunError.{RunError}
 use Rattle.runner.specs.declared.error.RunError.TheVariants.{OutOfMemory, Stuck}
@@ -70,14 +70,14 @@ module _ (run : Run) (opened : Opened) (outcomes : List (Result Found RunError))
       ]
 
   module _ (found : List Found) (each : (task : ℕ) (one : Found) → slice_get found task ≡ Some one → slice_get outcomes task ≡ Some (Ok one)) where
-    -- all below the first error were found
-    pub found_below : (at below : ℕ) (outcome : Result Found RunError) → at ≡ length found → below < at → slice_get outcomes below ≡ Some outcome
-        → IsOk outcome
-    found_below at below outcome is_at less is =
+    -- all below the first error came to the end of their texts
+    pub through_below : (below : ℕ) → below < length found → IsThrough run below
+    through_below below less =
         elim (slice_get_cases found below).1 [
-          | inl there ↦ subst (λ (o : Result Found RunError). IsOk o)
-              (same_some (Ok there.0) outcome (sym (each below there.0 there.2) ∙ is)) refl
-          | inr beyond ↦ let over : length found ≤ below = beyond.0 in absurd (omega (arith, is_at, less, over))
+          | inl there ↦
+              let it : IsFound run opened below there.0 = (are.each below (Ok there.0) (each below there.0 there.2)).found in
+              record { own = there.0.seat.records; written = it.written; within = it.within; whole = it.whole }
+          | inr beyond ↦ let over : length found ≤ below = beyond.0 in absurd (omega (arith, less, over))
         ]
 
     pub all_are_found : length found ≡ length outcomes → AreFound run opened found

@@ -7,7 +7,6 @@ use Rattle.litmus_syntax.proofs.expression.ReadForm.TheSendSync as read_form
 use Rattle.litmus_syntax.proofs.expression.UnaryOperator.TheSendSync as unary_operator
 use Rattle.litmus_syntax.proofs.names.Name.TheSendSync as name
 use Rattle.litmus_syntax.proofs.names.Sequence.TheSendSync as sequence
-use Rattle.litmus_syntax.proofs.program.Contents.TheSendSync as contents
 use Rattle.litmus_syntax.proofs.program.Variable.TheSendSync as variable
 use Rattle.litmus_syntax.proofs.proposition.Proposition.TheLaws.TheKnot.{sync-Proposition}
 use Rattle.litmus_syntax.proofs.proposition.Quantifier.TheSendSync as quantifier

@@ -36,6 +36,14 @@ abbrev pub IsInVain : Run → ℕ → Type 0
 IsInVain run task = (own : List Record)
     × IsStuck (task_setting run task) (length (task_of run task).registers) (task_of run task).body (reverse own)
 
+-- The task comes to the end of its text: these steps, in the order of the text, are its whole text, and no wait has as many vain tries
+-- as are allowed.
+pub record IsThrough (run : Run) (task : ℕ) : Type 0 where
+  pub own : List Record
+  pub written : InWrittenOrder run task own
+  pub within : WithinTurns run.rules.turns own
+  pub whole : SpellsAll (task_setting run task) (length (task_of run task).registers) (task_of run task).body (reverse own)
+
 -- each task is found so
 pub record AreFound (run : Run) (opened : Opened) (found : List Found) : Type 0 where
   pub all : length found ≡ tasks_of run

@@ -1,5 +1,5 @@
 -- What a run goes by.
-use Rattle.std.specs.Prelude.{◌≡◌, ◌≤◌, [], ℕ}
+use Rattle.std.specs.Prelude.{◌≡◌, ◌≤◌, []}
 use Rattle.access_types.specs.Sites.{AccessMap}
 use Rattle.litmus_step.specs.Runs.{CanBeMade, run_of, tasks_of}
 use Rattle.litmus_step.specs.declared.settings.Settings.{Settings}

@@ -1,6 +1,6 @@
 //! A program, run once on threads.
 
-ghost use Rattle.std.specs.Prelude.{◌≡◌, ◌<◌, ◌⊎◌, ℕ, IfErr, IfOk, IsErrOf, IsOk, Result, Some, length, map, slice_get};
+ghost use Rattle.std.specs.Prelude.{◌≡◌, ◌<◌, ◌⊎◌, ℕ, IfErr, IfOk, IsErrOf, length, map};
 ghost use Rattle.std.specs.List.{flat_map};
 ghost use Rattle.access_types.specs.Sites.{AccessMap};
 ghost use Rattle.litmus_step.specs.Runs.{run_of, tasks_of};
@@ -8,13 +8,11 @@ ghost use Rattle.litmus_syntax.specs.Limits.{KeepsLimits};
 ghost use Rattle.litmus_syntax.specs.Views.{program_of};
 ghost use Rattle.program_layout.specs.Places.{AreFit};
 ghost use Rattle.run_lists.specs.Run.{Run};
-ghost use Rattle.runner.specs.Found.{AreFound, IsInVain, calls_below};
+ghost use Rattle.runner.specs.Found.{AreFound, IsInVain, IsThrough, calls_below};
 ghost use Rattle.runner.specs.Result.{IsRunOnce};
 ghost use Rattle.runner.specs.Starts.{AreOutcomes};
 ghost use Rattle.runner.specs.Terms.{AreTerms, run_by};
-ghost use Rattle.runner.specs.declared.error.RunError.{RunError};
 ghost use Rattle.runner.specs.declared.error.RunError.TheVariants.{BadPlace, BadSlots, OutOfMemory, Stuck};
-ghost use Rattle.runner.specs.declared.seated.Found.{Found};
 ghost use Rattle.shared_table.specs.Seats.{Opened, new_seats};
 
 use crate::error::RunError;
@@ -47,8 +45,7 @@ fn all_found(alloc: Global, outcomes: Vec<Result<Found, RunError>>) -> Result<Ve
     ensures stuck { (run : Run) (opened : Opened) (task : ℕ) → AreOutcomes run opened (tasks_of run) outcomes.items
         → IsErrOf result (Stuck task) → IsInVain run task }
     ensures smallest { (run : Run) (opened : Opened) (task : ℕ) → AreOutcomes run opened (tasks_of run) outcomes.items
-        → IsErrOf result (Stuck task) → (below : ℕ) (outcome : Result Found RunError) → below < task
-        → slice_get outcomes.items below ≡ Some outcome → IsOk outcome }
+        → IsErrOf result (Stuck task) → (below : ℕ) → below < task → IsThrough run below }
     ensures errors { (run : Run) (opened : Opened) → AreOutcomes run opened (tasks_of run) outcomes.items
         → IfErr result (λ error. ((task : ℕ) × (error ≡ Stuck task)) ⊎ (error ≡ OutOfMemory)) }
 {
@@ -75,6 +72,7 @@ fn steps_on<'t, R: Threads + Wait + Sync, S: Stall, G: Gate>(
     requires seats { seats.items ≡ new_seats terms.table.now terms.table.now.given.tasks }
     ensures found { IfOk result (λ found. AreFound (run_by terms.entry) terms.entry.table.now found.items) }
     ensures stuck { (task : ℕ) → IsErrOf result (Stuck task) → IsInVain (run_by terms.entry) task }
+    ensures smallest { (task : ℕ) → IsErrOf result (Stuck task) → (below : ℕ) → below < task → IsThrough (run_by terms.entry) below }
     ensures bad_slots { ¬ (IsErrOf result BadSlots) }
     ensures bad_place { ¬ (IsErrOf result BadPlace) }
 {
@@ -151,7 +149,8 @@ pub fn run_once<R: Threads + Wait + Sync, S: Stall, G: Gate>(
     ensures once { IfOk result (IsRunOnce program.now settings.now) }
     ensures bad_slots { IsErrOf result BadSlots → (settings.now.slots < 3 ⊎ 1024 < settings.now.slots) }
     ensures bad_place { IsErrOf result BadPlace → AreFit program.now.variables settings.now.places.items → ⊥ }
-    ensures stuck { (task : ℕ) → IsErrOf result (Stuck task) → (sites : AccessMap) × IsInVain (run_of program.now settings.now sites) task }
+    ensures stuck { (task : ℕ) → IsErrOf result (Stuck task) → (sites : AccessMap) × IsInVain (run_of program.now settings.now sites) task
+        × ((below : ℕ) → below < task → IsThrough (run_of program.now settings.now sites) below) }
 {
     runs_begin();
     the_written_order_keeps_the_discipline();

@@ -1,5 +1,5 @@
 -- each command adds its shape
-use Rattle.std.proofs.Common.{◌≡◌, ◌∙◌, ap, ap₂, codes, true}
+use Rattle.std.proofs.Common.{◌≡◌, ◌∙◌, ap, ap₂, codes, map, true}
 use Rattle.std.proofs.lemmas.Result.{IfOk-weaker}
 use Rattle.clap.specs.Words.{App, app_of, new_app, with_subcommand}
 use Rattle.clap.specs.Simple.{app_of_fields, on_top}
@@ -14,12 +14,15 @@ returns c =
     ∙ ap (on_top (λ shape. record shape { subcommand_required = true }))
     (ap app_of_fields c.after_help.ensures ∙ (ap app_of_fields c.about.ensures ∙ c.new.ensures.app)) in
     let step = c.in_ok-step_command.ensures in
+    let run = c.in_ok-run_command.ensures in
     let replay = c.in_ok-replay_command.ensures in
-    let with_step = c.in_ok-subcommand.ensures.shape (third_is_not _ _ _ _ (ap (λ (a : App). a.top.is_plain) step.is))
-    ∙ ap₂ with_subcommand first (ap (λ (a : App). a.top) step.is) in
-    IfOk-weaker c.subcommand-2.result _ _ (λ command adds. record {
-      sizes = step.sizes;
-      sizes_are = step.sizes_are;
+    let with_step = c.in_ok-subcommand.ensures.shape (third_is_not _ _ _ _ (ap (λ (a : App). a.top.is_plain) step))
+    ∙ ap₂ with_subcommand first (ap (λ (a : App). a.top) step) in
+    let with_run = c.in_ok-subcommand-2.ensures.shape (third_is_not _ _ _ _ (ap (λ (a : App). a.top.is_plain) run))
+    ∙ ap₂ with_subcommand with_step (ap (λ (a : App). a.top) run) in
+    IfOk-weaker c.subcommand-3.result _ _ (λ command adds. record {
+      sizes = c.as_slice-sizes.result;
+      sizes_are = ap (map (λ size. size.now)) c.as_slice-sizes.ensures;
       is = adds.shape (third_is_not _ _ _ _ (ap (λ (a : App). a.top.is_plain) replay))
-          ∙ ap₂ with_subcommand with_step (ap (λ (a : App). a.top) replay);
-    }) c.subcommand-2.ensures
+          ∙ ap₂ with_subcommand with_run (ap (λ (a : App). a.top) replay);
+    }) c.subcommand-3.ensures

@@ -1,7 +1,7 @@
 -- each value is that of its option
 use Rattle.std.proofs.Common.{codes}
 use Rattle.clap.specs.Words.{found_of}
-use Rattle.command_words.proofs.ValueLemmas.{flag_read, some_read, text_read}
+use Rattle.command_words.proofs.ValueLemmas.{some_read}
 use Rattle.command_words.proofs.request.step_request.Goals as goal
 
 pub returns-clause-asked : goal.returns-clause-asked
@@ -10,15 +10,5 @@ returns-clause-asked c =
     record {
       file = some_read found (codes "FILE") c.get_str.result _ c.get_str.ensures c.in_ok-get_str.was;
       schedule = some_read found (codes "schedule") c.get_str-2.result _ c.get_str-2.ensures c.in_ok-get_str-2.was;
-      places = some_read found (codes "place") c.get_str-3.result _ c.get_str-3.ensures c.in_ok-get_str-3.was;
-      trace = text_read found (codes "trace") c.get_str-4.result c.get_str-4.ensures;
-      slots = c.in_ok-number.ensures.asked;
-      skip = c.in_ok-number-2.ensures.asked;
-      randomize = flag_read found (codes "randomize") c.get_flag.result c.get_flag.ensures.none c.get_flag.ensures.value
-          c.get_flag.ensures.other;
-      seed = c.in_ok-number-3.ensures.asked;
-      strict = flag_read found (codes "strict") c.get_flag-2.result c.get_flag-2.ensures.none c.get_flag-2.ensures.value
-          c.get_flag-2.ensures.other;
-      layout = c.in_ok-layout.ensures;
-      turns = c.in_ok-number-4.ensures.asked;
+      options = c.in_ok-options.ensures.asked;
     }

@@ -14,7 +14,7 @@ returns-in-Ok-clause-done g c =
     let written = c.in_ok-written.written in
     let output = written.output.items in
     let trace = option_map (λ bytes. bytes.items) written.trace in
-    let wanted : c.is_some.result ≡ is_some c.args.request.now.trace = search rules in
+    let wanted : c.is_some.result ≡ is_some c.args.request.now.options.trace = search rules in
     record {
       text = c.in_ok-text.text.items;
       output = output;
@@ -31,7 +31,7 @@ returns-in-Ok-clause-done g c =
       written = c.in-Ok.ensures.writes.holds
           ∙ rw (c.as_slice.ensures.value, c.keep_trace.ensures.written, c.read_file.ensures.written) refl;
       files = c.in-Ok.ensures.files ∙ c.in_ok-keep_trace.ensures.files
-          ∙ ap (λ files. with_trace files (option_map (λ path. path.now) c.args.request.now.trace) trace) c.in_ok-text.ensures.gave;
+          ∙ ap (λ files. with_trace files (option_map (λ path. path.now) c.args.request.now.options.trace) trace) c.in_ok-text.ensures.gave;
     }
 
 pub returns-in_err-written-clause-cut : goal.returns-in_err-written-clause-cut
@@ -61,7 +61,7 @@ returns-in_err-keep_trace-clause-cut g c =
     let written = c.in_ok-written.written in
     let output = written.output.items in
     let trace = option_map (λ bytes. bytes.items) written.trace in
-    let wanted : c.is_some.result ≡ is_some c.args.request.now.trace = search rules in
+    let wanted : c.is_some.result ≡ is_some c.args.request.now.options.trace = search rules in
     err_holds _ c.from_residual-in_err-keep_trace.result c.in_err-keep_trace.field-0.0 c.from_residual-in_err-keep_trace.ensures.1
     (λ unwritten. record {
       text = c.in_ok-text.text.items;
@@ -85,7 +85,7 @@ returns-clause-cut g c =
     let written = c.in_ok-written.written in
     let output = written.output.items in
     let trace = option_map (λ bytes. bytes.items) written.trace in
-    let wanted : c.is_some.result ≡ is_some c.args.request.now.trace = search rules in
+    let wanted : c.is_some.result ≡ is_some c.args.request.now.options.trace = search rules in
     let after = g.D.Desk.written c.print.new.self in
     λ unwritten. record {
       text = c.in_ok-text.text.items;
@@ -106,7 +106,8 @@ returns-clause-cut g c =
             (subst (λ text. HoldsBeginning text (g.D.Desk.written c.keep_trace.new.desk) after) c.as_slice.ensures.value
             c.in-Err.ensures.writes.begun),
         c.in-Err.ensures.files ∙ c.in_ok-keep_trace.ensures.files
-            ∙ ap (λ files. with_trace files (option_map (λ path. path.now) c.args.request.now.trace) trace) c.in_ok-text.ensures.gave,
+            ∙ ap (λ files. with_trace files (option_map (λ path. path.now) c.args.request.now.options.trace) trace)
+            c.in_ok-text.ensures.gave,
       );
     }
 

@@ -1,7 +1,7 @@
 -- what is looked at is what registers and variables hold
 use Rattle.std.proofs.Common.{◌≡◌, ◌∙◌, ap, map, rules, subst}
-use Rattle.litmus_command.proofs.FinalLemmas.{all_registers_same, holds_alike, holds_back, registers_same}
-use Rattle.litmus_command.specs.Finals.{register_value, variable_value}
+use Rattle.run_tally.proofs.FinalLemmas.{all_registers_same, holds_alike, holds_back, registers_same}
+use Rattle.run_tally.specs.Finals.{register_value, variable_value}
 use Rattle.litmus_syntax.specs.Views.{proposition_of}
 use Rattle.run_output.specs.Output.{output_text}
 use Rattle.run_output.specs.declared.output.Found.{Found}

@@ -1,24 +1,8 @@
 -- a variable's value in the cells is the content of its bytes
-use Rattle.std.proofs.Common.{◌∙◌, subst}
-use Rattle.program_layout.specs.Lays.{Lays}
-use Rattle.program_layout.specs.Places.{AreFit, places_of}
-use Rattle.run_headline.proofs.CellBlocks.{cells_are_blocks}
-use Rattle.run_lists.specs.Told.{history_of}
-use Rattle.litmus_command.proofs.CellValues.{variable_told}
+use Rattle.std.proofs.Common.{◌∙◌, ap}
+use Rattle.slot_table.specs.Words.{Words}
 use Rattle.litmus_command.proofs.finals.finals_of.Goals as goal
 
 pub returns-clause-variables : goal.returns-clause-variables
-returns-clause-variables c = λ sites records leads number.
-    let given = c.args.settings.now.places.items in
-    let places = places_of given in
-    let variables = c.args.program.now.variables in
-    let layout = c.in_ok-layout.layout in
-    let lays = subst (λ v. Lays places v layout) c.as_slice.ensures
-    (subst (λ p. Lays (places_of p) c.as_slice.result.now layout) c.as_slice-2.ensures.value c.in_ok-layout.ensures.lays) in
-    let fit = subst (λ v. AreFit v given) c.as_slice.ensures
-    (subst (λ p. AreFit c.as_slice.result.now p) c.as_slice-2.ensures.value c.in_ok-layout.ensures.fit) in
-    c.in_ok-variables_of.ensures places variables lays number
-    ∙ variable_told places variables (history_of leads.list) c.memory.result.now
-    (cells_are_blocks places variables).multiple
-    (c.memory.ensures.content _ records leads)
-    (c.variables_lie_in_one_cell.ensures variables given fit c.requires.names) number
+returns-clause-variables c = λ sites records leads.
+    c.finals_at.ensures.variables sites records leads.list (c.memory.ensures.cells ∙ ap (λ (words : Words). words.cells) leads.leaves)

@@ -1,8 +1,8 @@
 -- each turn adds the registers of one task
 use Rattle.std.proofs.Common.{◌≡◌, ◌+◌, ◌++◌, ◌∷◌, [], ◌∙◌, ap, arith, length, length-append, map, rules, subst, sym}
 use Rattle.std.proofs.lemmas.List.{length-map, map-append}
-use Rattle.litmus_command.specs.Finals.{AreRegistersFrom}
-use Rattle.litmus_command.proofs.FinalLemmas.{registers_go_on}
+use Rattle.run_tally.specs.Finals.{AreRegistersFrom}
+use Rattle.run_tally.proofs.FinalLemmas.{registers_go_on}
 use Rattle.litmus_command.proofs.finals.registers_of.Goals as goal
 
 pub loop-task-init : goal.loop-task-init

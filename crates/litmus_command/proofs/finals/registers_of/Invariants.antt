@@ -1,6 +1,6 @@
 -- The registers of the tasks so far.
 use Rattle.std.proofs.Common.{◌≡◌, List, length, map}
-use Rattle.litmus_command.specs.Finals.{AreRegistersFrom}
+use Rattle.run_tally.specs.Finals.{AreRegistersFrom}
 use Rattle.litmus_step.specs.Steps.{LeadsTo}
 use Rattle.run_lists.specs.Run.{Run}
 use Rattle.slot_table.specs.declared.records.Record.{Record}

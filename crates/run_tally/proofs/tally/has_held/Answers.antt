@@ -1,6 +1,6 @@
 -- the list of the run is one of the program under the settings
 use Rattle.std.proofs.Common.{◌≡◌, ◌∙◌, ◌↔◌, IsTrue, map, subst, sym}
-use Rattle.run_finals.specs.Finals.{AreAllRegisters, HoldsAtEnd}
+use Rattle.run_tally.specs.Finals.{AreAllRegisters, HoldsAtEnd}
 use Rattle.run_lists.specs.Run.{Run, first_words}
 use Rattle.run_lists.specs.RunList.{RunList}
 use Rattle.run_tally.proofs.TallyLemmas.{all_registers}

@@ -1,12 +1,12 @@
 -- One start more is of the next task.
-use Rattle.std.proofs.Common.{◌≡◌, ◌≤◌, ◌+◌, ◌∷◌, ◌++◌, ◌∙◌, [], ℕ, suc, List, Some, ap, arith, length, refl, slice_get, subst, sym}
-use Rattle.std.specs.Vec.Iter.{into_iter_items, into_iter_len}
+use Rattle.std.proofs.Common.{◌≡◌, ◌∙◌, [], ℕ, suc, List, Some, ap, arith, length, slice_get, subst, sym}
+use Rattle.std.specs.Vec.Iter.{into_iter_items}
 use Rattle.litmus_step.proofs.FirstLemmas.{each_push}
 use Rattle.runner.proofs.StartLemmas.{seats_are, seats_of}
 use Rattle.runner.proofs.first.first_starts.Goals as goal
 use Rattle.runner.specs.Starts.{IsStart}
 use Rattle.runner.specs.declared.first.TaskStart.{TaskStart}
-use Rattle.shared_table.specs.Seats.{Opened, Sitting, new_seats}
+use Rattle.shared_table.specs.Seats.{Sitting, new_seats}
 
 pub loop-seat-init : goal.loop-seat-init
 loop-seat-init c = record {

@@ -1,5 +1,5 @@
 -- Each seat so far is one of a task that is to begin, and there is room for the rest.
-use Rattle.std.proofs.Common.{◌≡◌, ◌≤◌, ◌+◌, ℕ, Some, length, slice_get, vec_capacity, vec_len}
+use Rattle.std.proofs.Common.{◌≡◌, ◌≤◌, ◌+◌, ℕ, Some, slice_get, vec_capacity, vec_len}
 use Rattle.std.specs.Vec.Iter.{into_iter_items, into_iter_len}
 use Rattle.runner.proofs.first.first_starts.Given as goal
 use Rattle.runner.specs.Starts.{IsStart}

@@ -1,12 +1,10 @@
 -- By what comes of each task.
-use Rattle.std.proofs.Common.{◌≡◌, ◌⊎◌, ◌<◌, ◌+◌, ◌∙◌, ◌∷◌, ◌++◌, [], ℕ, suc, Err, List, Ok, Result, Some, ap, arith, length, refl, slice_get, subst, sym, vec_len}
+use Rattle.std.proofs.Common.{◌≡◌, ◌⊎◌, ◌<◌, ◌∙◌, ℕ, suc, Err, List, Ok, Result, Some, ap, arith, length, slice_get, subst, sym}
 use Rattle.std.proofs.lemmas.Result.{err_from_is_err_and}
-use Rattle.std.specs.Vec.Iter.{into_iter_items, into_iter_len}
+use Rattle.std.specs.Vec.Iter.{into_iter_items}
 use Rattle.litmus_step.proofs.FirstLemmas.{each_push}
-use Rattle.litmus_step.specs.Runs.{tasks_of}
-use Rattle.runner.proofs.OutcomeLemmas.{all_are_found, err_holds, found_below, is_in_vain, named_at, refused_so, same_error}
+use Rattle.runner.proofs.OutcomeLemmas.{all_are_found, err_holds, is_in_vain, named_at, refused_so, same_error, through_below}
 use Rattle.runner.proofs.run.all_found.Goals as goal
-use Rattle.runner.specs.Starts.{AreOutcomes}
 use Rattle.runner.specs.declared.error.RunError.{RunError}
 use Rattle.runner.specs.declared.error.RunError.TheVariants.{OutOfMemory, Stuck}
 use Rattle.runner.specs.declared.seated.Found.{Found}
@@ -26,15 +24,15 @@ returns-in_err-outcome-clause-stuck c = λ run opened task are is.
     is_in_vain run opened c.args.outcomes.items are (length c.loop-outcome.found.items) c.in_err-outcome.field-0.0 task (stands c) named
 
 pub returns-in_err-outcome-clause-smallest : goal.returns-in_err-outcome-clause-smallest
-returns-in_err-outcome-clause-smallest c = λ run opened task are is below outcome less at.
+returns-in_err-outcome-clause-smallest c = λ run opened task are is below less.
     let p = err_from_is_err_and c.from_residual-in_err-outcome.result c.from_residual-in_err-outcome.ensures.1 in
     let named = sym p.2 ∙ same_error c.from_residual-in_err-outcome.result _ _ p.1 is in
     let made : ℕ = length c.loop-outcome.found.items in
     let here : made ≡ task = named_at run opened c.args.outcomes.items are made c.in_err-outcome.field-0.0 task (stands c) named in
-    found_below run opened c.args.outcomes.items are c.loop-outcome.found.items
+    through_below run opened c.args.outcomes.items are c.loop-outcome.found.items
     (λ k one stood. ap (λ (xs : List (Result Found RunError)). slice_get xs k) (sym c.into_iter-outcome-iterator.ensures.into_iter_gives.0)
     ∙ c.loop-outcome.invariant.each k one stood)
-    made below outcome refl (subst (λ (n : ℕ). below < n) (sym here) less) at
+    below (subst (λ (n : ℕ). below < n) (sym here) less)
 
 pub returns-in_err-outcome-clause-errors : goal.returns-in_err-outcome-clause-errors
 returns-in_err-outcome-clause-errors c = λ run opened are.

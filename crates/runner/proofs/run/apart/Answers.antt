@@ -1,6 +1,6 @@
 -- One task's parts more follow.
-use Rattle.std.proofs.Common.{◌≡◌, ◌+◌, ◌++◌, ◌∙◌, ◌∷◌, [], List, Vec, ap, append_assoc, arith, length, map, subst, sym}
-use Rattle.std.specs.Vec.Iter.{into_iter_items, into_iter_len}
+use Rattle.std.proofs.Common.{◌++◌, ◌∙◌, List, ap, arith, map}
+use Rattle.std.specs.Vec.Iter.{into_iter_items}
 use Rattle.runner.proofs.PartLemmas.{no_part, part_more}
 use Rattle.runner.proofs.run.apart.Goals as goal
 use Rattle.runner.specs.declared.seated.Found.{Found}

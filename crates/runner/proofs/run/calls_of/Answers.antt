@@ -1,5 +1,5 @@
 -- Those of one task more are added.
-use Rattle.std.proofs.Common.{◌≡◌, ◌+◌, ◌∙◌, ℕ, suc, ap, arith, length, refl, slice_get, subst, sym}
+use Rattle.std.proofs.Common.{◌≡◌, ◌+◌, ◌∙◌, ℕ, suc, ap, arith, length, refl, slice_get, subst}
 use Rattle.std.proofs.lemmas.Option.{slice_get_read}
 use Rattle.runner.proofs.run.calls_of.Goals as goal
 use Rattle.runner.specs.Found.{calls_below, calls_of}

@@ -1,5 +1,5 @@
 -- By the one list of all seats.
-use Rattle.std.proofs.Common.{◌≡◌, ◌∙◌, Err, List, ap, flat_map, length, refl, sym}
+use Rattle.std.proofs.Common.{◌∙◌, Err, List, ap, flat_map, length, refl, sym}
 use Rattle.std.proofs.lemmas.Result.{err_from_is_err_and}
 use Rattle.litmus_step.specs.Runs.{run_of}
 use Rattle.run_lists.specs.Run.{Run}
@@ -36,7 +36,8 @@ pub returns-in_err-found-clause-stuck : goal.returns-in_err-found-clause-stuck
 returns-in_err-found-clause-stuck g c = λ task is.
     let p = err_from_is_err_and c.from_residual-in_err-found.result c.from_residual-in_err-found.ensures.1 in
     let named = sym p.2 ∙ same_error c.from_residual-in_err-found.result _ _ p.1 is in
-    (c.in_ok-sites.sites, c.steps_on.ensures.stuck task (c.in_err-found.was ∙ ap (λ (e : RunError). Err e) named))
+    let stuck = c.in_err-found.was ∙ ap (λ (e : RunError). Err e) named in
+    (c.in_ok-sites.sites, c.steps_on.ensures.stuck task stuck, c.steps_on.ensures.smallest task stuck)
 
 pub gather-requires : goal.gather-requires
 gather-requires g c =

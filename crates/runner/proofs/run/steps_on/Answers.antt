@@ -9,6 +9,10 @@ pub returns-clause-stuck : goal.returns-clause-stuck
 returns-clause-stuck g c = λ task is.
     c.all_found.ensures.stuck (run_by c.args.terms) c.args.terms.table.now task c.in_ok-outcomes.ensures.outcomes is
 
+pub returns-clause-smallest : goal.returns-clause-smallest
+returns-clause-smallest g c = λ task is.
+    c.all_found.ensures.smallest (run_by c.args.terms) c.args.terms.table.now task c.in_ok-outcomes.ensures.outcomes is
+
 pub returns-clause-bad_slots : goal.returns-clause-bad_slots
 returns-clause-bad_slots g c = λ is.
     elim (names_or_wants c.all_found.result BadSlots

@@ -1,5 +1,5 @@
 -- By what each start is of.
-use Rattle.std.proofs.Common.{rules, ◌≡◌, ◌≤◌, ◌<◌, ◌+◌, ◌∷◌, ◌++◌, ◌∙◌, [], ℕ, suc, List, Result, Some, ap, arith, length, slice_get, slice_index_or, subst, sym, refl, vec_len}
+use Rattle.std.proofs.Common.{rules, ◌≡◌, ◌<◌, ◌+◌, ◌∷◌, ◌∙◌, [], ℕ, suc, List, Result, Some, ap, arith, length, slice_get, slice_index_or, subst, sym, refl, vec_len}
 use Rattle.std.proofs.alloc.Global.TheSendSync as global
 use denote.Exit.{yes}
 use denote.Param.{param}
@@ -16,7 +16,6 @@ use Rattle.shared_table.specs.contracts.table.SharedTable as table_row
 use Rattle.std.specs.contracts.alloc.Global as global_row
 use Rattle.runner.proofs.threads.fn.on_threads.scope.Lts as lts
 use Rattle.std.proofs.lemmas.Option.{get_or_from_slice_get, slice_get_read, slice_get_within}
-use Rattle.std.specs.Vec.Iter.{into_iter_items, into_iter_len}
 use denote.Param.Send.{AllSend, IsSend, arg_send, param_send, recorded_send, shr_send, struct_send}
 use denote.Struct.Struct.{Struct}
 use Rattle.litmus_step.proofs.FirstLemmas.{each_push}

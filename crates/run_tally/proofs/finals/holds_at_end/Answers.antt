@@ -1,12 +1,12 @@
 -- what is looked at is what registers and variables hold
-use Rattle.std.proofs.Common.{◌≡◌, ap, map, subst, sym}
+use Rattle.std.proofs.Common.{map, subst, sym}
 use Rattle.final_condition.specs.Holds.{Holds}
 use Rattle.litmus_syntax.specs.Views.{proposition_of}
 use Rattle.program_layout.specs.Places.{places_of}
-use Rattle.run_finals.proofs.FinalLemmas.{all_registers_same, holds_alike, holds_back, registers_same}
-use Rattle.run_finals.specs.Finals.{AreAllRegisters, register_value, variable_value}
+use Rattle.run_tally.proofs.FinalLemmas.{all_registers_same, holds_alike, holds_back, registers_same}
+use Rattle.run_tally.specs.Finals.{AreAllRegisters, register_value, variable_value}
 use Rattle.run_lists.specs.Told.{history_of}
-use Rattle.run_finals.proofs.finals.holds_at_end.Goals as goal
+use Rattle.run_tally.proofs.finals.holds_at_end.Goals as goal
 
 pub returns-clause-held : goal.returns-clause-held
 returns-clause-held c = λ sites records list registers_are is.

@@ -1,13 +1,13 @@
 -- a variable's value in the cells is the content of its bytes
-use Rattle.std.proofs.Common.{◌≡◌, ◌∙◌, [], List, ℕ, refl, subst, sym}
+use Rattle.std.proofs.Common.{◌∙◌, [], List, ℕ, refl, subst, sym}
 use Rattle.program_layout.specs.Lays.{Lays}
 use Rattle.program_layout.specs.Places.{AreFit, places_of}
 use Rattle.litmus_step.specs.Runs.{run_of}
 use Rattle.run_headline.proofs.CellBlocks.{cells_are_blocks}
 use Rattle.run_headline.specs.Cells.{CellsHold, memory_after, run_cells}
 use Rattle.run_lists.specs.Told.{history_of}
-use Rattle.run_finals.proofs.CellValues.{variable_told}
-use Rattle.run_finals.proofs.finals.finals_at.Goals as goal
+use Rattle.run_tally.proofs.CellValues.{variable_told}
+use Rattle.run_tally.proofs.finals.finals_at.Goals as goal
 
 pub returns-clause-variables : goal.returns-clause-variables
 returns-clause-variables c = λ sites records list is number.

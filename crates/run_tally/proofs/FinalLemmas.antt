@@ -7,7 +7,7 @@ use Rattle.std.specs.Global.{Global}
 use Rattle.final_condition.specs.Holds as final
 use Rattle.final_condition.specs.Holds.{Holds, register_of}
 use Rattle.final_condition.specs.declared.condition.Finals.{Finals}
-use Rattle.run_finals.specs.Finals.{AreAllRegisters, AreRegistersFrom, register_value, value_among}
+use Rattle.run_tally.specs.Finals.{AreAllRegisters, AreRegistersFrom, register_value, value_among}
 use Rattle.litmus_step.specs.Readers.{AreRegisters}
 use Rattle.litmus_syntax.specs.Tree.{Proposition, always, both, either, negation, never, register_is, variable_is}
 use Rattle.run_lists.specs.Run.{Run}

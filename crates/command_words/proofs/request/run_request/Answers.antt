@@ -1,0 +1,15 @@
+-- each value is that of its option
+use Rattle.std.proofs.Common.{codes}
+use Rattle.clap.specs.Words.{found_of}
+use Rattle.command_words.proofs.ValueLemmas.{some_read}
+use Rattle.command_words.proofs.request.run_request.Goals as goal
+
+pub returns-clause-asked : goal.returns-clause-asked
+returns-clause-asked c =
+    let found = found_of c.args.run.now in
+    record {
+      file = some_read found (codes "FILE") c.get_str.result _ c.get_str.ensures c.in_ok-get_str.was;
+      runs = c.in_ok-number.ensures.asked;
+      delay = c.in_ok-number-2.ensures.asked;
+      options = c.in_ok-options.ensures.asked;
+    }

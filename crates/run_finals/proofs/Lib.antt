@@ -1,2 +1,0 @@
-mod CellValues
-pub mod FinalLemmas
