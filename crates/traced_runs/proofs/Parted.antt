@@ -102,7 +102,7 @@ module _ (measure : List Report → ℕ) (nothing : measure [] ≡ 0)
             ap measure (its_own n report more same) ∙ adds (report ∷ []) (reports_by n more) in
             let before : up_to n (report ∷ more) ≡ up_to n more = past n report more least in
             let both : up_to n (report ∷ more) + measure (reports_by n (report ∷ more))
-                ≡ (up_to n more + measure (reports_by n more)) + measure (report ∷ []) = omega (arith, mine, before) in
+            ≡ (up_to n more + measure (reports_by n more)) + measure (report ∷ []) = omega (arith, mine, before) in
             both
         | inr low ↦
             let less : by_task report < n = low.1 in
@@ -110,7 +110,7 @@ module _ (measure : List Report → ℕ) (nothing : measure [] ≡ 0)
             let mine : measure (reports_by n (report ∷ more)) ≡ measure (reports_by n more) = ap measure (of_others n report more other) in
             let before : up_to n (report ∷ more) ≡ up_to n more + measure (report ∷ []) = within n report more less in
             let both : up_to n (report ∷ more) + measure (reports_by n (report ∷ more))
-                ≡ (up_to n more + measure (reports_by n more)) + measure (report ∷ []) = omega (arith, mine, before) in
+            ≡ (up_to n more + measure (reports_by n more)) + measure (report ∷ []) = omega (arith, mine, before) in
             both
       ]
 
