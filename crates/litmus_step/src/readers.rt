@@ -1,6 +1,7 @@
 //! What is read of a world.
 
 ghost use Rattle.std.specs.Prelude.{◌≡◌, ◌<◌, All, IfErr, IfOk, List};
+ghost use Rattle.litmus_meaning.specs.RunOfProgram.{RunOfProgram};
 ghost use Rattle.litmus_step.specs.Runs.{HasEnded};
 ghost use Rattle.run_headline.specs.Headline.{Headline};
 ghost use Rattle.run_headline.specs.Cells.{CellsHold, memory_after, run_cells};
@@ -11,7 +12,9 @@ ghost use Rattle.run_lists.specs.Told.{history_of};
 ghost use Rattle.slot_table.specs.declared.records.Record.{Record};
 
 use crate::error::WorldError;
-use crate::laws::{machines_stand_where_the_list_does, reports_have_room};
+use crate::laws::{
+    machines_stand_where_the_list_does, reports_have_room, worlds_tell_runs_of_the_program,
+};
 use crate::logs::{accesses_of, arms_of, counters_of, takes_of};
 use crate::world::World;
 use access_types::{Arm, Report, Sites, Stamped, Take};
@@ -40,6 +43,15 @@ impl<'a> World<'a> {
         ensures { result ≡ self.now.steps }
     {
         self.steps
+    }
+
+    /// What the tasks did so far. It is stored nowhere and the call answers nothing, but says what is so of it: the history
+    /// that each list tells which leads here is that of a run of the program.
+    pub fn history(&self)
+        ensures { (run : Run) (records : List Record) → (leads : LeadsTo run records self.now)
+            → RunOfProgram run.program run.places (history_of leads.list) }
+    {
+        worlds_tell_runs_of_the_program();
     }
 
     /// What was reported so far, in order.
