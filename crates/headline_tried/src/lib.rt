@@ -8,13 +8,7 @@ pub mod armings;
 pub mod changes;
 pub mod endings;
 pub mod headline;
-#[cfg(test)]
-mod lists;
 pub mod meetings;
-#[cfg(test)]
-mod orders;
-#[cfg(test)]
-mod rows;
 pub mod told;
 pub mod totals;
 

@@ -2,10 +2,10 @@
 
 ghost use Rattle.std.specs.Prelude.{◌≤◌};
 
-use crate::armings::last_arming;
-use crate::meetings::in_hand;
-use crate::told::{Armed, Came, Told};
 use access_types::{Access, Bytes, Happening, Mark, Moment, Sites, ticket};
+use headline_tried::armings::last_arming;
+use headline_tried::meetings::in_hand;
+use headline_tried::{Armed, Came, Told};
 use setup_access::{Checker, Rules};
 use slot_table::{Answer, Board, PlainBoard, Record, Shape, Step};
 use std::alloc::Global;

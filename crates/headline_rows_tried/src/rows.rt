@@ -1,10 +1,9 @@
 //! The headline holds of each beginning of lists worked by hand, and not of what was changed in one.
 
-use crate::headline::holds;
 use crate::lists::{Part, Program, play};
-use crate::meetings::setters_heard;
-use crate::told::{Came, Told};
 use access_types::{Access, Claim, Kind, Operation};
+use headline_tried::meetings::setters_heard;
+use headline_tried::{Came, Told, holds};
 use setup_access::{Outcome, Rules};
 use slot_table::{Answer, Record, Step};
 use std::alloc::Global;
