@@ -1,5 +1,6 @@
 -- What the condition knows of a variable is known beside the items of the printed form.
 use Rattle.std.proofs.Common.{inl, inr, ◌≡◌, ◌≢◌, ◌∙◌, ℕ, List, [], ◌∷◌, Option, Some, None, map, sym, ap, subst}
+use Rattle.std.proofs.lemmas.List.Elements.{Contains-append_left, Contains-append_right}
 use Rattle.std.specs.Prelude.{◌⊎◌, Contains, flat_map, option_map, unwrap_or}
 use Rattle.litmus_syntax.specs.declared.program.Contents.{Contents}
 use Rattle.litmus_syntax.specs.declared.program.Variable.{Variable}
@@ -21,7 +22,7 @@ use Rattle.printed_texts.specs.PrintedNames.{IsOf}
 use Rattle.printed_texts.specs.PrintedProcess.{type_of}
 use Rattle.printed_texts.specs.PrintedProgram as printed
 use Rattle.printed_texts.proofs.Declarations.{got, split, typed}
-use Rattle.printed_texts.proofs.Wholes.{contains_first, contains_rest, declared_at, type_kept}
+use Rattle.printed_texts.proofs.Wholes.{declared_at, type_kept}
 
 -- ---- each name has a mention
 
@@ -64,12 +65,12 @@ process_mentioned (headers.process listed inside keeps) x at R f g = parameters_
 processes_mentioned : {task : ℕ} {before later : Names} {symbols rest : List Symbol} {ps : List Process}
     → Processes task before symbols ps rest later → (x : List ℕ) → Contains later x → Mentioned before (flat_map mentions_of ps) x
 processes_mentioned (headers.last {process = p} lt is) x at R f g =
-    process_mentioned is x at R f (λ m there same. g m (contains_first (map mention_of p.parameters) [] m there) same)
+    process_mentioned is x at R f (λ m there same. g m (Contains-append_left (map mention_of p.parameters) [] m there) same)
 processes_mentioned (headers.more {process = p} {processes = ps} lt is others) x at R f g =
     processes_mentioned others x at R
     (λ between. process_mentioned is x between R f
-    (λ m there same. g m (contains_first (map mention_of p.parameters) (flat_map mentions_of ps) m there) same))
-    (λ m there same. g m (contains_rest (map mention_of p.parameters) (flat_map mentions_of ps) m there) same)
+    (λ m there same. g m (Contains-append_left (map mention_of p.parameters) (flat_map mentions_of ps) m there) same))
+    (λ m there same. g m (Contains-append_right (map mention_of p.parameters) (flat_map mentions_of ps) m there) same)
 
 -- ---- a name that is no lock's by one type is none by another
 
@@ -96,8 +97,8 @@ module _ (symbols : List Symbol) (p : tree.Program) (g : Grammar symbols p) (own
       (subst (λ (n : List ℕ). Contains all (record { name = n; said = m.said })) called there) in
       is.no_lock (processes_mentioned g.bodies name (got g.names v name is.stands) (is.type ≡ Lock)
       (λ before. items_mentioned g.numbered name before (is.type ≡ Lock) (λ never. absurd (in_none name never))
-      (λ m there called. same m (contains_first g.items (flat_map mentions_of g.processes) m there) called))
-      (λ m there called. same m (contains_rest g.items (flat_map mentions_of g.processes) m there) called))
+      (λ m there called. same m (Contains-append_left g.items (flat_map mentions_of g.processes) m there) called))
+      (λ m there called. same m (Contains-append_right g.items (flat_map mentions_of g.processes) m there) called))
 
   pub known_printed : (name : List ℕ) (v : ℕ) → IsKnown all g.names name v
       → IsKnown (said_by (map printed.mention_of p.variables) g.later) g.names (variable_name p.variables v) v

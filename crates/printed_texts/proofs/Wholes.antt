@@ -1,5 +1,6 @@
 -- The processes of a program have names that may be printed.
-use Rattle.std.proofs.Common.{◌≡◌, ◌∙◌, ◌≤◌, ℕ, zero, suc, List, [], ◌∷◌, ◌++◌, Some, length, map, refl, ap, subst, arith}
+use Rattle.std.proofs.Common.{◌≡◌, ◌∙◌, ◌≤◌, ℕ, zero, suc, List, [], ◌∷◌, Some, length, map, refl, ap, subst, arith}
+use Rattle.std.proofs.lemmas.List.Elements.{Contains-append_left, Contains-append_right}
 use Rattle.std.specs.Prelude.{Contains, flat_map, slice_get}
 use Rattle.litmus_syntax.specs.declared.program.Contents.{Contents}
 use Rattle.litmus_syntax.specs.declared.program.Variable.{Variable}
@@ -28,17 +29,6 @@ Grown before later = (k : ℕ) (x : List ℕ) → slice_get before k ≡ Some x 
 
 numbered_grown : {limit number : ℕ} {name : List ℕ} {before later : Names} → Numbered limit before name number later → Grown before later
 numbered_grown n = (numbered_grows n).keeps
-
-pub contains_first : {A : Type 0} (xs ys : List A) (m : A) → Contains xs m → Contains (xs ++ ys) m
-contains_first [] ys m there = absurd (in_none m there)
-contains_first (x ∷ xs) ys m there =
-    among x m xs (Contains (x ∷ (xs ++ ys)) m) there
-    (λ same. subst (λ (y : _). Contains (x ∷ (xs ++ ys)) y) same (in_front x (xs ++ ys)))
-    (λ later. in_rest x m (xs ++ ys) (contains_first xs ys m later))
-
-pub contains_rest : {A : Type 0} (xs ys : List A) (m : A) → Contains ys m → Contains (xs ++ ys) m
-contains_rest [] ys m there = there
-contains_rest (x ∷ xs) ys m there = in_rest x m (xs ++ ys) (contains_rest xs ys m there)
 
 -- what names become: they still differ and are few, and keep their numbers
 record Becomes (before later : Names) : Type 0 where
@@ -195,7 +185,7 @@ module _ (all : List Mention) (names : Names) (variables : List Variable) (decla
         becomes = one.becomes;
         whole = λ grown said. (
           one.whole (at_grown later names p.parameters grown one.at)
-              (λ m there. said m (contains_first (map mention_of p.parameters) [] m there)),
+              (λ m there. said m (Contains-append_left (map mention_of p.parameters) [] m there)),
           tt,
         );
       }
@@ -206,8 +196,8 @@ module _ (all : List Mention) (names : Names) (variables : List Variable) (decla
         becomes = becomes_then before between later one.becomes two.becomes;
         whole = λ grown said. (
           one.whole (at_grown between names p.parameters (λ k x there. grown k x (two.becomes.grown k x there)) one.at)
-              (λ m there. said m (contains_first (map mention_of p.parameters) (flat_map mentions_of ps) m there)),
-          two.whole grown (λ m there. said m (contains_rest (map mention_of p.parameters) (flat_map mentions_of ps) m there)),
+              (λ m there. said m (Contains-append_left (map mention_of p.parameters) (flat_map mentions_of ps) m there)),
+          two.whole grown (λ m there. said m (Contains-append_right (map mention_of p.parameters) (flat_map mentions_of ps) m there)),
         );
       }
 
@@ -225,7 +215,7 @@ names_are symbols p g =
     record {
       differ = many.becomes.named.differ;
       few = many.becomes.named.few;
-      whole = many.whole (λ k x there. there) (λ m there. contains_rest g.items (flat_map mentions_of g.processes) m there);
+      whole = many.whole (λ k x there. there) (λ m there. Contains-append_right g.items (flat_map mentions_of g.processes) m there);
     }
 
 -- variables have names of their own
