@@ -1,5 +1,6 @@
 -- What comes of checks is of accesses that have begun, and a verdict of one that is watched.
-use Rattle.std.proofs.Common.{◌+◌, ◌⊎◌, length, length-append, ◌≡◌, ◌∙◌, ◌∷◌, ◌++◌, ◌||◌, [], ◌<◌, ℕ, Bool, true, false, IsTrue, List, Option, None, Some, MatchBool, MatchOption, ap, append-nil, append_assoc, arith, count_by, drop, if◌then◌else◌, inl, inr, refl, replicate, subst, suc, sym, zero}
+use Rattle.std.proofs.Common.{◌+◌, ◌⊎◌, length, length-append, ◌≡◌, ◌∙◌, ◌∷◌, ◌++◌, ◌||◌, [], ◌<◌, ℕ, Bool, true, false, IsTrue, List, Option, None, Some, MatchBool}
+use Rattle.std.proofs.Common.{MatchOption, ap, append-nil, append_assoc, arith, count_by, drop, if◌then◌else◌, inl, inr, refl, replicate, subst, suc, sym, zero}
 use Rattle.std.proofs.lemmas.List.Sums.{sum_by-cons}
 use Rattle.access_types.specs.Access as access
 use Rattle.access_types.specs.Marked.{CountsAfter}

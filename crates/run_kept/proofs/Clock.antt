@@ -1,5 +1,6 @@
 -- The clock answers how many of its steps come before, and they are few.
-use Rattle.std.proofs.Common.{◌+◌, ◌*◌, ◌%◌, ◌^◌, ◌≡◌, ◌<◌, ◌≤◌, ◌==◌, ◌∙◌, ◌++◌, ◌∷◌, ◌⊎◌, [], inl, inr, ℕ, suc, zero, Bool, true, false, List, ap, append-nil, arith, count_by, filter, if◌then◌else◌, length, ltb-false, ltb-true, nat_lt, refl, reverse, subst, sym}
+use Rattle.std.proofs.Common.{◌+◌, ◌*◌, ◌%◌, ◌^◌, ◌≡◌, ◌<◌, ◌≤◌, ◌==◌, ◌∙◌, ◌++◌, ◌∷◌, ◌⊎◌, [], inl, inr, ℕ, suc, zero, Bool, true, false, List, ap}
+use Rattle.std.proofs.Common.{append-nil, arith, count_by, filter, if◌then◌else◌, length, ltb-false, ltb-true, nat_lt, refl, reverse, subst, sym}
 use Rattle.std.proofs.Math.Nat.{suc-mul}
 use Rattle.std.proofs.lemmas.List.Sums.{sum_by-cons}
 use Rattle.std.proofs.lemmas.Bool.Decides.{eqb_tells}

@@ -1,5 +1,6 @@
 -- The armings, the takings and the reports of a run whose tasks have ended tell of the same.
-use Rattle.std.proofs.Common.{◌≡◌, ◌≢◌, ◌∙◌, ◌<◌, ◌+◌, ◌==◌, ◌&&◌, ◌++◌, ◌∷◌, if◌then◌else◌, [], ℕ, zero, suc, All, Bool, true, false, Contains, List, None, Option, Some, ap, arith, cond, count_by, length, map, refl, slice_index_or, subst, sym}
+use Rattle.std.proofs.Common.{◌≡◌, ◌≢◌, ◌∙◌, ◌<◌, ◌+◌, ◌==◌, ◌&&◌, ◌++◌, ◌∷◌, if◌then◌else◌, [], ℕ, zero, suc, All, Bool, true, false, Contains}
+use Rattle.std.proofs.Common.{List, None, Option, Some, ap, arith, cond, count_by, length, map, refl, slice_index_or, subst, sym}
 use Rattle.std.specs.List.{AllPairs, cons_option, filter, filter_map, flat_map, sum_by}
 use Rattle.std.specs.Option.{option_to_list}
 use Rattle.std.proofs.lemmas.Bool.{eq-eqb, ne_eqb}

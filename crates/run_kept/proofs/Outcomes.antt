@@ -28,7 +28,8 @@ use Rattle.setup_access.proofs.DisciplineLemmas.{on_word}
 use Rattle.slot_table.specs.declared.records.Record.{Record}
 use Rattle.written_order.specs.Access.{Makes}
 use Rattle.written_order.specs.Standing.{Setting, Standing, checks_of, coming, counting, doing}
-use Rattle.written_order.specs.WrittenOrder.{ChecksAt, ClosesScope, MakesMark, Only, OpensScope, SpellsAll, Steps, StepsInBlock, StepsInDataRace, StepsOf, StepsOfAssignment, StepsOfBlock, StepsOfCall, StepsOfExpression, StepsOfLoad, StepsOfTurns, at_first, marked_so_often}
+use Rattle.written_order.specs.WrittenOrder.{ChecksAt, ClosesScope, MakesMark, Only, OpensScope, SpellsAll, Steps, StepsInBlock, StepsInDataRace, StepsOf}
+use Rattle.written_order.specs.WrittenOrder.{StepsOfAssignment, StepsOfBlock, StepsOfCall, StepsOfExpression, StepsOfLoad, StepsOfTurns, at_first, marked_so_often}
 use Rattle.written_order.proofs.ScopesLemmas.{counting_scopes, operated_scopes}
 
 -- a check of an access has one outcome, and those of the scoped assertions in force, at most

@@ -1,28 +1,28 @@
 -- Each arming that a task has removed has its own verdict, in the order of both.
-use Rattle.std.proofs.Common.{◌≡◌, ◌≢◌, ◌∙◌, ◌==◌, ◌++◌, ◌∷◌, if◌then◌else◌, [], inl, inr, ℕ, All, Bool, true, false, Contains, List, MatchBool, None, Option, Some, ap, append_assoc, arith}
-use Rattle.std.proofs.Common.{length, map, refl, reverse, subst, sym}
+use Rattle.std.proofs.Common.{◌≡◌, ◌≢◌, ◌∙◌, ◌==◌, ◌++◌, ◌∷◌, if◌then◌else◌, [], inl, inr, ℕ, All, Bool, true, false, Contains, List, MatchBool, None, Option, Some, ap, append_assoc}
+use Rattle.std.proofs.Common.{length, map, refl, subst, sym}
 use Rattle.std.specs.Option.{option_map}
 use Rattle.std.proofs.lemmas.Bool.{eq-eqb}
 use Rattle.std.proofs.lemmas.Bool.Decides.{eqb_tells}
 use Rattle.std.proofs.lemmas.List.{append-nil}
-use Rattle.std.proofs.lemmas.List.Elements.{All-contains, Contains-append_left, Contains-append_right}
 use Rattle.access_types.specs.Arms.{Arm}
 use Rattle.access_types.specs.Ticket.{ticket_number}
 use Rattle.access_types.specs.declared.arms.ArmOutcome.{ArmOutcome}
-use Rattle.run_lists.specs.Run.{Run, first_cells, locks_of, task_setting}
+use Rattle.run_kept.proofs.Named.{named_so, rules_then}
+use Rattle.run_lists.specs.Run.{Run, first_cells, locks_of}
 use Rattle.run_lists.specs.RunList.{RunList}
-use Rattle.run_lists.specs.Told.{Armed, OutcomeAt, armed_by, armed_in, came_next, made_by, outcome_at, outcomes_by, outcomes_of}
+use Rattle.run_lists.specs.Told.{Armed, OutcomeAt, armed_by, armed_in, came_next, outcome_at, outcomes_of}
 use Rattle.run_lists.proofs.OwnLasts.{finder_told, own_latest, own_name, still_told}
 use Rattle.run_logs.specs.Lists.{AreArmsAt, AreArmsBy, Became, IsArm, verdicts_by}
 use Rattle.run_logs.proofs.Hands.{IsNamed, Says, all_say, in_part, last_word}
-use Rattle.run_logs.proofs.Naming.{last_name, watch_named}
-use Rattle.run_logs.proofs.Owns.{AllOfTask}
+use Rattle.run_logs.proofs.Naming.{last_name}
 use Rattle.run_logs.proofs.Removals.{of_task, some_is}
 use Rattle.run_logs.proofs.Settling.{HandSays, HitSays, Known, Match, Pending, Settled, Suits, carried, in_hand_says, match_with, silently, unheard_settled}
-use Rattle.run_logs.proofs.Verdicts.{BecameSo, FallsHere, NoVerdict, QuietFalls, Removing, answer_is, falls_here, fell_own, hit_so, its_setter, made_by_others, made_last, no_verdicts, none_fell, one_verdict, only_one, removing, same_end, untouched_is, untouched_so, verdicts_in}
+use Rattle.run_logs.proofs.Verdicts.{BecameSo, FallsHere, NoVerdict, QuietFalls, Removing, answer_is, falls_here, hit_so, its_setter, made_by_others}
+use Rattle.run_logs.proofs.Verdicts.{made_last, no_verdicts, none_fell, one_verdict, only_one, removing, untouched_is, untouched_so, verdicts_in}
 use Rattle.run_logs.proofs.Verdicts as cases
 use Rattle.run_verdicts.specs.Settles.{Settles}
-use Rattle.run_verdicts.specs.Watches.{IfVerdict, IsOfWatch, is_verdict}
+use Rattle.run_verdicts.specs.Watches.{IfVerdict, is_verdict}
 use Rattle.run_verdicts.proofs.Counts.{Answered, Unanswered}
 use Rattle.run_verdicts.proofs.Falls.{outcomes_in}
 use Rattle.run_verdicts.proofs.Lists.{SettledAt, settled_at}
@@ -42,10 +42,9 @@ use Rattle.slot_table.specs.declared.step.Answer.TheVariants as answers
 use Rattle.slot_table.specs.declared.step.Step.{Step}
 use Rattle.slot_table.specs.declared.step.Step.TheVariants as steps
 use Rattle.slot_table.proofs.Hearings.{heard_finder}
-use Rattle.slot_table.proofs.Lists.{Keeps, allowed_at, fits_all, keeps_before, view_of}
+use Rattle.slot_table.proofs.Lists.{Keeps, allowed_at, fits_all, view_of}
 use Rattle.slot_table.proofs.Phases.{meeting}
 use Rattle.slot_table.proofs.Steps.{here_part}
-use Rattle.written_order.specs.Standing.{checks_of}
 
 -- the last of one list is the last of the other
 last_same : (xs ys : List OutcomeAt) (x y : OutcomeAt) → xs ++ x ∷ [] ≡ ys ++ y ∷ [] → (xs ≡ ys) × (x ≡ y)
@@ -69,20 +68,6 @@ other false Yes No Goal h is on = on h
 
 module _ (run : Run) (all : List Record) (list : RunList run all) (rules : Keeps run.rules.slots (locks_of run) (first_cells run) all)
     (watches : All (IfVerdict list) (outcomes_of list)) where
-  abbrev Rules : List Record → Type 0
-  Rules records = Keeps run.rules.slots (locks_of run) (first_cells run) records
-
-  rules_before : (later earlier : List Record) → Rules (later ++ earlier) → Rules earlier
-  rules_before [] earlier kept = kept
-  rules_before (latest ∷ later) earlier kept =
-      rules_before later earlier (keeps_before run.rules.slots (locks_of run) (first_cells run) latest (later ++ earlier) kept)
-
-  told_in_all : (later earlier : List Record) (came : OutcomeAt) → Contains (outcomes_by list earlier) came
-      → Contains (outcomes_by list (later ++ earlier)) came
-  told_in_all [] earlier came there = there
-  told_in_all (latest ∷ later) earlier came there =
-      Contains-append_left (outcomes_by list (later ++ earlier)) (came_next list latest (later ++ earlier)) came (told_in_all later earlier came there)
-
   abbrev SaysOf : List Record → List OutcomeAt → List Arm → (ℕ → Option ℕ) → Option ArmOutcome → Type 0
   SaysOf own verdicts arms made kept = HandSays all (in_hand own) (λ index. heard index own)
       (record { verdicts = verdicts; arms = arms; name = last_name own; made = made; kept = kept })
@@ -129,13 +114,13 @@ module _ (run : Run) (all : List Record) (list : RunList run all) (rules : Keeps
     abbrev with_it : List Record
     with_it = latest ∷ earlier
 
-    now_kept : Rules with_it
-    now_kept = rules_before later with_it (subst Rules is rules)
+    now_kept : Keeps run.rules.slots (locks_of run) (first_cells run) with_it
+    now_kept = rules_then run all list later latest earlier is rules
 
     allowed : Allows task own latest.step
     allowed = allowed_at latest earlier now_kept.keeps
 
-    settled : SettledAt run all list latest earlier
+    abbrev settled : SettledAt run all list latest earlier
     settled = settled_at run all list later latest earlier is
 
     abbrev arming : Option Armed
@@ -189,27 +174,6 @@ module _ (run : Run) (all : List Record) (list : RunList run all) (rules : Keeps
           removes = never;
         }))
 
-    -- the verdict on an access's watch names it
-    named_so : (fallen : Fallen) → here ≡ fallen ∷ [] → is_verdict fallen.outcome ≡ true
-        → last_name (latest ∷ own) ≡ Some (ticket_number fallen.access)
-    named_so fallen one verdict =
-        let came : OutcomeAt = outcome_at (length earlier) arming fallen in
-        let next : came_next list latest earlier ≡ came ∷ [] = next_is ∙ ap (λ (l : List Fallen). map (outcome_at (length earlier) arming) l) one in
-        let there : Contains (outcomes_by list with_it) came =
-        Contains-append_right (outcomes_by list earlier) (came_next list latest earlier) came
-        (subst (λ (l : List OutcomeAt). Contains l came) (sym next) (0, omega arith, refl)) in
-        let in_all : Contains (outcomes_of list) came =
-        subst (λ (r : List Record). Contains (outcomes_by list r) came) (sym is) (told_in_all later with_it came there) in
-        let it : IsOfWatch list came = All-contains (IfVerdict list) (outcomes_of list) came watches in_all verdict in
-        let of : fallen.access.task ≡ task =
-        (subst (λ (l : List Fallen). AllOfTask task l) (settled.all ∙ one) (fell_own run all list task (made_by task earlier))).0 in
-        let same : it.by_then ≡ with_it = same_end it.later it.by_then later with_it (sym it.split ∙ is) it.at in
-        let own_is : latest ∷ own ≡ reverse it.watch ++ it.before =
-        sym mine ∙ (ap (λ (t : ℕ). records_of t with_it) (sym of)
-        ∙ (ap (λ (r : List Record). records_of fallen.access.task r) (sym same) ∙ it.own)) in
-        ap last_name own_is
-        ∙ watch_named (checks_of (task_setting run fallen.access.task)) fallen.access _ it.watch _ it.is_watch.sets_up it.before
-
     -- a verdict falls on the arming in hand
     pends : (index : ℕ) (part : Part) (finder : ℕ) → ((word : ℕ) → part ≢ Taken word) → in_hand (latest ∷ own) ≡ Some (record { index = index; part = part })
         → Settled all known → (outcome : Outcome) → outcomes_in here ≡ outcome ∷ [] → is_verdict outcome ≡ true
@@ -221,7 +185,7 @@ module _ (run : Run) (all : List Record) (list : RunList run all) (rules : Keeps
         let one = only_one here outcome only in
         let fallen : Fallen = one.0 in
         let its : is_verdict fallen.outcome ≡ true = ap is_verdict one.2 ∙ verdict in
-        let name = named_so fallen one.1 its in
+        let name = named_so run all list later latest earlier is watches fallen one.1 its in
         let at = its_setter index task (view_of run.rules.slots (locks_of run) (first_cells run) with_it index) part apart
         (fits_all run.rules.slots (locks_of run) (first_cells run) with_it now_kept index)
         (here_part index (in_hand (records_of task with_it)) part (ap in_hand mine ∙ has)) in

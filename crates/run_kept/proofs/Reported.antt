@@ -1,27 +1,26 @@
 -- What is reported at a task's record is of a watchpoint of the task.
-use Rattle.std.proofs.Common.{◌≡◌, ◌≢◌, ◌∙◌, ◌≤◌, ◌++◌, ◌∷◌, [], inl, inr, ℕ, All, Bool, true, Contains, List, None, Option, Some, ap, append_assoc, arith, cond, length, map, refl, reverse, subst, sym, unwrap_or}
+use Rattle.std.proofs.Common.{◌≡◌, ◌≢◌, ◌∙◌, ◌≤◌, ◌++◌, ◌∷◌, [], inl, inr, ℕ, All, Bool, true, List, None, Option, Some, ap, append_assoc, arith, cond, length, map, refl, subst, sym, unwrap_or}
 use Rattle.std.specs.List.{cons_option, filter_map}
 use Rattle.std.specs.Option.{option_or, option_to_list}
 use Rattle.std.proofs.lemmas.Bool.{eq-eqb, ne_eqb}
 use Rattle.std.proofs.lemmas.Bool.Decides.{eqb_tells}
 use Rattle.std.proofs.lemmas.List.{append-nil}
-use Rattle.std.proofs.lemmas.List.Elements.{All-contains, Contains-append_left, Contains-append_right, filter-append, filter_map-append}
+use Rattle.std.proofs.lemmas.List.Elements.{All-contains, filter-append, filter_map-append}
 use Rattle.access_types.specs.Ticket.{task_in, ticket_number}
 use Rattle.access_types.specs.declared.report.Report.{Report}
 use Rattle.access_types.specs.declared.report.Report.TheVariants as reports
 use Rattle.run_lists.specs.Answers.{AnswersTaking, IfAnswer, IsOfPair, is_answer}
 use Rattle.run_lists.specs.Reports as lists
-use Rattle.run_lists.specs.Run.{Run, first_cells, locks_of, task_setting}
+use Rattle.run_lists.specs.Run.{Run, first_cells, locks_of}
 use Rattle.run_lists.specs.RunList.{RunList}
 use Rattle.run_lists.specs.Told.{Armed, OutcomeAt, armed_by, came_next, made_by, outcome_at, outcomes_by, outcomes_of}
 use Rattle.run_lists.proofs.OwnLasts.{own_latest}
 use Rattle.run_logs.specs.Noted.{AreNoted, IsNoted, Notes}
-use Rattle.run_logs.proofs.Naming.{last_name, names_noted, watch_named}
-use Rattle.run_logs.proofs.Owns.{AllOfTask}
-use Rattle.run_logs.proofs.Verdicts.{fell_own, same_end}
+use Rattle.run_logs.proofs.Naming.{last_name, names_noted}
+use Rattle.run_kept.proofs.Named.{named_so, rules_then, told_there}
 use Rattle.run_kept.specs.Setters.{is_by, reports_by, setter_of}
 use Rattle.run_verdicts.specs.Settles.{Settles}
-use Rattle.run_verdicts.specs.Watches.{IfVerdict, IsOfWatch, is_verdict}
+use Rattle.run_verdicts.specs.Watches.{IfVerdict, is_verdict}
 use Rattle.run_verdicts.proofs.Falls.{outcomes_in}
 use Rattle.run_verdicts.proofs.Lists.{SettledAt, settled_at}
 use Rattle.setup_access.specs.Check.{Fallen}
@@ -35,14 +34,13 @@ use Rattle.slot_table.specs.declared.records.Record.{Record}
 use Rattle.slot_table.specs.declared.step.Answer.{Answer}
 use Rattle.slot_table.specs.declared.step.Step.{Step}
 use Rattle.slot_table.specs.declared.step.Step.TheVariants as steps
-use Rattle.slot_table.proofs.Lists.{Keeps, keeps_before}
+use Rattle.slot_table.proofs.Lists.{Keeps}
 use Rattle.slot_table.proofs.Moves.{some_same}
 use Rattle.task_log.specs.Arms.{setter_named}
 use Rattle.task_log.specs.Noted.{named_by}
 use Rattle.task_log.specs.Reports as logs
 use Rattle.task_log.specs.Reports.{reported_in}
 use Rattle.task_log.specs.declared.noted.Noted.{Noted}
-use Rattle.written_order.specs.Standing.{checks_of}
 use Rattle.written_order.specs.Told.{fell_next}
 
 -- a task's last name is a ticket of its own
@@ -106,20 +104,6 @@ kept_none task other (report ∷ more) apart by =
 
 module _ (run : Run) (all : List Record) (list : RunList run all) (rules : Keeps run.rules.slots (locks_of run) (first_cells run) all)
     (watches : All (IfVerdict list) (outcomes_of list)) (answered : All (IfAnswer list) (outcomes_of list)) where
-  abbrev Rules : List Record → Type 0
-  Rules records = Keeps run.rules.slots (locks_of run) (first_cells run) records
-
-  rules_before : (later earlier : List Record) → Rules (later ++ earlier) → Rules earlier
-  rules_before [] earlier kept = kept
-  rules_before (latest ∷ later) earlier kept =
-      rules_before later earlier (keeps_before run.rules.slots (locks_of run) (first_cells run) latest (later ++ earlier) kept)
-
-  told_in_all : (later earlier : List Record) (came : OutcomeAt) → Contains (outcomes_by list earlier) came
-      → Contains (outcomes_by list (later ++ earlier)) came
-  told_in_all [] earlier came there = there
-  told_in_all (latest ∷ later) earlier came there =
-      Contains-append_left (outcomes_by list (later ++ earlier)) (came_next list latest (later ++ earlier)) came (told_in_all later earlier came there)
-
   abbrev reported_at : OutcomeAt → Option Report
   reported_at c = lists.reported c.access c.outcome
 
@@ -133,10 +117,10 @@ module _ (run : Run) (all : List Record) (list : RunList run all) (rules : Keeps
     abbrev with_it : List Record
     with_it = latest ∷ earlier
 
-    now_kept : Rules with_it
-    now_kept = rules_before later with_it (subst Rules is rules)
+    now_kept : Keeps run.rules.slots (locks_of run) (first_cells run) with_it
+    now_kept = rules_then run all list later latest earlier is rules
 
-    settled : SettledAt run all list latest earlier
+    abbrev settled : SettledAt run all list latest earlier
     settled = settled_at run all list later latest earlier is
 
     abbrev arming : Option Armed
@@ -151,47 +135,26 @@ module _ (run : Run) (all : List Record) (list : RunList run all) (rules : Keeps
     next_is : came_next list latest earlier ≡ map (outcome_at (length earlier) arming) here
     next_is = ap (λ (l : List Fallen). map (outcome_at (length earlier) arming) l) settled.all
 
-    there : (fallen : Fallen) → here ≡ fallen ∷ [] → Contains (outcomes_of list) (outcome_at (length earlier) arming fallen)
-    there fallen one =
-        let came : OutcomeAt = outcome_at (length earlier) arming fallen in
-        let next : came_next list latest earlier ≡ came ∷ [] = next_is ∙ ap (λ (l : List Fallen). map (outcome_at (length earlier) arming) l) one in
-        let now : Contains (outcomes_by list with_it) came =
-        Contains-append_right (outcomes_by list earlier) (came_next list latest earlier) came
-        (subst (λ (l : List OutcomeAt). Contains l came) (sym next) (0, omega arith, refl)) in
-        subst (λ (r : List Record). Contains (outcomes_by list r) came) (sym is) (told_in_all later with_it came now)
-
-    named_so : (fallen : Fallen) → here ≡ fallen ∷ [] → is_verdict fallen.outcome ≡ true
-        → last_name (latest ∷ own) ≡ Some (ticket_number fallen.access)
-    named_so fallen one verdict =
-        let came : OutcomeAt = outcome_at (length earlier) arming fallen in
-        let it : IsOfWatch list came = All-contains (IfVerdict list) (outcomes_of list) came watches (there fallen one) verdict in
-        let of : fallen.access.task ≡ task =
-        (subst (λ (l : List Fallen). AllOfTask task l) (settled.all ∙ one) (fell_own run all list task (made_by task earlier))).0 in
-        let same : it.by_then ≡ with_it = same_end it.later it.by_then later with_it (sym it.split ∙ is) it.at in
-        let own_is : latest ∷ own ≡ reverse it.watch ++ it.before =
-        sym mine ∙ (ap (λ (t : ℕ). records_of t with_it) (sym of)
-        ∙ (ap (λ (r : List Record). records_of fallen.access.task r) (sym same) ∙ it.own)) in
-        ap last_name own_is
-        ∙ watch_named (checks_of (task_setting run fallen.access.task)) fallen.access _ it.watch _ it.is_watch.sets_up it.before
-
     by_its_task : (fallen : Fallen) → here ≡ fallen ∷ [] → is_verdict fallen.outcome ≡ true → task_in (ticket_number fallen.access) ≡ task
     by_its_task fallen one verdict =
         own_name task (latest ∷ own) (subst (λ (r : List Record). Discipline task r) mine (now_kept.keeps task)) (ticket_number fallen.access)
-        (named_so fallen one verdict)
+        (named_so run all list later latest earlier is watches fallen one verdict)
 
     last_before : (fallen : Fallen) → here ≡ fallen ∷ [] → is_verdict fallen.outcome ≡ true
         → last_name own ≡ Some (ticket_number fallen.access)
     last_before fallen one verdict =
         let fell : Settles (in_hand own) latest.step latest.answer (fallen.outcome ∷ []) =
         subst (λ (l : List Fallen). Settles (in_hand own) latest.step latest.answer (outcomes_in l)) one settled.settles in
-        ap (λ (o : Option ℕ). option_or o (last_name own)) (sym (unnamed latest.step latest.answer (in_hand own) fallen.outcome fell)) ∙ named_so fallen one verdict
+        ap (λ (o : Option ℕ). option_or o (last_name own)) (sym (unnamed latest.step latest.answer (in_hand own) fallen.outcome fell))
+        ∙ named_so run all list later latest earlier is watches fallen one verdict
 
     -- what the record reports is of its task
     one_by : (fallen : Fallen) → here ≡ fallen ∷ [] → (o : Outcome) → fallen.outcome ≡ o
         → AllBy task (cons_option (lists.reported fallen.access o) [])
     one_by fallen one (outcomes.Report pair seen) falls =
         let answer : AnswersTaking list (outcome_at (length earlier) arming fallen) =
-        All-contains (IfAnswer list) (outcomes_of list) (outcome_at (length earlier) arming fallen) answered (there fallen one) (ap is_answer falls) in
+        All-contains (IfAnswer list) (outcomes_of list) (outcome_at (length earlier) arming fallen) answered
+        (told_there run all list later latest earlier is fallen one) (ap is_answer falls) in
         let same : pair ≡ answer.pair = subst (λ (o : Outcome). IsOfPair answer.pair o) falls answer.of_pair in (
           ap task_in (ap (λ (p : Halves). p.setter) same ∙ answer.setter_named) ∙ by_its_task fallen one (ap is_verdict falls),
           tt,

@@ -1,7 +1,6 @@
 -- What each part of a text keeps, the whole text keeps; a scoped assertion is known to be one.
 use Rattle.std.proofs.Common.{◌≡◌, ◌+◌, ℕ, zero, suc, Bool, true, false, List, [], ◌∷◌, IsTrue, Option, None, Some, MatchBool, inl, inr, length, replicate, refl, subst, sym, if◌then◌else◌}
 use Rattle.access_types.specs.Access as access
-use Rattle.access_types.specs.Access.{proper_mask}
 use Rattle.access_types.specs.declared.history.Bytes.{Bytes}
 use Rattle.access_types.specs.declared.history.Happening.TheVariants as happenings
 use Rattle.access_types.specs.declared.history.Mark.{Mark}

@@ -1,5 +1,6 @@
 -- What is so of the checks of each task's text is so of the outcomes that the list tells.
-use Rattle.std.proofs.Common.{◌≡◌, ◌<◌, ◌≤◌, ◌==◌, ◌∙◌, ◌+◌, ◌++◌, ◌∷◌, [], inl, inr, ℕ, suc, zero, Bool, true, false, All, Contains, List, Option, Some, ap, append_assoc, arith, length, map, refl, reverse, slice_get, slice_index_or, subst, sym, take}
+use Rattle.std.proofs.Common.{◌≡◌, ◌<◌, ◌≤◌, ◌==◌, ◌∙◌, ◌+◌, ◌++◌, ◌∷◌, [], inl, inr, ℕ, suc, zero, Bool, true, false, All, Contains, List, Option}
+use Rattle.std.proofs.Common.{Some, ap, append_assoc, arith, length, map, refl, reverse, slice_get, slice_index_or, subst, sym, take}
 use Rattle.std.specs.List.{filter}
 use Rattle.std.proofs.lemmas.Bool.{eq-eqb, le-leb}
 use Rattle.std.proofs.lemmas.Bool.Decides.{leb_tells}
