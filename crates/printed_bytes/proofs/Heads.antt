@@ -1,0 +1,64 @@
+-- The head of a printed text.
+use Rattle.std.proofs.Common.{◌≡◌, ℕ, List, [], ◌∷◌, ◌++◌, inl, false, true, drop, length, length-append, map, refl, sym, subst, append_assoc, ap, arith}
+use Rattle.std.proofs.lemmas.Bool.Decides.{nat_tests}
+use Rattle.std.proofs.lemmas.List.{drop_at}
+use Rattle.litmus_lex.specs.declared.bytes.Class.TheVariants.{Blank, Graphic}
+use Rattle.litmus_lex.specs.declared.token.Part.TheVariants.{Init}
+use Rattle.litmus_lex.specs.Bytes.{belongs, IsRun}
+use Rattle.litmus_lex.specs.Head.{HasTitle, IsAtBrace, IsHead, IsText}
+use Rattle.litmus_lex.specs.Tokens.{AreTokens, Placed}
+use Rattle.litmus_syntax.specs.PrintedForm.{name_line}
+use Rattle.litmus_cursor.specs.Words.{Symbol}
+use Rattle.litmus_parse.specs.Grammar.{symbol_at}
+use Rattle.printed_bytes.specs.Reads.{Reads}
+use Rattle.printed_bytes.specs.Programs.{IsTestName}
+use Rattle.printed_bytes.proofs.Lexed.{run_before}
+
+graphic_no_blank : (byte : ℕ) → belongs Graphic byte ≡ true → belongs Blank byte ≡ false
+graphic_no_blank byte is = grind (arith, nat_tests)
+
+name_no_blank : (name rest : List ℕ) → IsTestName name → IsRun Blank [] (name ++ rest)
+name_no_blank [] rest is = let some = is.0 in absurd (omega (arith, some))
+name_no_blank (byte ∷ name) rest is = graphic_no_blank byte is.1.0
+
+titled : (name body : List ℕ) → IsTestName name → HasTitle (name_line name ++ body) name (10 ∷ body)
+titled name body is = record {
+  blanks = 32 ∷ [];
+  whole = ap (λ (l : List ℕ). 67 ∷ 32 ∷ l) (append_assoc name (10 ∷ []) body);
+  some_blank = omega arith;
+  blank = (refl, name_no_blank name (10 ∷ body) is);
+  some_name = is.0;
+  longest = run_before Graphic name (10 ∷ body) is.1 refl;
+}
+
+head_is : (name body : List ℕ) → IsTestName name → IsAtBrace body → IsHead (name_line name ++ body) name (length (name_line name))
+head_is name body is brace = record {
+  gap = [];
+  titled = name_line name ++ body;
+  behind = 10 ∷ body;
+  passed = 10 ∷ [];
+  rest = body;
+  whole = refl;
+  separated = ([], refl, tt);
+  title = titled name body is;
+  tail = refl;
+  passes = ((10 ∷ []) ∷ [], refl, (inl refl, tt));
+  brace = brace;
+  place = sym (length-append (name_line name) body);
+}
+
+-- a text of a printed head and what is read behind it
+pub text_is : (name body : List ℕ) (symbols : List Symbol) → IsTestName name → IsAtBrace body → Reads Init body symbols
+    → (tokens : List Placed) × IsText (name_line name ++ body) name tokens × (map symbol_at tokens ≡ symbols)
+text_is name body symbols is brace reads =
+    let at = length (name_line name) in
+    let read = reads at in
+    let behind : drop at (name_line name ++ body) ≡ body = drop_at (name_line name) body at refl in (
+      read.0,
+      record {
+        at = at;
+        head = head_is name body is brace;
+        body = subst (λ (l : List ℕ). AreTokens Init at l read.0) (sym behind) read.1;
+      },
+      read.2,
+    )

@@ -1,0 +1,12 @@
+pub mod Lexed
+pub mod Pieces
+pub mod Signs
+pub mod Expressions
+pub mod Assignments
+pub mod Calls
+pub mod Statements
+pub mod Propositions
+pub mod Tasks
+pub mod Items
+pub mod Heads
+pub mod Wholes

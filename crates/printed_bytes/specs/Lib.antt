@@ -1,0 +1,4 @@
+pub mod Reads
+pub mod Expressions
+pub mod Statements
+pub mod Programs
