@@ -1,5 +1,5 @@
 -- What is kept of the steps of a run, by the list.
-use Rattle.std.specs.Prelude.{◌≡◌, ◌⊎◌, ◌*◌, ◌≤◌, ◌++◌, ◌<◌, ◌∷◌, [], ℕ, List, Option, None, Some, length, slice_get}
+use Rattle.std.specs.Prelude.{◌≡◌, ◌⊎◌, ◌*◌, ◌≤◌, ◌++◌, ◌<◌, ◌∷◌, [], ℕ, List, Option, None, Some, length, map, slice_get}
 use Rattle.access_types.specs.declared.report.Report.{Report}
 use Rattle.run_lists.specs.Reports.{reports_of}
 use Rattle.run_lists.specs.Run.{Run}
@@ -7,7 +7,7 @@ use Rattle.run_lists.specs.RunList.{RunList}
 use Rattle.run_logs.specs.Noted.{Notes}
 use Rattle.slot_table.specs.declared.records.Record.{Record}
 use Rattle.litmus_step.specs.Runs.{tasks_of}
-use Rattle.task_log.specs.Keeps.{Keeps}
+use Rattle.task_log.specs.Keeps.{Keeps, Room, room_in}
 use Rattle.task_log.specs.Reports as logs
 use Rattle.task_log.specs.declared.log.TaskLog.{TaskLog}
 use Rattle.task_log.specs.declared.noted.Noted.{Noted}
@@ -58,3 +58,7 @@ abbrev pub Added : Option Report → ℕ → List Report → List Report → Typ
 Added None room before after = after ≡ before
 Added (Some report) room before after =
     ((length before < room) × (after ≡ before ++ report ∷ [])) ⊎ ((room ≤ length before) × (after ≡ before))
+
+-- how much room there is for what each task keeps of its steps
+abbrev pub rooms_of : List TaskLog → List Room
+rooms_of logs = map room_in logs

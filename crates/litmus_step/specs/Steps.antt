@@ -1,5 +1,6 @@
 -- Which lists of steps lead to a world, and what a step of a task does to it.
 use Rattle.std.specs.Prelude.{◌≡◌, ◌⊎◌, ◌≤◌, ◌^◌, ◌∷◌, ℕ, List, Some, slice_get, vec_capacity, vec_len}
+use Rattle.litmus_step.specs.Kept.{rooms_of}
 use Rattle.litmus_step.specs.Leads.{LeadsToAll}
 use Rattle.litmus_step.specs.Runs.{HasEnded, IsStuck}
 use Rattle.litmus_step.specs.declared.world.Stepped.{Stepped}
@@ -9,6 +10,7 @@ use Rattle.litmus_syntax.specs.Limits.{BlockScopes, block_rises}
 use Rattle.litmus_syntax.specs.Tree.{Block}
 use Rattle.run_lists.specs.Run.{Run}
 use Rattle.slot_table.specs.declared.records.Record.{Record}
+use Rattle.task_log.specs.Keeps as task_log
 use Rattle.task_run.specs.Leads.{Leads}
 use Rattle.task_run.specs.declared.run.TaskRun.{TaskRun}
 use Rattle.written_order.specs.Standing.{Setting}
@@ -25,15 +27,21 @@ LeadsTo run records world =
 abbrev pub tasks_in : World → ℕ
 tasks_in world = vec_len world.tasks
 
--- how much room there is for what a world keeps: tasks, what they did, and reports
+-- how much room there is for what a world keeps: tasks, what they did, with what is kept of each, and reports
 pub record Room : Type 0 where
   pub tasks : ℕ
   pub logs : ℕ
+  pub each : List task_log.Room
   pub reports : ℕ
 
 abbrev pub room_in : World → Room
 room_in world =
-    record { tasks = vec_capacity world.tasks; logs = vec_capacity world.logs; reports = vec_capacity world.reports }
+    record {
+      tasks = vec_capacity world.tasks;
+      logs = vec_capacity world.logs;
+      each = rooms_of world.logs.items;
+      reports = vec_capacity world.reports;
+    }
 
 -- the machine of a task
 abbrev pub IsMachine : World → ℕ → TaskRun → Type 0

@@ -9,7 +9,7 @@ ghost use Rattle.run_headline.specs.Headline.{Headline};
 ghost use Rattle.run_lists.specs.Run.{Run};
 ghost use Rattle.slot_table.specs.declared.records.Record.{Record};
 ghost use Rattle.litmus_step.specs.Leads.{IsLedTo, MakesNextIn};
-ghost use Rattle.litmus_step.specs.Kept.{Added, IsNotedIn};
+ghost use Rattle.litmus_step.specs.Kept.{Added, IsNotedIn, rooms_of};
 ghost use Rattle.litmus_step.specs.Runs.{HasEnded, IsStuck, run_of};
 ghost use Rattle.litmus_step.specs.declared.error.WorldError.TheVariants.{BadPlace, BadSlots, OutOfMemory};
 ghost use Rattle.task_run.specs.declared.run.TaskRun.{TaskRun};
@@ -73,6 +73,7 @@ fn note(logs: &mut Vec<TaskLog>, reports: &mut Vec<Report>, task: usize, noted: 
         × Added report (vec_capacity reports.old) reports.old.items reports.new.items }
     ensures room { vec_capacity reports.new ≡ vec_capacity reports.old }
     ensures logs { vec_capacity logs.new ≡ vec_capacity logs.old }
+    ensures each { rooms_of logs.new.items ≡ rooms_of logs.old.items }
 {
     let report = logs[task].note(noted);
     add(reports, report);

@@ -37,3 +37,12 @@ pub record Keeps (accesses watches : ℕ) (own : List Noted) (log : TaskLog) : T
   pub room_for_accesses : accesses ≤ vec_capacity log.touches
   pub room_for_arms : watches ≤ vec_capacity log.arms
   pub room_for_takes : watches ≤ vec_capacity log.takes
+
+-- how much room there is for what a task keeps: accesses, armings and takings
+pub record Room : Type 0 where
+  pub accesses : ℕ
+  pub arms : ℕ
+  pub takes : ℕ
+
+abbrev pub room_in : TaskLog → Room
+room_in log = record { accesses = vec_capacity log.touches; arms = vec_capacity log.arms; takes = vec_capacity log.takes }

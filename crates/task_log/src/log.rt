@@ -3,7 +3,7 @@
 ghost use Rattle.std.specs.Prelude.{◌≡◌, ◌==◌, ◌<◌, ◌≤◌, ◌++◌, ◌∷◌, [], ℕ, List, IfOk, count_by, length, vec_capacity, vec_len};
 ghost use Rattle.task_log.specs.Arms.{arm_removed, arms_at, arms_of, takes_at, takes_of};
 ghost use Rattle.task_log.specs.Counters.{Count};
-ghost use Rattle.task_log.specs.Keeps.{HasRoomToRemove, HasRoomToTell, IsLatest, Keeps};
+ghost use Rattle.task_log.specs.Keeps.{HasRoomToRemove, HasRoomToTell, IsLatest, Keeps, room_in};
 ghost use Rattle.task_log.specs.Reports.{reported};
 ghost use Rattle.task_log.specs.Touches.{accesses_of, touches_of};
 ghost use Rattle.task_log.specs.declared.noted.Noted.{Noted};
@@ -56,6 +56,7 @@ impl TaskLog {
             → Keeps accesses watches (noted.now ∷ own) self.new }
         ensures reported { (accesses watches : ℕ) (own : List Noted) → Keeps accesses watches own self.old
             → result ≡ reported noted.now.outcome own }
+        ensures room { room_in self.new ≡ room_in self.old }
     {
         let report = self.reported(noted);
         touches::note(&mut self.touches, noted);
@@ -72,8 +73,8 @@ impl TaskLog {
         ensures takes { HasRoomToTell noted.now.step self.old
             → self.new.takes.items ≡ takes_at noted.now.step noted.now.outcome self.old.takes.items }
         ensures kept { self.new ≡ record self.old { arms = self.new.arms; takes = self.new.takes } }
-        ensures room_for_arms { vec_capacity self.old.arms ≤ vec_capacity self.new.arms }
-        ensures room_for_takes { vec_capacity self.old.takes ≤ vec_capacity self.new.takes }
+        ensures room_for_arms { vec_capacity self.new.arms ≡ vec_capacity self.old.arms }
+        ensures room_for_takes { vec_capacity self.new.takes ≡ vec_capacity self.old.takes }
     {
         match noted.step {
             Step::Remove(index) => self.removes(index),
@@ -87,7 +88,7 @@ impl TaskLog {
         ensures arms { (own : List Noted) → IsLatest own self.old.latest → vec_len self.old.arms < vec_capacity self.old.arms
             → self.new.arms.items ≡ self.old.arms.items ++ arm_removed index own self.old.arms.items ∷ [] }
         ensures kept { self.new ≡ record self.old { arms = self.new.arms } }
-        ensures room { vec_capacity self.old.arms ≤ vec_capacity self.new.arms }
+        ensures room { vec_capacity self.new.arms ≡ vec_capacity self.old.arms }
     {
         if self.arms.len() == self.arms.capacity() {
             return;
@@ -105,7 +106,7 @@ impl TaskLog {
         ensures takes { vec_len self.old.takes < vec_capacity self.old.takes
             → self.new.takes.items ≡ self.old.takes.items ++ record { finder = ticket; index = index; setter = setter } ∷ [] }
         ensures kept { self.new ≡ record self.old { takes = self.new.takes } }
-        ensures room { vec_capacity self.old.takes ≤ vec_capacity self.new.takes }
+        ensures room { vec_capacity self.new.takes ≡ vec_capacity self.old.takes }
     {
         if self.takes.len() < self.takes.capacity() {
             self.takes.push_reserved(Take::new(ticket, index, setter));

@@ -57,7 +57,7 @@ fn end_newest(touches: &mut [Touch], stamp: u64)
 pub(crate) fn note(touches: &mut Vec<Touch>, noted: &Noted)
     ensures items { HasRoomToBegin noted.now.step noted.now.answer noted.now.begins (vec_len touches.old) (vec_capacity touches.old)
         → touches.new.items ≡ touches_at noted.now.step noted.now.answer noted.now.begins touches.old.items }
-    ensures room { vec_capacity touches.old ≤ vec_capacity touches.new }
+    ensures room { vec_capacity touches.new ≡ vec_capacity touches.old }
 {
     match (noted.step, noted.answer, noted.begins) {
         (Step::Clock, Answer::Word(begin), Some(begun)) => {
