@@ -13,9 +13,11 @@ pub record KeepsBounds (options : RunOptions) : Type 0 where
   pub turns_from : 1 ≤ options.turns
   pub turns_to : options.turns ≤ 1000000000
 
--- and at least one run
+-- and from 1 to 100,000 runs, with a delay of at most 1,000,000 loads
 pub record KeepsRunBounds (request : RunRequest) : Type 0 where
   pub runs : 1 ≤ request.runs
+  pub runs_to : request.runs ≤ 100000
+  pub delay : request.delay ≤ 1000000
   pub options : KeepsBounds request.options
 
 -- what may be asked: numbers within their bounds

@@ -71,8 +71,8 @@ abbrev pub run_app : Bor (List (Bor Text)) → App
 run_app sizes =
     with_options (with_rule (with_rule (with_rule (new_app (codes "run"))
     (word_rule (codes "FILE")))
-    (number_rule (codes "runs") 1 18446744073709551615 (codes "100")))
-    (number_rule (codes "delay") 0 18446744073709551615 (codes "64"))) sizes
+    (number_rule (codes "runs") 1 100000 (codes "100")))
+    (number_rule (codes "delay") 0 1000000 (codes "64"))) sizes
 
 -- `replay`, with its file
 abbrev pub replay_app : App

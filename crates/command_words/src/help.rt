@@ -137,7 +137,8 @@ pub const AFTER_RUN: &str = "\
     error says why, and up to 71 nothing goes to standard output or to the trace's file.";
 
 /// What `--runs` says.
-pub const RUNS: &str = "How many runs there are, 1 or more";
+pub const RUNS: &str = "How many runs there are, 1 to 100000";
 
 /// What `--delay` says.
-pub const DELAY: &str = "How many loads of a word a task waits at each watchpoint that it sets up";
+pub const DELAY: &str =
+    "How many loads of a word a task waits at each watchpoint that it sets up, up to 1000000";

@@ -15,7 +15,10 @@ use std::convert::AsStr;
 use watch_word::Layout;
 
 /// The fewest and the most runs.
-const RUNS: (u64, u64) = (1, u64::MAX);
+const RUNS: (u64, u64) = (1, 100_000);
+
+/// The fewest and the most loads of a delay.
+const DELAY: (u64, u64) = (0, 1_000_000);
 
 /// The fewest and the most page slots.
 const SLOTS: (u64, u64) = (3, 1024);
@@ -142,7 +145,7 @@ fn run_request<'a>(run: &ArgMatches<'a>) -> Option<RunRequest<'a>>
     Some(RunRequest {
         file: run.get_str("FILE")?,
         runs: number(run, "runs", RUNS)?,
-        delay: number(run, "delay", (0, u64::MAX))?,
+        delay: number(run, "delay", DELAY)?,
         options: options(run)?,
     })
 }
@@ -244,7 +247,7 @@ fn run_command<'a>(alloc: Global, sizes: &'static [&'static str]) -> Result<Comm
         .after_help(help::AFTER_RUN)
         .arg(file(alloc, "FILE", help::FILE))?
         .arg(number_option(alloc, "runs", help::RUNS, RUNS, "100"))?
-        .arg(number_option(alloc, "delay", help::DELAY, (0, u64::MAX), "64"))?;
+        .arg(number_option(alloc, "delay", help::DELAY, DELAY, "64"))?;
     with_shared(alloc, command, sizes)
 }
 

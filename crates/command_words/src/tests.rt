@@ -172,17 +172,11 @@ fn runs_are_asked_for(rt: HostRuntime) -> Result<(), Fail> {
     ask(
         &rt,
         rt.alloc(),
-        &[
-            "k",
-            "run",
-            "t",
-            "--runs=18446744073709551615",
-            "--delay=18446744073709551615",
-        ],
+        &["k", "run", "t", "--runs=100000", "--delay=1000000"],
         Request::Run(RunRequest {
             file: "t",
-            runs: u64::MAX,
-            delay: u64::MAX,
+            runs: 100_000,
+            delay: 1_000_000,
             options: OPTIONS,
         }),
     )
