@@ -122,7 +122,7 @@ pub const AFTER_RUN: &str = "\
     hit it. Each run begins anew, with the same settings; which races show in it is left to\n\
     the machine. For example\n\
     \n\
-    \x20\x20\x20\x20kcsan_litmus run race.litmus --runs 1000 --delay 640\n\
+    \x20\x20\x20\x20kcsan_litmus run race.litmus --runs 1000 --delay 1000000\n\
     \n\
     runs the two tasks a thousand times. Each distinct report is printed once, in the order in\n\
     which they were first seen, with how often it was seen; then what became of the checks of\n\
