@@ -1,5 +1,6 @@
 -- The head of a printed text.
-use Rattle.std.proofs.Common.{◌≡◌, ℕ, List, [], ◌∷◌, ◌++◌, inl, false, true, drop, length, length-append, map, refl, sym, subst, append_assoc, ap, arith}
+use Rattle.std.proofs.Common.{◌≡◌, inr, ℕ, List, [], ◌∷◌, ◌++◌, inl, false, true, drop, length, length-append, map, refl, sym, subst, append_assoc, ap, arith}
+use Rattle.std.specs.Prelude.{All}
 use Rattle.std.proofs.lemmas.Bool.Decides.{nat_tests}
 use Rattle.std.proofs.lemmas.List.{drop_at}
 use Rattle.litmus_lex.specs.declared.bytes.Class.TheVariants.{Blank, Graphic}
@@ -10,9 +11,11 @@ use Rattle.litmus_lex.specs.Tokens.{AreTokens, Placed}
 use Rattle.litmus_syntax.specs.PrintedForm.{name_line}
 use Rattle.litmus_cursor.specs.Words.{Symbol}
 use Rattle.litmus_parse.specs.Grammar.{symbol_at}
-use Rattle.printed_bytes.specs.Reads.{Reads}
+use Rattle.litmus_parse.specs.Text.{IsTextByte}
+use Rattle.printed_bytes.specs.Reads.{AreText, Reads}
 use Rattle.printed_bytes.specs.Programs.{IsTestName}
 use Rattle.printed_bytes.proofs.Lexed.{run_before}
+use Rattle.printed_bytes.proofs.TextBytes.{all_text, between, both_text, graphics_text}
 
 graphic_no_blank : (byte : ℕ) → belongs Graphic byte ≡ true → belongs Blank byte ≡ false
 graphic_no_blank byte is = grind (arith, nat_tests)
@@ -47,12 +50,22 @@ head_is name body is brace = record {
   place = sym (length-append (name_line name) body);
 }
 
+line_text : (name : List ℕ) → IsTestName name → AreText (name_line name)
+line_text name is = (
+  between 67 (omega arith) (omega arith),
+  (
+    between 32 (omega arith) (omega arith),
+    both_text name (10 ∷ []) (graphics_text name [] is.1) (inr (inl refl), tt),
+  ),
+)
+
 -- a text of a printed head and what is read behind it
 pub text_is : (name body : List ℕ) (symbols : List Symbol) → IsTestName name → IsAtBrace body → Reads Init body symbols
     → (tokens : List Placed) × IsText (name_line name ++ body) name tokens × (map symbol_at tokens ≡ symbols)
+    × All IsTextByte (name_line name ++ body)
 text_is name body symbols is brace reads =
     let at = length (name_line name) in
-    let read = reads at in
+    let read = reads.1 at in
     let behind : drop at (name_line name ++ body) ≡ body = drop_at (name_line name) body at refl in (
       read.0,
       record {
@@ -61,4 +74,5 @@ text_is name body symbols is brace reads =
         body = subst (λ (l : List ℕ). AreTokens Init at l read.0) (sym behind) read.1;
       },
       read.2,
+      all_text (name_line name ++ body) (both_text (name_line name) body (line_text name is) reads.0),
     )

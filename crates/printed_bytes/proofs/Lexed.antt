@@ -20,18 +20,20 @@ use Rattle.litmus_lex.specs.Tokens.{AreTokens, First, Placed, StartsAt, part_aft
 use Rattle.litmus_cursor.specs.declared.words.Word.{Word}
 use Rattle.litmus_cursor.specs.Words.{Symbol, identifier, number, sign, symbol_of, symbol_of_name, word, word_of}
 use Rattle.litmus_parse.specs.Grammar.{symbol_at}
-use Rattle.printed_bytes.specs.Reads.{Ends, IsIdentifier, Reads}
+use Rattle.printed_bytes.specs.Reads.{AreText, Ends, IsIdentifier, Reads}
+use Rattle.printed_bytes.proofs.TextBytes.{blank_text, both_text, digits_text, name_text, sign_text}
 
 -- ---- a token, and a blank
 
 pub end_reads : (part : Part) → Reads part [] []
-end_reads part at = ([], ([], refl, tt), refl)
+end_reads part = (tt, λ at. ([], ([], refl, tt), refl))
 
--- bytes that spell a token before what is read
-token_reads : {part : Part} {rest : List ℕ} {symbols : List Symbol} (t : Terminal) (spelled : List ℕ) (s : Symbol)
+-- bytes that spell a token at a place
+token_there : (part : Part) (at : ℕ) (rest : List ℕ) (symbols : List Symbol) (t : Terminal) (spelled : List ℕ) (s : Symbol)
     → StartsAt part t (spelled ++ rest) → Spells t spelled rest → ((n : ℕ) → place_of t n spelled ≡ n) → symbol_of t ≡ s
-    → Reads (part_after part t) rest symbols → Reads part (spelled ++ rest) (s ∷ symbols)
-token_reads {part = part} {rest = rest} {symbols = symbols} t spelled s starts spells place is more at =
+    → ((at : ℕ) → (tokens : List Placed) × AreTokens (part_after part t) at rest tokens × (map symbol_at tokens ≡ symbols))
+    → (tokens : List Placed) × AreTokens part at (spelled ++ rest) tokens × (map symbol_at tokens ≡ s ∷ symbols)
+token_there part at rest symbols t spelled s starts spells place is more =
     let token : Placed = record { terminal = t; at = at } in
     let here : at ≡ at + 0 = omega arith in
     let later = more (at + 0 + length spelled) in
@@ -46,6 +48,13 @@ token_reads {part = part} {rest = rest} {symbols = symbols} t spelled s starts s
       place = here ∙ sym (place (at + 0));
     } in
     (token ∷ later.0, (first, later.1), ap (λ (x : Symbol). x ∷ map symbol_at later.0) is ∙ ap (λ (xs : List Symbol). s ∷ xs) later.2)
+
+-- bytes that spell a token before what is read
+token_reads : {part : Part} {rest : List ℕ} {symbols : List Symbol} (t : Terminal) (spelled : List ℕ) (s : Symbol)
+    → AreText spelled → StartsAt part t (spelled ++ rest) → Spells t spelled rest → ((n : ℕ) → place_of t n spelled ≡ n) → symbol_of t ≡ s
+    → Reads (part_after part t) rest symbols → Reads part (spelled ++ rest) (s ∷ symbols)
+token_reads {part = part} {rest = rest} {symbols = symbols} t spelled s text starts spells place is more =
+    (both_text spelled rest text more.0, λ at. token_there part at rest symbols t spelled s starts spells place is more.1)
 
 blank_gap : (part : Part) (byte : ℕ) (gap rest : List ℕ) → belongs Blank byte ≡ true → IsGap part gap rest
     → IsGap part (byte ∷ gap) rest
@@ -71,9 +80,10 @@ blank_tokens part byte rest at (token ∷ tokens) blank is =
 
 pub blank_reads : {part : Part} {rest : List ℕ} {symbols : List Symbol} (byte : ℕ) → belongs Blank byte ≡ true
     → Reads part rest symbols → Reads part (byte ∷ rest) symbols
-blank_reads {part = part} {rest = rest} byte blank more at =
-    let later = more (at + 1) in
-    (later.0, blank_tokens part byte rest at later.0 blank later.1, later.2)
+blank_reads {part = part} {rest = rest} byte blank more = (
+  (blank_text byte blank, more.0),
+  λ at. let later = more.1 (at + 1) in (later.0, blank_tokens part byte rest at later.0 blank later.1, later.2),
+)
 
 -- ---- where a token begins
 
@@ -113,7 +123,7 @@ name_token part (byte ∷ bytes) rest is = at_token part byte (bytes ++ rest) (n
 named_reads : {part : Part} {rest : List ℕ} {symbols : List Symbol} (bytes : List ℕ) (o : Option Word) → IsName bytes []
     → word_of bytes ≡ o → Ends rest → Reads part rest symbols → Reads part (bytes ++ rest) (symbol_of_name bytes o ∷ symbols)
 named_reads {part = part} {rest = rest} {symbols = symbols} bytes o is says ends more =
-    token_reads (terminals.name bytes) bytes (symbol_of_name bytes o) (name_token part bytes rest is)
+    token_reads (terminals.name bytes) bytes (symbol_of_name bytes o) (name_text bytes [] is) (name_token part bytes rest is)
     (refl, name_before bytes rest is ends) (λ n. refl) (ap (λ (w : Option Word). symbol_of_name bytes w) says) more
 
 pub name_reads : {part : Part} {rest : List ℕ} {symbols : List Symbol} (name : List ℕ) → IsIdentifier name → Ends rest
@@ -172,7 +182,7 @@ number_reads {part = part} {rest = rest} {symbols = symbols} n small ends more =
       plain = is_plain (decimal n) rest all ends some;
       is = sym numeral.1;
     }) in
-    token_reads (terminals.number n) (decimal n) (number n) (number_token part (decimal n) rest all some)
+    token_reads (terminals.number n) (decimal n) (number n) (digits_text (decimal n) all) (number_token part (decimal n) rest all some)
     (spelled, small) (λ k. refl) refl more
 
 -- ---- signs
@@ -181,4 +191,4 @@ pub sign_reads : {part : Part} {rest : List ℕ} {symbols : List Symbol} (s : Si
     → IsLongestSign s (sign_bytes s ++ rest)
     → Reads (part_after part (terminals.sign s)) rest symbols → Reads part (sign_bytes s ++ rest) (sign s ∷ symbols)
 sign_reads {part = part} {rest = rest} {symbols = symbols} s starts longest more =
-    token_reads (terminals.sign s) (sign_bytes s) (sign s) starts (refl, longest) (λ n. refl) refl more
+    token_reads (terminals.sign s) (sign_bytes s) (sign s) (sign_text s) starts (refl, longest) (λ n. refl) refl more

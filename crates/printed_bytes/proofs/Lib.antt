@@ -1,3 +1,4 @@
+pub mod TextBytes
 pub mod Lexed
 pub mod Pieces
 pub mod Signs

@@ -1,13 +1,21 @@
 -- The whole text of a program: its name, its initialization block, its tasks and its condition.
-use Rattle.std.proofs.Common.{◌≡◌, List, [], ◌∷◌, map, refl}
+use Rattle.std.proofs.Common.{◌≡◌, ◌≤◌, List, [], ◌∷◌, length, map, refl, subst, sym}
+use Rattle.std.specs.Prelude.{All}
 use Rattle.litmus_lex.specs.declared.token.Part.TheVariants.{Between}
 use Rattle.litmus_lex.specs.Head.{IsText}
 use Rattle.litmus_lex.specs.Tokens.{Placed}
 use Rattle.litmus_syntax.specs.PrintedForm.{condition_line, printed, proposition_text}
 use Rattle.litmus_syntax.specs.Tree.{Program}
-use Rattle.litmus_parse.specs.Grammar.{symbol_at}
+use Rattle.litmus_syntax.specs.Limits.{file_bytes}
+use Rattle.litmus_cursor.specs.Words.{Symbol}
+use Rattle.litmus_parse.specs.Grammar.{Grammar, SpellsProgram, symbol_at}
+use Rattle.litmus_parse.specs.Text.{IsTextByte}
 use Rattle.printed_texts.specs.PrintedCondition.{proposition_symbols, quantifier_symbols}
-use Rattle.printed_texts.specs.PrintedProgram.{program_symbols}
+use Rattle.litmus_expression.specs.Followed.{Differ}
+use Rattle.litmus_expression.specs.Names.{Names}
+use Rattle.printed_texts.specs.PrintedProgram.{Nests, program_symbols}
+use Rattle.printed_texts.proofs.Programs.{program_printed}
+use Rattle.printed_texts.proofs.Wholes.{names_are, own_names}
 use Rattle.printed_bytes.specs.Programs.{IsSpelled}
 use Rattle.printed_bytes.specs.Reads.{Reads}
 use Rattle.printed_bytes.proofs.Heads.{text_is}
@@ -25,6 +33,23 @@ condition_reads p is =
 
 pub program_read : (p : Program) → IsSpelled p
     → (tokens : List Placed) × IsText (printed p) p.name tokens × (map symbol_at tokens ≡ program_symbols p)
+    × All IsTextByte (printed p)
 program_read p is =
     text_is p.name _ (program_symbols p) is.name refl
     (initialization_reads p.variables is.variables (tasks_read p.variables p.tasks 0 _ is.tasks (condition_reads p is)))
+
+-- the printed form of a program that symbols spell spells it too
+pub printed_spells : (symbols : List Symbol) (p : Program) → Grammar symbols p → Nests p → IsSpelled p
+    → length (printed p) ≤ file_bytes → SpellsProgram (printed p) p
+printed_spells symbols p g nests is few =
+    let read = program_read p is in
+    let names = names_are symbols p g in
+    let own = subst (λ (l : Names). Differ l) (sym (own_names g.declared)) names.differ in
+    record {
+      tokens = read.0;
+      size = few;
+      bytes = read.3;
+      lexed = read.1;
+      parsed = subst (λ (l : List Symbol). Grammar l p) (sym read.2)
+          (program_printed symbols p g names.differ names.few own names.whole nests);
+    }
