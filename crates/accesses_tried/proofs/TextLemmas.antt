@@ -3,7 +3,6 @@ use Rattle.std.proofs.Common.{◌≡◌, ◌<◌, ◌∷◌, [], ℕ, zero, suc,
 use Rattle.std.proofs.lemmas.List.{length-map}
 use Rattle.std.proofs.lemmas.Option.{slice_get_within}
 use Rattle.litmus_syntax.specs.Limits.{KeepsLimits, TaskKeepsLimits}
-use Rattle.litmus_syntax.specs.Tree.{Task}
 use Rattle.litmus_syntax.specs.Views.{program_of, task_of}
 use Rattle.litmus_syntax.specs.declared.program.Program.{Program}
 use Rattle.litmus_syntax.specs.declared.program.Task.{Task as CodeTask}

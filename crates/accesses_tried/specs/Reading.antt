@@ -1,5 +1,5 @@
 -- What records are of the text of a task.
-use Rattle.std.specs.Prelude.{◌≡◌, ◌++◌, ℕ, List, length}
+use Rattle.std.specs.Prelude.{◌≡◌, ◌++◌, ℕ, List}
 use Rattle.accesses_tried.specs.declared.reading.Reading.{Reading}
 use Rattle.accesses_tried.specs.declared.reading.Reading.TheVariants.{Begun, Other, Stuck, Whole}
 use Rattle.litmus_syntax.specs.Tree.{Block}

@@ -1,5 +1,5 @@
 -- The records read so far lead to the machine, and are in the written order.
-use Rattle.std.proofs.Common.{◌≡◌, List, [], length, take}
+use Rattle.std.proofs.Common.{◌≡◌, [], length, take}
 use Rattle.litmus_syntax.specs.Limits.{TaskKeepsLimits}
 use Rattle.litmus_syntax.specs.Tree.{Task}
 use Rattle.task_laws.specs.Fits.{ArePlaced}
