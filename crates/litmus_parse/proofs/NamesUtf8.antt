@@ -21,7 +21,7 @@ use Rattle.litmus_cursor.specs.declared.words.Word.{Word}
 use Rattle.litmus_cursor.specs.Words.{symbol_of, symbol_of_name, word_of}
 use Rattle.litmus_parse.specs.Grammar.{SpellsProgram, symbol_at}
 use Rattle.litmus_parse.specs.Text.{IsTextByte}
-use Rattle.litmus_parse.proofs.NamesSpelled.{OfName, Spell, names_hold}
+use Rattle.litmus_parse.proofs.NamesSpelled.{Any, OfSymbol, Spell, spelled_holds}
 
 -- ---- bytes
 
@@ -62,11 +62,11 @@ utf8_of bytes plain = IsUtf8-from_ascii bytes (ascii_of bytes plain)
 
 -- ---- tokens
 
-of_word : (bytes : List ℕ) (o : Option Word) → IsUtf8 bytes → OfName IsUtf8 (symbol_of_name bytes o)
+of_word : (bytes : List ℕ) (o : Option Word) → IsUtf8 bytes → OfSymbol IsUtf8 Any (symbol_of_name bytes o)
 of_word bytes None is = is
 of_word bytes (Some w) is = tt
 
-of_terminal : (t : Terminal) (spelled rest : List ℕ) → Spells t spelled rest → Plain spelled → OfName IsUtf8 (symbol_of t)
+of_terminal : (t : Terminal) (spelled rest : List ℕ) → Spells t spelled rest → Plain spelled → OfSymbol IsUtf8 Any (symbol_of t)
 of_terminal (terminals.name bytes) spelled rest spells plain =
     of_word bytes (word_of bytes) (utf8_of bytes (subst (λ (l : List ℕ). Plain l) (sym spells.0) plain))
 of_terminal (terminals.number value) spelled rest spells plain = tt
@@ -76,7 +76,7 @@ of_terminal terminals.stray spelled rest spells plain = tt
 of_terminal terminals.unclosed spelled rest spells plain = tt
 
 of_tokens : (part : Part) (at : ℕ) (bytes : List ℕ) (tokens : List Placed) → Plain bytes → AreTokens part at bytes tokens
-    → Spell IsUtf8 (map symbol_at tokens)
+    → Spell IsUtf8 Any (map symbol_at tokens)
 of_tokens part at bytes [] plain are = tt
 of_tokens part at bytes (token ∷ tokens) plain are =
     let first = are.0 in
@@ -93,11 +93,11 @@ names_are_utf8 text p spells =
     let plain = plain_text text spells.bytes in
     let head = spells.lexed.head in
     let title = head.title in
-    let held = names_hold IsUtf8 (map symbol_at spells.tokens) p spells.parsed
+    let held = spelled_holds IsUtf8 Any (map symbol_at spells.tokens) p (λ n is. tt) spells.parsed
     (of_tokens Init spells.lexed.at (drop spells.lexed.at text) spells.tokens (plain_drop spells.lexed.at text plain) spells.lexed.body) in
     let titled = plain_rest head.gap head.titled (subst (λ (l : List ℕ). Plain l) head.whole plain) in
     let behind = plain_rest (67 ∷ title.blanks) (p.name ++ head.behind) (subst (λ (l : List ℕ). Plain l) title.whole titled) in
-    (held.0, held.1, utf8_of p.name (plain_first p.name head.behind behind))
+    (held.variables, held.registers, utf8_of p.name (plain_first p.name head.behind behind))
 
 -- ---- a token has bytes
 

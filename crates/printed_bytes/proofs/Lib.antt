@@ -10,4 +10,7 @@ pub mod Propositions
 pub mod Tasks
 pub mod Items
 pub mod Heads
+pub mod Symbols
+pub mod Named
+pub mod Spelled
 pub mod Wholes

@@ -1,5 +1,5 @@
 -- The whole text of a program: its name, its initialization block, its tasks and its condition.
-use Rattle.std.proofs.Common.{◌≡◌, ◌≤◌, List, [], ◌∷◌, length, map, refl, subst, sym}
+use Rattle.std.proofs.Common.{◌≡◌, ◌≤◌, ℕ, List, [], ◌∷◌, length, map, refl, subst, sym}
 use Rattle.std.specs.Prelude.{All}
 use Rattle.litmus_lex.specs.declared.token.Part.TheVariants.{Between}
 use Rattle.litmus_lex.specs.Head.{IsText}
@@ -22,6 +22,7 @@ use Rattle.printed_bytes.proofs.Heads.{text_is}
 use Rattle.printed_bytes.proofs.Items.{initialization_reads}
 use Rattle.printed_bytes.proofs.Lexed.{blank_reads, end_reads}
 use Rattle.printed_bytes.proofs.Propositions.{propositions_read, quantifiers_read}
+use Rattle.printed_bytes.proofs.Spelled.{program_spelled}
 use Rattle.printed_bytes.proofs.Tasks.{tasks_read}
 
 condition_reads : (p : Program) → IsSpelled p
@@ -38,11 +39,13 @@ program_read p is =
     text_is p.name _ (program_symbols p) is.name refl
     (initialization_reads p.variables is.variables (tasks_read p.variables p.tasks 0 _ is.tasks (condition_reads p is)))
 
--- the printed form of a program that symbols spell spells it too
-pub printed_spells : (symbols : List Symbol) (p : Program) → Grammar symbols p → Nests p → IsSpelled p
+-- the printed form of a program that a text spells spells it too
+pub printed_spells : (text : List ℕ) (p : Program) → SpellsProgram text p → Nests p
     → length (printed p) ≤ file_bytes → SpellsProgram (printed p) p
-printed_spells symbols p g nests is few =
-    let read = program_read p is in
+printed_spells text p spells nests few =
+    let symbols : List Symbol = map symbol_at spells.tokens in
+    let g = spells.parsed in
+    let read = program_read p (program_spelled text p spells) in
     let names = names_are symbols p g in
     let own = subst (λ (l : Names). Differ l) (sym (own_names g.declared)) names.differ in
     record {

@@ -1,13 +1,12 @@
 //! What is true of the bytes of the printed form of litmus programs.
 
-ghost use Rattle.std.specs.Prelude.{◌≡◌, ◌≤◌, All, List, length, map};
+ghost use Rattle.std.specs.Prelude.{◌≡◌, ◌≤◌, ℕ, All, List, length, map};
 ghost use Rattle.litmus_lex.specs.Head.{IsText};
 ghost use Rattle.litmus_lex.specs.Tokens.{Placed};
 ghost use Rattle.litmus_syntax.specs.Limits.{file_bytes};
 ghost use Rattle.litmus_syntax.specs.PrintedForm.{printed};
 ghost use Rattle.litmus_syntax.specs.Tree.{Program};
-ghost use Rattle.litmus_cursor.specs.Words.{Symbol};
-ghost use Rattle.litmus_parse.specs.Grammar.{Grammar, SpellsProgram, symbol_at};
+ghost use Rattle.litmus_parse.specs.Grammar.{SpellsProgram, symbol_at};
 ghost use Rattle.litmus_parse.specs.Text.{IsTextByte};
 ghost use Rattle.printed_texts.specs.PrintedProgram.{Nests, program_symbols};
 ghost use Rattle.printed_bytes.specs.Programs.{IsSpelled};
@@ -20,9 +19,14 @@ pub fn printed_programs_are_read()
         × All IsTextByte (printed program) }
 {}
 
-/// Law: a program that symbols spell, with names and numbers that a text can have, is spelled by its printed form, where this keeps
-/// the limit of nesting and is no longer than a text may be.
+/// Law: a program that a text spells has names and numbers that a text can have.
+pub fn texts_spell_programs_with_their_names()
+    ensures { (text : List ℕ) (program : Program) → SpellsProgram text program → IsSpelled program }
+{}
+
+/// Law: a program that a text spells is spelled by its printed form too, where this keeps the limit of nesting and is no longer than
+/// a text may be.
 pub fn printed_programs_spell_themselves()
-    ensures { (symbols : List Symbol) (program : Program) → Grammar symbols program → Nests program → IsSpelled program
+    ensures { (text : List ℕ) (program : Program) → SpellsProgram text program → Nests program
         → length (printed program) ≤ file_bytes → SpellsProgram (printed program) program }
 {}

@@ -1,4 +1,9 @@
-//! What is true of the bytes of the printed form of litmus programs. No code.
+//! What is true of the bytes of the printed form of litmus programs, and programs read back from it.
 #![tactic(auto)]
 
+mod back;
 pub mod laws;
+#[cfg(test)]
+mod tests;
+
+pub use back::read_back;

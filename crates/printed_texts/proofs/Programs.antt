@@ -156,6 +156,11 @@ processes_sized : {task : ℕ} {before later : Names} {symbols rest : List Symbo
 processes_sized (headers.last lt p) = (omega arith, omega arith)
 processes_sized (headers.more lt p others) = let r = processes_sized others in let le = r.1 in (omega arith, omega arith)
 
+-- the condition leaves each process with names that may be printed
+pub later_are_whole : (symbols : List Symbol) (p : tree.Program) (g : Grammar symbols p) → AllWhole p.variables g.names g.processes
+    → AllWhole p.variables g.names g.later
+later_are_whole symbols p g whole = (disjoined_still p.variables g.names (said_by g.items g.processes) whole g.condition).whole
+
 pub program_printed : (symbols : List Symbol) (p : tree.Program) (g : Grammar symbols p) → Differ g.names → length g.names ≤ 32
     → Differ (map (λ (v : Variable). v.name) p.variables) → AllWhole p.variables g.names g.processes
     → Nests p → Grammar (program_symbols p) p

@@ -29,7 +29,7 @@ extends_itself p = record { parameters = refl; registers = λ n name is. is }
 pub covers_themselves : (ps : List Process) → Covers ps ps
 covers_themselves ps = record { covers = λ k p is. (p, is, extends_itself p) }
 
-covers_then : (before between later : List Process) → Covers before between → Covers between later → Covers before later
+pub covers_then : (before between later : List Process) → Covers before between → Covers between later → Covers before later
 covers_then before between later one two = record {
   covers = λ k p is.
       let c = one.covers k p is in
@@ -83,13 +83,13 @@ module _ (mentions : List Mention) (names : Names) where
     disjoined_covers (conditions.or {before = before} {between = between} {after = later} l c) =
         covers_then before between later (disjoined_covers l) (conjoined_covers c)
 
-    conjoined_covers : {d : ℕ} {before later : List Process} {symbols rest : List Symbol} {a : tree.Proposition}
+    pub conjoined_covers : {d : ℕ} {before later : List Process} {symbols rest : List Symbol} {a : tree.Proposition}
         → Conjoined mentions names d before symbols a rest later → Covers before later
     conjoined_covers (conditions.negation n) = negation_covers n
     conjoined_covers (conditions.and {before = before} {between = between} {after = later} l n) =
         covers_then before between later (conjoined_covers l) (negation_covers n)
 
-    negation_covers : {d : ℕ} {before later : List Process} {symbols rest : List Symbol} {a : tree.Proposition}
+    pub negation_covers : {d : ℕ} {before later : List Process} {symbols rest : List Symbol} {a : tree.Proposition}
         → Negation mentions names d before symbols a rest later → Covers before later
     negation_covers (conditions.atom a) = atom_covers a
     negation_covers (conditions.not n) = negation_covers n
@@ -101,6 +101,29 @@ task_there : (ps : List Process) (k : ℕ) (p : Process) → slice_get ps k ≡ 
 task_there [] k p is = absurd cc
 task_there (q ∷ ps) zero p is = ap (λ (r : Process). r.registers) (given_is q p is)
 task_there (q ∷ ps) (suc k) p is = task_there ps k p is
+
+-- a register's name among all that its process has
+pub record Called (last : List Process) (p : Process) (k r : ℕ) (name : List ℕ) : Type 0 where
+  pub process : Process
+  pub there : slice_get last k ≡ Some process
+  pub parameters : process.parameters ≡ p.parameters
+  pub stands : slice_get process.registers r ≡ Some name
+  pub called : name_at (registers_of (map task_of last) k) r ≡ name
+
+pub register_called : (last : List Process) (k r : ℕ) (p : Process) (name : List ℕ) (registers : Names) (before : List Process)
+    → slice_get before k ≡ Some p → IsRegister p.parameters p.registers name r registers
+    → Covers (set before k (with_registers p registers)) last → Called last p k r name
+register_called last k r p name registers before there is covers =
+    let c = covers.covers k (with_registers p registers) (set_there before k p (with_registers p registers) there) in
+    let q : Process = c.0 in
+    let at : slice_get q.registers r ≡ Some name = c.2.registers r name (numbered_at is.numbered) in
+    record {
+      process = q;
+      there = c.1;
+      parameters = c.2.parameters;
+      stands = at;
+      called = ap (λ (l : Names). name_at l r) (task_there last k q c.1) ∙ ap (λ (o : Option (List ℕ)). unwrap_or o []) at;
+    }
 
 module _ (mentions said : List Mention) (names : Names) (variables : List Variable) (last : List Process)
     (is_known : (name : List ℕ) (v : ℕ) → IsKnown mentions names name v → IsKnown said names (variable_name variables v) v) where
@@ -116,17 +139,15 @@ module _ (mentions said : List Mention) (names : Names) (variables : List Variab
       → IsRegister p.parameters p.registers name r registers → Covers (set before k (with_registers p registers)) last
       → Printed (tree.register_is k r n)
   register_printed k r n p name registers before there is covers = λ d nests rest.
-      let c = covers.covers k (with_registers p registers) (set_there before k p (with_registers p registers) there) in
-      let q : Process = c.0 in
-      let at : slice_get q.registers r ≡ Some name = c.2.registers r name (numbered_at is.numbered) in
-      let called : name_at (registers_of tasks k) r ≡ name =
-      ap (λ (l : Names). name_at l r) (task_there last k q c.1) ∙ ap (λ (o : Option (List ℕ)). unwrap_or o []) at in
-      let free : IsFree q.parameters name = subst (λ (ps : List Parameter). IsFree ps name) (sym c.2.parameters) is.free in
+      let c = register_called last k r p name registers before there is covers in
+      let q : Process = c.process in
+      let free : IsFree q.parameters name = subst (λ (ps : List Parameter). IsFree ps name) (sym c.parameters) is.free in
       let known_there : IsRegister q.parameters q.registers (name_at (registers_of tasks k) r) r q.registers =
-      subst (λ (m : List ℕ). IsRegister q.parameters q.registers m r q.registers) (sym called) (record { free = free; numbered = known at }) in
+      subst (λ (m : List ℕ). IsRegister q.parameters q.registers m r q.registers) (sym c.called)
+      (record { free = free; numbered = known c.stands }) in
       subst (λ (after : List Process). Negation said names d last (proposition_symbols variables tasks (tree.register_is k r n) rest)
-      (tree.register_is k r n) rest after) (set_same last k q c.1)
-      (conditions.atom (conditions.register_is c.1 known_there headers.positive))
+      (tree.register_is k r n) rest after) (set_same last k q c.there)
+      (conditions.atom (conditions.register_is c.there known_there headers.positive))
 
   atom_printed : {before later : List Process} {symbols rest : List Symbol} {a : tree.Proposition}
       → Atom mentions names before symbols a rest later → Covers later last → Printed a

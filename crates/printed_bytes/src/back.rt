@@ -1,0 +1,27 @@
+//! Programs read back from their printed form.
+
+ghost use Rattle.std.specs.Prelude.{◌≡◌, ◌≤◌, ℕ, IfErr, IfOk, List, length};
+ghost use Rattle.litmus_syntax.specs.Limits.{file_bytes};
+ghost use Rattle.litmus_syntax.specs.PrintedForm.{printed};
+ghost use Rattle.litmus_syntax.specs.Views.{program_of};
+ghost use Rattle.litmus_parse.specs.Grammar.{SpellsProgram};
+ghost use Rattle.printed_texts.specs.PrintedProgram.{Nests};
+
+use crate::laws::printed_programs_spell_themselves;
+use litmus_parse::{ParseError, Program, parse, print};
+use std::alloc::Global;
+
+/// Prints a program and reads what was printed.
+///
+/// A program that a text spells comes back as it was, or memory ran out, wherever its printed form keeps the limits of nesting
+/// and of a file's size.
+pub fn read_back(alloc: Global, program: &Program) -> Result<Program, ParseError>
+    ensures back { (text : List ℕ) → SpellsProgram text (program_of program.now) → Nests (program_of program.now)
+        → length (printed (program_of program.now)) ≤ file_bytes
+        → IfOk result (λ again. program_of again ≡ program_of program.now)
+        × IfErr result (λ error. error ≡ ParseError.OutOfMemory) }
+{
+    printed_programs_spell_themselves();
+    let text = print(alloc, program)?;
+    parse(alloc, text.as_bytes())
+}
