@@ -11,9 +11,9 @@ use Rattle.run_lists.specs.RunList.{RunList}
 use Rattle.run_lists.specs.Told.{Armed, OutcomeAt, armed_by, armed_in, came_next, outcome_at, outcomes_by, outcomes_of}
 use Rattle.run_lists.proofs.CheckFacts.{back}
 use Rattle.run_lists.proofs.OwnLasts.{one_arming, own_word, stands_later}
-use Rattle.run_logs.specs.Lists.{AreArmsAt, AreArmsBy, IsArm, verdicts_by}
-use Rattle.run_verdicts.specs.Watches.{IfVerdict, IsOfWatch, is_verdict}
-use Rattle.run_verdicts.proofs.Finds.{back_is}
+use Rattle.run_kept.specs.Lists.{AreArmsAt, AreArmsBy, IsArm, verdicts_by}
+use Rattle.run_headline.specs.Watches.{IfVerdict, IsOfWatch, is_verdict}
+use Rattle.run_headline.proofs.Finds.{back_is}
 use Rattle.setup_access.specs.Check.{Fallen}
 use Rattle.setup_access.specs.Setting as checks
 use Rattle.slot_table.specs.Armings.{Arming, armed_after, last_arming, last_arming_number, number_after}

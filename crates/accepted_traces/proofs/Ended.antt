@@ -17,10 +17,10 @@ use Rattle.run_lists.specs.RunList.{RunList}
 use Rattle.run_lists.specs.Told.{first_moments, history_by, history_of, made_by, moments_of}
 use Rattle.run_lists.proofs.Histories.{did_of_all, of_both, of_task}
 use Rattle.run_lists.proofs.Intervals.{Has, contains_has, has_contains, has_either, has_first, has_last}
-use Rattle.run_logs.specs.Decided.{IsStampedSo}
-use Rattle.run_logs.specs.Lists.{AreAccesses, AreAccessesOf, ByTask}
-use Rattle.run_logs.specs.Spans.{HappensAt, IsSpan}
-use Rattle.run_verdicts.specs.Events.{AreMarks, DoesEvent, EachDoesItsEvent, IsEvent}
+use Rattle.run_kept.specs.Decided.{IsStampedSo}
+use Rattle.run_kept.specs.Lists.{AreAccesses, AreAccessesOf, ByTask}
+use Rattle.run_kept.specs.Spans.{HappensAt, IsSpan}
+use Rattle.run_headline.specs.Events.{AreMarks, DoesEvent, EachDoesItsEvent, IsEvent}
 use Rattle.slot_table.specs.declared.records.Record.{Record}
 use Rattle.slot_table.specs.declared.step.Answer.TheVariants as answers
 use Rattle.slot_table.specs.declared.step.Step.TheVariants as steps

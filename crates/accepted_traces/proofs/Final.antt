@@ -23,10 +23,10 @@ use Rattle.run_lists.specs.Run.{Run, first_cells, locks_of, task_of, task_settin
 use Rattle.run_lists.specs.RunList.{RunList}
 use Rattle.run_lists.specs.Told.{OutcomeAt, history_of, made_by, outcomes_of}
 use Rattle.run_lists.proofs.OwnLasts.{one_arming, own_latest, stands_later}
-use Rattle.run_logs.specs.Lists.{AreAccesses, AreArms, AreArmsBy, AreArmsOf, ByTask, verdicts_by}
-use Rattle.run_verdicts.specs.Events.{AreMarks, EachDoesItsEvent}
-use Rattle.run_verdicts.specs.Joined.{IfAnswersBoth}
-use Rattle.run_verdicts.specs.Watches.{IfVerdict, IsOfWatch, IsWatch}
+use Rattle.run_kept.specs.Lists.{AreAccesses, AreArms, AreArmsBy, AreArmsOf, ByTask, verdicts_by}
+use Rattle.run_headline.specs.Events.{AreMarks, EachDoesItsEvent}
+use Rattle.run_headline.specs.Joined.{IfAnswersBoth}
+use Rattle.run_headline.specs.Watches.{IfVerdict, IsOfWatch, IsWatch}
 use Rattle.slot_table.specs.Armings.{Arming}
 use Rattle.slot_table.specs.Hearings.{IsArming, SomeRecord}
 use Rattle.slot_table.specs.Meetings.{finders_told, numbers_met}

@@ -23,10 +23,10 @@ use Rattle.run_lists.specs.RunList.{RunList}
 use Rattle.run_lists.specs.Told.{Armed, OutcomeAt, history_of, outcomes_of}
 use Rattle.run_lists.proofs.Intervals.{Has, contains_has}
 use Rattle.run_lists.proofs.OwnLasts.{one_arming, stands_later, still_told}
-use Rattle.run_logs.specs.Lists.{AreAccesses, Became, IsHit}
-use Rattle.run_verdicts.specs.Events.{AreMarks, EachDoesItsEvent}
-use Rattle.run_verdicts.specs.Joined.{AnswersBoth}
-use Rattle.run_verdicts.proofs.Makers.{finds_hit}
+use Rattle.run_kept.specs.Lists.{AreAccesses, Became, IsHit}
+use Rattle.run_headline.specs.Events.{AreMarks, EachDoesItsEvent}
+use Rattle.run_headline.specs.Joined.{AnswersBoth}
+use Rattle.run_headline.proofs.Makers.{finds_hit}
 use Rattle.setup_access.specs.Hits.{Hits}
 use Rattle.setup_access.specs.Setting as checks
 use Rattle.setup_access.specs.Setting.{look_order, slot_of}

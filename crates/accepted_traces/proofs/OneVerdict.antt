@@ -19,8 +19,8 @@ use Rattle.run_lists.specs.RunList.{RunList}
 use Rattle.run_lists.specs.Told.{OutcomeAt, armed_by, came_next, made_by, outcome_at}
 use Rattle.run_lists.proofs.Histories.{front_of}
 use Rattle.run_lists.proofs.OwnLasts.{own_latest}
-use Rattle.run_logs.specs.Lists.{verdicts_by}
-use Rattle.run_verdicts.specs.Watches.{is_verdict}
+use Rattle.run_kept.specs.Lists.{verdicts_by}
+use Rattle.run_headline.specs.Watches.{is_verdict}
 use Rattle.setup_access.specs.Check.{Fallen}
 use Rattle.slot_table.specs.Records.{records_of}
 use Rattle.slot_table.specs.declared.records.Record.{Record}

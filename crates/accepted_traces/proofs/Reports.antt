@@ -28,9 +28,9 @@ use Rattle.run_lists.specs.Run.{Run, task_of, task_setting}
 use Rattle.run_lists.specs.RunList.{RunList}
 use Rattle.run_lists.specs.Told.{OutcomeAt, history_of, outcomes_of}
 use Rattle.run_lists.specs.TwoSides.{IfTwoSided, NamesBoth, NamesTwoSides}
-use Rattle.run_logs.specs.Lists.{AreAccesses}
-use Rattle.run_verdicts.specs.Events.{AreMarks, EachDoesItsEvent}
-use Rattle.run_verdicts.specs.Watches.{is_verdict}
+use Rattle.run_kept.specs.Lists.{AreAccesses}
+use Rattle.run_headline.specs.Events.{AreMarks, EachDoesItsEvent}
+use Rattle.run_headline.specs.Watches.{is_verdict}
 use Rattle.setup_access.specs.Setting as checks
 use Rattle.setup_access.specs.Values.{has_value, source_of}
 use Rattle.setup_access.specs.declared.outcome.Outcome.{Outcome}

@@ -23,11 +23,11 @@ use Rattle.run_lists.specs.Told.{history_by, history_of, made_by, moments_of}
 use Rattle.run_lists.proofs.Histories.{did_more, did_of_all, did_then}
 use Rattle.run_lists.proofs.Intervals.{Has, has_last}
 use Rattle.run_lists.proofs.OwnLasts.{own_latest, own_split}
-use Rattle.run_logs.specs.Decided.{IsStampedSo}
-use Rattle.run_logs.specs.Spans.{HappensAt, IsSpan}
-use Rattle.run_logs.specs.Lists.{AreAccesses, AreAccessesOf, ByTask}
-use Rattle.run_verdicts.specs.Events.{DoesEvent, EachDoesItsEvent}
-use Rattle.run_verdicts.proofs.Opens.{has_split}
+use Rattle.run_kept.specs.Decided.{IsStampedSo}
+use Rattle.run_kept.specs.Spans.{HappensAt, IsSpan}
+use Rattle.run_kept.specs.Lists.{AreAccesses, AreAccessesOf, ByTask}
+use Rattle.run_headline.specs.Events.{DoesEvent, EachDoesItsEvent}
+use Rattle.run_headline.proofs.Opens.{has_split}
 use Rattle.slot_table.specs.Records.{records_of}
 use Rattle.slot_table.specs.declared.records.Record.{Record}
 use Rattle.slot_table.specs.declared.step.Answer.TheVariants as answers

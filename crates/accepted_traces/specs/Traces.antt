@@ -6,7 +6,7 @@ use Rattle.access_types.specs.Takes.{Take}
 use Rattle.accepted_traces.specs.Parts.{HasLowMask}
 use Rattle.run_lists.specs.Run.{Run}
 use Rattle.run_lists.specs.RunList.{RunList}
-use Rattle.run_logs.specs.Lists.{AreAccesses, AreArms, AreTakes}
+use Rattle.run_kept.specs.Lists.{AreAccesses, AreArms, AreTakes}
 use Rattle.slot_table.specs.declared.records.Record.{Record}
 
 -- These are the accesses, the armings and the takings of a run list that are over, one task after the other. The

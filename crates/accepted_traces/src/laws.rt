@@ -13,7 +13,7 @@ ghost use Rattle.report_text.specs.TraceText.{second, written_lines, written_tra
 ghost use Rattle.run_lists.specs.Run.{Run};
 ghost use Rattle.run_lists.specs.Reports.{reports_of};
 ghost use Rattle.run_lists.specs.RunList.{AllHaveEnded, RunList};
-ghost use Rattle.run_logs.specs.Lists.{AreAccesses};
+ghost use Rattle.run_kept.specs.Lists.{AreAccesses};
 ghost use Rattle.slot_table.specs.declared.records.Record.{Record};
 ghost use Rattle.trace_replay.specs.Answer.{IsAccepted};
 ghost use Rattle.trace_replay.specs.declared.accepted.Accepted.TheVariants as accepted;
@@ -21,6 +21,9 @@ ghost use Rattle.watch_word.specs.declared.layout.Layout.{Layout};
 
 use litmus_meaning::laws::tickets_have_room;
 use run_headline::histories::{reports_are_true, unknown_origins_changed};
+use run_headline::verdicts::{
+    answers_are_on_a_watch_and_a_find, records_tell_their_events, verdicts_are_on_watches,
+};
 use run_kept::bags::{armings_have_their_own_verdicts, the_bags_are_equal};
 use run_kept::bounds::few_are_reported;
 use run_kept::lengths::few_are_kept;
@@ -29,9 +32,6 @@ use run_kept::watched::{
     watched_accesses_are_unmarked_and_heard,
 };
 use run_lists::laws::{reports_name_two_sides, run_lists_keep_the_discipline};
-use run_verdicts::laws::{
-    answers_are_on_a_watch_and_a_find, records_tell_their_events, verdicts_are_on_watches,
-};
 use slot_table::laws::heard_is_told;
 use watch_word::words_read_back;
 

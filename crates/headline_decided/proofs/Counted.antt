@@ -11,8 +11,8 @@ use Rattle.run_lists.specs.Answers as answers
 use Rattle.run_lists.specs.Run.{Run}
 use Rattle.run_lists.specs.RunList.{RunList}
 use Rattle.run_lists.specs.Told.{Armed, OutcomeAt, outcomes_of}
-use Rattle.run_verdicts.specs.Takings as takings
-use Rattle.run_verdicts.specs.Takings.{HasOneAnswer}
+use Rattle.run_headline.specs.Takings as takings
+use Rattle.run_headline.specs.Takings.{HasOneAnswer}
 use Rattle.setup_access.specs.declared.outcome.Outcome.{Outcome}
 use Rattle.setup_access.specs.declared.outcome.Outcome.TheVariants as outcomes
 use Rattle.slot_table.specs.declared.records.Record.{Record}

@@ -14,7 +14,7 @@ use Rattle.run_headline.specs.Totals.{Totals}
 use Rattle.run_lists.specs.Run.{IsOfProgram, Run}
 use Rattle.run_lists.specs.RunList.{RunList}
 use Rattle.run_lists.specs.Told.{Armed, OutcomeAt, history_by, history_of, outcomes_of}
-use Rattle.run_verdicts.specs.Takings.{HasOneAnswer}
+use Rattle.run_headline.specs.Takings.{HasOneAnswer}
 use Rattle.setup_access.specs.declared.outcome.Outcome.{Outcome}
 use Rattle.setup_access.specs.declared.outcome.Outcome.TheVariants as outcomes
 use Rattle.slot.specs.Pair.{Halves}

@@ -20,7 +20,7 @@ use Rattle.run_headline.specs.Headline.{Headline}
 use Rattle.run_lists.specs.Reports.{reports_of}
 use Rattle.run_lists.specs.Run.{Run}
 use Rattle.run_lists.specs.RunList.{AllHaveEnded, RunList}
-use Rattle.run_logs.specs.Totals.{CountsList, IsUnbalanced}
+use Rattle.run_kept.specs.Totals.{CountsList, IsUnbalanced}
 use Rattle.run_output.specs.Output.{output_text}
 use Rattle.slot_table.specs.declared.records.Record.{Record}
 use Rattle.step_schedule.specs.Order.{AreAsked, IsOrder, Tasks}

@@ -9,7 +9,7 @@ use Rattle.run_lists.specs.Reports.{reports_of}
 use Rattle.run_lists.specs.Run.{Run}
 use Rattle.run_lists.specs.RunList.{RunList}
 use Rattle.run_lists.specs.Told.{made_by}
-use Rattle.run_logs.specs.Noted.{IsNoted, Notes}
+use Rattle.run_kept.specs.Noted.{IsNoted, Notes}
 use Rattle.slot_table.specs.declared.records.Record.{Record}
 use Rattle.litmus_step.proofs.StepLemmas.{by_task, same_some, set_here, set_other}
 use Rattle.litmus_step.specs.Kept.{Added, AreKept, IsKept, IsNotedIn, accesses_kept, watches_kept}

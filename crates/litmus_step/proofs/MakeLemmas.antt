@@ -12,7 +12,7 @@ use Rattle.slot_table.specs.declared.step.Answer.{Answer}
 use Rattle.slot_table.specs.declared.step.Step.{Step}
 use Rattle.litmus_step.proofs.TurnLemmas.{same_machine}
 use Rattle.access_types.specs.declared.report.Report.{Report}
-use Rattle.run_logs.specs.Noted.{Notes}
+use Rattle.run_kept.specs.Noted.{Notes}
 use Rattle.litmus_step.specs.Kept.{Added, AreKept, IsNotedIn, accesses_kept, watches_kept}
 use Rattle.litmus_step.specs.Leads.{AreAtPoints, LeadsTask, LeadsTasks, LeadsToAll, MakesNextIn}
 use Rattle.litmus_step.specs.Runs.{CanBeMade, tasks_of}

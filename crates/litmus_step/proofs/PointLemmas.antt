@@ -8,7 +8,7 @@ use Rattle.memory_operation.specs.Leads.{GoesOn}
 use Rattle.run_lists.specs.Run.{Run, task_of, task_setting}
 use Rattle.run_lists.specs.RunList.{RunList}
 use Rattle.run_lists.specs.Told.{made_by}
-use Rattle.run_logs.specs.Noted.{AreNoted, IsBegun, IsNoted}
+use Rattle.run_kept.specs.Noted.{AreNoted, IsBegun, IsNoted}
 use Rattle.setup_access.specs.Parts.{made}
 use Rattle.setup_access.specs.declared.begun.Begun.{Begun}
 use Rattle.setup_access.specs.declared.outcome.Outcome.{Outcome}

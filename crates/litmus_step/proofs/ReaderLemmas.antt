@@ -7,9 +7,9 @@ use Rattle.litmus_syntax.specs.Limits.{BodyKeepsLimits, KeepsLimits, TaskKeepsLi
 use Rattle.litmus_syntax.specs.Tree.{Task}
 use Rattle.run_lists.specs.Run.{Run, idle, task_of}
 use Rattle.run_lists.specs.RunList.{RunList}
-use Rattle.run_logs.specs.Lists.{ByTask}
-use Rattle.run_logs.specs.Noted.{AreNoted, Notes}
-use Rattle.run_logs.specs.Totals.{unbalanced_below}
+use Rattle.run_kept.specs.Lists.{ByTask}
+use Rattle.run_kept.specs.Noted.{AreNoted, Notes}
+use Rattle.run_kept.specs.Totals.{unbalanced_below}
 use Rattle.slot_table.specs.Records.{records_of}
 use Rattle.slot_table.specs.declared.records.Record.{Record}
 use Rattle.task_log.specs.declared.noted.Noted.{Noted}

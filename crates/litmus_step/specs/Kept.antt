@@ -4,7 +4,7 @@ use Rattle.access_types.specs.declared.report.Report.{Report}
 use Rattle.run_lists.specs.Reports.{reports_of}
 use Rattle.run_lists.specs.Run.{Run}
 use Rattle.run_lists.specs.RunList.{RunList}
-use Rattle.run_logs.specs.Noted.{Notes}
+use Rattle.run_kept.specs.Noted.{Notes}
 use Rattle.slot_table.specs.declared.records.Record.{Record}
 use Rattle.litmus_step.specs.Runs.{tasks_of}
 use Rattle.task_log.specs.Keeps.{Keeps, Room, room_in}

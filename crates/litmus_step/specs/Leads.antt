@@ -4,7 +4,7 @@ use Rattle.access_types.specs.declared.report.Report.{Report}
 use Rattle.litmus_syntax.specs.Tree.{Block}
 use Rattle.run_lists.specs.Run.{Run, first_words, task_of, task_setting}
 use Rattle.run_lists.specs.RunList.{RunList}
-use Rattle.run_logs.specs.Noted.{Notes}
+use Rattle.run_kept.specs.Noted.{Notes}
 use Rattle.setup_access.specs.Parts.{made}
 use Rattle.slot_table.specs.Records.{records_of, words_after}
 use Rattle.slot_table.specs.Words.{Words}

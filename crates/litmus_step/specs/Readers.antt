@@ -7,7 +7,7 @@ use Rattle.litmus_syntax.specs.Tree.{Block}
 use Rattle.run_lists.specs.Run.{Run, task_of, task_setting}
 use Rattle.run_lists.specs.RunList.{RunList}
 use Rattle.run_lists.specs.Told.{made_by}
-use Rattle.run_logs.specs.Noted.{begun_in}
+use Rattle.run_kept.specs.Noted.{begun_in}
 use Rattle.litmus_step.specs.Steps.{MakesNoStep}
 use Rattle.setup_access.specs.Parts.{made}
 use Rattle.slot_table.specs.Records.{records_of}

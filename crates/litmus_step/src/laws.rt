@@ -14,9 +14,9 @@ ghost use Rattle.run_lists.specs.Run.{Run, task_setting};
 ghost use Rattle.run_lists.specs.RunList.{RunList};
 ghost use Rattle.run_lists.specs.Told.{history_of};
 ghost use Rattle.run_lists.specs.Reports.{reports_of};
-ghost use Rattle.run_logs.specs.Lists.{AreAccessesOf, AreArmsOf, AreTakesOf};
-ghost use Rattle.run_logs.specs.Noted.{Notes};
-ghost use Rattle.run_logs.specs.Totals.{AddUp, CountsList, CountsTasks};
+ghost use Rattle.run_kept.specs.Lists.{AreAccessesOf, AreArmsOf, AreTakesOf};
+ghost use Rattle.run_kept.specs.Noted.{Notes};
+ghost use Rattle.run_kept.specs.Totals.{AddUp, CountsList, CountsTasks};
 ghost use Rattle.setup_access.specs.Parts.{made};
 ghost use Rattle.setup_access.specs.declared.begun.Begun.{Begun};
 ghost use Rattle.setup_access.specs.declared.outcome.Outcome.{Outcome};
@@ -50,12 +50,12 @@ ghost use Rattle.written_order.specs.WrittenOrder.{stands_after};
 use run_headline::histories::run_lists_tell_runs_of_the_program;
 use run_kept::accesses::a_log_keeps_just_the_accesses;
 use run_kept::bounds::{few_are_reported, few_watches_are_over};
-use run_logs::laws::{
+use run_kept::logs::{
     a_log_keeps_just_the_arms, a_log_keeps_just_the_takes, a_log_reports_what_the_list_does,
     a_machine_says_what_is_noted, counters_of_tasks_add_up, few_accesses_are_noted,
     one_more_is_noted,
 };
-use run_logs::standing::{ended_tasks_stand_at_the_end, machines_stand_where_the_records_tell};
+use run_kept::standing::{ended_tasks_stand_at_the_end, machines_stand_where_the_records_tell};
 use task_laws::laws::an_answer_leads_on;
 use task_laws::spelled::{texts_within_limits_are_spelled, variables_of_programs_are_placed};
 use task_run::laws::no_task_stops;

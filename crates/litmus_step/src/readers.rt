@@ -20,14 +20,14 @@ use crate::world::World;
 use access_types::{Arm, Report, Sites, Stamped, Take};
 use run_headline::histories::{cells_hold_the_content, reports_are_true};
 use run_headline::laws::the_headline_holds;
-use run_logs::laws::a_machine_says_what_begins;
+use run_kept::logs::a_machine_says_what_begins;
 use task_log::Counters;
 use task_run::{After, Before};
 
 impl<'a> World<'a> {
     ghost use Rattle.litmus_step.specs.Readers.{AreRegisters, IsBefore, IsMeant, steps_told};
-    ghost use Rattle.run_logs.specs.Lists.{AreAccesses, AreArms, AreTakes};
-    ghost use Rattle.run_logs.specs.Totals.{CountsList, IsUnbalanced};
+    ghost use Rattle.run_kept.specs.Lists.{AreAccesses, AreArms, AreTakes};
+    ghost use Rattle.run_kept.specs.Totals.{CountsList, IsUnbalanced};
     ghost use Rattle.litmus_step.specs.Steps.{LeadsTo, tasks_in};
     ghost use Rattle.task_run.specs.Points.{last_was};
 

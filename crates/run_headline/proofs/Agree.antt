@@ -12,7 +12,7 @@ use Rattle.run_lists.specs.Answers.{is_answer}
 use Rattle.run_lists.specs.Run.{Run, first_cells, locks_of}
 use Rattle.run_lists.specs.RunList.{RunList}
 use Rattle.run_lists.specs.Told.{OutcomeAt, outcomes_of}
-use Rattle.run_verdicts.specs.Takings.{EachSettles}
+use Rattle.run_headline.specs.Takings.{EachSettles}
 use Rattle.run_headline.specs.Totals.{Totals, is_try, made_so}
 use Rattle.run_headline.proofs.Answered.{answers_heard, kinds_of_answers, unknown_quiet}
 use Rattle.run_headline.proofs.Hands.{arms_end, hits_end, is_taking, is_tell, of_clear, of_end, takings_end}

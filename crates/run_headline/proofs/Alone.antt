@@ -34,7 +34,7 @@ use Rattle.run_lists.specs.RunList.{RunList}
 use Rattle.run_lists.specs.Told.{history_of, made_by}
 use Rattle.run_lists.proofs.Histories.{did_of_all, has_own, of_both, of_task, own_has}
 use Rattle.run_lists.proofs.Intervals.{Has, contains_has, has_contains}
-use Rattle.run_verdicts.proofs.Opens.{has_split}
+use Rattle.run_headline.proofs.Opens.{has_split}
 
 -- what follows on the begin of an access: its reads and writes, and its end
 abbrev To : Access → List Happening → Type 0

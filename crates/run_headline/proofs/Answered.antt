@@ -17,8 +17,8 @@ use Rattle.run_lists.specs.Answers.{is_answer}
 use Rattle.run_lists.specs.Run.{Run}
 use Rattle.run_lists.specs.RunList.{RunList}
 use Rattle.run_lists.specs.Told.{OutcomeAt, came_next, outcomes_by}
-use Rattle.run_verdicts.specs.Settles.{AnswersTo, IsUntouched, IsUnwatched, One, OneAtMost, Settles, TellsOf, hears_finder}
-use Rattle.run_verdicts.specs.Takings.{EachSettles}
+use Rattle.run_headline.specs.Settles.{AnswersTo, IsUntouched, IsUnwatched, One, OneAtMost, Settles, TellsOf, hears_finder}
+use Rattle.run_headline.specs.Takings.{EachSettles}
 use Rattle.run_headline.proofs.Heard.{hears_now, of_hearing}
 use Rattle.run_headline.proofs.Weights.{counted, of_step, weigh}
 

@@ -31,7 +31,7 @@ use Rattle.written_order.specs.Told.{did_by, did_next}
 use Rattle.run_lists.specs.Run.{Run, first_words, task_setting}
 use Rattle.run_lists.specs.RunList.{RunList}
 use Rattle.run_lists.specs.Told.{first_moments, history_by, history_of, made_by, moments_of}
-use Rattle.run_verdicts.specs.Events.{AreMarks, EachDoesItsEvent, IsEvent, ReadsAtMost, Writes}
+use Rattle.run_headline.specs.Events.{AreMarks, EachDoesItsEvent, IsEvent, ReadsAtMost, Writes}
 use Rattle.run_headline.specs.Cells.{CellsHold, memory_after, run_cells}
 use Rattle.run_headline.proofs.CellBlocks.{AreBlocks, apart, cells_are_blocks}
 use Rattle.run_headline.proofs.Memories.{after_both, after_did, after_history, after_its, after_marks, first_bytes, laid_inside, laid_outside}

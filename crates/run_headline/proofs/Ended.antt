@@ -35,8 +35,8 @@ use Rattle.run_lists.specs.RunList.{RunList}
 use Rattle.run_lists.specs.Told.{Armed, armed_in, history_by, history_of, made_by, moments_of}
 use Rattle.run_lists.proofs.Intervals.{Has, contains_has, has_contains, has_either}
 use Rattle.run_lists.proofs.OwnLasts.{last_below, own_latest}
-use Rattle.run_verdicts.specs.Events.{AreMarks, DoesEvent, EachDoesItsEvent, IsEvent, ReadsAtMost, Writes}
-use Rattle.run_verdicts.specs.Takings.{IsOver}
+use Rattle.run_headline.specs.Events.{AreMarks, DoesEvent, EachDoesItsEvent, IsEvent, ReadsAtMost, Writes}
+use Rattle.run_headline.specs.Takings.{IsOver}
 use Rattle.run_headline.specs.Ended.{HasEndedSince}
 use Rattle.run_headline.proofs.Origins.{told_front}
 

@@ -18,9 +18,9 @@ use Rattle.task_log.specs.Counters.{is_taken}
 use Rattle.run_lists.specs.Run.{Run}
 use Rattle.run_lists.specs.RunList.{RunList}
 use Rattle.run_lists.proofs.OwnLasts.{own_latest}
-use Rattle.run_verdicts.specs.Settles.{hears_finder, is_hit}
-use Rattle.run_verdicts.proofs.Falls.{ClearsNext}
-use Rattle.run_verdicts.proofs.Lists.{settled_at}
+use Rattle.run_headline.specs.Settles.{hears_finder, is_hit}
+use Rattle.run_headline.proofs.Falls.{ClearsNext}
+use Rattle.run_headline.proofs.Lists.{settled_at}
 use Rattle.run_headline.proofs.Weights.{Weight, of_step, weigh_own}
 
 -- a setter hears its finder

@@ -28,8 +28,8 @@ use Rattle.run_lists.specs.Run.{Run, first_words, locks_of, task_setting}
 use Rattle.run_lists.specs.RunList.{RunList}
 use Rattle.run_lists.specs.Told.{first_moments, history_by, history_of, made_by, moments_of}
 use Rattle.run_lists.proofs.Histories.{of_both, of_task}
-use Rattle.run_verdicts.specs.Events.{AreMarks, EachDoesItsEvent, IsEvent, ReadsAtMost, Writes}
-use Rattle.run_verdicts.proofs.Watches.{is_below}
+use Rattle.run_headline.specs.Events.{AreMarks, EachDoesItsEvent, IsEvent, ReadsAtMost, Writes}
+use Rattle.run_headline.proofs.Watches.{is_below}
 
 -- a lock is taken or given up as it may be, by whoever holds which
 abbrev pub LockNow : (ℕ → Option ℕ) → ℕ → Happening → Type 0

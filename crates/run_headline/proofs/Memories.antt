@@ -6,7 +6,7 @@ use Rattle.access_types.specs.declared.history.Bytes.{Bytes}
 use Rattle.access_types.specs.declared.history.Happening.{Happening}
 use Rattle.access_types.specs.declared.history.Happening.TheVariants as happenings
 use Rattle.run_lists.specs.Told.{moments_of}
-use Rattle.run_verdicts.specs.Events.{AreMarks}
+use Rattle.run_headline.specs.Events.{AreMarks}
 
 -- what was laid at an offset of the bytes, and what stands at an address that is none of them
 pub laid_inside : (memory : Memory) (bytes : Bytes) (value offset : ℕ) → offset < bytes.size

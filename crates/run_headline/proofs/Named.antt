@@ -10,7 +10,7 @@ use Rattle.run_lists.specs.Run.{Run}
 use Rattle.run_lists.specs.RunList.{RunList}
 use Rattle.run_lists.specs.Told.{OutcomeAt, history_of, outcomes_of}
 use Rattle.run_lists.specs.TwoSides as sides
-use Rattle.run_verdicts.specs.Joined.{AnswersBoth, IfAnswersBoth}
+use Rattle.run_headline.specs.Joined.{AnswersBoth, IfAnswersBoth}
 use Rattle.setup_access.specs.declared.outcome.Outcome.{Outcome}
 use Rattle.setup_access.specs.declared.outcome.Outcome.TheVariants as outcomes
 use Rattle.slot.specs.Pair.{Halves}

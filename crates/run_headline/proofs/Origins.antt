@@ -46,7 +46,7 @@ use Rattle.run_lists.specs.Run.{Run, first_words, task_setting}
 use Rattle.run_lists.specs.RunList.{RunList}
 use Rattle.run_lists.specs.Told.{OutcomeAt, history_by, history_of, made_by, moments_of}
 use Rattle.run_lists.proofs.OwnLasts.{own_latest, own_split}
-use Rattle.run_verdicts.specs.Watches.{IsOfWatch, IsWatch, is_verdict}
+use Rattle.run_headline.specs.Watches.{IsOfWatch, IsWatch, is_verdict}
 use Rattle.run_headline.specs.Cells.{CellsHold, memory_after, run_cells}
 use Rattle.run_headline.specs.Origins.{IfUnknown}
 use Rattle.run_headline.specs.Watched.{ChangedInWatch, IfUnknownInWatch}

@@ -16,7 +16,7 @@ use Rattle.setup_access.specs.declared.outcome.Outcome.{Outcome}
 use Rattle.setup_access.specs.declared.outcome.Outcome.TheVariants as outcomes
 use Rattle.slot.specs.Pair.{Halves}
 use Rattle.slot_table.specs.declared.records.Record.{Record}
-use Rattle.run_verdicts.specs.Watches.{IfVerdict, IsOfWatch, is_verdict}
+use Rattle.run_headline.specs.Watches.{IfVerdict, IsOfWatch, is_verdict}
 use Rattle.run_headline.specs.Origins.{IfUnknown, NamesChange}
 use Rattle.run_headline.specs.Reported.{IsOfOutcome, IsTrueReport}
 

@@ -13,8 +13,8 @@ use Rattle.run_lists.specs.Run.{Run}
 use Rattle.run_lists.specs.RunList.{RunList}
 use Rattle.run_lists.specs.Told.{first_moments, history_by, history_of, made_by, moments_of}
 use Rattle.run_lists.proofs.Histories.{each_begins}
-use Rattle.run_verdicts.specs.Events.{AreMarks, EachDoesItsEvent}
-use Rattle.run_verdicts.proofs.Watches.{is_below}
+use Rattle.run_headline.specs.Events.{AreMarks, EachDoesItsEvent}
+use Rattle.run_headline.proofs.Watches.{is_below}
 use Rattle.run_headline.specs.HeldReads.{HoldsContent, ReadsHold}
 use Rattle.run_headline.proofs.Alone.{nothing_else}
 use Rattle.run_headline.proofs.Locks.{LockNow, after_held, all_locked, locks_at}

@@ -10,9 +10,9 @@ use Rattle.run_lists.specs.Run.{Run, first_words}
 use Rattle.run_lists.specs.RunList.{AllHaveEnded, RunList}
 use Rattle.run_lists.specs.Told.{history_of, outcomes_of}
 use Rattle.run_headline.specs.Totals.{Totals}
-use Rattle.run_verdicts.specs.Joined.{IfAnswersBoth}
-use Rattle.run_verdicts.specs.Made.{EachIsMadeFor}
-use Rattle.run_verdicts.specs.Takings.{HasOneAnswer}
+use Rattle.run_headline.specs.Joined.{IfAnswersBoth}
+use Rattle.run_headline.specs.Made.{EachIsMadeFor}
+use Rattle.run_headline.specs.Takings.{HasOneAnswer}
 use Rattle.slot_table.specs.Armings.{armings_taken}
 use Rattle.slot_table.specs.Hearings.{IsArming, IsTaking}
 use Rattle.slot_table.specs.Records.{words_after}

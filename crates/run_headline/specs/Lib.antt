@@ -1,3 +1,10 @@
+pub mod Settles
+pub mod Takings
+pub mod Events
+pub mod Watches
+pub mod Finds
+pub mod Made
+pub mod Joined
 pub mod Races
 pub mod Headline
 pub mod Cells

@@ -5,7 +5,7 @@ use Rattle.access_types.specs.Race.{TrueRace}
 use Rattle.run_lists.specs.Run.{Run}
 use Rattle.run_lists.specs.RunList.{RunList}
 use Rattle.run_lists.specs.Told.{OutcomeAt, history_of}
-use Rattle.run_verdicts.specs.Joined.{AnswersBoth}
+use Rattle.run_headline.specs.Joined.{AnswersBoth}
 use Rattle.setup_access.specs.declared.outcome.Outcome.{Outcome}
 use Rattle.setup_access.specs.declared.outcome.Outcome.TheVariants as outcomes
 use Rattle.slot.specs.Pair.{Halves}

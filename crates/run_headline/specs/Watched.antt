@@ -7,7 +7,7 @@ use Rattle.litmus_meaning.specs.Layout.{memory_at_first}
 use Rattle.run_lists.specs.Run.{Run, task_setting}
 use Rattle.run_lists.specs.RunList.{RunList}
 use Rattle.run_lists.specs.Told.{OutcomeAt, history_by, history_of}
-use Rattle.run_verdicts.specs.Watches.{IsOfWatch}
+use Rattle.run_headline.specs.Watches.{IsOfWatch}
 use Rattle.setup_access.specs.Values.{source_of}
 use Rattle.setup_access.specs.declared.outcome.Outcome.{Outcome}
 use Rattle.setup_access.specs.declared.outcome.Outcome.TheVariants as outcomes

@@ -19,17 +19,17 @@ ghost use Rattle.run_lists.specs.RunList.{RunList};
 ghost use Rattle.run_lists.specs.Told.{OutcomeAt, history_by, history_of, outcomes_of};
 ghost use Rattle.setup_access.specs.Values.{source_of, value_in};
 ghost use Rattle.setup_access.specs.declared.source.Source.{Source};
-ghost use Rattle.run_verdicts.specs.Takings.{HasOneAnswer};
+ghost use Rattle.run_headline.specs.Takings.{HasOneAnswer};
 ghost use Rattle.slot_table.specs.Hearings.{IsArming, IsTaking};
 ghost use Rattle.slot_table.specs.Records.{words_after};
 ghost use Rattle.slot_table.specs.declared.records.Record.{Record};
 ghost use Rattle.std.specs.Prelude.{ℕ, slice_index};
 ghost use Rattle.written_order.specs.Standing.{checks_of};
 
-use run_lists::laws::{reports_name_two_sides, roles_of_run_lists, run_lists_keep_the_discipline};
-use run_verdicts::laws::{
+use crate::verdicts::{
     each_taking_has_one_answer, records_tell_their_events, verdicts_are_on_watches,
 };
+use run_lists::laws::{reports_name_two_sides, roles_of_run_lists, run_lists_keep_the_discipline};
 
 /// Law: at each point of a run list the cells hold the content of memory, byte by byte: what the writes of the history
 /// that is told by then have laid over the initial values. So the bytes of an access that lie in one cell have as their

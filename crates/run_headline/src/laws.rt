@@ -11,10 +11,8 @@ use crate::histories::{
     takings_of_ended_accesses_have_one_answer, unknown_origins_changed,
 };
 use crate::totals::totals_agree;
+use crate::verdicts::{answers_are_on_a_watch_and_a_find, watchpoints_are_of_accesses_in_progress};
 use run_lists::laws::{reports_name_two_sides, roles_of_run_lists};
-use run_verdicts::laws::{
-    answers_are_on_a_watch_and_a_find, watchpoints_are_of_accesses_in_progress,
-};
 
 /// Law: for every litmus program, setting and list of steps, each armed watchpoint is taken at most once, each taking
 /// whose two accesses ended gave one report or one named discard, and every report of two sides names, as its finder

@@ -7,8 +7,8 @@ ghost use Rattle.run_lists.specs.Told.{outcomes_of};
 ghost use Rattle.run_headline.specs.Totals.{Totals};
 ghost use Rattle.slot_table.specs.declared.records.Record.{Record};
 
+use crate::verdicts::outcomes_fall_where_they_are_settled;
 use run_lists::laws::{roles_of_run_lists, run_lists_keep_the_discipline};
-use run_verdicts::laws::outcomes_fall_where_they_are_settled;
 
 /// Law: once all tasks of a run list have ended its totals agree. Each arming ended quiet or taken. Each try-consume took
 /// or lost, and as many took as armings ended taken. Each arming that ended taken has one answer: a report of two sides,

@@ -16,7 +16,7 @@ use Rattle.memory_operation.specs.declared.operation.Operation.{Operation}
 use Rattle.run_lists.proofs.Intervals as ends
 use Rattle.run_lists.proofs.Intervals.{Has, NoneEnds, has_either, has_first, has_last}
 use Rattle.run_lists.proofs.TaskFacts.{IsKnown}
-use Rattle.run_verdicts.specs.Watches.{is_verdict}
+use Rattle.run_headline.specs.Watches.{is_verdict}
 use Rattle.setup_access.specs.Check as cases
 use Rattle.setup_access.specs.Check.{Check, ChecksAll, ChecksOnce, Close, Ends, Fallen, GoesOn, NoneFound, Pass, Passes, Rechecks, fallen_of, left_to_check}
 use Rattle.setup_access.specs.Found.{Takes, Tells}

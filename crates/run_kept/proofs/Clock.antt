@@ -14,7 +14,7 @@ use Rattle.run_lists.specs.Told.{made_by}
 use Rattle.run_lists.proofs.Histories.{did_of_all, did_then}
 use Rattle.run_lists.proofs.OwnLasts.{own_latest}
 use Rattle.run_lists.proofs.Ways.{whole_chain}
-use Rattle.run_verdicts.specs.Events.{AreMarks, EachDoesItsEvent, IsEvent, ReadsAtMost, Writes}
+use Rattle.run_headline.specs.Events.{AreMarks, EachDoesItsEvent, IsEvent, ReadsAtMost, Writes}
 use Rattle.slot_table.specs.Records.{Legal, records_of, words_after}
 use Rattle.slot_table.specs.StepLine.{step_line}
 use Rattle.slot_table.specs.Words.{Words}

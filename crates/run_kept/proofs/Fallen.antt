@@ -8,8 +8,8 @@ use Rattle.std.proofs.lemmas.List.{length-append, length-map}
 use Rattle.access_types.specs.Arms.{Arm}
 use Rattle.access_types.specs.Takes.{Take}
 use Rattle.litmus_syntax.specs.Tree.{Block}
-use Rattle.run_logs.specs.Noted.{AreNoted}
-use Rattle.run_logs.proofs.Sums.{counted, of_step}
+use Rattle.run_kept.specs.Noted.{AreNoted}
+use Rattle.run_kept.proofs.Sums.{counted, of_step}
 use Rattle.run_kept.proofs.Watches.{is_remove, is_tell}
 use Rattle.setup_access.specs.Check.{Fallen}
 use Rattle.setup_access.specs.declared.outcome.Outcome.{Outcome}

@@ -13,10 +13,10 @@ use Rattle.run_lists.specs.RunList.{RunList}
 use Rattle.run_lists.specs.Told.{made_by}
 use Rattle.run_lists.proofs.Histories.{did_of_all}
 use Rattle.run_lists.proofs.OwnLasts.{own_latest}
-use Rattle.run_logs.specs.Lists.{AreArmsAt, AreArmsBy, ByTask, take_of, takes_by}
-use Rattle.run_logs.specs.Spans.{is_end}
-use Rattle.run_logs.proofs.Balance.{Runs, runs_split, whole_runs}
-use Rattle.run_logs.proofs.Sums.{counted, of_record}
+use Rattle.run_kept.specs.Lists.{AreArmsAt, AreArmsBy, ByTask, take_of, takes_by}
+use Rattle.run_kept.specs.Spans.{is_end}
+use Rattle.run_kept.proofs.Balance.{Runs, runs_split, whole_runs}
+use Rattle.run_kept.proofs.Sums.{counted, of_record}
 use Rattle.run_kept.proofs.Watches.{is_remove, is_tell}
 use Rattle.slot.specs.Pair.{Halves}
 use Rattle.slot_table.specs.Armings.{last_arming_number}

@@ -13,8 +13,8 @@ use Rattle.run_lists.specs.Run.{Run, idle, task_of}
 use Rattle.run_lists.specs.RunList.{RunList}
 use Rattle.run_lists.specs.Told.{OutcomeAt, armed_by, came_next, made_by, outcome_at, outcomes_of}
 use Rattle.run_lists.proofs.OwnLasts.{own_latest}
-use Rattle.run_logs.specs.Totals.{outcomes_below}
-use Rattle.run_logs.proofs.Sums.{all_came, came_of, counted, no_outcome_below, one_task_came}
+use Rattle.run_kept.specs.Totals.{outcomes_below}
+use Rattle.run_kept.proofs.Sums.{all_came, came_of, counted, no_outcome_below, one_task_came}
 use Rattle.run_kept.proofs.Fallen.{few_fell, fell_by}
 use Rattle.setup_access.specs.declared.outcome.Outcome.{Outcome}
 use Rattle.slot_table.specs.Records.{records_of}

@@ -6,11 +6,11 @@ use Rattle.run_lists.specs.Run.{Run, first_cells, locks_of, task_setting}
 use Rattle.run_lists.specs.RunList.{RunList}
 use Rattle.run_lists.specs.Told.{Armed, OutcomeAt, armed_by, came_next, made_by, outcome_at, outcomes_by, outcomes_of}
 use Rattle.run_lists.proofs.OwnLasts.{own_latest}
-use Rattle.run_logs.proofs.Naming.{last_name, watch_named}
-use Rattle.run_logs.proofs.Owns.{AllOfTask}
-use Rattle.run_logs.proofs.Verdicts.{fell_own, same_end}
-use Rattle.run_verdicts.specs.Watches.{IfVerdict, IsOfWatch, is_verdict}
-use Rattle.run_verdicts.proofs.Lists.{SettledAt, settled_at}
+use Rattle.run_kept.proofs.Naming.{last_name, watch_named}
+use Rattle.run_kept.proofs.Owns.{AllOfTask}
+use Rattle.run_kept.proofs.Verdicts.{fell_own, same_end}
+use Rattle.run_headline.specs.Watches.{IfVerdict, IsOfWatch, is_verdict}
+use Rattle.run_headline.proofs.Lists.{SettledAt, settled_at}
 use Rattle.setup_access.specs.Check.{Fallen}
 use Rattle.slot_table.specs.Records.{records_of}
 use Rattle.slot_table.specs.declared.records.Record.{Record}

@@ -11,7 +11,7 @@ use Rattle.litmus_syntax.specs.Tree.{Block}
 use Rattle.memory_operation.specs.declared.effect.Effect.{Effect}
 use Rattle.memory_operation.specs.Effects.{moments_of}
 use Rattle.memory_operation.specs.declared.operation.Operation.{Operation}
-use Rattle.run_verdicts.specs.Watches.{is_verdict}
+use Rattle.run_headline.specs.Watches.{is_verdict}
 use Rattle.setup_access.specs.Check.{Check, Fallen, Pass, Passes, Rechecks, fallen_of, left_to_check}
 use Rattle.setup_access.specs.declared.begun.Begun.{Begun}
 use Rattle.setup_access.proofs.DisciplineLemmas.{on_word}

@@ -23,12 +23,12 @@ use Rattle.run_lists.specs.Run.{Run, first_cells, locks_of}
 use Rattle.run_lists.specs.RunList.{RunList}
 use Rattle.run_lists.specs.Told.{Armed, OutcomeAt, came_next, outcomes_by, outcomes_of}
 use Rattle.run_lists.proofs.OwnLasts.{still_told}
-use Rattle.run_logs.specs.Lists.{AreArmsOf, AreTakesOf, Became, ByTask, IsHit, take_of, takes_by, verdicts_by}
-use Rattle.run_logs.proofs.Naming.{last_name}
-use Rattle.run_logs.proofs.Settling.{HandSays, Known, Match, Suits}
-use Rattle.run_logs.proofs.Sums.{counted, counted_both}
-use Rattle.run_verdicts.specs.Takings.{HasOneAnswer, answers, is_armed}
-use Rattle.run_verdicts.specs.Watches.{IfVerdict, is_verdict}
+use Rattle.run_kept.specs.Lists.{AreArmsOf, AreTakesOf, Became, ByTask, IsHit, take_of, takes_by, verdicts_by}
+use Rattle.run_kept.proofs.Naming.{last_name}
+use Rattle.run_kept.proofs.Settling.{HandSays, Known, Match, Suits}
+use Rattle.run_kept.proofs.Sums.{counted, counted_both}
+use Rattle.run_headline.specs.Takings.{HasOneAnswer, answers, is_armed}
+use Rattle.run_headline.specs.Watches.{IfVerdict, is_verdict}
 use Rattle.setup_access.specs.declared.outcome.Outcome.{Outcome}
 use Rattle.setup_access.specs.declared.outcome.Outcome.TheVariants as outcomes
 use Rattle.slot.specs.Pair.{Halves}

@@ -6,10 +6,10 @@ use Rattle.access_types.specs.Ticket.{ticket_number}
 use Rattle.run_lists.specs.Run.{Run, first_cells, locks_of}
 use Rattle.run_lists.specs.RunList.{RunList}
 use Rattle.run_lists.specs.Told.{OutcomeAt, outcomes_of}
-use Rattle.run_logs.specs.Lists.{AreArmsBy, verdicts_by}
-use Rattle.run_logs.proofs.Settling.{HandSays, HitSays, Known, Match, PartSays, Pending, Settled}
+use Rattle.run_kept.specs.Lists.{AreArmsBy, verdicts_by}
+use Rattle.run_kept.proofs.Settling.{HandSays, HitSays, Known, Match, PartSays, Pending, Settled}
 use Rattle.run_kept.proofs.Pairing.{all_paired}
-use Rattle.run_verdicts.specs.Watches.{IfVerdict}
+use Rattle.run_headline.specs.Watches.{IfVerdict}
 use Rattle.slot.specs.Pair.{Halves}
 use Rattle.slot_table.specs.Discipline.{heard, in_hand}
 use Rattle.slot_table.specs.Records.{records_of}

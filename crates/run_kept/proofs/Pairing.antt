@@ -13,19 +13,19 @@ use Rattle.run_lists.specs.Run.{Run, first_cells, locks_of}
 use Rattle.run_lists.specs.RunList.{RunList}
 use Rattle.run_lists.specs.Told.{Armed, OutcomeAt, armed_by, armed_in, came_next, outcome_at, outcomes_of}
 use Rattle.run_lists.proofs.OwnLasts.{finder_told, own_latest, own_name, still_told}
-use Rattle.run_logs.specs.Lists.{AreArmsAt, AreArmsBy, Became, IsArm, verdicts_by}
-use Rattle.run_logs.proofs.Hands.{IsNamed, Says, all_say, in_part, last_word}
-use Rattle.run_logs.proofs.Naming.{last_name}
-use Rattle.run_logs.proofs.Removals.{of_task, some_is}
-use Rattle.run_logs.proofs.Settling.{HandSays, HitSays, Known, Match, Pending, Settled, Suits, carried, in_hand_says, match_with, silently, unheard_settled}
-use Rattle.run_logs.proofs.Verdicts.{BecameSo, FallsHere, NoVerdict, QuietFalls, Removing, answer_is, falls_here, hit_so, its_setter, made_by_others}
-use Rattle.run_logs.proofs.Verdicts.{made_last, no_verdicts, none_fell, one_verdict, only_one, removing, untouched_is, untouched_so, verdicts_in}
-use Rattle.run_logs.proofs.Verdicts as cases
-use Rattle.run_verdicts.specs.Settles.{Settles}
-use Rattle.run_verdicts.specs.Watches.{IfVerdict, is_verdict}
-use Rattle.run_verdicts.proofs.Counts.{Answered, Unanswered}
-use Rattle.run_verdicts.proofs.Falls.{outcomes_in}
-use Rattle.run_verdicts.proofs.Lists.{SettledAt, settled_at}
+use Rattle.run_kept.specs.Lists.{AreArmsAt, AreArmsBy, Became, IsArm, verdicts_by}
+use Rattle.run_kept.proofs.Hands.{IsNamed, Says, all_say, in_part, last_word}
+use Rattle.run_kept.proofs.Naming.{last_name}
+use Rattle.run_kept.proofs.Removals.{of_task, some_is}
+use Rattle.run_kept.proofs.Settling.{HandSays, HitSays, Known, Match, Pending, Settled, Suits, carried, in_hand_says, match_with, silently, unheard_settled}
+use Rattle.run_kept.proofs.Verdicts.{BecameSo, FallsHere, NoVerdict, QuietFalls, Removing, answer_is, falls_here, hit_so, its_setter, made_by_others}
+use Rattle.run_kept.proofs.Verdicts.{made_last, no_verdicts, none_fell, one_verdict, only_one, removing, untouched_is, untouched_so, verdicts_in}
+use Rattle.run_kept.proofs.Verdicts as cases
+use Rattle.run_headline.specs.Settles.{Settles}
+use Rattle.run_headline.specs.Watches.{IfVerdict, is_verdict}
+use Rattle.run_headline.proofs.Counts.{Answered, Unanswered}
+use Rattle.run_headline.proofs.Falls.{outcomes_in}
+use Rattle.run_headline.proofs.Lists.{SettledAt, settled_at}
 use Rattle.setup_access.specs.Check.{Fallen}
 use Rattle.setup_access.specs.declared.outcome.Outcome.{Outcome}
 use Rattle.slot.specs.Pair.{Halves}

@@ -15,14 +15,14 @@ use Rattle.run_lists.specs.Run.{Run, first_cells, locks_of}
 use Rattle.run_lists.specs.RunList.{RunList}
 use Rattle.run_lists.specs.Told.{Armed, OutcomeAt, armed_by, came_next, made_by, outcome_at, outcomes_by, outcomes_of}
 use Rattle.run_lists.proofs.OwnLasts.{own_latest}
-use Rattle.run_logs.specs.Noted.{AreNoted, IsNoted, Notes}
-use Rattle.run_logs.proofs.Naming.{last_name, names_noted}
+use Rattle.run_kept.specs.Noted.{AreNoted, IsNoted, Notes}
+use Rattle.run_kept.proofs.Naming.{last_name, names_noted}
 use Rattle.run_kept.proofs.Named.{named_so, rules_then, told_there}
 use Rattle.run_kept.specs.Setters.{is_by, reports_by, setter_of}
-use Rattle.run_verdicts.specs.Settles.{Settles}
-use Rattle.run_verdicts.specs.Watches.{IfVerdict, is_verdict}
-use Rattle.run_verdicts.proofs.Falls.{outcomes_in}
-use Rattle.run_verdicts.proofs.Lists.{SettledAt, settled_at}
+use Rattle.run_headline.specs.Settles.{Settles}
+use Rattle.run_headline.specs.Watches.{IfVerdict, is_verdict}
+use Rattle.run_headline.proofs.Falls.{outcomes_in}
+use Rattle.run_headline.proofs.Lists.{SettledAt, settled_at}
 use Rattle.setup_access.specs.Check.{Fallen}
 use Rattle.setup_access.specs.declared.outcome.Outcome.{Outcome}
 use Rattle.setup_access.specs.declared.outcome.Outcome.TheVariants as outcomes

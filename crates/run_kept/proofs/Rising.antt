@@ -10,7 +10,7 @@ use Rattle.access_types.specs.Stamped.{Stamped}
 use Rattle.run_lists.specs.Run.{Run}
 use Rattle.run_lists.specs.RunList.{RunList}
 use Rattle.run_lists.proofs.OwnLasts.{own_latest}
-use Rattle.run_logs.specs.Noted.{AreNoted, Notes}
+use Rattle.run_kept.specs.Noted.{AreNoted, Notes}
 use Rattle.setup_access.specs.declared.begun.Begun.{Begun}
 use Rattle.slot_table.specs.Records.{records_of}
 use Rattle.slot_table.specs.declared.records.Record.{Record}

@@ -6,8 +6,8 @@ use Rattle.std.proofs.lemmas.List.Concat.{flat_map-cons}
 use Rattle.std.proofs.lemmas.List.Sums.{sum_by-cons}
 use Rattle.run_lists.specs.Run.{Run}
 use Rattle.run_lists.specs.RunList.{RunList}
-use Rattle.run_logs.proofs.Sums.{counted, counted_both, place, within}
-use Rattle.run_logs.proofs.Sums as sums
+use Rattle.run_kept.proofs.Sums.{counted, counted_both, place, within}
+use Rattle.run_kept.proofs.Sums as sums
 use Rattle.slot_table.specs.declared.records.Record.{Record}
 
 -- what a record comes to, with those before it

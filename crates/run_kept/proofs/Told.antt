@@ -36,7 +36,7 @@ use Rattle.written_order.specs.Told.{did_by, to_come}
 use Rattle.written_order.specs.WrittenOrder.{SpellsAll, first_point}
 use Rattle.written_order.proofs.MeaningLemmas.{whole_means}
 use Rattle.written_order.proofs.WayLemmas.{Begins}
-use Rattle.run_verdicts.proofs.Opens.{has_split}
+use Rattle.run_headline.proofs.Opens.{has_split}
 use Rattle.run_kept.specs.Watched.{FitsItsTask, IfTold, IfWatched}
 use Rattle.run_kept.proofs.Checked.{Each, FallsSo, all_closed, all_fall, all_fit}
 

@@ -3,10 +3,10 @@ use Rattle.std.proofs.Common.{◌≡◌, ◌∙◌, ◌<◌, ◌≤◌, ◌+◌,
 use Rattle.std.proofs.lemmas.Bool.{eq-eqb}
 use Rattle.std.proofs.lemmas.Bool.Decides.{eqb_tells}
 use Rattle.std.proofs.lemmas.List.{length-append, length-map, reverse-append}
-use Rattle.run_logs.proofs.Sums.{counted, counted_both, of_record}
+use Rattle.run_kept.proofs.Sums.{counted, counted_both, of_record}
 use Rattle.run_lists.proofs.CheckFacts.{back}
-use Rattle.run_verdicts.specs.Settles.{One, Settles, hears_finder}
-use Rattle.run_verdicts.proofs.Falls.{Falls, outcomes_in}
+use Rattle.run_headline.specs.Settles.{One, Settles, hears_finder}
+use Rattle.run_headline.proofs.Falls.{Falls, outcomes_in}
 use Rattle.setup_access.specs.Check.{Fallen}
 use Rattle.setup_access.specs.declared.outcome.Outcome.{Outcome}
 use Rattle.slot.specs.Pair.{Halves}

@@ -1,3 +1,9 @@
+pub mod Noted
+pub mod Totals
+pub mod Removed
+pub mod Decided
+pub mod Spans
+pub mod Lists
 pub mod Setters
 pub mod Watched
 pub mod Stamps

@@ -5,7 +5,7 @@ use Rattle.access_types.specs.Marked.{CountedAsMarked, Silenced}
 use Rattle.run_lists.specs.Run.{IsOfProgram, Run}
 use Rattle.run_lists.specs.RunList.{RunList}
 use Rattle.run_lists.specs.Told.{OutcomeAt, history_of}
-use Rattle.run_verdicts.specs.Watches.{is_verdict}
+use Rattle.run_headline.specs.Watches.{is_verdict}
 use Rattle.setup_access.specs.declared.outcome.Outcome.TheVariants as outcomes
 use Rattle.slot.specs.Pair.{Halves}
 use Rattle.slot_table.specs.declared.records.Record.{Record}

@@ -4,16 +4,16 @@ ghost use Rattle.std.specs.Prelude.{ℕ, List};
 ghost use Rattle.litmus_syntax.specs.Limits.{KeepsLimits};
 ghost use Rattle.run_lists.specs.Run.{Run};
 ghost use Rattle.run_lists.specs.RunList.{RunList};
-ghost use Rattle.run_logs.specs.Lists.{AreAccessesOf};
-ghost use Rattle.run_logs.specs.Noted.{Notes};
+ghost use Rattle.run_kept.specs.Lists.{AreAccessesOf};
+ghost use Rattle.run_kept.specs.Noted.{Notes};
 ghost use Rattle.slot_table.specs.declared.records.Record.{Record};
 ghost use Rattle.task_log.specs.Touches.{accesses_of};
 ghost use Rattle.task_log.specs.declared.noted.Noted.{Noted};
 
-use crate::watched::stamps_tell_the_order;
-use run_logs::laws::{
+use crate::logs::{
     a_log_keeps_the_accesses_that_have_ended, a_log_says_of_accesses_what_the_history_decides,
 };
+use crate::watched::stamps_tell_the_order;
 
 /// Law: the accesses that a log of a task keeps are just those that have ended in the list, each once and in the order of
 /// their begins, with their stamps, and marked and silenced as the history decides, where the program keeps the limits.

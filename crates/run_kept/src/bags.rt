@@ -9,11 +9,11 @@ ghost use Rattle.report_text.specs.Truth.{AreOneBag, hits_in, is_pair, is_take, 
 ghost use Rattle.run_lists.specs.Reports.{reports_of};
 ghost use Rattle.run_lists.specs.Run.{Run};
 ghost use Rattle.run_lists.specs.RunList.{AllHaveEnded, RunList};
-ghost use Rattle.run_logs.specs.Lists.{AreArms, AreArmsBy, AreTakes, verdicts_by};
+ghost use Rattle.run_kept.specs.Lists.{AreArms, AreArmsBy, AreTakes, verdicts_by};
 ghost use Rattle.slot_table.specs.declared.records.Record.{Record};
 
+use run_headline::verdicts::{each_taking_has_one_answer, verdicts_are_on_watches};
 use run_lists::laws::{answers_are_to_takings, roles_of_run_lists, run_lists_keep_the_discipline};
-use run_verdicts::laws::{each_taking_has_one_answer, verdicts_are_on_watches};
 use slot_table::laws::heard_is_told;
 
 /// Law: each arming that a task has removed has a verdict of its own, of the access that set it up, in the order of both. At

@@ -6,7 +6,7 @@ ghost use Rattle.litmus_syntax.specs.Tree.{Block};
 ghost use Rattle.run_lists.specs.Reports.{reports_of};
 ghost use Rattle.run_lists.specs.Run.{Run};
 ghost use Rattle.run_lists.specs.RunList.{RunList};
-ghost use Rattle.run_logs.specs.Noted.{AreNoted, Notes};
+ghost use Rattle.run_kept.specs.Noted.{AreNoted, Notes};
 ghost use Rattle.slot_table.specs.declared.records.Record.{Record};
 ghost use Rattle.task_log.specs.Arms.{arms_of, takes_of};
 ghost use Rattle.task_log.specs.Reports.{reported_in};

@@ -7,7 +7,7 @@ ghost use Rattle.access_types.specs.Takes.{Take};
 ghost use Rattle.litmus_syntax.specs.Limits.{KeepsLimits};
 ghost use Rattle.run_lists.specs.Run.{Run};
 ghost use Rattle.run_lists.specs.RunList.{RunList};
-ghost use Rattle.run_logs.specs.Lists.{AreAccesses, AreArms, AreTakes};
+ghost use Rattle.run_kept.specs.Lists.{AreAccesses, AreArms, AreTakes};
 ghost use Rattle.slot_table.specs.declared.records.Record.{Record};
 
 use crate::bounds::few_outcomes_fall;

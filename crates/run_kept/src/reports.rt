@@ -4,14 +4,14 @@ ghost use Rattle.std.specs.Prelude.{◌≡◌, ℕ, List};
 ghost use Rattle.run_lists.specs.Reports.{reports_of};
 ghost use Rattle.run_lists.specs.Run.{Run};
 ghost use Rattle.run_lists.specs.RunList.{RunList};
-ghost use Rattle.run_logs.specs.Noted.{Notes};
+ghost use Rattle.run_kept.specs.Noted.{Notes};
 ghost use Rattle.run_kept.specs.Setters.{reports_by};
 ghost use Rattle.slot_table.specs.declared.records.Record.{Record};
 ghost use Rattle.task_log.specs.Reports.{reported_in};
 ghost use Rattle.task_log.specs.declared.noted.Noted.{Noted};
 
+use run_headline::verdicts::verdicts_are_on_watches;
 use run_lists::laws::{answers_are_to_takings, run_lists_keep_the_discipline};
-use run_verdicts::laws::verdicts_are_on_watches;
 use written_tellings::one_outcome_a_record;
 
 /// Law: of the reports of a run list those on a task's watchpoints are just those that its log reports at its steps, in

@@ -12,7 +12,7 @@ ghost use Rattle.run_kept.specs.Stamps.{stamps_in};
 ghost use Rattle.run_kept.specs.Watched.{FitsItsTask, IfTold, IfWatched};
 
 use run_headline::histories::run_lists_tell_runs_of_the_program;
-use run_verdicts::laws::records_tell_their_events;
+use run_headline::verdicts::records_tell_their_events;
 use slot_table::step::{Answer, Step};
 use written_tellings::{few_accesses_begin, one_telling};
 

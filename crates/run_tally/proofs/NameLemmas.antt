@@ -25,7 +25,7 @@ use Rattle.run_kept.specs.Setters.{is_by, reports_by}
 use Rattle.run_lists.specs.Reports.{reports_of}
 use Rattle.run_lists.specs.Run.{IsOfProgram, Run, idle}
 use Rattle.run_lists.specs.RunList.{RunList}
-use Rattle.run_logs.specs.Lists.{ByTask}
+use Rattle.run_kept.specs.Lists.{ByTask}
 use Rattle.runner.specs.Result.{IsRunOnce}
 use Rattle.runner.specs.declared.result.RunResult.{RunResult}
 use Rattle.slot_table.specs.declared.records.Record.{Record}

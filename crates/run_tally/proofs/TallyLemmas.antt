@@ -16,7 +16,7 @@ use Rattle.report_text.specs.Groups.{Group, counted}
 use Rattle.run_tally.specs.Finals.{AreAllRegisters, AreRegistersFrom}
 use Rattle.run_lists.specs.Run.{Run}
 use Rattle.run_lists.specs.RunList.{RunList}
-use Rattle.run_logs.specs.Totals.{AddUp}
+use Rattle.run_kept.specs.Totals.{AddUp}
 use Rattle.run_tally.specs.Output.{AreSums}
 use Rattle.slot_table.specs.declared.records.Record.{Record}
 use Rattle.task_log.specs.Counters.{resting, together}

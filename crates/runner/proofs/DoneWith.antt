@@ -3,10 +3,10 @@ use Rattle.std.proofs.Common.{◌≡◌, ◌+◌, ◌∙◌, ◌∷◌, ◌++◌
 use Rattle.std.proofs.lemmas.List.{length-append}
 use Rattle.access_types.specs.declared.history.Happening.{Happening}
 use Rattle.litmus_syntax.specs.Tree.{Block}
-use Rattle.run_verdicts.proofs.Does.{done_with}
-use Rattle.run_verdicts.proofs.Onces.{begin_once}
-use Rattle.run_verdicts.proofs.TextTells.{whole_tells}
-use Rattle.run_verdicts.specs.Events.{DoesEvent, IsEvent}
+use Rattle.run_headline.proofs.Does.{done_with}
+use Rattle.run_headline.proofs.Onces.{begin_once}
+use Rattle.run_headline.proofs.TextTells.{whole_tells}
+use Rattle.run_headline.specs.Events.{DoesEvent, IsEvent}
 use Rattle.slot_table.specs.declared.records.Record.{Record}
 use Rattle.written_order.specs.Standing.{Point, Setting, point_by}
 use Rattle.written_order.specs.Told.{did_by, did_next, to_come}

@@ -11,8 +11,8 @@ use Rattle.litmus_step.specs.Runs.{CanBeMade, tasks_of}
 use Rattle.litmus_syntax.specs.Tree.{Block}
 use Rattle.run_lists.specs.Run.{Run, first_words, idle, task_of, task_setting}
 use Rattle.run_lists.specs.RunList.{InWrittenOrder}
-use Rattle.run_logs.proofs.Ties.{says_what_is_noted}
-use Rattle.run_logs.specs.Noted.{AreNoted, IsNoted}
+use Rattle.run_kept.proofs.Ties.{says_what_is_noted}
+use Rattle.run_kept.specs.Noted.{AreNoted, IsNoted}
 use Rattle.runner.proofs.DoneWith.{does_last}
 use Rattle.runner.specs.Kept.{AreFirst}
 use Rattle.runner.specs.Led.{IsLed}

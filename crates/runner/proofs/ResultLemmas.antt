@@ -13,9 +13,9 @@ use Rattle.run_kept.specs.Setters.{is_by, reports_by}
 use Rattle.run_lists.specs.Reports.{reports_of}
 use Rattle.run_lists.specs.Run.{Run, first_words, idle, task_of, task_setting}
 use Rattle.run_lists.specs.RunList.{AllHaveEnded, InWrittenOrder, RunList}
-use Rattle.run_logs.specs.Lists.{ByTask}
-use Rattle.run_logs.specs.Noted.{AreNoted, Notes}
-use Rattle.run_logs.specs.Totals.{IsUnbalanced, unbalanced_below}
+use Rattle.run_kept.specs.Lists.{ByTask}
+use Rattle.run_kept.specs.Noted.{AreNoted, Notes}
+use Rattle.run_kept.specs.Totals.{IsUnbalanced, unbalanced_below}
 use Rattle.runner.specs.Found.{AreFound, IsFound, calls_below, calls_of}
 use Rattle.runner.specs.Result.{AreReports, IsOf}
 use Rattle.runner.specs.declared.result.RunResult.{RunResult}

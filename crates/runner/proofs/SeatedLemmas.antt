@@ -9,7 +9,7 @@ use Rattle.litmus_step.specs.Steps.{Reaches}
 use Rattle.litmus_syntax.specs.Limits.{BlockScopes, BodyKeepsLimits, TaskKeepsLimits, block_rises}
 use Rattle.litmus_syntax.specs.Tree.{Block}
 use Rattle.run_lists.specs.Run.{Run, first_words, idle, task_of, task_setting}
-use Rattle.run_logs.specs.Noted.{AreNoted}
+use Rattle.run_kept.specs.Noted.{AreNoted}
 use Rattle.runner.specs.Found.{IsFound}
 use Rattle.runner.specs.Kept.{AreFirst}
 use Rattle.runner.specs.Led.{IsLed}

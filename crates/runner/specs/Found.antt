@@ -4,7 +4,7 @@ use Rattle.litmus_step.specs.Kept.{accesses_kept, watches_kept}
 use Rattle.litmus_step.specs.Runs.{tasks_of}
 use Rattle.run_lists.specs.Run.{Run, task_of, task_setting}
 use Rattle.run_lists.specs.RunList.{InWrittenOrder}
-use Rattle.run_logs.specs.Noted.{AreNoted}
+use Rattle.run_kept.specs.Noted.{AreNoted}
 use Rattle.runner.specs.declared.seated.Found.{Found}
 use Rattle.shared_table.specs.Seats.{Opened}
 use Rattle.slot_table.specs.declared.records.Record.{Record}

@@ -11,8 +11,8 @@ use Rattle.run_kept.specs.Setters.{reports_by}
 use Rattle.run_lists.specs.Reports.{reports_of}
 use Rattle.run_lists.specs.Run.{Run, first_words}
 use Rattle.run_lists.specs.RunList.{AllHaveEnded, RunList}
-use Rattle.run_logs.specs.Lists.{ByTask}
-use Rattle.run_logs.specs.Totals.{IsUnbalanced}
+use Rattle.run_kept.specs.Lists.{ByTask}
+use Rattle.run_kept.specs.Totals.{IsUnbalanced}
 use Rattle.runner.specs.declared.result.RunResult.{RunResult}
 use Rattle.shared_table.specs.Ended.{IsListOf}
 use Rattle.slot_table.specs.Records.{words_after}

@@ -15,7 +15,7 @@ ghost use Rattle.run_lists.specs.Reports.{reports_of};
 ghost use Rattle.run_lists.specs.Run.{Run, first_words};
 ghost use Rattle.run_lists.specs.RunList.{AllHaveEnded, RunList};
 ghost use Rattle.run_lists.specs.Told.{history_of};
-ghost use Rattle.run_logs.specs.Lists.{AreAccesses};
+ghost use Rattle.run_kept.specs.Lists.{AreAccesses};
 ghost use Rattle.runner.specs.Led.{IsLed};
 ghost use Rattle.runner.specs.Machine.{SaysBegin};
 ghost use Rattle.runner.specs.Result.{IsOf};
@@ -37,13 +37,13 @@ ghost use Rattle.task_run.specs.declared.run.TaskRun.{TaskRun};
 use litmus_meaning::laws::tickets_have_room;
 use litmus_step::laws::machines_stand_where_the_list_does;
 use run_headline::histories::{cells_hold_the_content, reports_are_true, unknown_origins_changed};
+use run_headline::verdicts::records_tell_their_events;
+use run_kept::logs::one_more_is_noted;
 use run_kept::watched::{
     accesses_of_ended_tasks_have_ended, accesses_that_begin_fit, stamps_tell_the_order,
     watched_accesses_are_unmarked_and_heard,
 };
 use run_lists::laws::reports_name_two_sides;
-use run_logs::laws::one_more_is_noted;
-use run_verdicts::laws::records_tell_their_events;
 use task_laws::laws::an_answer_leads_on;
 use written_order::laws::the_written_order_keeps_the_discipline;
 use written_tellings::steps_name_words_of_the_run;

@@ -4,8 +4,8 @@ ghost use Rattle.std.specs.Prelude.{◌≡◌, ◌<◌, All, IfErr, IfOk, List, 
 ghost use Rattle.accepted_traces.specs.Parts.{ReportFits};
 ghost use Rattle.run_lists.specs.Run.{Run};
 ghost use Rattle.run_lists.specs.RunList.{RunList};
-ghost use Rattle.run_logs.specs.Lists.{AreAccesses, AreArms, AreTakes};
-ghost use Rattle.run_logs.specs.Totals.{CountsList};
+ghost use Rattle.run_kept.specs.Lists.{AreAccesses, AreArms, AreTakes};
+ghost use Rattle.run_kept.specs.Totals.{CountsList};
 ghost use Rattle.runner.specs.Result.{IsOf};
 ghost use Rattle.slot_table.specs.declared.records.Record.{Record};
 

@@ -15,7 +15,7 @@ use crate::laws::seats_lead_on;
 use crate::terms::Terms;
 use access_types::Report;
 use run_kept::bounds::few_watches_are_over;
-use run_logs::standing::machines_stand_where_the_records_tell;
+use run_kept::standing::machines_stand_where_the_records_tell;
 use shared_table::TaskSeat;
 use slot_table::Board;
 use std::alloc::Global;

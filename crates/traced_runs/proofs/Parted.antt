@@ -12,9 +12,9 @@ use Rattle.run_kept.specs.Setters.{reports_by, setter_of}
 use Rattle.run_lists.specs.Reports.{reports_of}
 use Rattle.run_lists.specs.Run.{Run}
 use Rattle.run_lists.specs.RunList.{RunList}
-use Rattle.run_logs.specs.Lists.{ByTask}
-use Rattle.run_logs.specs.Noted.{AreNoted, Notes}
-use Rattle.run_verdicts.proofs.Watches.{is_below}
+use Rattle.run_kept.specs.Lists.{ByTask}
+use Rattle.run_kept.specs.Noted.{AreNoted, Notes}
+use Rattle.run_headline.proofs.Watches.{is_below}
 use Rattle.slot_table.specs.Records.{records_of}
 use Rattle.slot_table.specs.declared.records.Record.{Record}
 use Rattle.task_log.specs.Reports.{reported_in}

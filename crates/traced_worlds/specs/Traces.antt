@@ -7,7 +7,7 @@ use Rattle.report_text.specs.TraceText.{written_trace}
 use Rattle.run_lists.specs.Reports.{reports_of}
 use Rattle.run_lists.specs.Run.{Run}
 use Rattle.run_lists.specs.RunList.{RunList}
-use Rattle.run_logs.specs.Lists.{AreAccesses, AreArms, AreTakes}
+use Rattle.run_kept.specs.Lists.{AreAccesses, AreArms, AreTakes}
 use Rattle.slot_table.specs.declared.records.Record.{Record}
 use Rattle.trace_replay.specs.Answer.{IsAccepted}
 use Rattle.trace_replay.specs.declared.accepted.Accepted.{Accepted}

@@ -4,7 +4,7 @@ use Rattle.litmus_step.proofs.ReaderLemmas.{body_keeps, noted_along}
 use Rattle.litmus_step.proofs.laws.logs_give_what_the_list_has.Goals as goal
 use Rattle.litmus_step.specs.Kept.{accesses_kept, watches_kept}
 use Rattle.run_lists.specs.Run.{task_of, task_setting}
-use Rattle.run_logs.specs.Lists.{AreAccessesOf, AreArmsOf, AreTakesOf}
+use Rattle.run_kept.specs.Lists.{AreAccessesOf, AreArmsOf, AreTakesOf}
 use Rattle.slot_table.specs.Records.{records_of}
 
 pub returns-clause-accesses : goal.returns-clause-accesses

@@ -5,7 +5,7 @@ use Rattle.litmus_step.specs.Kept.{AreLogs}
 use Rattle.litmus_syntax.specs.Limits.{KeepsLimits}
 use Rattle.run_lists.specs.Run.{Run}
 use Rattle.run_lists.specs.RunList.{RunList}
-use Rattle.run_logs.specs.Lists.{AreArmsOf, ByTask}
+use Rattle.run_kept.specs.Lists.{AreArmsOf, ByTask}
 use Rattle.slot_table.specs.declared.records.Record.{Record}
 
 abbrev pub invariant-loop-log : goal.invariant-loop-log

@@ -5,9 +5,9 @@ use Rattle.litmus_syntax.specs.Tree.{Block}
 use Rattle.run_kept.proofs.Fallen.{few_fell, few_reported_in, so_many_arms, so_many_takes}
 use Rattle.run_kept.proofs.Watches.{count_reverse, few_removes, few_tells, is_remove, is_tell}
 use Rattle.run_lists.proofs.CheckFacts.{back}
-use Rattle.run_logs.proofs.Naming.{back_is}
-use Rattle.run_logs.proofs.Sums.{counted_both, of_record, steps_noted}
-use Rattle.run_verdicts.proofs.Texts.{whole_falls}
+use Rattle.run_kept.proofs.Naming.{back_is}
+use Rattle.run_kept.proofs.Sums.{counted_both, of_record, steps_noted}
+use Rattle.run_headline.proofs.Texts.{whole_falls}
 use Rattle.slot_table.specs.Discipline.{Discipline}
 use Rattle.slot_table.specs.declared.records.Record.{Record}
 use Rattle.written_order.specs.Standing.{Setting}

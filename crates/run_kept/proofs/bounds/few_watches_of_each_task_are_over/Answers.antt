@@ -4,7 +4,7 @@ use Rattle.std.proofs.lemmas.List.{reverse-reverse}
 use Rattle.run_kept.proofs.Lists.{keeps_body}
 use Rattle.run_lists.specs.Run.{Run}
 use Rattle.run_lists.specs.RunList.{RunList}
-use Rattle.run_logs.specs.Noted.{AreNoted, Notes}
+use Rattle.run_kept.specs.Noted.{AreNoted, Notes}
 use Rattle.slot_table.specs.Records.{records_of}
 use Rattle.slot_table.specs.declared.records.Record.{Record}
 use Rattle.task_log.specs.declared.noted.Noted.{Noted}

@@ -8,10 +8,10 @@ use Rattle.run_kept.proofs.FewKept.{by_tasks, few_ended, so_many_arms, so_many_t
 use Rattle.run_lists.specs.Run.{task_setting}
 use Rattle.run_lists.specs.Told.{made_by}
 use Rattle.run_lists.proofs.CheckFacts.{back}
-use Rattle.run_logs.specs.Lists.{AreAccessesOf, AreArmsOf, AreTakesOf, takes_by}
-use Rattle.run_logs.proofs.Naming.{back_is}
-use Rattle.run_logs.proofs.Sums.{counted_both, of_record}
-use Rattle.run_verdicts.proofs.Texts.{whole_falls}
+use Rattle.run_kept.specs.Lists.{AreAccessesOf, AreArmsOf, AreTakesOf, takes_by}
+use Rattle.run_kept.proofs.Naming.{back_is}
+use Rattle.run_kept.proofs.Sums.{counted_both, of_record}
+use Rattle.run_headline.proofs.Texts.{whole_falls}
 use Rattle.slot_table.specs.Discipline.{Discipline}
 use Rattle.slot_table.specs.Records.{records_of}
 use Rattle.slot_table.specs.declared.records.Record.{Record}

@@ -1,6 +1,6 @@
 -- By the logs, and by what the list says of its reports.
 use Rattle.accepted_traces.specs.Parts.{ReportFits}
-use Rattle.run_logs.specs.Lists.{AreAccesses}
+use Rattle.run_kept.specs.Lists.{AreAccesses}
 use Rattle.runner.proofs.ResultLemmas.{all_reported}
 use Rattle.runner.proofs.result.RunResult.accesses.Goals as goal
 use Rattle.litmus_step.specs.Runs.{tasks_of}
