@@ -9,6 +9,3 @@ pub mod stamps;
 
 pub use access::AccessRun;
 pub use stamps::Stamps;
-
-#[cfg(test)]
-mod tests;

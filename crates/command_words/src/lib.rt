@@ -5,6 +5,3 @@ pub mod help;
 pub mod request;
 
 pub use request::{ReplayRequest, Request, RunOptions, RunRequest, StepRequest, asked};
-
-#[cfg(test)]
-mod tests;

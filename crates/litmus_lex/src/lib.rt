@@ -18,6 +18,3 @@ pub use next::next_token;
 pub use sign::Sign;
 pub use source::{ReadError, Source, SourceFault, read_all};
 pub use token::{Lexeme, Part, Place, Token};
-
-#[cfg(test)]
-mod tests;

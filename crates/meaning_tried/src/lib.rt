@@ -1,5 +1,6 @@
 //! A slow plain program beside the definition of what a text means: it walks a text, statement by statement, with values
-//! given for its reads, and says what the task does and what its registers hold then. Nothing stands on this crate.
+//! given for its reads, and says what the task does and what its registers hold then. `text_rows_tried` runs
+//! it on worked programs.
 #![tactic(auto)]
 
 pub mod access;
@@ -7,8 +8,6 @@ pub mod call;
 pub mod count;
 pub mod load;
 pub mod store;
-#[cfg(test)]
-mod tests;
 pub mod text;
 pub mod walk;
 

@@ -15,6 +15,3 @@ pub use effect::Effect;
 pub use lock::LockWait;
 pub use operation::{Change, Operation};
 pub use run::OperationRun;
-
-#[cfg(test)]
-mod tests;

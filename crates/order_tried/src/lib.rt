@@ -1,10 +1,9 @@
 //! A slow plain program beside the definition of the written order, for texts of locks, registers, conditions and loops: it
-//! reads the records of a task by its text, statement by statement. It makes no step. Nothing stands on this crate.
+//! reads the records of a task by its text, statement by statement. It makes no step. `text_rows_tried`
+//! runs it on worked texts.
 #![tactic(auto)]
 
 pub mod locks;
-#[cfg(test)]
-mod tests;
 pub mod text;
 pub mod walk;
 

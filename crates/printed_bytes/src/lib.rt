@@ -3,7 +3,5 @@
 
 mod back;
 pub mod laws;
-#[cfg(test)]
-mod tests;
 
 pub use back::read_back;

@@ -8,6 +8,3 @@ pub mod place;
 pub use laws::{variables_are_aligned, variables_lie_in_one_cell};
 pub use layout::{Layout, LayoutError};
 pub use place::Place;
-
-#[cfg(test)]
-mod tests;

@@ -19,6 +19,3 @@ pub use memory::MemorySink;
 pub use report::write_report;
 pub use sink::{Sink, SinkFault, WriteError, write_all};
 pub use trace::write_trace;
-
-#[cfg(test)]
-mod tests;

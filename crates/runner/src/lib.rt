@@ -9,8 +9,6 @@ pub mod result;
 pub mod run;
 mod seated;
 mod terms;
-#[cfg(test)]
-mod tests;
 mod threads;
 
 pub use error::RunError;

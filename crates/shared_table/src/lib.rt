@@ -11,8 +11,6 @@ mod plays;
 mod rule;
 pub mod seat;
 pub mod table;
-#[cfg(test)]
-mod tests;
 mod view;
 
 pub use board::SharedBoard;

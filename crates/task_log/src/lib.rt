@@ -11,6 +11,3 @@ pub mod touches;
 pub use counters::Counters;
 pub use log::TaskLog;
 pub use noted::Noted;
-
-#[cfg(test)]
-mod tests;

@@ -12,6 +12,3 @@ pub use follow::{Taker, Then};
 pub use locks::{is_lock_at, lock_number};
 pub use plan::{Plan, Planner, load_in};
 pub use progress::Progress;
-
-#[cfg(test)]
-mod tests;

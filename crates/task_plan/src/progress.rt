@@ -117,27 +117,3 @@ impl Progress {
         self.unbalanced = self.unbalanced.saturating_add(1);
     }
 }
-
-#[cfg(test)]
-mod tests {
-    use super::*;
-    use std::test::Fail;
-
-    /// Counts stop at the last number that there is.
-    #[test]
-    fn counts_go_up_to_the_last_number(rt: HostRuntime) -> Result<(), Fail> {
-        let mut progress = Progress {
-            registers: Vec::new(rt.alloc()),
-            begun: vec![in rt.alloc(); u64::MAX - 1; SITES]?,
-            held: Vec::new(rt.alloc()),
-            unbalanced: u64::MAX - 1,
-        };
-        for _ in 0..2 {
-            progress.begins_at(3);
-            progress.counts_unbalanced();
-            assert_eq!(rt; progress.begun_at(3), u64::MAX);
-            assert_eq!(rt; progress.unbalanced(), u64::MAX);
-        }
-        Ok(())
-    }
-}

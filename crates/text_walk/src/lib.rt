@@ -8,6 +8,3 @@ pub mod walk;
 
 pub use due::Due;
 pub use walk::Walk;
-
-#[cfg(test)]
-mod tests;

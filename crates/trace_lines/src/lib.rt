@@ -8,6 +8,3 @@ pub mod lines;
 
 pub use head::{Head, Shape, read_head};
 pub use lines::{read_end, read_line};
-
-#[cfg(test)]
-mod tests;

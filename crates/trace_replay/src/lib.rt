@@ -11,6 +11,3 @@ mod told;
 
 pub use accepted::{Accepted, TraceError};
 pub use pass::{SIZE_LIMIT, replay};
-
-#[cfg(test)]
-mod tests;

@@ -1,0 +1,7 @@
+//! Runs on threads and the tables that they share, tried on real threads. Nothing stands on this crate.
+#![tactic(auto)]
+
+#[cfg(test)]
+mod runs;
+#[cfg(test)]
+mod words;

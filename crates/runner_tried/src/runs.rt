@@ -1,0 +1,244 @@
+//! Programs on real threads.
+
+ghost use Rattle.std.specs.Prelude.{IfOk};
+ghost use Rattle.litmus_syntax.specs.Limits.{KeepsLimits};
+ghost use Rattle.litmus_syntax.specs.Views.{program_of};
+
+use litmus_parse::{ParseError, Program, parse};
+use litmus_step::Settings;
+use runner::{Gate, NoStall, Open, Point, RunError, RunResult, Stall, run_once};
+use std::alloc::{AllocError, Global};
+use std::sync::atomic::{AtomicU64, Ordering};
+use std::test::Fail;
+use std::thread;
+use watch_word::Layout;
+
+/// For how many turns a task is held at most.
+const HOLD: u32 = 100_000_000;
+
+/// How often the same program is run.
+const RUNS: u32 = 10;
+
+const RACE: &str =
+    "C race\n\n{}\n\nP0(int *x)\n{\n\tint r0;\n\n\tr0 = *x;\n}\n\nP1(int *x)\n{\n\t*x = 1;\n}\n\nexists (0:r0=1)\n";
+
+const OWN_WRITE_READ: &str =
+    "C own\n\n{}\n\nP0(int *x)\n{\n\tint r0;\n\n\tWRITE_ONCE(*x, 7);\n\tr0 = READ_ONCE(*x);\n}\n\nexists (0:r0=7)\n";
+
+const LOCKED_INCREMENTS: &str =
+    "C locked\n\n{}\n\nP0(int *x, spinlock_t *l)\n{\n\tspin_lock(l);\n\t(*x)++;\n\tspin_unlock(l);\n}\n\nP1(int *x, spinlock_t *l)\n{\n\tspin_lock(l);\n\t(*x)++;\n\tspin_unlock(l);\n}\n\nexists (x=2)\n";
+
+/// Each of the last two tasks waits for a lock that it has itself.
+const TWO_STUCK: &str =
+    "C stuck\n\n{}\n\nP0(int *x)\n{\n\tWRITE_ONCE(*x, 1);\n}\n\nP1(spinlock_t *a)\n{\n\tspin_lock(a);\n\tspin_lock(a);\n}\n\nP2(spinlock_t *b)\n{\n\tspin_lock(b);\n\tspin_lock(b);\n}\n\nexists (true)\n";
+
+/// The program that a text spells.
+fn parsed(alloc: Global, text: &str) -> Result<Program, ParseError>
+    ensures { IfOk result (λ program. KeepsLimits (program_of program)) }
+{
+    parse(alloc, text.as_bytes())
+}
+
+/// Every access is watched that may be; a strict run reports hits without a change of the value, and holds no plain write for marked.
+fn settings(alloc: Global, strict: bool, turns: u64) -> Settings {
+    Settings {
+        slots: 64,
+        skip: 0,
+        randomize: false,
+        seed: 1,
+        value_change_only: !strict,
+        plain_writes_atomic: !strict,
+        layout: Layout::W64,
+        turns,
+        places: Vec::new(alloc),
+    }
+}
+
+/// Sixteen tasks, each of which makes this statement.
+fn sixteen(alloc: Global, statement: &str) -> Result<String, AllocError> {
+    let mut text = String::new(alloc);
+    text.push_str("C sixteen\n\n{}\n\n")?;
+    for task in 0..16 {
+        text.push_str(format!(in alloc;
+            "P{task}(int *x{task}, int *x)\n{{\n\tint r0;\n\n\t"
+        )?.as_str())?;
+        if statement.is_empty() {
+            text.push_str(format!(in alloc; "r0 = *x{task};")?.as_str())?;
+        } else {
+            text.push_str(statement)?;
+        }
+        text.push_str("\n}\n\n")?;
+    }
+    text.push_str("exists (true)\n")?;
+    Ok(text)
+}
+
+/// The first register of a task at the end.
+fn register(ran: &RunResult, task: usize) -> Option<u64> {
+    if task < ran.tasks() {
+        return ran.registers(task).first().copied();
+    }
+    None
+}
+
+/// Waits until this has come about so often, and answers whether it has.
+fn wait(count: &AtomicU64, least: u64) -> bool {
+    for _ in 0..HOLD {
+        if count.load(Ordering::SeqCst) >= least {
+            return true;
+        }
+        thread::yield_now();
+    }
+    false
+}
+
+/// The writer of a race begins once the reader has armed, and the reader's stall holds until the writer has told.
+#[derive(Drop)]
+struct Meeting {
+    armed: AtomicU64,
+    told: AtomicU64,
+    ran_out: AtomicU64,
+}
+
+impl Meeting {
+    fn hold(&self, count: &AtomicU64) {
+        if !wait(count, 1) {
+            self.ran_out.fetch_add(1, Ordering::SeqCst);
+        }
+    }
+}
+
+impl Gate for Meeting {
+    fn pass(&self, task: usize, point: Point) {
+        match (task, point) {
+            (0, Point::Armed) => {
+                self.armed.fetch_add(1, Ordering::SeqCst);
+            }
+            (1, Point::Begin) => self.hold(&self.armed),
+            (1, Point::Taken) => {
+                self.told.fetch_add(1, Ordering::SeqCst);
+            }
+            _ => {}
+        }
+    }
+}
+
+impl Stall for Meeting {
+    fn stall(&self, task: usize, _index: usize) {
+        if task == 0 {
+            self.hold(&self.told);
+        }
+    }
+}
+
+/// Each task begins once all sixteen are there.
+#[derive(Drop)]
+struct Start {
+    there: AtomicU64,
+    ran_out: AtomicU64,
+}
+
+impl Gate for Start {
+    fn pass(&self, _task: usize, point: Point) {
+        if point == Point::Begin {
+            self.there.fetch_add(1, Ordering::SeqCst);
+            if !wait(&self.there, 16) {
+                self.ran_out.fetch_add(1, Ordering::SeqCst);
+            }
+        }
+    }
+}
+
+#[test]
+fn stall_holds_until_told(rt: HostRuntime) -> Result<(), Fail> {
+    let alloc = rt.alloc();
+    let program = parsed(alloc, RACE)?;
+    let meeting = Meeting {
+        armed: AtomicU64::new(0),
+        told: AtomicU64::new(0),
+        ran_out: AtomicU64::new(0),
+    };
+    let strict = settings(alloc, true, 1_000_000_000);
+    let ran = run_once(&rt, alloc, &program, &strict, &meeting, &meeting)?;
+    let counters = ran.counters();
+    assert_eq!(rt;
+        (counters.arms, counters.taken, counters.two_sided),
+        (1, 1, 1)
+    );
+    assert_eq!(rt; ran.reports().len(), 1);
+    assert_eq!(rt; meeting.ran_out.load(Ordering::SeqCst), 0);
+    Ok(())
+}
+
+#[test]
+fn all_begin(rt: HostRuntime) -> Result<(), Fail> {
+    let alloc = rt.alloc();
+    let text = sixteen(alloc, "r0 = READ_ONCE(*x);")?;
+    let program = parsed(alloc, text.as_str())?;
+    let start = Start {
+        there: AtomicU64::new(0),
+        ran_out: AtomicU64::new(0),
+    };
+    let settings = settings(alloc, false, 1_000_000_000);
+    let ran = run_once(&rt, alloc, &program, &settings, &NoStall, &start)?;
+    assert_eq!(rt; ran.tasks(), 16);
+    assert_eq!(rt; start.there.load(Ordering::SeqCst), 16);
+    assert_eq!(rt; start.ran_out.load(Ordering::SeqCst), 0);
+    Ok(())
+}
+
+#[test]
+fn own_write_read(rt: HostRuntime) -> Result<(), Fail> {
+    let alloc = rt.alloc();
+    let program = parsed(alloc, OWN_WRITE_READ)?;
+    let settings = settings(alloc, false, 1000);
+    for _ in 0..RUNS {
+        let ran = run_once(&rt, alloc, &program, &settings, &NoStall, &Open)?;
+        assert_eq!(rt; register(&ran, 0), Some(7));
+        assert_eq!(rt; ran.counters().arms, 0);
+    }
+    Ok(())
+}
+
+#[test]
+fn locked_increments(rt: HostRuntime) -> Result<(), Fail> {
+    let alloc = rt.alloc();
+    let program = parsed(alloc, LOCKED_INCREMENTS)?;
+    let settings = settings(alloc, false, 1_000_000_000);
+    for _ in 0..RUNS {
+        let ran = run_once(&rt, alloc, &program, &settings, &NoStall, &Open)?;
+        assert_eq!(rt; ran.memory().first().copied(), Some(2));
+        let counters = ran.counters();
+        assert_eq!(rt; (counters.arms, counters.quiet), (2, 2));
+    }
+    Ok(())
+}
+
+#[test]
+fn full_slots_sixteen(rt: HostRuntime) -> Result<(), Fail> {
+    let alloc = rt.alloc();
+    let text = sixteen(alloc, "")?;
+    let program = parsed(alloc, text.as_str())?;
+    let settings = settings(alloc, false, 1_000_000_000);
+    for _ in 0..RUNS {
+        let ran = run_once(&rt, alloc, &program, &settings, &NoStall, &Open)?;
+        let counters = ran.counters();
+        assert_eq!(rt; counters.arms, counters.quiet);
+        assert_eq!(rt; counters.arms.saturating_add(counters.capacity), 16);
+        assert_eq!(rt; ran.accesses()?.len(), 16);
+        assert!(rt; ran.reports().is_empty());
+    }
+    Ok(())
+}
+
+#[test]
+fn the_smallest_stuck_task_is_named(rt: HostRuntime) -> Result<(), Fail> {
+    let alloc = rt.alloc();
+    let program = parsed(alloc, TWO_STUCK)?;
+    let settings = settings(alloc, false, 3);
+    for _ in 0..RUNS {
+        let refused = run_once(&rt, alloc, &program, &settings, &NoStall, &Open).err();
+        assert_eq!(rt; refused, Some(RunError::Stuck { task: 1 }));
+    }
+    Ok(())
+}

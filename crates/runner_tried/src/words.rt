@@ -1,0 +1,456 @@
+//! Threads on the shared words. Each step is tested against the discipline before it is made.
+
+ghost use Rattle.std.specs.Prelude.{◌≡◌, ◌≤◌, [], All, IfOk, reverse};
+ghost use Rattle.std.specs.Thread.{IsSync};
+ghost use Rattle.slot_table.specs.Records.{records_of};
+
+use shared_table::{Gathered, SharedBoard, SharedTable, TaskSeat};
+use slot_table::discipline::allows;
+use slot_table::{Answer, Board, BoardError, Record, Shape, Step};
+use std::alloc::{AllocError, Global};
+use std::process::Abort;
+use std::sync::atomic::{AtomicU64, Ordering};
+use std::test::Fail;
+use std::thread;
+use std::thread::Threads;
+
+/// The watch word of a plain read of 4 bytes at 0x10000.
+const READ: u64 = 0x0008_0000_0001_0000;
+
+/// For how many turns a thread waits for another at most.
+const TURNS: u32 = 100_000_000;
+
+/// The index of all watchpoints here.
+const INDEX: usize = 17;
+
+/// What the tasks do at their seats.
+#[derive(Clone, Copy)]
+enum Game {
+    /// Each checks 1000 times.
+    Checks,
+    /// Each adds 1 to the first cell 100 times, and each time stamps a cell of its own.
+    Increments,
+    /// The first is watched, and two others find it at once.
+    Finders,
+    /// One stops between insert and remove.
+    StopsBeforeRemove,
+    /// The first is watched, and the others stop between taking and tell.
+    StopsBeforeTell,
+}
+
+/// How often something has come about, for those who wait for it.
+#[derive(Drop)]
+struct Gate {
+    armed: AtomicU64,
+    loaded: AtomicU64,
+    told: AtomicU64,
+    lost: AtomicU64,
+}
+
+impl Gate {
+    fn new() -> Gate {
+        Gate {
+            armed: AtomicU64::new(0),
+            loaded: AtomicU64::new(0),
+            told: AtomicU64::new(0),
+            lost: AtomicU64::new(0),
+        }
+    }
+}
+
+/// Waits until this has come about so often, and answers whether it has.
+fn wait(count: &AtomicU64, least: u64) -> bool {
+    for _ in 0..TURNS {
+        if count.load(Ordering::SeqCst) >= least {
+            return true;
+        }
+        thread::yield_now();
+    }
+    false
+}
+
+/// A task before the shared words, with all that it has done.
+#[derive(Drop)]
+struct Player<'a> {
+    table: &'a SharedTable,
+    board: SharedBoard<'a>,
+    task: u32,
+    made: Vec<Record>,
+    ghost here: { board.table ≡ table.now },
+    ghost whose: { task ≡ board.task },
+    ghost all: { records_of task (reverse made.items) ≡ board.records },
+}
+
+impl<'a> Player<'a> {
+    /// A task at its seat, which has made no step.
+    fn new(alloc: Global, table: &'a SharedTable, seat: TaskSeat) -> Player<'a>
+        requires here { seat.table ≡ table.now }
+        requires begins { seat.records ≡ [] }
+        ensures { result.table.now ≡ table.entry.now }
+    {
+        let task = seat.task();
+        Player {
+            table,
+            board: table.board(seat),
+            task,
+            made: Vec::new(alloc),
+        }
+    }
+
+    /// Makes a step that it may make.
+    fn step<R: Abort>(&mut self, rt: &R, step: Step) -> Answer
+        ensures { self.new.table.now ≡ self.old.table.now }
+    {
+        assert!(rt; self.table.has(step), "it names no word of the table");
+        assert!(rt;
+            allows(&self.made, self.task, step),
+            "the discipline forbids it"
+        );
+        self.made.reserve(1).expect(rt, "memory");
+        let answer = self.board.step(step);
+        self.made.push_reserved(Record {
+            task: self.task,
+            step,
+            answer,
+        });
+        answer
+    }
+
+    /// The ticket of its first access.
+    fn ticket(&self) -> u32 {
+        self.task % 16 * 65536 + 1
+    }
+
+    /// Waits for the other half of the pair word.
+    fn hear<R: Abort>(&mut self, rt: &R, of_setter: bool)
+        ensures { self.new.table.now ≡ self.old.table.now }
+    {
+        'turns: for _ in 0..TURNS {
+            if let Answer::Halves(setter, finder) = self.step(rt, Step::PairLoad(INDEX)) {
+                let half = if of_setter { setter } else { finder };
+                if half > 0 {
+                    return;
+                }
+            }
+            thread::yield_now();
+        }
+    }
+
+    /// Tells the setter whose watchpoint it has taken.
+    fn tell<R: Abort>(&mut self, rt: &R)
+        ensures { self.new.table.now ≡ self.old.table.now }
+    {
+        self.hear(rt, true);
+        let ticket = self.ticket();
+        self.step(rt, Step::Tell(INDEX, ticket));
+    }
+
+    /// Sets up a watchpoint, if there is none, and answers whether it did.
+    fn is_watched<R: Abort>(&mut self, rt: &R) -> bool
+        ensures { self.new.table.now ≡ self.old.table.now }
+    {
+        if self.step(rt, Step::Insert(INDEX, READ)) != Answer::Flag(true) {
+            return false;
+        }
+        let ticket = self.ticket();
+        self.step(rt, Step::Name(INDEX, ticket));
+        true
+    }
+
+    /// Ends the watch, and answers whether it was taken.
+    fn end_watch<R: Abort>(&mut self, rt: &R) -> bool
+        ensures { self.new.table.now ≡ self.old.table.now }
+    {
+        let is_taken = self.step(rt, Step::Consume(INDEX)) == Answer::Flag(false);
+        if is_taken {
+            self.hear(rt, false);
+        }
+        self.step(rt, Step::Clear(INDEX));
+        self.step(rt, Step::Remove(INDEX));
+        is_taken
+    }
+
+    /// One check: it takes what it finds there, or is watched itself.
+    fn check<R: Abort>(&mut self, rt: &R)
+        ensures { self.new.table.now ≡ self.old.table.now }
+    {
+        if let Answer::Word(word) = self.step(rt, Step::Load(INDEX))
+            && word > 1
+        {
+            if self.step(rt, Step::TryConsume(INDEX, word)) == Answer::Flag(true) {
+                self.tell(rt);
+            }
+            return;
+        }
+        if self.is_watched(rt) {
+            self.end_watch(rt);
+        }
+    }
+
+    /// Checks 1000 times.
+    fn check_often<R: Abort>(&mut self, rt: &R)
+        ensures { self.new.table.now ≡ self.old.table.now }
+    {
+        'checks: for _ in 0..1000 {
+            self.check(rt);
+        }
+    }
+
+    /// Waits for the lock.
+    fn lock<R: Abort>(&mut self, rt: &R)
+        ensures { self.new.table.now ≡ self.old.table.now }
+    {
+        let task = self.task;
+        'turns: for _ in 0..TURNS {
+            if self.step(rt, Step::LockTry(0, task)) == Answer::Flag(true) {
+                return;
+            }
+            thread::yield_now();
+        }
+    }
+
+    /// Adds 1 to the first cell, under the lock.
+    fn increment<R: Abort>(&mut self, rt: &R)
+        ensures { self.new.table.now ≡ self.old.table.now }
+    {
+        self.lock(rt);
+        if let Answer::Word(value) = self.step(rt, Step::CellLoad(0)) {
+            let new = value.wrapping_add(1);
+            self.step(rt, Step::CellExchange(0, value, new));
+        }
+        self.step(rt, Step::LockStore(0));
+    }
+
+    /// Draws a stamp, and marks the cell that stands for it, which nobody has marked.
+    fn stamp<R: Abort>(&mut self, rt: &R)
+        ensures { self.new.table.now ≡ self.old.table.now }
+    {
+        if let Answer::Word(stamp) = self.step(rt, Step::Clock)
+            && stamp < 400
+        {
+            let cell = stamp as usize + 1;
+            let answer = self.step(rt, Step::CellExchange(cell, 0, 1));
+            assert_eq!(rt; answer, Answer::Flag(true), "a stamp stood before");
+        }
+    }
+
+    /// Adds 1 to the first cell 100 times, and draws a stamp each time.
+    fn increment_often<R: Abort>(&mut self, rt: &R)
+        ensures { self.new.table.now ≡ self.old.table.now }
+    {
+        'increments: for _ in 0..100 {
+            self.increment(rt);
+            self.stamp(rt);
+        }
+    }
+
+    /// Is watched until somebody has told.
+    fn be_found<R: Abort>(&mut self, rt: &R, gate: &Gate)
+        ensures { self.new.table.now ≡ self.old.table.now }
+    {
+        assert!(rt; self.is_watched(rt), "another watchpoint is there");
+        gate.armed.fetch_add(1, Ordering::SeqCst);
+        assert!(rt; wait(&gate.told, 1), "nobody told");
+        assert!(rt; self.end_watch(rt), "nobody took it");
+    }
+
+    /// Takes the watchpoint that is set up, after both finders have loaded its word, and answers
+    /// whether it did.
+    fn take<R: Abort>(&mut self, rt: &R, gate: &Gate, finders: u64) -> bool
+        ensures { self.new.table.now ≡ self.old.table.now }
+    {
+        assert!(rt; wait(&gate.armed, 1), "no watchpoint is set up");
+        assert_eq!(rt; self.step(rt, Step::Load(INDEX)), Answer::Word(READ));
+        gate.loaded.fetch_add(1, Ordering::SeqCst);
+        assert!(rt; wait(&gate.loaded, finders), "the other hasn't loaded it");
+        self.step(rt, Step::TryConsume(INDEX, READ)) == Answer::Flag(true)
+    }
+
+    /// Tells, if it is the one of two that takes the watchpoint.
+    fn find<R: Abort>(&mut self, rt: &R, gate: &Gate)
+        ensures { self.new.table.now ≡ self.old.table.now }
+    {
+        if self.take(rt, gate, 2) {
+            self.tell(rt);
+            gate.told.fetch_add(1, Ordering::SeqCst);
+        } else {
+            gate.lost.fetch_add(1, Ordering::SeqCst);
+        }
+    }
+
+    /// Stops between taking and tell, or as the one whose watchpoint is taken.
+    fn stop<R: Abort>(&mut self, rt: &R, gate: &Gate)
+        ensures { self.new.table.now ≡ self.old.table.now }
+    {
+        if self.task == 0 {
+            assert!(rt; self.is_watched(rt), "another watchpoint is there");
+            gate.armed.fetch_add(1, Ordering::SeqCst);
+        } else {
+            assert!(rt; self.take(rt, gate, 1), "it was gone");
+        }
+    }
+
+    /// Plays its part.
+    fn play<R: Abort>(&mut self, rt: &R, game: Game, gate: &Gate)
+        ensures { self.new.table.now ≡ self.old.table.now }
+    {
+        match game {
+            Game::Checks => self.check_often(rt),
+            Game::Increments => self.increment_often(rt),
+            Game::Finders if self.task == 0 => self.be_found(rt, gate),
+            Game::Finders => self.find(rt, gate),
+            Game::StopsBeforeTell => self.stop(rt, gate),
+            Game::StopsBeforeRemove => {
+                self.is_watched(rt);
+            }
+        }
+    }
+}
+
+/// Plays at a seat, and hands it back.
+fn played<R: Abort>(
+    rt: &R,
+    alloc: Global,
+    table: &SharedTable,
+    seat: TaskSeat,
+    game: Game,
+    gate: &Gate,
+) -> TaskSeat
+    requires here { seat.table ≡ table.now }
+    requires begins { seat.records ≡ [] }
+    ensures { result.table ≡ table.now }
+{
+    let mut player = Player::new(alloc, table, seat);
+    player.play(rt, game, gate);
+    player.board.into_seat()
+}
+
+/// Plays at all of these seats at once, each in a thread of its own.
+fn all_played<R: Abort + Threads + Sync>(
+    rt: &R,
+    alloc: Global,
+    table: &SharedTable,
+    seats: Vec<TaskSeat>,
+    game: Game,
+    gate: &Gate,
+) -> Result<Vec<TaskSeat>, AllocError>
+    requires { All (λ seat. (seat.table ≡ table.now) × (seat.records ≡ [])) seats.items }
+    ensures { IfOk result (λ seats. All (λ seat. seat.table ≡ table.now) seats.items) }
+{
+    thread::map_vec(
+        rt,
+        seats,
+        &|seat: TaskSeat| -> TaskSeat
+            requires { (seat.table ≡ table.now) × (seat.records ≡ []) × IsSync R.row }
+            ensures { result.table ≡ table.entry.now }
+        { played(rt, alloc, table, seat, game, gate) },
+    )
+}
+
+/// A table of this many tasks, with 64 page slots and a lock, and a seat for each task.
+fn opened(
+    alloc: Global,
+    tasks: u32,
+    cells: &[u64],
+) -> Result<(SharedTable, Vec<TaskSeat>), BoardError>
+    requires some { 1 ≤ tasks }
+    requires few { tasks ≤ 16 }
+    ensures { IfOk result (λ made.
+        All (λ seat. (seat.table ≡ made.0) × (seat.records ≡ [])) made.1.items) }
+{
+    SharedTable::new(
+        alloc,
+        Shape {
+            slots: 64,
+            tasks,
+            locks: 1,
+            cells,
+        },
+    )
+}
+
+#[test]
+fn four_seats(rt: HostRuntime) -> Result<(), Fail> {
+    let (table, seats) = opened(rt.alloc(), 4, &[7, 8])?;
+    let seats = all_played(&rt, rt.alloc(), &table, seats, Game::Checks, &Gate::new())?;
+    let gathered = table.gather(seats).expect(&rt, "no check is unfinished");
+    assert_eq!(rt; gathered.cells(), [7, 8].as_slice());
+    Ok(())
+}
+
+#[test]
+fn a_lock_a_cell_and_stamps_under_four(rt: HostRuntime) -> Result<(), Fail> {
+    let (table, seats) = opened(rt.alloc(), 4, &[0; 401])?;
+    let seats = all_played(
+        &rt,
+        rt.alloc(),
+        &table,
+        seats,
+        Game::Increments,
+        &Gate::new(),
+    )?;
+    let gathered = table.gather(seats).expect(&rt, "no check is unfinished");
+    assert_eq!(rt; gathered.cells().first().copied(), Some(400));
+    assert!(rt;
+        gathered.cells().iter().skip(1).all(|mark| *mark == 1),
+        "a stamp wasn't drawn"
+    );
+    Ok(())
+}
+
+#[test]
+fn two_finders(rt: HostRuntime) -> Result<(), Fail> {
+    let (table, seats) = opened(rt.alloc(), 3, &[])?;
+    let gate = Gate::new();
+    let seats = all_played(&rt, rt.alloc(), &table, seats, Game::Finders, &gate)?;
+    assert!(rt; table.gather(seats).is_some(), "a check is unfinished");
+    assert_eq!(rt; gate.told.load(Ordering::SeqCst), 1);
+    assert_eq!(rt; gate.lost.load(Ordering::SeqCst), 1);
+    Ok(())
+}
+
+#[test]
+fn gather_wants_each_seat(rt: HostRuntime) -> Result<(), Fail> {
+    let (table, mut seats) = opened(rt.alloc(), 2, &[7])?;
+    drop(seats.pop());
+    assert!(rt; table.gather(seats).is_none());
+    let (table, seats) = opened(rt.alloc(), 2, &[7])?;
+    let gathered = table.gather(seats).expect(&rt, "both seats are here");
+    assert_eq!(rt; gathered.cells(), [7].as_slice());
+    Ok(())
+}
+
+#[test]
+fn gather_wants_finished_checks(rt: HostRuntime) -> Result<(), Fail> {
+    for game in [Game::StopsBeforeRemove, Game::StopsBeforeTell] {
+        let (table, seats) = opened(rt.alloc(), 2, &[])?;
+        let seats = all_played(&rt, rt.alloc(), &table, seats, game, &Gate::new())?;
+        assert!(rt; table.gather(seats).is_none());
+    }
+    Ok(())
+}
+
+#[test]
+fn limits_of_slots(rt: HostRuntime) {
+    for slots in [0, 2, 1025] {
+        let wrong = Shape {
+            slots,
+            tasks: 1,
+            locks: 0,
+            cells: &[],
+        };
+        assert_eq!(rt;
+            SharedTable::new(rt.alloc(), wrong).err(),
+            Some(BoardError::BadSlots)
+        );
+    }
+}
+
+#[test]
+fn a_new_table_or_no_memory(rt: HostRuntime) {
+    // Each growth refused in turn, by `rt try --test --fail-alloc N`, is answered so.
+    match opened(rt.alloc(), 2, &[7, 8]) {
+        Ok((_, seats)) => assert_eq!(rt; seats.len(), 2),
+        Err(error) => assert_eq!(rt; error, BoardError::OutOfMemory),
+    }
+}

@@ -1,0 +1,303 @@
+//! What words ask for, and which make no sense.
+
+use clap::error::ErrorKind;
+use command_words::request::{ReplayRequest, Request, RunOptions, RunRequest, StepRequest, asked};
+use std::alloc::Global;
+use std::process::Abort;
+use std::test::Fail;
+use watch_word::Layout;
+
+/// The options where none is given.
+const OPTIONS: RunOptions<'static> = RunOptions {
+    places: "",
+    trace: None,
+    slots: 64,
+    skip: 0,
+    randomize: false,
+    seed: 1,
+    strict: false,
+    layout: Layout::W64,
+    turns: 1_000_000,
+};
+
+/// These words, after the program's name, ask for this.
+fn ask(rt: &impl Abort, alloc: Global, words: &[&str], wanted: Request<'_>) -> Result<(), Fail> {
+    let request = asked(alloc, words)?;
+    assert_eq!(rt; request, wanted);
+    Ok(())
+}
+
+/// What `step t` asks for with these options.
+fn step(options: RunOptions<'_>) -> Request<'_> {
+    Request::Step(StepRequest {
+        file: "t",
+        schedule: "",
+        options,
+    })
+}
+
+#[test]
+fn options_are_read(rt: HostRuntime) -> Result<(), Fail> {
+    ask(&rt, rt.alloc(), &["k", "step", "t"], step(OPTIONS))?;
+    ask(
+        &rt,
+        rt.alloc(),
+        &["k", "step", "t", "--place=x=0x1000", "--trace", "r"],
+        step(RunOptions {
+            places: "x=0x1000",
+            trace: Some("r"),
+            ..OPTIONS
+        }),
+    )?;
+    ask(
+        &rt,
+        rt.alloc(),
+        &[
+            "k", "step", "t", "--slots", "3", "--skip", "05", "--turns", "+7",
+        ],
+        step(RunOptions {
+            slots: 3,
+            skip: 5,
+            turns: 7,
+            ..OPTIONS
+        }),
+    )?;
+    ask(
+        &rt,
+        rt.alloc(),
+        &[
+            "k",
+            "step",
+            "t",
+            "--slots",
+            "1024",
+            "--skip",
+            "1000000",
+            "--turns",
+            "1000000000",
+        ],
+        step(RunOptions {
+            slots: 1024,
+            skip: 1_000_000,
+            turns: 1_000_000_000,
+            ..OPTIONS
+        }),
+    )?;
+    ask(
+        &rt,
+        rt.alloc(),
+        &[
+            "k",
+            "step",
+            "t",
+            "--randomize",
+            "--seed",
+            "18446744073709551615",
+        ],
+        step(RunOptions {
+            randomize: true,
+            seed: u64::MAX,
+            ..OPTIONS
+        }),
+    )?;
+    ask(
+        &rt,
+        rt.alloc(),
+        &["k", "step", "t", "--strict", "--word", "32"],
+        step(RunOptions {
+            strict: true,
+            layout: Layout::W32,
+            ..OPTIONS
+        }),
+    )?;
+    ask(
+        &rt,
+        rt.alloc(),
+        &[
+            "k",
+            "step",
+            "t",
+            "--schedule",
+            "",
+            "--place",
+            "",
+            "--word",
+            "64",
+        ],
+        step(OPTIONS),
+    )
+}
+
+#[test]
+fn a_schedule_is_asked_for(rt: HostRuntime) -> Result<(), Fail> {
+    ask(
+        &rt,
+        rt.alloc(),
+        &["k", "step", "--schedule", "0x7,1x9", "t"],
+        Request::Step(StepRequest {
+            file: "t",
+            schedule: "0x7,1x9",
+            options: OPTIONS,
+        }),
+    )
+}
+
+#[test]
+fn runs_are_asked_for(rt: HostRuntime) -> Result<(), Fail> {
+    ask(
+        &rt,
+        rt.alloc(),
+        &["k", "run", "t"],
+        Request::Run(RunRequest {
+            file: "t",
+            runs: 100,
+            delay: 64,
+            options: OPTIONS,
+        }),
+    )?;
+    ask(
+        &rt,
+        rt.alloc(),
+        &["k", "run", "t", "--runs", "1", "--delay", "0", "--strict"],
+        Request::Run(RunRequest {
+            file: "t",
+            runs: 1,
+            delay: 0,
+            options: RunOptions {
+                strict: true,
+                ..OPTIONS
+            },
+        }),
+    )?;
+    ask(
+        &rt,
+        rt.alloc(),
+        &["k", "run", "t", "--runs=100000", "--delay=1000000"],
+        Request::Run(RunRequest {
+            file: "t",
+            runs: 100_000,
+            delay: 1_000_000,
+            options: OPTIONS,
+        }),
+    )
+}
+
+#[test]
+fn a_trace_is_asked_for(rt: HostRuntime) -> Result<(), Fail> {
+    let request = asked(rt.alloc(), &["k", "replay", "r"])?;
+    assert_eq!(rt; request, Request::Replay(ReplayRequest { trace: "r" }));
+    Ok(())
+}
+
+/// These words are answered by an error of this kind.
+fn refuse(rt: &impl Abort, alloc: Global, words: &[&str], wanted: ErrorKind) {
+    match asked(alloc, words) {
+        Ok(_) => assert!(rt; false, "at {words:?}"),
+        Err(error) => assert_eq!(rt; error.kind(), wanted),
+    }
+}
+
+#[test]
+fn other_words_make_no_sense(rt: HostRuntime) {
+    refuse(&rt, rt.alloc(), &["k"], ErrorKind::MissingSubcommand);
+    refuse(
+        &rt,
+        rt.alloc(),
+        &["k", "jump", "t"],
+        ErrorKind::InvalidSubcommand,
+    );
+    refuse(
+        &rt,
+        rt.alloc(),
+        &["k", "step"],
+        ErrorKind::MissingRequiredArgument,
+    );
+    refuse(
+        &rt,
+        rt.alloc(),
+        &["k", "step", "t", "u"],
+        ErrorKind::UnknownArgument,
+    );
+    refuse(
+        &rt,
+        rt.alloc(),
+        &["k", "step", "t", "--strict", "--strict"],
+        ErrorKind::ArgumentConflict,
+    );
+    refuse(
+        &rt,
+        rt.alloc(),
+        &["k", "step", "t", "--slots", "2"],
+        ErrorKind::ValueValidation,
+    );
+    refuse(
+        &rt,
+        rt.alloc(),
+        &["k", "step", "t", "--turns", "0"],
+        ErrorKind::ValueValidation,
+    );
+    refuse(
+        &rt,
+        rt.alloc(),
+        &["k", "step", "t", "--skip", "1000001"],
+        ErrorKind::ValueValidation,
+    );
+    refuse(
+        &rt,
+        rt.alloc(),
+        &["k", "step", "t", "--word", "16"],
+        ErrorKind::InvalidValue,
+    );
+    refuse(
+        &rt,
+        rt.alloc(),
+        &["k", "replay"],
+        ErrorKind::MissingRequiredArgument,
+    );
+    refuse(
+        &rt,
+        rt.alloc(),
+        &["k", "replay", "r", "--strict"],
+        ErrorKind::UnknownArgument,
+    );
+    for words in [
+        ["k", "run", "t", "--runs", "0"].as_slice(),
+        ["k", "run", "t", "--runs", "18446744073709551616"].as_slice(),
+        ["k", "run", "t", "--delay=-1"].as_slice(),
+        ["k", "run", "t", "--turns", "0"].as_slice(),
+    ] {
+        refuse(&rt, rt.alloc(), words, ErrorKind::ValueValidation);
+    }
+    refuse(
+        &rt,
+        rt.alloc(),
+        &["k", "run", "t", "--schedule", "0x1"],
+        ErrorKind::UnknownArgument,
+    );
+    refuse(
+        &rt,
+        rt.alloc(),
+        &["k", "step", "t", "--runs", "1"],
+        ErrorKind::UnknownArgument,
+    );
+    refuse(&rt, rt.alloc(), &["k", "--help"], ErrorKind::DisplayHelp);
+    refuse(
+        &rt,
+        rt.alloc(),
+        &["k", "step", "--help"],
+        ErrorKind::DisplayHelp,
+    );
+}
+
+#[test]
+fn some_words_ask_for_help(rt: HostRuntime) {
+    for words in [
+        ["k", "help"].as_slice(),
+        ["k", "--help"].as_slice(),
+        ["k", "step", "-h"].as_slice(),
+        ["k", "run", "--help"].as_slice(),
+        ["k", "help", "step"].as_slice(),
+    ] {
+        refuse(&rt, rt.alloc(), words, ErrorKind::DisplayHelp);
+    }
+}
