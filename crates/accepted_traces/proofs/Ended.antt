@@ -26,7 +26,7 @@ use Rattle.slot_table.specs.declared.step.Answer.TheVariants as answers
 use Rattle.slot_table.specs.declared.step.Step.TheVariants as steps
 use Rattle.run_kept.specs.Stamps.{is_clock, stamps_in}
 use Rattle.run_kept.proofs.Clock.{event_turns, turns, turns_both, turns_of_marks}
-use Rattle.run_kept.proofs.Told.{once}
+use Rattle.run_lists.proofs.Begun.{once}
 use Rattle.written_order.specs.Standing as tasks
 use Rattle.written_order.specs.Told.{did_by, did_next}
 use Rattle.accepted_traces.proofs.Spans as spans

@@ -18,29 +18,8 @@ use Rattle.report_text.specs.TraceText.{Head, second, written_lines}
 use Rattle.report_text.specs.Truth.{IsIndexOf, IsLoadable, IsTrueEnd, IsTrueLine, OutcomeIsTrue, ReportIsTrue}
 use Rattle.report_text.specs.declared.line.Line.{Line}
 use Rattle.report_text.specs.declared.line.Line.TheVariants as lines
-use Rattle.report_text.proofs.TrueLines.{accesses-append}
+use Rattle.report_text.proofs.TrueLines.{accesses-append, arms-append, reports-append, takes-append}
 use Rattle.accepted_traces.specs.Parts.{AccessFits, ArmFits, AreParts, AreOther, IsNamed, OfNamed, OutcomeFits, ReportFits, TakeFits}
-
-arms-append : (xs ys : List Line) → arms_of (xs ++ ys) ≡ arms_of xs ++ arms_of ys
-arms-append [] ys = refl
-arms-append (lines.Access s ∷ xs) ys = arms-append xs ys
-arms-append (lines.Arm a ∷ xs) ys = ap (λ t. a ∷ t) (arms-append xs ys)
-arms-append (lines.Take t ∷ xs) ys = arms-append xs ys
-arms-append (lines.Report r ∷ xs) ys = arms-append xs ys
-
-takes-append : (xs ys : List Line) → takes_of (xs ++ ys) ≡ takes_of xs ++ takes_of ys
-takes-append [] ys = refl
-takes-append (lines.Access s ∷ xs) ys = takes-append xs ys
-takes-append (lines.Arm a ∷ xs) ys = takes-append xs ys
-takes-append (lines.Take t ∷ xs) ys = ap (λ u. t ∷ u) (takes-append xs ys)
-takes-append (lines.Report r ∷ xs) ys = takes-append xs ys
-
-reports-append : (xs ys : List Line) → reports_of (xs ++ ys) ≡ reports_of xs ++ reports_of ys
-reports-append [] ys = refl
-reports-append (lines.Access s ∷ xs) ys = reports-append xs ys
-reports-append (lines.Arm a ∷ xs) ys = reports-append xs ys
-reports-append (lines.Take t ∷ xs) ys = reports-append xs ys
-reports-append (lines.Report r ∷ xs) ys = ap (λ u. r ∷ u) (reports-append xs ys)
 
 -- what is of each kind among lines of one kind
 abbrev access_lines : List Stamped → List Line

@@ -36,7 +36,7 @@ use Rattle.slot_table.specs.declared.step.Step.TheVariants as steps
 use Rattle.run_kept.specs.Stamps.{is_clock, stamps_in}
 use Rattle.run_kept.proofs.Checked.{all_fit, all_later}
 use Rattle.run_kept.proofs.Clock.{event_turns, one_more, turns, turns_both, turns_of_marks}
-use Rattle.run_kept.proofs.Told.{once}
+use Rattle.run_lists.proofs.Begun.{once}
 use Rattle.written_order.specs.Told.{did_by, did_next}
 use Rattle.written_order.proofs.MeaningLemmas.{whole_means}
 use Rattle.written_order.proofs.WayLemmas.{Begins}

@@ -1,5 +1,5 @@
 -- A program that symbols spell keeps the limits and the rules of types, where the symbols are no more than a text can have.
-use Rattle.std.proofs.Common.{◌≡◌, ◌≢◌, ◌∙◌, ◌+◌, ◌*◌, ◌<◌, ◌≤◌, ℕ, zero, suc, List, [], ◌∷◌, ◌++◌, Some, length, map, refl, sym, ap}
+use Rattle.std.proofs.Common.{◌≡◌, ◌≢◌, ◌∙◌, ◌+◌, ◌*◌, ◌<◌, ◌≤◌, ℕ, zero, suc, List, [], ◌∷◌, Some, length, map, refl, sym, ap}
 use Rattle.std.proofs.Common.{subst, arith}
 use Rattle.std.specs.Prelude.{All, Contains, flat_map, set, slice_get}
 use Rattle.std.proofs.lemmas.List.{length-map, length-set}
@@ -14,114 +14,23 @@ use Rattle.litmus_cursor.specs.declared.words.VariableType.{VariableType}
 use Rattle.litmus_cursor.specs.declared.words.VariableType.TheVariants.{Char, Short, Int, Long, Atomic, Lock}
 use Rattle.litmus_cursor.specs.Words.{Symbol}
 use Rattle.litmus_expression.specs.Followed.{Differ}
-use Rattle.litmus_expression.specs.Names.{HasBytes, IsAtomic, IsInteger, IsLock, IsVariable, Names, Numbered, Parameter, known, new}
-use Rattle.litmus_expression.proofs.Named.{among, in_front, in_none, in_rest}
+use Rattle.litmus_expression.specs.Names.{HasBytes, IsAtomic, IsInteger, IsLock, IsVariable, Names, Numbered, Parameter}
+use Rattle.litmus_expression.proofs.Named.{in_front, in_rest}
 use Rattle.litmus_expression.proofs.Taken.{same_given}
 use Rattle.statement_laws.proofs.Named.{Named, numbered_named, statements_named}
 use Rattle.litmus_parse.specs.Conditions as conditions
-use Rattle.litmus_parse.specs.Conditions.{Atom, Conjoined, Disjoined, Negation, Quantifies, with_registers}
+use Rattle.litmus_parse.specs.Conditions.{Atom, Conjoined, Disjoined, Negation, with_registers}
 use Rattle.litmus_parse.specs.Grammar.{Grammar, mentions_of, said_by, task_of}
 use Rattle.litmus_parse.specs.Headers as headers
-use Rattle.litmus_parse.specs.Headers.{IsProcess, Item, Items, Listed, Parameters, Process, Processes, mention_of}
+use Rattle.litmus_parse.specs.Headers.{IsProcess, Items, Process, Processes, mention_of}
 use Rattle.litmus_parse.specs.Mentions as mentions
-use Rattle.litmus_parse.specs.Mentions.{AreDeclared, AreNumbered, IsDeclared, Mention, Says, contents_of, parameter}
+use Rattle.litmus_parse.specs.Mentions.{AreDeclared, IsDeclared, Mention, contents_of, parameter}
+use Rattle.litmus_parse.proofs.Becomes.{At, Becomes, Grown, at_grown, at_there, becomes_then, mention_there, mentions_become, parameters_are}
 use Rattle.litmus_parse.proofs.Items.{item_fewer}
 use Rattle.litmus_parse.proofs.NamesSpelled.{all_more}
 use Rattle.litmus_parse.proofs.ProcessesComplete.{contains_first, contains_rest}
 use Rattle.litmus_parse.proofs.RegistersTyped.{Sorted, numbered_grow, statements_typed}
 use Rattle.litmus_parse.proofs.Rises.{body_rises}
-
--- ---- names keep their numbers
-
--- each number has the name that it had
-abbrev Grown : Names → Names → Type 0
-Grown before later = (k : ℕ) (x : List ℕ) → slice_get before k ≡ Some x → slice_get later k ≡ Some x
-
-append_before : (names : Names) (x y : List ℕ) (k : ℕ) → slice_get names k ≡ Some y → slice_get (names ++ x ∷ []) k ≡ Some y
-append_before [] x y k is = absurd cc
-append_before (m ∷ names) x y zero is = is
-append_before (m ∷ names) x y (suc k) is = append_before names x y k is
-
-append_there : (names : Names) (x : List ℕ) → slice_get (names ++ x ∷ []) (length names) ≡ Some x
-append_there [] x = refl
-append_there (n ∷ names) x = append_there names x
-
-numbered_grown : {limit number : ℕ} {name : List ℕ} {before later : Names} → Numbered limit before name number later → Grown before later
-numbered_grown (known there) = λ k x is. is
-numbered_grown {name = name} {before = before} (new out lt) = λ k x is. append_before before name x k is
-
-numbered_at : {limit number : ℕ} {name : List ℕ} {before later : Names} → Numbered limit before name number later
-    → slice_get later number ≡ Some name
-numbered_at (known there) = there
-numbered_at {name = name} {before = before} (new out lt) = append_there before name
-
--- what names become: they still differ and are few, and keep their numbers
-record Becomes (before later : Names) : Type 0 where
-  named : Named later
-  grown : Grown before later
-
-becomes_same : (names : Names) → Named names → Becomes names names
-becomes_same names named = record { named = named; grown = λ k x is. is }
-
-becomes_then : (before between later : Names) → Becomes before between → Becomes between later → Becomes before later
-becomes_then before between later one two = record { named = two.named; grown = λ k x is. two.grown k x (one.grown k x is) }
-
-becomes_numbered : {number : ℕ} {name : List ℕ} {before later : Names} → Named before → Numbered 32 before name number later
-    → Becomes before later
-becomes_numbered {number} {name} {before} {later} named n = record { named = numbered_named name number before later named n; grown = numbered_grown n }
-
-mentions_become : {before later : Names} {items : List Mention} → Named before → AreNumbered before items later → Becomes before later
-mentions_become {before} named mentions.none = becomes_same before named
-mentions_become {before} {later} named (mentions.more {between = between} n rest) =
-    let one = becomes_numbered named n in
-    becomes_then before between later one (mentions_become one.named rest)
-
--- ---- parameters have the numbers of their names
-
-abbrev At : Names → List Parameter → Type 0
-At names [] = Unit {0}
-At names (p ∷ ps) = (slice_get names p.variable ≡ Some p.name) × At names ps
-
-at_grown : (before later : Names) (ps : List Parameter) → Grown before later → At before ps → At later ps
-at_grown before later [] grown at = tt
-at_grown before later (p ∷ ps) grown at = (grown p.variable p.name at.0, at_grown before later ps grown at.1)
-
-at_there : (names : Names) (ps : List Parameter) (p : Parameter) → At names ps → Contains ps p → slice_get names p.variable ≡ Some p.name
-at_there names [] p at there = absurd (in_none p there)
-at_there names (q ∷ ps) p at there =
-    among q p ps (slice_get names p.variable ≡ Some p.name) there
-    (λ same. subst (λ (r : Parameter). slice_get names r.variable ≡ Some r.name) same at.0)
-    (λ later. at_there names ps p at.1 later)
-
-mention_there : (ps : List Parameter) (p : Parameter) → Contains ps p → Contains (map mention_of ps) (mention_of p)
-mention_there [] p there = absurd (in_none p there)
-mention_there (q ∷ ps) p there =
-    among q p ps (Contains (map mention_of (q ∷ ps)) (mention_of p)) there
-    (λ same. subst (λ (m : Mention). Contains (map mention_of (q ∷ ps)) m) (ap mention_of same) (in_front (mention_of q) (map mention_of ps)))
-    (λ later. in_rest (mention_of q) (mention_of p) (map mention_of ps) (mention_there ps p later))
-
-record Lists (before later : Names) (symbols rest : List Symbol) (ps : List Parameter) : Type 0 where
-  becomes : Becomes before later
-  at : At later ps
-  shorter : length rest ≤ length symbols
-
-listed_is : {before later : Names} {symbols rest : List Symbol} {ps : List Parameter} → Named before → Listed before symbols ps rest later
-    → Lists before later symbols rest ps
-listed_is named (headers.last n) = record { becomes = becomes_numbered named n; at = (numbered_at n, tt); shorter = omega arith }
-listed_is {before} {later} named (headers.more {between = between} {name = name} {variable = variable} n others_are out) =
-    let one = becomes_numbered named n in
-    let two = listed_is one.named others_are in
-    let le = two.shorter in
-    record {
-      becomes = becomes_then before between later one two.becomes;
-      at = (two.becomes.grown variable name (numbered_at n), two.at);
-      shorter = omega arith;
-    }
-
-parameters_are : {before later : Names} {symbols rest : List Symbol} {ps : List Parameter} → Named before
-    → Parameters before symbols ps rest later → Lists before later symbols rest ps
-parameters_are {before} named headers.none = record { becomes = becomes_same before named; at = tt; shorter = omega arith }
-parameters_are named (headers.some l) = listed_is named l
 
 items_shorter : {symbols rest : List Symbol} {items : List Mention} → Items symbols items rest → length rest ≤ length symbols
 items_shorter headers.none = omega arith

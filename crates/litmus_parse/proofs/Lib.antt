@@ -30,6 +30,7 @@ pub mod Declared
 pub mod TextComplete
 pub mod Rises
 pub mod RegistersTyped
+pub mod Becomes
 pub mod GrammarKeeps
 pub mod NamesUtf8
 pub mod Refusals

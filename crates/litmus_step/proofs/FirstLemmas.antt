@@ -90,7 +90,7 @@ in_order spelled run can task =
     ]
 
 -- the access of a task that is there is one of the run's, and there is no other
-of_task : (run : Run) (a : Access) → IsOfProgram run a → sites.IsOfProgram run.program run.places a
+pub of_task : (run : Run) (a : Access) → IsOfProgram run a → sites.IsOfProgram run.program run.places a
 of_task run a of =
     elim (slice_get_cases run.program.tasks a.task).1 [
       | inl there ↦ is_there run a (slice_get run.program.tasks a.task) there.0 there.2

@@ -12,7 +12,7 @@ use Rattle.run_lists.specs.Told.{made_by}
 use Rattle.run_kept.specs.Noted.{IsNoted, Notes}
 use Rattle.slot_table.specs.declared.records.Record.{Record}
 use Rattle.litmus_step.proofs.StepLemmas.{by_task, same_some, set_here, set_other}
-use Rattle.litmus_step.specs.Kept.{Added, AreKept, IsKept, IsNotedIn, accesses_kept, watches_kept}
+use Rattle.litmus_step.specs.Kept.{Added, AreFirst, AreKept, IsKept, IsNotedIn, accesses_kept, watches_kept}
 use Rattle.task_log.specs.Reports.{reported}
 use Rattle.task_log.specs.declared.log.TaskLog.{TaskLog}
 use Rattle.task_log.specs.declared.noted.Noted.{Noted}
@@ -34,14 +34,8 @@ OneMoreIsReported = (run : Run) (latest : Record) (earlier : List Record) (befor
     → Notes one latest.task before → IsNoted (other.tasks latest.task) (made_by latest.task earlier) latest noted
     → reports_of other ≡ reports_of one ++ option_to_list (reported noted.outcome before)
 
--- what is reported by a list, as far as there is room for it
-record AreFirst (reports : List Report) (room : ℕ) (all : List Report) : Type 0 where
-  later : List Report
-  reported : reports ++ later ≡ all
-  full : (later ≡ []) ⊎ (room ≤ length reports)
-
 -- what is added to the reports is what the list reports more
-more_reports : (report : Option Report) (room : ℕ) (before after told all : List Report) → AreFirst before room told
+pub more_reports : (report : Option Report) (room : ℕ) (before after told all : List Report) → AreFirst before room told
     → all ≡ told ++ option_to_list report → Added report room before after → AreFirst after room all
 more_reports None room before after told all so_far more added =
     subst (λ (rs : List Report). AreFirst rs room all) (sym added)

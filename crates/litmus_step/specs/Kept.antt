@@ -31,6 +31,12 @@ pub record AreLogs {run : Run} {records : List Record} (list : RunList run recor
   pub all : length logs ≡ tasks_of run
   pub each : (task : ℕ) (log : TaskLog) → slice_get logs task ≡ Some log → IsKept list task log
 
+-- the reports are the first of these: all, as long as there is room
+pub record AreFirst (reports : List Report) (room : ℕ) (all : List Report) : Type 0 where
+  pub later : List Report
+  pub reported : reports ++ later ≡ all
+  pub full : (later ≡ []) ⊎ (room ≤ length reports)
+
 -- The reports are the first of those that the list reports: all, as long as there is room, which there is for each
 -- watchpoint.
 pub record AreReported {run : Run} {records : List Record} (list : RunList run records) (reports : List Report)

@@ -14,9 +14,10 @@ use Rattle.litmus_cursor.specs.Words.{Symbol, sign}
 use Rattle.litmus_expression.specs.Expressions as grammar
 use Rattle.litmus_expression.specs.Expressions.{Applied, Combined, Expression, Level, Load, Operand, Pure, bare, level_of, sign_of_binary, sign_of_unary}
 use Rattle.litmus_expression.specs.Names.{IsChanged, IsRegister, IsVariable, Names, Parameter, known}
+use Rattle.litmus_parse.proofs.Becomes.{numbered_at}
 use Rattle.printed_texts.specs.PrintedNesting.{ExpressionNests, FetchNests, PureNests}
 use Rattle.printed_texts.specs.PrintedSymbols.{expression_symbols, fetch_symbols, load_symbols, pure_symbols}
-use Rattle.printed_texts.proofs.Grown.{Grown, level_grows, numbered_at, pure_grows, then}
+use Rattle.printed_texts.proofs.Grown.{Grown, level_grows, pure_grows, then}
 
 -- ---- levels
 

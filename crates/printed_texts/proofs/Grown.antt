@@ -1,36 +1,22 @@
 -- Names of registers keep their numbers behind what is spelled.
-use Rattle.std.proofs.Common.{◌≡◌, ℕ, zero, suc, List, [], ◌∷◌, ◌++◌, Option, Some, length, refl}
+use Rattle.std.proofs.Common.{◌≡◌, ℕ, List, Option, Some}
 use Rattle.std.specs.Prelude.{slice_get}
 use Rattle.litmus_syntax.specs.Tree as tree
 use Rattle.litmus_cursor.specs.Words.{Symbol}
 use Rattle.litmus_expression.specs.Expressions as grammar
 use Rattle.litmus_expression.specs.Expressions.{Level, Load, Operand, Pure}
-use Rattle.litmus_expression.specs.Names.{Names, Numbered, Parameter, known, new}
+use Rattle.litmus_expression.specs.Names.{Names, Numbered, Parameter}
 use Rattle.litmus_body.specs.Statements as statements
 use Rattle.litmus_body.specs.Statements.{Body, Declared, Enclosable, Simple, Statement, Statements}
+use Rattle.litmus_parse.proofs.Becomes.{numbered_grown}
 
 -- each number has the name that it had
 pub record Grown (before later : Names) : Type 0 where
   pub keeps : (k : ℕ) (x : List ℕ) → slice_get before k ≡ Some x → slice_get later k ≡ Some x
 
-append_before : (names : Names) (x y : List ℕ) (k : ℕ) → slice_get names k ≡ Some y → slice_get (names ++ x ∷ []) k ≡ Some y
-append_before [] x y k is = absurd cc
-append_before (m ∷ names) x y zero is = is
-append_before (m ∷ names) x y (suc k) is = append_before names x y k is
-
-append_there : (names : Names) (x : List ℕ) → slice_get (names ++ x ∷ []) (length names) ≡ Some x
-append_there [] x = refl
-append_there (n ∷ names) x = append_there names x
-
 pub numbered_grows : {limit number : ℕ} {name : List ℕ} {before later : Names} → Numbered limit before name number later
     → Grown before later
-numbered_grows (known there) = record { keeps = λ k x is. is }
-numbered_grows {name = name} {before = before} (new out lt) = record { keeps = λ k x is. append_before before name x k is }
-
-pub numbered_at : {limit number : ℕ} {name : List ℕ} {before later : Names} → Numbered limit before name number later
-    → slice_get later number ≡ Some name
-numbered_at (known there) = there
-numbered_at {name = name} {before = before} (new out lt) = append_there before name
+numbered_grows n = record { keeps = numbered_grown n }
 
 pub same : {names : Names} → Grown names names
 same = record { keeps = λ k x is. is }

@@ -14,9 +14,10 @@ use Rattle.litmus_parse.specs.Grammar.{task_of}
 use Rattle.litmus_parse.specs.Headers as headers
 use Rattle.litmus_parse.specs.Headers.{Process}
 use Rattle.litmus_parse.specs.Mentions.{Mention}
+use Rattle.litmus_parse.proofs.Becomes.{numbered_at}
 use Rattle.printed_texts.specs.Covered.{Covers, Extends}
 use Rattle.printed_texts.specs.PrintedCondition.{PropositionNests, proposition_symbols, quantifier_symbols}
-use Rattle.printed_texts.proofs.Grown.{numbered_at, numbered_grows}
+use Rattle.printed_texts.proofs.Grown.{numbered_grows}
 
 -- ---- processes that have more registers
 

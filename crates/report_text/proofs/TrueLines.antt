@@ -6,7 +6,7 @@ use Rattle.access_types.specs.Stamped.{Stamped}
 use Rattle.access_types.specs.declared.report.Report.TheVariants.{Two}
 use Rattle.access_types.specs.declared.report.ValueChange.{ValueChange}
 use Rattle.report_text.specs.Faults.{AreTrue}
-use Rattle.report_text.specs.Standing.{Names, Stands, accesses_of}
+use Rattle.report_text.specs.Standing.{Names, Stands, accesses_of, arms_of, reports_of, takes_of}
 use Rattle.report_text.specs.TraceText.{Head}
 use Rattle.report_text.specs.Truth.{IsRaceOf, IsTrueLine}
 use Rattle.report_text.specs.declared.line.Line.{Line}
@@ -19,6 +19,28 @@ accesses-append (lines.Access s ∷ xs) ys = ap (λ t. s ∷ t) (accesses-append
 accesses-append (lines.Arm a ∷ xs) ys = accesses-append xs ys
 accesses-append (lines.Take t ∷ xs) ys = accesses-append xs ys
 accesses-append (lines.Report r ∷ xs) ys = accesses-append xs ys
+
+-- and so armings, takings and reports
+pub arms-append : (xs ys : List Line) → arms_of (xs ++ ys) ≡ arms_of xs ++ arms_of ys
+arms-append [] ys = refl
+arms-append (lines.Access s ∷ xs) ys = arms-append xs ys
+arms-append (lines.Arm a ∷ xs) ys = ap (λ t. a ∷ t) (arms-append xs ys)
+arms-append (lines.Take t ∷ xs) ys = arms-append xs ys
+arms-append (lines.Report r ∷ xs) ys = arms-append xs ys
+
+pub takes-append : (xs ys : List Line) → takes_of (xs ++ ys) ≡ takes_of xs ++ takes_of ys
+takes-append [] ys = refl
+takes-append (lines.Access s ∷ xs) ys = takes-append xs ys
+takes-append (lines.Arm a ∷ xs) ys = takes-append xs ys
+takes-append (lines.Take t ∷ xs) ys = ap (λ u. t ∷ u) (takes-append xs ys)
+takes-append (lines.Report r ∷ xs) ys = takes-append xs ys
+
+pub reports-append : (xs ys : List Line) → reports_of (xs ++ ys) ≡ reports_of xs ++ reports_of ys
+reports-append [] ys = refl
+reports-append (lines.Access s ∷ xs) ys = reports-append xs ys
+reports-append (lines.Arm a ∷ xs) ys = reports-append xs ys
+reports-append (lines.Take t ∷ xs) ys = reports-append xs ys
+reports-append (lines.Report r ∷ xs) ys = ap (λ u. r ∷ u) (reports-append xs ys)
 
 -- what a ticket names among lines it names among more
 pub Names-more : (xs ys : List Line) (ticket : ℕ) (s : Stamped) → Names xs ticket s → Names (xs ++ ys) ticket s

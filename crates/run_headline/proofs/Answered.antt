@@ -20,6 +20,7 @@ use Rattle.run_lists.specs.Told.{OutcomeAt, came_next, outcomes_by}
 use Rattle.run_headline.specs.Settles.{AnswersTo, IsUntouched, IsUnwatched, One, OneAtMost, Settles, TellsOf, hears_finder}
 use Rattle.run_headline.specs.Takings.{EachSettles}
 use Rattle.run_headline.proofs.Heard.{hears_now, of_hearing}
+use Rattle.run_headline.proofs.Counts.{answers_all, tells_none, untouched_none, unwatched_none}
 use Rattle.run_headline.proofs.Weights.{counted, of_step, weigh}
 
 -- how many outcomes of a list are such
@@ -40,26 +41,7 @@ most_none : (p : Outcome → Bool) (Is : Outcome → Type 0) (fell : List Outcom
 most_none p Is fell are (inl none) = none_fell p fell none
 most_none p Is fell are (inr one) = one_of p false Is fell are one
 
--- which of them answer, and which tell of an unknown origin
-unwatched_none : (outcome : Outcome) → IsUnwatched outcome → is_answer outcome ≡ false
-unwatched_none outcomes.Nothing is = refl
-unwatched_none outcomes.Unencodable is = refl
-unwatched_none outcome is = absurd is
-
-untouched_none : (outcome : Outcome) → IsUntouched outcome → is_answer outcome ≡ false
-untouched_none outcomes.Quiet is = refl
-untouched_none (outcomes.Unknown old new) is = refl
-untouched_none outcome is = absurd is
-
-tells_none : (ticket : ℕ) (outcome : Outcome) → TellsOf ticket outcome → is_answer outcome ≡ false
-tells_none ticket (outcomes.Told pair) is = refl
-tells_none ticket outcome is = absurd is
-
-answers_all : (both : Halves) (outcome : Outcome) → AnswersTo both outcome → is_answer outcome ≡ true
-answers_all both (outcomes.Report pair seen) is = refl
-answers_all both (outcomes.Dropped reason) is = refl
-answers_all both outcome is = absurd is
-
+-- which of them tell of an unknown origin
 abbrev unknown_one : Outcome → Bool
 unknown_one outcome = is_unknown (Some outcome)
 

@@ -124,21 +124,21 @@ no_fell fell is = subst NoAnswer (sym is) tt
 one_fell : (fell : List Outcome) (outcome : Outcome) → fell ≡ outcome ∷ [] → is_answer outcome ≡ false → NoAnswer fell
 one_fell fell outcome is none = subst NoAnswer (sym is) (none, tt)
 
-unwatched_none : (outcome : Outcome) → IsUnwatched outcome → is_answer outcome ≡ false
+pub unwatched_none : (outcome : Outcome) → IsUnwatched outcome → is_answer outcome ≡ false
 unwatched_none outcomes.Nothing is = refl
 unwatched_none outcomes.Unencodable is = refl
 unwatched_none outcome is = absurd is
 
-untouched_none : (outcome : Outcome) → IsUntouched outcome → is_answer outcome ≡ false
+pub untouched_none : (outcome : Outcome) → IsUntouched outcome → is_answer outcome ≡ false
 untouched_none outcomes.Quiet is = refl
 untouched_none (outcomes.Unknown old new) is = refl
 untouched_none outcome is = absurd is
 
-tells_none : (ticket : ℕ) (outcome : Outcome) → TellsOf ticket outcome → is_answer outcome ≡ false
+pub tells_none : (ticket : ℕ) (outcome : Outcome) → TellsOf ticket outcome → is_answer outcome ≡ false
 tells_none ticket (outcomes.Told pair) is = refl
 tells_none ticket outcome is = absurd is
 
-answers_all : (both : Halves) (outcome : Outcome) → AnswersTo both outcome → is_answer outcome ≡ true
+pub answers_all : (both : Halves) (outcome : Outcome) → AnswersTo both outcome → is_answer outcome ≡ true
 answers_all both (outcomes.Report pair seen) is = refl
 answers_all both (outcomes.Dropped reason) is = refl
 answers_all both outcome is = absurd is

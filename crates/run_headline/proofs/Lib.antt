@@ -5,7 +5,6 @@ pub mod Waiting
 pub mod Counts
 pub mod Takings
 pub mod Endings
-pub mod Quiet
 pub mod Makers
 pub mod Opens
 pub mod Onces

@@ -37,7 +37,7 @@ use Rattle.run_headline.specs.Events.{AreMarks, IsEvent, Reads, ReadsAtMost, Wri
 use Rattle.run_lists.proofs.Intervals.{IsOpen}
 use Rattle.run_headline.specs.Finds.{IsFind, is_telling}
 use Rattle.run_headline.specs.Watches.{IsWatch, is_verdict}
-use Rattle.run_headline.proofs.Quiet.{IsOfCheck}
+use Rattle.setup_access.proofs.QuietSteps.{IsOfCheck}
 
 -- what a part of a check is by its records: a watch, or a find at some index under some word
 abbrev pub IsPart : Type 1

@@ -386,7 +386,7 @@ module _ (s : Setting) (end : List Happening)
         let point : Point = comes_at before rest (meaning.doing before.progress (happenings.Unlock lock ∷ [])) in
         plainly before (doing before rest (happenings.Unlock lock ∷ [])) records rest (happenings.Unlock lock ∷ []) point refl (tt, tt) refl refl refl
         (λ more outs goes. frees_lock s lock before.progress.did point more outs records rest has stores refl refl goes);
-    scoped = scoped_part;
+    scoped = λ a assertion. scoped_part a;
   }
 
 -- the points of a whole text tell its records, at which its outcomes fall

@@ -132,7 +132,7 @@ module _ (s : Setting) where
         (λ more goes. takes_lock (λ (r : List Record). Then r more) (plain_falls more) s.text.task (lock_number s lock) records rest takes goes);
     unlocks = λ lock before records rest has stores. nothing_new before _ records rest refl
         (λ more goes. done_step (λ (r : List Record). Then r more) (plain_falls more) s.text.task (LockStore (lock_number s lock)) records rest tt stores goes);
-    scoped = scoped_part;
+    scoped = λ a assertion. scoped_part a;
   }
 
 -- all outcomes of a text fall at its records

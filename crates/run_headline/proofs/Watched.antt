@@ -37,7 +37,7 @@ use Rattle.run_headline.specs.Watches.{is_verdict}
 use Rattle.run_headline.proofs.Makers as makers
 use Rattle.run_headline.proofs.Makers.{FitAt, finds_hit}
 use Rattle.run_headline.proofs.Opens.{AllOpen}
-use Rattle.run_headline.proofs.Quiet.{IsOfCheck}
+use Rattle.setup_access.proofs.QuietSteps.{IsOfCheck}
 use Rattle.run_headline.proofs.Tells as tells
 use Rattle.run_headline.proofs.Tells.{MadeFor, silent_check, stays}
 

@@ -246,7 +246,7 @@ module _ (s : Setting) where
     unlocks = λ lock before records rest has frees.
         comes before before records rest (meaning.doing before.progress (happenings.Unlock lock ∷ [])) refl refl
         ((stores s.text.task _).shrinks records tt rest frees);
-    scoped = λ a begun before opened closing after records inside later rest opens inner closes.
+    scoped = λ a assertion begun before opened closing after records inside later rest opens inner closes.
         after_both before opened after records inside rest (opens_after a begun before records opened inside opens)
         (after_both opened closing after inside later rest inner (closes_after begun before.scopes closing later after rest closes));
   }

@@ -162,7 +162,7 @@ kept_adds s = record {
       };
   locks = λ lock before records rest is takes. adds_plain before _ (happenings.Lock lock ∷ []) refl (tt, tt);
   unlocks = λ lock before records rest has frees. adds_plain before _ (happenings.Unlock lock ∷ []) refl (tt, tt);
-  scoped = λ a begun before opened closing after records inside later rest opens inner closes. record {
+  scoped = λ a assertion begun before opened closing after records inside later rest opens inner closes. record {
     more = happenings.Begin a ∷ (inner.more ++ happenings.End begun.access ∷ []);
     did = ap (λ (st : Standing). st.progress.did) closes.comes_to
         ∙ (ap (λ (d : List Happening). d ++ happenings.End begun.access ∷ [])

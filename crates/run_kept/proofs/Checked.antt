@@ -3,7 +3,6 @@ use Rattle.std.proofs.Common.{◌+◌, ◌⊎◌, length, length-append, ◌≡�
 use Rattle.std.proofs.Common.{MatchOption, ap, append-nil, append_assoc, arith, count_by, drop, if◌then◌else◌, inl, inr, refl, replicate, subst, suc, sym, zero}
 use Rattle.std.proofs.lemmas.List.Sums.{sum_by-cons}
 use Rattle.access_types.specs.Access as access
-use Rattle.access_types.specs.Marked.{CountsAfter}
 use Rattle.access_types.specs.Ticket.{ticket_number}
 use Rattle.access_types.specs.declared.history.Happening.{Happening}
 use Rattle.access_types.specs.declared.history.Happening.TheVariants as happenings
@@ -15,10 +14,10 @@ use Rattle.memory_operation.specs.declared.effect.Effect.{Effect}
 use Rattle.memory_operation.specs.declared.operation.Operation.{Operation}
 use Rattle.run_lists.proofs.Intervals as ends
 use Rattle.run_lists.proofs.Intervals.{Has, NoneEnds, has_either, has_first, has_last}
-use Rattle.run_lists.proofs.TaskFacts.{IsKnown}
+use Rattle.run_lists.proofs.TaskFacts.{IsKnown, begins_known, silenced_too}
 use Rattle.run_headline.specs.Watches.{is_verdict}
 use Rattle.setup_access.specs.Check as cases
-use Rattle.setup_access.specs.Check.{Check, ChecksAll, ChecksOnce, Close, Ends, Fallen, GoesOn, NoneFound, Pass, Passes, Rechecks, fallen_of, left_to_check}
+use Rattle.setup_access.specs.Check.{Check, ChecksOnce, Fallen, GoesOn, NoneFound, Pass, Passes, Rechecks, fallen_of, left_to_check}
 use Rattle.setup_access.specs.Found.{Takes, Tells}
 use Rattle.setup_access.specs.Own.{IsOwn}
 use Rattle.setup_access.specs.Records.{MakesDone}
@@ -34,7 +33,7 @@ use Rattle.watch_word.specs.Word.{Encodable}
 use Rattle.run_kept.specs.Stamps.{is_end}
 use Rattle.written_tellings.specs.Begins.{is_begin}
 use Rattle.written_order.specs.Access.{Makes}
-use Rattle.written_order.specs.Standing.{BeginsNow, Setting, Standing, checks_of, coming, counting, doing, moments, registered}
+use Rattle.written_order.specs.Standing.{BeginsNow, Setting, Standing, checks_of, coming, counting, doing, registered}
 use Rattle.written_order.specs.WrittenOrder.{ClosesScope, OpensScope, SpellsAll, at_first}
 use Rattle.written_order.proofs.AccessLemmas.{access_does, counting_progress, makes_did}
 use Rattle.written_order.proofs.Induction.{Kept, by_block}
@@ -240,37 +239,6 @@ module _ (s : Setting) (end : Standing) where
   FallsSo fallen = (IsTrue (is_verdict fallen.outcome) → IsWatched fallen.access)
       × ((pair : Halves) → fallen.outcome ≡ outcomes.Told pair → IsHeard fallen.access)
 
-  begins_known : (before : Standing) (a : access.Access) (begun : Begun) → BeginsNow s before a begun
-      → Begins (before.progress.did ++ happenings.Begin a ∷ []) end.progress.did → IsKnown s end begun
-  begins_known before a begun now begins = record {
-    before = before.progress.did;
-    later = begins.0;
-    split = begins.1 ∙ (append_assoc before.progress.did (happenings.Begin a ∷ []) begins.0
-        ∙ ap (λ (b : access.Access). before.progress.did ++ happenings.Begin b ∷ begins.0) (sym now.access));
-    own = subst (λ (b : access.Access). IsOwn (checks_of s) b) (sym now.access) now.own;
-    unmarked = λ no counts.
-        let yes : begun.marked ≡ true =
-        now.marked.1 (subst (λ (b : access.Access). CountsAfter s.rules.plain_writes_atomic b (moments s before)) now.access counts) in
-        let both : false ≡ true = sym no ∙ yes in absurd (cc);
-    heard = λ no raised.
-        let yes : begun.silenced ≡ true = now.silenced.1 raised in
-        let both : false ≡ true = sym no ∙ yes in absurd (cc);
-  }
-
-  unsilenced_before : (first second : Bool) → (first || second) ≡ false → first ≡ false
-  unsilenced_before true second is = is
-  unsilenced_before false second is = refl
-
-  silenced_too : (begun : Begun) (silenced : Bool) → IsKnown s end begun → IsKnown s end (record begun { silenced = begun.silenced || silenced })
-  silenced_too begun silenced known = record {
-    before = known.before;
-    later = known.later;
-    split = known.split;
-    own = known.own;
-    unmarked = known.unmarked;
-    heard = λ is. known.heard (unsilenced_before begun.silenced silenced is);
-  }
-
   abbrev AllKnown : List Begun → Type 0
   AllKnown [] = Unit {0}
   AllKnown (scope ∷ scopes) = IsKnown s end scope × AllKnown scopes
@@ -431,7 +399,7 @@ module _ (s : Setting) (end : Standing) where
         new = h.passes.outcomes;
         outcomes = ap (λ (st : Standing). st.outcomes) h.comes_to;
         fall = λ on known.
-            let now : IsKnown s end h.begun = begins_known before a h.begun h.begins
+            let now : IsKnown s end h.begun = begins_known s end before a h.begun h.begins
             (begins_on (before.progress.did ++ happenings.Begin a ∷ []) after.progress.did end.progress.did (
               moments_of a effect ++ happenings.End a ∷ [],
               did ∙ sym (append_assoc before.progress.did (happenings.Begin a ∷ []) (moments_of a effect ++ happenings.End a ∷ [])),
@@ -471,13 +439,13 @@ module _ (s : Setting) (end : Standing) where
             begins_on closing.progress.did after.progress.did end.progress.did (happenings.End begun.access ∷ [], last_did) on in
             let from_opened : Begins opened.progress.did end.progress.did =
             begins_on opened.progress.did closing.progress.did end.progress.did inner.begins from_closing in
-            let now : IsKnown s end begun = begins_known before a begun opens.begins
+            let now : IsKnown s end begun = begins_known s end before a begun opens.begins
             (subst (λ (d : List Happening). Begins d end.progress.did) opened_did from_opened) in
             each_both FallsSo (opens.passes.outcomes ++ inner.new) closes.passes.outcomes
             (each_both FallsSo opens.passes.outcomes inner.new
             (checked before.scopes begun before.asked records opens.passes inside now known opens.check)
             (inner.fall from_closing (subst AllKnown (sym opened_scopes) (all_with before.scopes begun known now))))
-            (rechecks ((record begun { silenced = begun.silenced || closes.silenced }) ∷ []) (silenced_too begun closes.silenced now, tt)
+            (rechecks ((record begun { silenced = begun.silenced || closes.silenced }) ∷ []) (silenced_too s end begun closes.silenced now, tt)
             closing.asked later closes.passes closes.close.1.0 closes.close.1.1);
       }
 
@@ -515,7 +483,7 @@ module _ (s : Setting) (end : Standing) where
         plainly before (doing before rest (happenings.Lock lock ∷ [])) records rest (happenings.Lock lock ∷ []) refl (tt, tt) (tt, tt) refl refl;
     unlocks = λ lock before records rest has stores.
         plainly before (doing before rest (happenings.Unlock lock ∷ [])) records rest (happenings.Unlock lock ∷ []) refl (tt, tt) (tt, tt) refl refl;
-    scoped = scoped_part;
+    scoped = λ a assertion. scoped_part a;
   }
 
 -- all outcomes of a text's checks

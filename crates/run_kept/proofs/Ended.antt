@@ -63,7 +63,7 @@ module _ (first : Point) where
         (arrives made rest (meaning.doing made.progress (happenings.End a ∷ [])));
     locks = λ lock before records rest is takes last. arrives before rest (meaning.doing before.progress (happenings.Lock lock ∷ []));
     unlocks = λ lock before records rest has frees last. arrives before rest (meaning.doing before.progress (happenings.Unlock lock ∷ []));
-    scoped = λ a begun before opened closing after records inside later rest opens inner closes is.
+    scoped = λ a assertion begun before opened closing after records inside later rest opens inner closes is.
         as_before (doing closing rest (happenings.End begun.access ∷ [])) after (ap (λ (st : Standing). st.way) closes.comes_to)
         (ap (λ (st : Standing). st.progress) closes.comes_to) (ap (λ (st : Standing). st.unbalanced) closes.comes_to)
         (arrives closing rest (meaning.doing closing.progress (happenings.End begun.access ∷ [])));

@@ -24,7 +24,7 @@ use Rattle.written_order.proofs.AccessLemmas.{access_does, counting_progress, ma
 use Rattle.written_order.proofs.ScopesLemmas.{counting_scopes, operated_scopes}
 use Rattle.written_order.proofs.WayLemmas.{Begins}
 use Rattle.run_kept.proofs.Checked.{count_both, counted}
-use Rattle.run_kept.proofs.Scoped.{Kept, by_block}
+use Rattle.written_order.proofs.Induction.{Kept, by_block}
 
 -- the verdict is on an access of this ticket, which is no scoped assertion
 abbrev pub is_verdict_of : ℕ → Fallen → Bool

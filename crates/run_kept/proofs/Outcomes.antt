@@ -1,8 +1,7 @@
 -- A part of a text adds at most nine outcomes for each access of which its statements make one.
 use Rattle.std.proofs.Common.{◌≡◌, ◌∙◌, ◌≤◌, ◌+◌, ◌*◌, ◌==◌, ◌||◌, ◌++◌, ◌∷◌, [], inl, inr, ℕ, zero, suc, Bool, true, false, List, MatchBool, Option, None, Some, ap, arith, length, not, refl, subst, sym, if◌then◌else◌}
-use Rattle.std.proofs.Math.Nat.{mul-one, mul-zero, mul_assoc, one-mul, suc-mul}
+use Rattle.std.proofs.Math.Nat.{one-mul, suc-mul}
 use Rattle.std.proofs.lemmas.List.{length-append}
-use native.Mathlib.Nat.{mul-add}
 use Rattle.access_types.specs.Access as access
 use Rattle.access_types.specs.declared.history.Bytes.{Bytes}
 use Rattle.access_types.specs.declared.history.Happening.TheVariants as happenings
@@ -13,7 +12,7 @@ use Rattle.litmus_meaning.specs.Calls.{Scoped, scoped_assertion}
 use Rattle.litmus_meaning.specs.Loads.{load_in}
 use Rattle.litmus_meaning.specs.Meaning.{Chooses, after_condition}
 use Rattle.litmus_meaning.specs.Task.{has_lock}
-use Rattle.litmus_syntax.specs.Limits.{BlockScopes, StatementScopes, block_repeats, own_repeats, scoped_limit, scopes_of, statement_repeats}
+use Rattle.litmus_syntax.specs.Limits.{BlockScopes, StatementScopes, block_repeats, scoped_limit, scopes_of, statement_repeats}
 use Rattle.litmus_syntax.specs.Sites.{accesses_of, assignment_has_access, call_has_access, expression_has_access, sites_of}
 use Rattle.litmus_syntax.specs.Tree.{Assignment, Block, Expression, Load, Statement}
 use Rattle.litmus_syntax.specs.Tree as tree
@@ -31,6 +30,7 @@ use Rattle.written_order.specs.Standing.{Setting, Standing, checks_of, coming, c
 use Rattle.written_order.specs.WrittenOrder.{ChecksAt, ClosesScope, MakesMark, Only, OpensScope, SpellsAll, Steps, StepsInBlock, StepsInDataRace, StepsOf}
 use Rattle.written_order.specs.WrittenOrder.{StepsOfAssignment, StepsOfBlock, StepsOfCall, StepsOfExpression, StepsOfLoad, StepsOfTurns, at_first, marked_so_often}
 use Rattle.written_order.proofs.ScopesLemmas.{counting_scopes, operated_scopes}
+use Rattle.written_tellings.proofs.BeginsBound.{scaled}
 
 -- a check of an access has one outcome, and those of the scoped assertions in force, at most
 module _ (s : checks.Setting) where
@@ -192,43 +192,6 @@ module _ (s : Setting) where
   call_adds site (calls.Mark m) before records after rest few h = mark_adds m before records after rest h
   call_adds site (calls.Check is_write x size) before records after rest few h =
       checked_adds (size == 0) before records after rest site _ _ few h
-
--- how often a text repeats its accesses, with the loops round it
-two_scaled : (turns x y one other : ℕ) → x ≡ turns * one → y ≡ turns * other → x + y ≡ turns * (one + other)
-two_scaled turns x y one other p q =
-    let all : turns * (one + other) ≡ turns * one + turns * other = mul-add turns one other in omega (arith, p, q, all)
-
-own_scaled : (turns : ℕ) (b : Bool) → (if b then turns else 0) ≡ turns * (if b then 1 else 0)
-own_scaled turns true = sym (mul-one turns)
-own_scaled turns false = sym (mul-zero turns)
-
-loop_scaled : (turns inner x y n : ℕ) → x ≡ turns * inner * n → y ≡ 1 * inner * n → x ≡ turns * y
-loop_scaled turns inner x y n p q =
-    let once : y ≡ inner * n = q ∙ ap (λ (k : ℕ). k * n) (one-mul inner) in
-    p ∙ (mul_assoc turns inner n ∙ ap (λ (k : ℕ). turns * k) (sym once))
-
-mutual
-  scaled_statement : (turns : ℕ) (st : Statement) → statement_repeats turns st ≡ turns * statement_repeats 1 st
-  scaled_statement turns (tree.load_only l) = own_scaled turns true
-  scaled_statement turns (tree.assign data_race a) = own_scaled turns (assignment_has_access a)
-  scaled_statement turns (tree.call c) = own_scaled turns (call_has_access c)
-  scaled_statement turns (tree.if_block e body) =
-      two_scaled turns (own_repeats turns (tree.if_block e body)) (block_repeats turns body) (own_repeats 1 (tree.if_block e body)) (block_repeats 1 body)
-      (own_scaled turns (expression_has_access e)) (scaled turns body)
-  scaled_statement turns (tree.if_else e body otherwise) =
-      two_scaled turns (own_repeats turns (tree.if_else e body otherwise) + block_repeats turns body) (block_repeats turns otherwise)
-      (own_repeats 1 (tree.if_else e body otherwise) + block_repeats 1 body) (block_repeats 1 otherwise)
-      (two_scaled turns (own_repeats turns (tree.if_else e body otherwise)) (block_repeats turns body) (own_repeats 1 (tree.if_else e body otherwise))
-      (block_repeats 1 body) (own_scaled turns (expression_has_access e)) (scaled turns body)) (scaled turns otherwise)
-  scaled_statement turns (tree.for_turns register inner body) =
-      loop_scaled turns inner (block_repeats (turns * inner) body) (block_repeats (1 * inner) body) (block_repeats 1 body)
-      (scaled (turns * inner) body) (scaled (1 * inner) body)
-
-  scaled : (turns : ℕ) (body : Block) → block_repeats turns body ≡ turns * block_repeats 1 body
-  scaled turns tree.empty = sym (mul-zero turns)
-  scaled turns (tree.first st more) =
-      two_scaled turns (statement_repeats turns st) (block_repeats turns more) (statement_repeats 1 st) (block_repeats 1 more)
-      (scaled_statement turns st) (scaled turns more)
 
 -- a scoped assertion makes an access, and puts one scope in force
 record IsScope (st : Statement) : Type 0 where

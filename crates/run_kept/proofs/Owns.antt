@@ -79,7 +79,7 @@ module _ (s : Setting) where
         (check_of (checks_of s) before.scopes made.begun before.asked records made.passes made.checked made.check));
     locks = λ lock before records rest is takes h. h;
     unlocks = λ lock before records rest has frees h. h;
-    scoped = λ a begun before opened closing after records inside later rest opens inner closes h.
+    scoped = λ a assertion begun before opened closing after records inside later rest opens inner closes h.
         let began : AllOfTask s.text.task opened.outcomes =
         subst (λ (st : Standing). AllOfTask s.text.task st.outcomes) (sym opens.comes_to)
         (both_of s.text.task before.outcomes opens.passes.outcomes h

@@ -27,7 +27,7 @@ use Rattle.run_kept.proofs.Begun.{NoBeginFirst, NoneBegins, moments_begin_none, 
 use Rattle.run_kept.proofs.Points.{EachDid, before_end, chain_after, each_at, falls_after, from_fewer, goes_on, past, stands_still, up_to_end}
 use Rattle.run_kept.proofs.Unfinished.{Unfinished, unfinished}
 use Rattle.run_headline.specs.Events.{DoesEvent}
-use Rattle.run_headline.proofs.Quiet.{IsOfCheck, once, rechecks}
+use Rattle.setup_access.proofs.QuietSteps.{IsOfCheck, once, rechecks}
 use Rattle.setup_access.specs.Check.{Check, ChecksBegun, Fallen, Passes, left_to_check}
 use Rattle.setup_access.specs.Fallen.{outcomes_in}
 use Rattle.setup_access.specs.Parts.{made}

@@ -2,6 +2,7 @@ pub mod CheckFacts
 pub mod CheckSteps
 pub mod TaskFacts
 pub mod OwnLasts
+pub mod Begun
 pub mod TwoSides
 pub mod Ways
 pub mod Intervals

@@ -1,6 +1,7 @@
 -- What is so of the records of checks is so of all records of a text.
 use Rattle.std.proofs.Common.{◌≡◌, ◌<◌, ◌≤◌, ◌+◌, ◌-◌, ◌∙◌, ◌∷◌, ◌++◌, ◌||◌, [], ℕ, suc, Bool, true, false, drop, length, map, replicate, List, Option, None, Some, MatchBool, ap, append_assoc, arith, refl, subst, sym}
 use Rattle.std.proofs.lemmas.List.{append-nil}
+use Rattle.access_types.specs.Kind.{is_scoped}
 use Rattle.access_types.specs.Access as access
 use Rattle.access_types.specs.Marked.{CountsAfter, EndsRaised, is_disable, is_enable, marks_of}
 use Rattle.access_types.specs.declared.history.Happening.{Happening}
@@ -183,7 +184,7 @@ module _ (s : Setting) (end : Standing) where
     pub heard : b.silenced ≡ false
         → ¬ EndsRaised is_disable is_enable (marks_of s.text.task (map (λ happening. record { task = s.text.task; happening = happening }) before))
 
-  begins_known : (before : Standing) (a : access.Access) (begun : Begun) → BeginsNow s before a begun → Begins (before.progress.did ++ happenings.Begin a ∷ []) end.progress.did → IsKnown begun
+  pub begins_known : (before : Standing) (a : access.Access) (begun : Begun) → BeginsNow s before a begun → Begins (before.progress.did ++ happenings.Begin a ∷ []) end.progress.did → IsKnown begun
   begins_known before a begun now begins = record {
     before = before.progress.did;
     later = begins.0;
@@ -203,7 +204,7 @@ module _ (s : Setting) (end : Standing) where
   unsilenced_before true second is = is
   unsilenced_before false second is = refl
 
-  silenced_too : (begun : Begun) (silenced : Bool) → IsKnown begun → IsKnown (record begun { silenced = begun.silenced || silenced })
+  pub silenced_too : (begun : Begun) (silenced : Bool) → IsKnown begun → IsKnown (record begun { silenced = begun.silenced || silenced })
   silenced_too begun silenced known = record {
     before = known.before;
     later = known.later;
@@ -424,10 +425,10 @@ module _ (s : Setting) (end : Standing) where
                 };
           }
 
-      scoped_part : (a : access.Access) (begun : Begun) (before opened closing after : Standing) (records inside later rest : List Record)
+      scoped_part : (a : access.Access) → is_scoped a.kind ≡ true → (begun : Begun) (before opened closing after : Standing) (records inside later rest : List Record)
           → OpensScope s before a records begun opened inside → Part opened inside closing later → ClosesScope s closing begun before.scopes later after rest
           → Part before records after rest
-      scoped_part a begun before opened closing after records inside later rest opens inner closes =
+      scoped_part a assertion begun before opened closing after records inside later rest opens inner closes =
           let opened_did : opened.progress.did ≡ before.progress.did ++ happenings.Begin a ∷ [] = ap (λ (st : Standing). st.progress.did) opens.comes_to in
           let last_did : after.progress.did ≡ closing.progress.did ++ happenings.End begun.access ∷ [] = ap (λ (st : Standing). st.progress.did) closes.comes_to in
           let inner_did : closing.progress.did ≡ before.progress.did ++ happenings.Begin a ∷ inner.begins.0 =
@@ -459,7 +460,7 @@ module _ (s : Setting) (end : Standing) where
               omega (arith, shorter, not_longer, one_less, dropped),
               from_both (length rest) inner.points (last ∷ []) (from_fewer (length later) (length rest) inner.points (omega (arith, one_less)) inner.from) (omega arith, tt),
             );
-            runs = (ways.kept_way first s).scoped a begun before opened closing after records inside later rest opens inner.runs closes;
+            runs = (ways.kept_way first s).scoped a assertion begun before opened closing after records inside later rest opens inner.runs closes;
             gives = λ w.
                 let opened_runs : IsWay first opened = ways.same_way first (doing before (drop 1 records) (happenings.Begin a ∷ [])) opened opened_way opened_did
                 (ways.does first before (drop 1 records) (happenings.Begin a ∷ []) w.way) in

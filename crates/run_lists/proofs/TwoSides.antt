@@ -1,27 +1,18 @@
 -- An answer to a taking names its setter and its finder, and a report of two sides a true race.
-use Rattle.std.proofs.Common.{◌≡◌, ◌≢◌, ◌↔◌, ◌<◌, ◌≤◌, ◌==◌, ◌⊎◌, ◌∙◌, ◌+◌, ◌-◌, ◌++◌, ◌||◌, inl, inr, ℕ, suc, zero, Bool, true, false, All, Contains, IsTrue, length, List, [], ◌∷◌, Option, Some, IsSomeAnd, ap, append_assoc, arith, map, refl, reverse, slice_get, slice_index_or, take, subst, sym}
+use Rattle.std.proofs.Common.{◌≡◌, ◌≢◌, ◌↔◌, ◌<◌, ◌==◌, ◌⊎◌, ◌∙◌, ◌+◌, ◌-◌, ◌++◌, ◌||◌, inl, inr, ℕ, suc, Bool, true, false, All, Contains, IsTrue, length, List, [], ◌∷◌, Option, Some, IsSomeAnd, ap, append_assoc, arith, map, refl, reverse, subst, sym}
 use Rattle.std.specs.List.{filter}
 use Rattle.std.specs.Option.{option_map}
-use Rattle.std.proofs.lemmas.Bool.{eq-eqb}
-use Rattle.std.proofs.lemmas.Bool.Decides.{eqb_tells, leb_tells}
+use Rattle.std.proofs.lemmas.Bool.Decides.{eqb_tells}
 use Rattle.std.proofs.lemmas.List.{append-nil, length-append, length-reverse, reverse-append, reverse-reverse}
 use Rattle.std.proofs.lemmas.List.Elements.{All-append, All-cons, All-nil}
 use Rattle.std.specs.FinMap as fin
 use Rattle.access_types.specs.Access as access
 use Rattle.access_types.specs.Access.{Breaks, Overlap}
-use Rattle.access_types.specs.History.{History, beginning, happenings_of}
 use Rattle.access_types.specs.Kind.{write_flag}
-use Rattle.access_types.specs.Marked.{BeginsAfter, CountedAsMarked, CountsAfter, EndsRaised, Silenced, is_disable, is_enable, marks_of}
-use Rattle.access_types.specs.declared.history.Mark.{Mark}
+use Rattle.access_types.specs.Marked.{CountedAsMarked, Silenced}
 use Rattle.access_types.specs.Race.{TrueRace}
 use Rattle.access_types.specs.Ticket.{ticket_number}
-use Rattle.access_types.specs.declared.history.Happening.{Happening}
-use Rattle.access_types.specs.declared.history.Happening.TheVariants as happenings
-use Rattle.litmus_meaning.specs.TextSites.{IsOfText, block_sites}
-use Rattle.litmus_meaning.specs.RunOfProgram.{setting_of}
-use Rattle.litmus_meaning.proofs.TicketLemmas.{numbered, of_text}
-use Rattle.litmus_meaning.proofs.TextSitesLemmas.{begun_at}
-use Rattle.litmus_syntax.specs.Tree as tree
+use Rattle.litmus_meaning.proofs.TicketLemmas.{numbered}
 use Rattle.setup_access.specs.Check.{Fallen}
 use Rattle.setup_access.specs.Hits.{Hits}
 use Rattle.setup_access.specs.declared.begun.Begun.{Begun}
@@ -60,20 +51,18 @@ use Rattle.watch_word.specs.declared.layout.Layout.{Layout}
 use Rattle.watch_word.specs.declared.watch.Watch.{Watch}
 use Rattle.written_order.specs.Standing as tasks
 use Rattle.written_order.specs.Standing.{Point, Standing, checks_of}
-use Rattle.written_order.specs.Told.{did_by, fell_next, to_come}
+use Rattle.written_order.specs.Told.{did_by, to_come}
 use Rattle.written_order.specs.WrittenOrder.{first_point}
-use Rattle.written_order.proofs.MeaningLemmas.{whole_means}
-use Rattle.written_order.proofs.WayLemmas.{Begins}
-use Rattle.run_lists.specs.Run.{IsOfProgram, Run, first_cells, idle, locks_of, task_of, task_setting}
+use Rattle.run_lists.specs.Run.{IsOfProgram, Run, first_cells, locks_of, task_of, task_setting}
 use Rattle.run_lists.specs.RunList.{RunList}
 use Rattle.run_lists.specs.Answers.{AnswersTaking, IfAnswer, IsOfPair, is_answer}
-use Rattle.run_lists.specs.Told.{Armed, OutcomeAt, armed_by, armed_in, came_next, outcome_at, history_by, history_of, made_by, moments_of, outcomes_by, outcomes_of}
-use Rattle.run_lists.specs.TwoSides.{IfTwoSided, NamesBoth, NamesTwoSides}
+use Rattle.run_lists.specs.Told.{Armed, OutcomeAt, armed_by, armed_in, came_next, outcome_at, history_by, history_of, made_by, outcomes_by, outcomes_of}
+use Rattle.run_lists.specs.TwoSides.{IfTwoSided, NamesBoth}
+use Rattle.run_lists.proofs.Begun.{heard_so, is_below, of_program, once, unmarked_so}
 use Rattle.run_lists.proofs.CheckFacts.{AllFallSo, FallsSo, IsAnswered, IsTold, OnTell, TellsKnown, back}
-use Rattle.run_lists.proofs.Histories.{did_of_all, front_of, in_progress, of_both, of_task}
+use Rattle.run_lists.proofs.Histories.{front_of, in_progress}
 use Rattle.run_lists.proofs.Intervals.{IsOpen}
-use Rattle.run_lists.proofs.OwnMarks.{begins_once, counts_own, marks_same}
-use Rattle.run_lists.proofs.OwnLasts.{finder_told, hears_at, one_arming, own_latest, own_name, own_split, own_word, last_below, number_below, same_arming, stands_at, stands_later, still_told}
+use Rattle.run_lists.proofs.OwnLasts.{finder_told, hears_at, one_arming, own_latest, own_name, own_split, own_word, last_below, number_below, same_arming, stands_at, stands_later}
 use Rattle.run_lists.proofs.TaskFacts.{AreGood, During, IsKnown, whole_text}
 use Rattle.run_lists.proofs.Ways.{whole_chain}
 
@@ -97,10 +86,6 @@ same_front (first ∷ p) (other ∷ u) q v same is =
     let rest : p ++ q ≡ u ++ v = cc in
     let shorter : length p ≡ length u = omega (arith, same) in
     ap (λ (r : Record). r ∷ p) one ∙ ap (λ (r : List Record). other ∷ r) (same_front p u q v shorter rest)
-
-there : (before later : List Happening) (x : Happening) → slice_get (before ++ x ∷ later) (length before) ≡ Some x
-there [] later x = refl
-there (first ∷ before) later x = there before later x
 
 tells_at : (s : tasks.Setting) (end : Standing) (In : Begun → ℕ → Type 0) (p q own : List Record) (x : Record)
     → TellsKnown (checks_of s) (IsKnown s end) In own (p ++ x ∷ q) → OnTell (checks_of s) (IsKnown s end) In (back p own) x.step
@@ -143,18 +128,6 @@ one_breaks : (first second : Bool) → IsTrue (first || second) → IsTrue first
 one_breaks true second h = inl refl
 one_breaks false second h = inr h
 
-take_front : (p q : List Happening) → take (length p) (p ++ q) ≡ p
-take_front [] q = refl
-take_front (x ∷ p) q = ap (λ (d : List Happening). x ∷ d) (take_front p q)
-
-beyond : (tasks : List tree.Task) (number : ℕ) → length tasks ≤ number → slice_index_or tasks number idle ≡ idle
-beyond [] number past = refl
-beyond (one ∷ tasks) zero past = absurd (omega (arith, past))
-beyond (one ∷ tasks) (suc number) past = beyond tasks number (omega (arith, past))
-
-own_begin : (a : access.Access) (later : History) → happenings_of a.task (beginning a ∷ later) ≡ happenings.Begin a ∷ happenings_of a.task later
-own_begin a later = rw (eq-eqb a.task a.task refl) refl
-
 taken_word : Option Part → ℕ
 taken_word (Some (Taken word)) = word
 taken_word part = 0
@@ -187,88 +160,13 @@ module _ (run : Run) (records : List Record) (list : RunList run records)
   abbrev during : ℕ → Begun → ℕ → Type 0
   during task = During (task_setting run task) (ending task) (first_of task) (length (whole task))
 
-  -- an access of a task that has begun is one of the program
-  of_program : (task : ℕ) (b : Begun) → IsKnown (task_setting run task) (ending task) b → IsOfProgram run b.access
-  of_program task b known =
-      let s : tasks.Setting = task_setting run task in
-      let means = whole_means s (length (task_of run task).registers) (task_of run task).body (whole task) (list.tasks task).whole in
-      let at : slice_get (ending task).progress.did (length known.before) ≡ Some (happenings.Begin b.access) =
-      subst (λ (d : List Happening). slice_get d (length known.before) ≡ Some (happenings.Begin b.access)) (sym known.split) (there known.before known.later (happenings.Begin b.access)) in
-      let text : IsOfText (setting_of run.program run.places task) (task_of run task).body b.access =
-      of_text s.text (task_of run task).body _ (ending task).progress means (length known.before) b.access at in
-      subst (λ (t : ℕ). IsOfText (setting_of run.program run.places t) (task_of run t).body b.access) (sym known.own.task) text
-
-  -- an access of the program is of one of its tasks
-  is_below : (a : access.Access) → IsOfProgram run a → a.task < length run.program.tasks
-  is_below a of = elim (leb_tells (length run.program.tasks) a.task) [
-    | inr below ↦ below.1
-    | inl past ↦
-        let none : task_of run a.task ≡ idle = beyond run.program.tasks a.task past.1 in
-        let empty : slice_get (block_sites (setting_of run.program run.places a.task) tree.empty) a.site ≡ Some of.site =
-        subst (λ (t : tree.Task). slice_get (block_sites (setting_of run.program run.places a.task) t.body) a.site ≡ Some of.site) none of.stands in
-        absurd (cc)
-  ]
-
-  -- each access begins once in all that a task does
-  begins_as : (task : ℕ) (a : access.Access) (p q : List Happening) → (ending task).progress.did ≡ p ++ happenings.Begin a ∷ q → a.rep ≡ begun_at a.site p
-  begins_as task a p q split =
-      let s : tasks.Setting = task_setting run task in
-      let means = whole_means s (length (task_of run task).registers) (task_of run task).body (whole task) (list.tasks task).whole in
-      let at : slice_get (ending task).progress.did (length p) ≡ Some (happenings.Begin a) =
-      subst (λ (d : List Happening). slice_get d (length p) ≡ Some (happenings.Begin a)) (sym split) (there p q (happenings.Begin a)) in
-      let got = numbered s.text (task_of run task).body _ (ending task).progress means (length p) a at in
-      let front : take (length p) (ending task).progress.did ≡ p =
-      ap (λ (d : List Happening). take (length p) d) split ∙ take_front p (happenings.Begin a ∷ q) in
-      ap (λ (x : access.Access). x.rep) got.2 ∙ ap (λ (d : List Happening). begun_at a.site d) front
-
-  once : (task : ℕ) (a : access.Access) (p q r t : List Happening) → (ending task).progress.did ≡ p ++ happenings.Begin a ∷ q
-      → (ending task).progress.did ≡ r ++ happenings.Begin a ∷ t → p ≡ r
-  once task a p q r t first second =
-      begins_once a (ending task).progress.did p q r t first second (begins_as task a p q first) (begins_as task a r t second)
-
   -- all records of a task are good
   good_of : (task : ℕ) → AreGood (task_setting run task) (ending task) (first_of task) (length (whole task)) [] (whole task) (ending task).outcomes
   good_of task =
       let s : tasks.Setting = task_setting run task in
       let written = list.tasks task in
       whole_text s (length (task_of run task).registers) (task_of run task).body (whole task) written.whole (first_of task) refl
-      (whole_chain s (length (task_of run task).registers) (task_of run task).body (whole task) written.whole (first_of task) refl).0 (once task)
-
-  -- an access that has begun begins in the history after what its task had done before it, and never else
-  module _ (task : ℕ) (b : Begun) (known : IsKnown (task_setting run task) (ending task) b) where
-    abbrev its_task : b.access.task ≡ task
-    its_task = known.own.task
-
-    began_after : (before : History) → BeginsAfter (history_of list) b.access before → happenings_of b.access.task before ≡ known.before
-    began_after before begins =
-        let t : ℕ = b.access.task in
-        let below : t < length run.program.tasks = is_below b.access (of_program task b known) in
-        let own : happenings_of t (history_of list) ≡ happenings_of t before ++ happenings.Begin b.access ∷ happenings_of t begins.later =
-        ap (λ (h : History). happenings_of t h) begins.split
-        ∙ (of_both t before (beginning b.access ∷ begins.later)
-        ∙ ap (λ (d : List Happening). happenings_of t before ++ d) (own_begin b.access begins.later)) in
-        let did : Begins (did_by (list.tasks t) (made_by t records)) (list.tasks t).whole.end.progress.did = did_of_all (list.tasks t) (made_by t records) in
-        let whole_did : (ending t).progress.did ≡ (happenings_of t before ++ happenings.Begin b.access ∷ happenings_of t begins.later) ++ did.0 =
-        did.1 ∙ ap (λ (d : List Happening). d ++ did.0) (sym (of_task run records list t below records) ∙ own) in
-        let split : (ending t).progress.did ≡ happenings_of t before ++ happenings.Begin b.access ∷ (happenings_of t begins.later ++ did.0) =
-        whole_did ∙ append_assoc (happenings_of t before) (happenings.Begin b.access ∷ happenings_of t begins.later) did.0 in
-        let here : (ending task).progress.did ≡ happenings_of t before ++ happenings.Begin b.access ∷ (happenings_of t begins.later ++ did.0) =
-        subst (λ (u : ℕ). (ending u).progress.did ≡ happenings_of t before ++ happenings.Begin b.access ∷ (happenings_of t begins.later ++ did.0)) known.own.task split in
-        once task b.access (happenings_of t before) (happenings_of t begins.later ++ did.0) known.before known.later here known.split
-
-    unmarked_so : b.marked ≡ false → ¬ CountedAsMarked run.rules.plain_writes_atomic (history_of list) b.access
-    unmarked_so none counted =
-        let own = counts_own run.rules.plain_writes_atomic b.access counted.before counted.counts in
-        let at = subst (λ (d : List Happening). CountsAfter run.rules.plain_writes_atomic b.access (moments_of b.access.task d)) (began_after counted.before counted.begins) own in
-        let mine = subst (λ (t : ℕ). CountsAfter run.rules.plain_writes_atomic b.access (moments_of t known.before)) known.own.task at in
-        known.unmarked none mine
-
-    heard_so : b.silenced ≡ false → ¬ Silenced (history_of list) b.access
-    heard_so none silenced =
-        let own = subst (λ (m : List Mark). EndsRaised is_disable is_enable m) (sym (marks_same b.access.task silenced.before)) silenced.disabled in
-        let at = subst (λ (d : List Happening). EndsRaised is_disable is_enable (marks_of b.access.task (moments_of b.access.task d))) (began_after silenced.before silenced.begins) own in
-        let mine = subst (λ (t : ℕ). EndsRaised is_disable is_enable (marks_of t (moments_of t known.before))) known.own.task at in
-        known.heard none mine
+      (whole_chain s (length (task_of run task).registers) (task_of run task).body (whole task) written.whole (first_of task) refl).0 (once run records list task)
 
   -- what is so of a tell
   told_by : (task : ℕ) (later earlier : List Record) (latest : Record) (index ticket : ℕ) → records ≡ later ++ latest ∷ earlier → latest.task ≡ task → latest.step ≡ Tell index ticket
@@ -358,8 +256,8 @@ module _ (run : Run) (records : List Record) (list : RunList run records)
         let word : by.word ≡ word_of run.rules.layout a = sym taken ∙ (one.1 ∙ setter_word) in
         let b : access.Access = by.by.access in
         let found = finder_told run.rules.slots (locks_of run) (first_cells run) earlier at.index task pair kept part at.hears at.above in
-        let b_is : IsOfProgram run b = of_program finder by.by by.known in
-        let a_is : IsOfProgram run a = subst (λ (x : access.Access). IsOfProgram run x) at.is (of_program task at.by at.known) in
+        let b_is : IsOfProgram run b = of_program run records list finder by.by by.known in
+        let a_is : IsOfProgram run a = subst (λ (x : access.Access). IsOfProgram run x) at.is (of_program run records list task at.by at.known) in
         let a_task : a.task ≡ task = sym (ap (λ (x : access.Access). x.task) at.is) ∙ at.known.own.task in
         let base : List Record = tell.earlier in
         let grown : List Record = tell.later ++ tell.latest ∷ [] in
@@ -375,8 +273,8 @@ module _ (run : Run) (records : List Record) (list : RunList run records)
         ∙ (ap (λ (r : List Record). length r) (own_split task grown base) ∙ length-append (records_of task grown) (records_of task base)) in
         let setter_goes : During (task_setting run task) (ending task) (first_of task) (length (whole task)) at.by (made_by task base) =
         at.goes (made_by task base) armed_before (omega (arith, own_parts)) in
-        let a_below : a.task < length run.program.tasks = is_below a a_is in
-        let b_below : b.task < length run.program.tasks = is_below b b_is in
+        let a_below : a.task < length run.program.tasks = is_below run records list a a_is in
+        let b_below : b.task < length run.program.tasks = is_below run records list b b_is in
         let setter_open : IsOpen (did_by (list.tasks a.task) (made_by a.task base)) a =
         subst (λ (t : ℕ). IsOpen (did_by (list.tasks t) (made_by t base)) a) (sym a_task)
         (subst (λ (x : access.Access). IsOpen (did_by (list.tasks task) (made_by task base)) x) at.is setter_goes) in
@@ -385,7 +283,7 @@ module _ (run : Run) (records : List Record) (list : RunList run records)
         let before : List Record = (later ++ tell.later) ++ tell.latest ∷ [] in
         let all_split : records ≡ before ++ base = whole_split ∙ sym (append_assoc (later ++ tell.later) (tell.latest ∷ []) base) in
         let setter_unmarked : ¬ CountedAsMarked run.rules.plain_writes_atomic (history_of list) a =
-        subst (λ (x : access.Access). ¬ CountedAsMarked run.rules.plain_writes_atomic (history_of list) x) at.is (unmarked_so task at.by at.known at.unmarked) in
+        subst (λ (x : access.Access). ¬ CountedAsMarked run.rules.plain_writes_atomic (history_of list) x) at.is (unmarked_so run records list task at.by at.known at.unmarked) in
         let stands : fin.get run.sites pair.finder ≡ Some b = (list.sites pair.finder b).1 (by.is, b_is) in
         let encoding = drops_encoding (checks_of (task_setting run task)) a at.values pair outcome at.verdict in
         let same : found.0 ≡ heard_it.number = some_same (sym found.1 ∙ heard_it.met.last) in
@@ -421,8 +319,8 @@ module _ (run : Run) (records : List Record) (list : RunList run records)
             overlap = shares_one;
             breaks = breaks_of run.rules.layout a b by.word (record { encodable = at.encodable; is = word }) by.hits;
             unmarked = λ both. setter_unmarked both.0;
-            first_heard = subst (λ (x : access.Access). ¬ Silenced (history_of list) x) at.is (heard_so task at.by at.known at.unsilenced);
-            second_heard = heard_so finder by.by by.known by.unsilenced;
+            first_heard = subst (λ (x : access.Access). ¬ Silenced (history_of list) x) at.is (heard_so run records list task at.by at.known at.unsilenced);
+            second_heard = heard_so run records list finder by.by by.known by.unsilenced;
             moment = length (history_by list base);
             first_goes = in_progress run records list before base all_split a a_below setter_open;
             second_goes = in_progress run records list before base all_split b b_below finder_open;

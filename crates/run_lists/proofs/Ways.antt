@@ -162,7 +162,7 @@ module _ (first : Point) where
         (does before (drop 1 records) (happenings.Begin a ∷ []) way)));
     locks = λ lock before records rest is takes way. does before rest (happenings.Lock lock ∷ []) way;
     unlocks = λ lock before records rest has stores way. does before rest (happenings.Unlock lock ∷ []) way;
-    scoped = λ a begun before opened closing after records inside later rest opens inner closes way.
+    scoped = λ a assertion begun before opened closing after records inside later rest opens inner closes way.
         let start : IsWay opened =
         same_way (doing before (drop 1 records) (happenings.Begin a ∷ [])) opened
         (ap (λ (st : Standing). st.way) opens.comes_to)

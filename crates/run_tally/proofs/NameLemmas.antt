@@ -1,58 +1,29 @@
 -- The reports of a run on threads name accesses of its program.
-use Rattle.std.proofs.Common.{◌≡◌, ℕ, zero, suc, All, IsSome, IsSomeAnd, List, Option, None, Some, inl, inr, refl, slice_get, subst, sym}
+use Rattle.std.proofs.Common.{◌≡◌, ℕ, zero, suc, All, IsSome, List, Option, None, Some, refl, subst, sym}
 use Rattle.std.proofs.lemmas.List.Elements.{All-append, All-filter, All-nil, All-weaker}
-use Rattle.std.proofs.lemmas.Option.{get_or_from_slice_get, slice_get_cases}
 use Rattle.std.specs.FinMap as map
 use Rattle.access_types.specs.Access.{Access}
 use Rattle.access_types.specs.Sites.{AccessMap}
 use Rattle.access_types.specs.Ticket.{ticket_number}
 use Rattle.access_types.specs.declared.report.Report.{Report}
 use Rattle.access_types.specs.declared.report.Report.TheVariants.{Two, Unknown}
-use Rattle.litmus_meaning.specs.RunOfProgram.{setting_of}
-use Rattle.litmus_meaning.specs.TextSites.{IsOfText}
-use Rattle.litmus_step.proofs.FirstLemmas.{past}
+use Rattle.litmus_step.proofs.FirstLemmas.{of_task}
 use Rattle.litmus_step.specs.Runs.{tasks_of}
 use Rattle.litmus_step.specs.declared.settings.Settings.{Settings}
-use Rattle.litmus_syntax.specs.Tree.{Task}
 use Rattle.litmus_syntax.specs.Views.{program_of}
 use Rattle.litmus_syntax.specs.declared.program.Program.{Program}
 use Rattle.program_layout.specs.Places.{places_of}
-use Rattle.program_sites.specs.Sites as sites
 use Rattle.program_sites.specs.Sites.{AreSitesOf}
 use Rattle.report_text.specs.ReportOf.{NamesAccesses}
 use Rattle.run_headline.specs.Reported.{IsTrueReport}
 use Rattle.run_kept.specs.Setters.{is_by, reports_by}
 use Rattle.run_lists.specs.Reports.{reports_of}
-use Rattle.run_lists.specs.Run.{IsOfProgram, Run, idle}
+use Rattle.run_lists.specs.Run.{IsOfProgram, Run}
 use Rattle.run_lists.specs.RunList.{RunList}
 use Rattle.run_kept.specs.Lists.{ByTask}
 use Rattle.runner.specs.Result.{IsRunOnce}
 use Rattle.runner.specs.declared.result.RunResult.{RunResult}
 use Rattle.slot_table.specs.declared.records.Record.{Record}
-
--- the access of a task that is there is one of the program's
-of_task : (run : Run) (a : Access) → IsOfProgram run a → sites.IsOfProgram run.program run.places a
-of_task run a of =
-    elim (slice_get_cases run.program.tasks a.task).1 [
-      | inl there ↦ is_there run a (slice_get run.program.tasks a.task) there.0 there.2
-          (subst (λ (t : Task). IsOfText (setting_of run.program run.places a.task) t.body a)
-          (get_or_from_slice_get run.program.tasks a.task there.0 idle there.2) of)
-      | inr beyond ↦ absurd (no_site (subst (λ (t : Task). IsOfText (setting_of run.program run.places a.task) t.body a)
-          (past run a.task beyond.0) of))
-    ]
-  where
-    is_there : (r : Run) (b : Access) (found : Option Task) (task : Task) → found ≡ Some task
-        → IsOfText (setting_of r.program r.places b.task) task.body b
-        → IsSomeAnd found (λ t. IsOfText (setting_of r.program r.places b.task) t.body b)
-    is_there r b None task found h = absurd (cc)
-    is_there r b (Some other) task found h =
-        subst (λ (t : Task). IsOfText (setting_of r.program r.places b.task) t.body b) (sym (same_task other task found)) h
-      where
-        same_task : (x y : Task) → Some x ≡ Some y → x ≡ y
-        same_task x y e = cc
-
-    no_site : IsOfText (setting_of run.program run.places a.task) idle.body a → ⊥
-    no_site h = let no = h.stands in absurd (cc)
 
 there : {X : Type 0} (found : Option X) (x : X) → found ≡ Some x → IsSome found
 there None x is = absurd (cc)

@@ -1,11 +1,12 @@
 -- One step more of a task at its seat.
-use Rattle.std.proofs.Common.{◌≡◌, ◌<◌, ◌≤◌, ◌++◌, ◌∙◌, ◌∷◌, [], ℕ, List, Option, None, Some, ap, append_assoc, arith, inl, inr, length, refl, reverse, subst, sym}
-use Rattle.std.proofs.lemmas.List.{append-nil, reverse-reverse}
+use Rattle.std.proofs.Common.{◌≡◌, ◌<◌, ◌≤◌, ◌++◌, ◌∙◌, ◌∷◌, [], ℕ, List, Option, ap, arith, length, reverse, subst, sym}
+use Rattle.std.proofs.lemmas.List.{reverse-reverse}
 use Rattle.std.specs.Option.{option_to_list}
 use Rattle.access_types.specs.declared.report.Report.{Report}
 use Rattle.litmus_step.proofs.NameLemmas.{last_of_all, some_answer}
 use Rattle.litmus_step.proofs.StepLemmas.{AnAnswerLeadsOn, StepsNameWords, reversed}
 use Rattle.litmus_step.specs.Kept.{Added, IsNotedIn, accesses_kept, watches_kept}
+use Rattle.litmus_step.proofs.KeptLemmas.{more_reports}
 use Rattle.litmus_step.specs.Leads.{MakesNext}
 use Rattle.litmus_step.specs.Runs.{CanBeMade, tasks_of}
 use Rattle.litmus_syntax.specs.Tree.{Block}
@@ -14,7 +15,6 @@ use Rattle.run_lists.specs.RunList.{InWrittenOrder}
 use Rattle.run_kept.proofs.Ties.{says_what_is_noted}
 use Rattle.run_kept.specs.Noted.{AreNoted, IsNoted}
 use Rattle.runner.proofs.DoneWith.{does_last}
-use Rattle.runner.specs.Kept.{AreFirst}
 use Rattle.runner.specs.Led.{IsLed}
 use Rattle.runner.specs.Machine.{SaysBegin}
 use Rattle.setup_access.specs.Parts.{made}
@@ -45,35 +45,6 @@ OneMoreIsNoted = (s : Setting) (registers : ℕ) (body : Block) (records : List 
     → (one : WrittenOrder s registers body records) → (other : WrittenOrder s registers body (records ++ latest ∷ []))
     → AreNoted one (reverse records) before → IsNoted other (length records) latest noted
     → AreNoted other (reverse (records ++ latest ∷ [])) (noted ∷ before)
-
--- what is added to the reports is what the steps report more
-more_reports : (report : Option Report) (room : ℕ) (before after told all : List Report) → AreFirst before room told
-    → all ≡ told ++ option_to_list report → Added report room before after → AreFirst after room all
-more_reports None room before after told all so_far more added =
-    subst (λ (rs : List Report). AreFirst rs room all) (sym added)
-    (subst (λ (rs : List Report). AreFirst before room rs) (sym (more ∙ append-nil told)) so_far)
-more_reports (Some report) room before after told all so_far more added =
-    elim added [
-      | inl pushed ↦
-          let below = pushed.0 in
-          let whole : before ≡ told = elim so_far.full [
-            | inl none ↦ sym (append-nil before) ∙ ap (λ (rs : List Report). before ++ rs) (sym none) ∙ so_far.reported
-            | inr over ↦ absurd (omega (arith, below, over))
-          ] in
-          record {
-            later = [];
-            reported = append-nil after ∙ pushed.1 ∙ ap (λ (rs : List Report). rs ++ report ∷ []) whole ∙ sym more;
-            full = inl refl;
-          }
-      | inr over ↦
-          record {
-            later = so_far.later ++ report ∷ [];
-            reported = ap (λ (rs : List Report). rs ++ (so_far.later ++ report ∷ [])) over.1
-                ∙ sym (append_assoc before so_far.later (report ∷ []))
-                ∙ ap (λ (rs : List Report). rs ++ report ∷ []) so_far.reported ∙ sym more;
-            full = inr (subst (λ (rs : List Report). room ≤ length rs) (sym over.1) over.0);
-          }
-    ]
 
 -- the same of records that stand the other way round
 noted_so : (s : Setting) (registers : ℕ) (body : Block) (records all own : List Record) (noted : List Noted) → all ≡ records

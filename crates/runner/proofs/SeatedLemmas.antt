@@ -11,7 +11,7 @@ use Rattle.litmus_syntax.specs.Tree.{Block}
 use Rattle.run_lists.specs.Run.{Run, first_words, idle, task_of, task_setting}
 use Rattle.run_kept.specs.Noted.{AreNoted}
 use Rattle.runner.specs.Found.{IsFound}
-use Rattle.runner.specs.Kept.{AreFirst}
+use Rattle.litmus_step.specs.Kept.{AreFirst}
 use Rattle.runner.specs.Led.{IsLed}
 use Rattle.runner.specs.Machine.{SaysBegin}
 use Rattle.runner.specs.Terms.{AreTerms, run_by}

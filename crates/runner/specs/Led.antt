@@ -5,7 +5,7 @@ use Rattle.litmus_step.specs.Kept.{accesses_kept, watches_kept}
 use Rattle.run_lists.specs.Run.{Run, task_of, task_setting}
 use Rattle.run_lists.specs.RunList.{InWrittenOrder}
 use Rattle.run_kept.specs.Noted.{AreNoted}
-use Rattle.runner.specs.Kept.{AreFirst}
+use Rattle.litmus_step.specs.Kept.{AreFirst}
 use Rattle.slot_table.specs.declared.records.Record.{Record}
 use Rattle.task_log.specs.Keeps.{Keeps}
 use Rattle.task_log.specs.Reports.{reported_in}

@@ -1,4 +1,3 @@
-pub mod Kept
 pub mod Machine
 pub mod Led
 pub mod Errors

@@ -11,6 +11,7 @@ pub mod LeadsLemmas
 pub mod NextLemmas
 pub mod LawLemmas
 pub mod DisciplineLemmas
+pub mod QuietSteps
 pub mod LocksLemmas
 pub mod FallLemmas
 pub mod FallenUnique

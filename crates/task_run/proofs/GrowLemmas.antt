@@ -86,7 +86,7 @@ kept_growth s = record {
   makes = λ a operation effect before records after rest h. makes_grow s before a operation records effect after rest h;
   locks = λ lock before records rest is takes. (happenings.Lock lock ∷ [], refl);
   unlocks = λ lock before records rest has stores. (happenings.Unlock lock ∷ [], refl);
-  scoped = λ a begun before opened closing after records inside later rest opens inner closes.
+  scoped = λ a assertion begun before opened closing after records inside later rest opens inner closes.
       let first : GoesOn before opened = (happenings.Begin a ∷ [], opens_grow s before a records begun opened inside opens) in
       begins_on _ _ _ first (begins_on _ _ _ inner (closes_grow s closing begun before.scopes later after rest closes));
 }

@@ -19,34 +19,13 @@ use Rattle.report_text.specs.TraceText.{Head}
 use Rattle.report_text.specs.Truth.{hit_in, hits_in, origin_of, origins_in, pair_in, pairs_in, race_in, unknown_in}
 use Rattle.report_text.specs.declared.line.Line.{Line}
 use Rattle.report_text.specs.declared.line.Line.TheVariants as lines
-use Rattle.report_text.proofs.TrueLines.{accesses-append}
+use Rattle.report_text.proofs.TrueLines.{accesses-append, arms-append, reports-append, takes-append}
 use Rattle.trace_lines.proofs.TrueBegins.{arms_within}
 use Rattle.trace_replay.specs.Accesses.{AreKept}
 use Rattle.trace_replay.specs.Counts.{AreCounts}
 use Rattle.trace_replay.specs.Story.{CountsLines, Knows, Tells}
 use Rattle.trace_replay.specs.Told.{HaveRoom, WereTold}
 use Rattle.trace_replay.specs.declared.story.Story.{Story}
-
-pub arms-append : (xs ys : List Line) → arms_of (xs ++ ys) ≡ arms_of xs ++ arms_of ys
-arms-append [] ys = refl
-arms-append (lines.Access s ∷ xs) ys = arms-append xs ys
-arms-append (lines.Arm a ∷ xs) ys = ap (λ t. a ∷ t) (arms-append xs ys)
-arms-append (lines.Take t ∷ xs) ys = arms-append xs ys
-arms-append (lines.Report r ∷ xs) ys = arms-append xs ys
-
-takes-append : (xs ys : List Line) → takes_of (xs ++ ys) ≡ takes_of xs ++ takes_of ys
-takes-append [] ys = refl
-takes-append (lines.Access s ∷ xs) ys = takes-append xs ys
-takes-append (lines.Arm a ∷ xs) ys = takes-append xs ys
-takes-append (lines.Take t ∷ xs) ys = ap (λ u. t ∷ u) (takes-append xs ys)
-takes-append (lines.Report r ∷ xs) ys = takes-append xs ys
-
-reports-append : (xs ys : List Line) → reports_of (xs ++ ys) ≡ reports_of xs ++ reports_of ys
-reports-append [] ys = refl
-reports-append (lines.Access s ∷ xs) ys = reports-append xs ys
-reports-append (lines.Arm a ∷ xs) ys = reports-append xs ys
-reports-append (lines.Take t ∷ xs) ys = reports-append xs ys
-reports-append (lines.Report r ∷ xs) ys = ap (λ u. r ∷ u) (reports-append xs ys)
 
 -- one piece more
 flat_push : {X A : Type 0} (f : X → List A) (xs : List X) (x : X) → flat_map f (xs ++ x ∷ []) ≡ flat_map f xs ++ f x

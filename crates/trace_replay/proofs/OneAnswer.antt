@@ -35,7 +35,7 @@ use Rattle.trace_replay.specs.declared.accepted.Accepted.{Accepted}
 use Rattle.trace_replay.specs.declared.accepted.TraceError.{TraceError}
 use Rattle.trace_replay.specs.declared.accepted.TraceError.TheVariants.{OutOfMemory, BadTrace, FalseReport}
 use Rattle.trace_replay.proofs.Going.{line_is_no_end}
-use Rattle.trace_replay.proofs.Lines.{arms-append}
+use Rattle.report_text.proofs.TrueLines.{arms-append}
 
 abbrev Answered : Type 0
 Answered = Result Accepted TraceError

@@ -267,7 +267,7 @@ module _ (s : Setting) where
             (scopes.makes a operation effect before records after rest h, one_access a operation effect before records after rest h);
         locks = λ lock before records rest is takes. (refl, λ own goes. locks lock before.progress.did records rest is takes goes);
         unlocks = λ lock before records rest has stores. (refl, λ own goes. one_store lock before.progress.did records rest has stores goes);
-        scoped = λ a begun before opened closing after records inside later rest opens inner closes.
+        scoped = λ a assertion begun before opened closing after records inside later rest opens inner closes.
             (ap (λ (st : Standing). st.scopes) closes.comes_to, one_scope a begun before opened closing after records inside later rest opens inner closes);
       }
 

@@ -1,18 +1,20 @@
--- What each part of a text keeps, the whole text keeps.
+-- What each part of a text keeps, the whole text keeps; a scoped assertion is known to be one.
 use Rattle.std.proofs.Common.{◌≡◌, ◌+◌, ℕ, zero, suc, Bool, true, false, List, [], ◌∷◌, IsTrue, Option, None, Some, MatchBool, inl, inr, length, replicate, refl, subst, sym, if◌then◌else◌}
 use Rattle.access_types.specs.Access as access
-use Rattle.access_types.specs.Access.{proper_mask}
 use Rattle.access_types.specs.declared.history.Bytes.{Bytes}
 use Rattle.access_types.specs.declared.history.Happening.TheVariants as happenings
 use Rattle.access_types.specs.declared.history.Mark.{Mark}
 use Rattle.access_types.specs.declared.history.Mark.TheVariants as marks
+use Rattle.access_types.specs.Kind.{is_scoped}
+use Rattle.access_types.specs.declared.kind.Claim.TheVariants.{NoAccesses, NoWrites}
 use Rattle.access_types.specs.declared.kind.Kind.{Kind}
+use Rattle.access_types.specs.declared.kind.Kind.TheVariants as kinds
 use Rattle.litmus_syntax.specs.Sites.{accesses_of, sites_of}
 use Rattle.litmus_syntax.specs.Tree.{Assignment, Block, Expression, Load, Statement}
 use Rattle.litmus_syntax.specs.Tree as tree
 use Rattle.litmus_syntax.specs.declared.statement.Call.{Call}
 use Rattle.litmus_syntax.specs.declared.statement.Call.TheVariants as calls
-use Rattle.litmus_meaning.specs.Calls.{Scoped, check_kind, checked_bytes, scoped_assertion}
+use Rattle.litmus_meaning.specs.Calls.{Scoped, check_kind, checked_bytes, scoped_access, scoped_assertion, scoped_by, scoped_call}
 use Rattle.litmus_meaning.specs.Loads.{load_in}
 use Rattle.litmus_meaning.specs.Meaning.{Chooses, after_condition}
 use Rattle.litmus_meaning.specs.Task.{has_lock}
@@ -47,10 +49,37 @@ pub record Kept (s : Setting) (Q : Standing → List Record → Standing → Lis
   pub unlocks : (lock : ℕ) (before : Standing) (records rest : List Record) → IsTrue (has_lock lock before.progress.did)
       → MakesDone s.text.task (LockStore (lock_number s lock)) (λ later. rest ≡ later) records
       → Q before records (doing before rest (happenings.Unlock lock ∷ [])) rest
-  pub scoped : (a : access.Access) (begun : Begun) (before opened closing after : Standing)
+  pub scoped : (a : access.Access) → is_scoped a.kind ≡ true → (begun : Begun) (before opened closing after : Standing)
       (records inside later rest : List Record)
       → OpensScope s before a records begun opened inside → Q opened inside closing later
       → ClosesScope s closing begun before.scopes later after rest → Q before records after rest
+
+-- a statement that is a scoped assertion has an access of such a kind
+abbrev AreScoped : Option Scoped → Type 0
+AreScoped None = Unit {0}
+AreScoped (Some scoped) = is_scoped scoped.kind ≡ true
+
+by_scoped : (scoped : Bool) (kind : Kind) (x : ℕ) → is_scoped kind ≡ true → AreScoped (scoped_by scoped kind x)
+by_scoped true kind x is = is
+by_scoped false kind x is = tt
+
+call_scoped : (c : Call) → AreScoped (scoped_call c)
+call_scoped (calls.Barrier b) = tt
+call_scoped (calls.Lock l) = tt
+call_scoped (calls.Unlock l) = tt
+call_scoped (calls.AssertWriter x scoped) = by_scoped scoped (kinds.AssertScoped NoWrites) x refl
+call_scoped (calls.AssertAccess x scoped) = by_scoped scoped (kinds.AssertScoped NoAccesses) x refl
+call_scoped (calls.AssertBits x mask) = tt
+call_scoped (calls.Mark m) = tt
+call_scoped (calls.Check is_write x size) = tt
+
+assertion_scoped : (st : Statement) → AreScoped (scoped_assertion st)
+assertion_scoped (tree.load_only l) = tt
+assertion_scoped (tree.assign data_race a) = tt
+assertion_scoped (tree.call c) = call_scoped c
+assertion_scoped (tree.if_block e body) = tt
+assertion_scoped (tree.if_else e body otherwise) = tt
+assertion_scoped (tree.for_turns r turns body) = tt
 
 module _ (s : Setting) (Q : Standing → List Record → Standing → List Record → Type 0) (kept : Kept s Q) where
   -- what comes to this
@@ -155,15 +184,15 @@ module _ (s : Setting) (Q : Standing → List Record → Standing → List Recor
       going_on before start after records records rest (kept.assigned before records r turn)
       (going_on start h.0 after records h.1 rest (each start records h.0 h.1 h.2) (by_turns Body each r (suc turn) left h.0 h.1 after rest h.3))
 
-  by_block_of : (site : ℕ) (scoped : Option Scoped) (Own Later : Standing → List Record → Standing → List Record → Type 0)
+  by_block_of : (site : ℕ) (scoped : Option Scoped) → AreScoped scoped → (Own Later : Standing → List Record → Standing → List Record → Type 0)
       → ((before : Standing) (records : List Record) (after : Standing) (rest : List Record) → Own before records after rest → Q before records after rest)
       → ((before : Standing) (records : List Record) (after : Standing) (rest : List Record) → Later before records after rest → Q before records after rest)
       → (before : Standing) (records : List Record) (after : Standing) (rest : List Record)
       → StepsInBlock s site scoped Own Later before records after rest → Q before records after rest
-  by_block_of site None Own Later own later before records after rest h =
+  by_block_of site None is Own Later own later before records after rest h =
       going_on before h.0 after records h.1 rest (own before records h.0 h.1 h.2) (later h.0 h.1 after rest h.3)
-  by_block_of site (Some scoped) Own Later own later before records after rest h =
-      kept.scoped _ h.0 before h.1 h.2 after records h.3 h.4 rest h.5 (later h.1 h.3 h.2 h.4 h.6) h.7
+  by_block_of site (Some scoped) is Own Later own later before records after rest h =
+      kept.scoped (scoped_access s.text site before.progress scoped) is h.0 before h.1 h.2 after records h.3 h.4 rest h.5 (later h.1 h.3 h.2 h.4 h.6) h.7
 
   chosen : (value : ℕ) (Holds Fails Goal : Type 0) → Chooses value Holds Fails → (Holds → Goal) → (Fails → Goal) → Goal
   chosen value Holds Fails Goal h holds fails = elim h [ inl p ↦ holds p.1 | inr p ↦ fails p.1 ]
@@ -190,7 +219,7 @@ module _ (s : Setting) (Q : Standing → List Record → Standing → List Recor
         → StepsOfBlock s site body before records after rest → Q before records after rest
     by_block site tree.empty before records after rest h = nothing_done before after before records rest h (kept.still before records)
     by_block site (tree.first st more) before records after rest h =
-        by_block_of site (scoped_assertion st)
+        by_block_of site (scoped_assertion st) (assertion_scoped st)
         (λ b records a rest. StepsOf s site st b records a rest)
         (λ b records a rest. StepsOfBlock s (site + length (accesses_of st)) more b records a rest)
         (λ b records a rest p. by_statement site st b records a rest p)

@@ -39,7 +39,7 @@ kept_scopes s = record {
       ∙ operated_scopes a operation (doing before (drop 1 records) (happenings.Begin a ∷ [])) h.checked effect h.done;
   locks = λ lock before records rest is takes. refl;
   unlocks = λ lock before records rest has stores. refl;
-  scoped = λ a begun before opened closing after records inside later rest opens p closes. ap (λ (st : Standing). st.scopes) closes.comes_to;
+  scoped = λ a assertion begun before opened closing after records inside later rest opens p closes. ap (λ (st : Standing). st.scopes) closes.comes_to;
 }
 
 pub block_leaves_scopes : (s : Setting) (site : ℕ) (body : Block) (before : Standing) (records : List Record) (after : Standing) (rest : List Record)

@@ -97,7 +97,7 @@ kept_way s = record {
       subst (λ (st : Standing). Goes before st) (sym h.comes_to) whole;
   locks = λ lock before records rest is takes. does before rest (happenings.Lock lock ∷ []);
   unlocks = λ lock before records rest has stores. does before rest (happenings.Unlock lock ∷ []);
-  scoped = λ a begun before opened closing after records inside later rest opens inner closes.
+  scoped = λ a assertion begun before opened closing after records inside later rest opens inner closes.
       let first : Goes before opened = subst (λ (st : Standing). Goes before st) (sym opens.comes_to) (does before (drop 1 records) (happenings.Begin a ∷ [])) in
       let last : Goes closing after = subst (λ (st : Standing). Goes closing st) (sym closes.comes_to) (does closing rest (happenings.End begun.access ∷ [])) in
       goes_on before opened after first (goes_on opened closing after inner last);

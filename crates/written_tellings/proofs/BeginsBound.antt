@@ -157,7 +157,7 @@ mutual
       loop_scaled turns inner (block_repeats (turns * inner) body) (block_repeats (1 * inner) body) (block_repeats 1 body)
       (scaled (turns * inner) body) (scaled (1 * inner) body)
 
-  scaled : (turns : ℕ) (body : Block) → block_repeats turns body ≡ turns * block_repeats 1 body
+  pub scaled : (turns : ℕ) (body : Block) → block_repeats turns body ≡ turns * block_repeats 1 body
   scaled turns tree.empty = sym (mul-zero turns)
   scaled turns (tree.first st more) =
       two_scaled turns (statement_repeats turns st) (block_repeats turns more) (statement_repeats 1 st) (block_repeats 1 more)

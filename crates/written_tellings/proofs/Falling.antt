@@ -137,7 +137,7 @@ kept_falling s = record {
   unlocks = λ lock before records rest has frees falls.
       falls_on (length records) before rest (meaning.doing before.progress (happenings.Unlock lock ∷ []))
       ((stores s.text.task (LockStore (lock_number s lock))).shrinks records tt rest frees) falls;
-  scoped = λ a begun before opened closing after records inside later rest opens inner closes falls.
+  scoped = λ a assertion begun before opened closing after records inside later rest opens inner closes falls.
       let first = opens_low s a before records begun opened inside opens in
       let less : length inside < length records = first.0 in
       let last = closes_low s closing begun before.scopes later after rest closes in

@@ -60,7 +60,7 @@ kept_low s = record {
   unlocks = λ lock before records rest has frees.
       came_low before records rest (meaning.doing before.progress (happenings.Unlock lock ∷ []))
       ((stores s.text.task (LockStore (lock_number s lock))).shrinks records tt rest frees);
-  scoped = λ a begun before opened closing after records inside later rest opens inner closes.
+  scoped = λ a assertion begun before opened closing after records inside later rest opens inner closes.
       let first = opens_low s a before records begun opened inside opens in
       let less : length inside < length records = first.0 in
       let began : Lows before records opened inside = (omega (arith, less), λ n few. first.1 n (omega (arith, few))) in

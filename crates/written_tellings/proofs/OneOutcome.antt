@@ -132,7 +132,7 @@ module _ (high : ℕ) where
     unlocks = λ lock before records rest has frees h.
         descends_less high (length records) (length rest) before.outcomes
         ((stores s.text.task (LockStore (lock_number s lock))).shrinks records tt rest frees) h;
-    scoped = λ a begun before opened closing after records inside later rest opens inner closes h.
+    scoped = λ a assertion begun before opened closing after records inside later rest opens inner closes h.
         let began : Descends high (length inside) opened.outcomes =
         subst (λ (st : Standing). Descends high (length inside) st.outcomes) (sym opens.comes_to)
         (descends_both high (length records) (length inside) before.outcomes opens.passes.outcomes h

@@ -110,7 +110,7 @@ module _ (s : Setting) where
             (λ later over. subst (λ (r : List Record). AreNamed words r) over named),
         locks_freed before.progress.did lock locks,
       );
-      scoped = λ a begun before opened closing after records inside later rest opens inner closes locks.
+      scoped = λ a assertion begun before opened closing after records inside later rest opens inner closes locks.
           let began : AreLocks opened.progress.did =
           subst (λ (st : Standing). AreLocks st.progress.did) (sym opens.comes_to) (locks_quiet before.progress.did (happenings.Begin a ∷ []) (tt, tt) locks) in
           let between = inner began in (

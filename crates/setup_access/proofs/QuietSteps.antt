@@ -15,7 +15,7 @@ use Rattle.setup_access.specs.Find.{LooksUp}
 use Rattle.setup_access.specs.Found.{Hears, Takes, Tells, finder_half, setter_half}
 use Rattle.setup_access.specs.Records.{MakesDone, MakesFlag, MakesWord, OnFlag, OnHalves, OnWord}
 use Rattle.setup_access.specs.Setting.{Setting, look_order, slot_of, try_order}
-use Rattle.setup_access.specs.Setup.{Arms, Frees, Judged, Judges, SetsUp, TriesInsert, WatchesAt}
+use Rattle.setup_access.specs.Setup.{Arms, Frees, Judged, Judges, TriesInsert, WatchesAt}
 use Rattle.setup_access.specs.Values.{LoadsFrom, both_values, source_of}
 use Rattle.setup_access.specs.declared.begun.Begun.{Begun}
 use Rattle.setup_access.specs.declared.outcome.Outcome.{Outcome}
@@ -31,7 +31,7 @@ IsOfCheck (LockStore lock) = ⊥
 IsOfCheck Clock = ⊥
 IsOfCheck step = Unit {0}
 
-on_word : (answer : Answer) (P : ℕ → Type 0) (Goal : Type 0) → OnWord answer P → ((word : ℕ) → P word → Goal) → Goal
+pub on_word : (answer : Answer) (P : ℕ → Type 0) (Goal : Type 0) → OnWord answer P → ((word : ℕ) → P word → Goal) → Goal
 on_word (answers.Word word) P Goal h on = on word h
 on_word (answers.Flag flag) P Goal h on = absurd h
 on_word (answers.Halves setter finder) P Goal h on = absurd h
@@ -53,25 +53,25 @@ module _ (P : List Record → Type 0) (before : (first : Record) (later : List R
   one : (first : Record) (later : List Record) (step : Step) → first.step ≡ step → IsOfCheck step → P later → P (first ∷ later)
   one first later step is ok p = before first later (subst IsOfCheck (sym is) ok) p
 
-  pub step_word : (task : ℕ) (step : Step) (Goes : ℕ → List Record → Type 0) (records : List Record) → IsOfCheck step → MakesWord task step Goes records
+  step_word : (task : ℕ) (step : Step) (Goes : ℕ → List Record → Type 0) (records : List Record) → IsOfCheck step → MakesWord task step Goes records
       → ((word : ℕ) (later : List Record) → Goes word later → P later) → P records
   step_word task step Goes [] ok h on = absurd h
   step_word task step Goes (first ∷ later) ok h on = one first later step h.1 ok (on_word first.answer _ _ h.2 (λ word got. on word later got))
 
-  pub step_flag : (task : ℕ) (step : Step) (Goes : Bool → List Record → Type 0) (records : List Record) → IsOfCheck step → MakesFlag task step Goes records
+  step_flag : (task : ℕ) (step : Step) (Goes : Bool → List Record → Type 0) (records : List Record) → IsOfCheck step → MakesFlag task step Goes records
       → ((flag : Bool) (later : List Record) → Goes flag later → P later) → P records
   step_flag task step Goes [] ok h on = absurd h
   step_flag task step Goes (first ∷ later) ok h on = one first later step h.1 ok (on_flag first.answer _ _ h.2 (λ flag got. on flag later got))
 
-  pub step_done : (task : ℕ) (step : Step) (Goes : List Record → Type 0) (records : List Record) → IsOfCheck step → MakesDone task step Goes records
+  step_done : (task : ℕ) (step : Step) (Goes : List Record → Type 0) (records : List Record) → IsOfCheck step → MakesDone task step Goes records
       → ((later : List Record) → Goes later → P later) → P records
   step_done task step Goes [] ok h on = absurd h
   step_done task step Goes (first ∷ later) ok h on = one first later step h.1 ok (on later h.2.1)
 
-  ends : (records rest : List Record) → rest ≡ records → P rest → P records
+  pub ends : (records rest : List Record) → rest ≡ records → P rest → P records
   ends records rest same p = subst P same p
 
-  pick : (b : Bool) (Yes No : Type 0) (Goal : Type 0) → MatchBool b Yes No → (Yes → Goal) → (No → Goal) → Goal
+  pub pick : (b : Bool) (Yes No : Type 0) (Goal : Type 0) → MatchBool b Yes No → (Yes → Goal) → (No → Goal) → Goal
   pick true Yes No Goal h at_true at_false = at_true h
   pick false Yes No Goal h at_true at_false = at_false h
 
@@ -84,7 +84,7 @@ module _ (P : List Record → Type 0) (before : (first : Record) (later : List R
         | inr not_yet ↦ hears half task index later both rest not_yet.1 p
       ]))
 
-  pub looks_up : (s : Setting) (a : Access) (indices : List ℕ) (records : List Record) (found : Option Watchpoint) (rest : List Record)
+  looks_up : (s : Setting) (a : Access) (indices : List ℕ) (records : List Record) (found : Option Watchpoint) (rest : List Record)
       → LooksUp s a indices records found rest → P rest → P records
   looks_up s a [] records found rest h p = ends records rest h.1 p
   looks_up s a (index ∷ indices) records found rest h p = step_word s.task (Load index) _ records tt h (λ word later got. elim got [
@@ -102,12 +102,12 @@ module _ (P : List Record → Type 0) (before : (first : Record) (later : List R
   takes s a found records outcome rest h p = step_flag s.task (TryConsume found.index found.word) _ records tt h (λ taken later got.
       pick taken _ _ _ got (λ told. tells s a found.index later outcome rest told p) (λ lost. ends later rest lost.1 p))
 
-  pub masked : (mask : Option ℕ) (s : Setting) (a : Access) (found : Watchpoint) (records : List Record) (outcome none : Outcome) (rest : List Record)
+  masked : (mask : Option ℕ) (s : Setting) (a : Access) (found : Watchpoint) (records : List Record) (outcome none : Outcome) (rest : List Record)
       → MatchOption mask (Takes s a found records outcome rest) (λ m. (outcome ≡ none) × (rest ≡ records)) → P rest → P records
   masked None s a found records outcome none rest h p = takes s a found records outcome rest h p
   masked (Some m) s a found records outcome none rest h p = ends records rest h.1 p
 
-  pub tries_insert : (task word : ℕ) (indices : List ℕ) (records : List Record) (place : Option ℕ) (rest : List Record)
+  tries_insert : (task word : ℕ) (indices : List ℕ) (records : List Record) (place : Option ℕ) (rest : List Record)
       → TriesInsert task word indices records place rest → P rest → P records
   tries_insert task word [] records place rest h p = ends records rest h.1 p
   tries_insert task word (index ∷ indices) records place rest h p = step_flag task (Insert index word) _ records tt h (λ accepted later got.
@@ -123,26 +123,15 @@ module _ (P : List Record → Type 0) (before : (first : Record) (later : List R
   judges s a index values records outcome rest h p = step_flag s.task (Consume index) _ records tt h (λ untouched later got.
       pick untouched _ _ _ got (λ quiet. ends later rest quiet.1 p) (λ hit. hears finder_half s.task index later hit.0 rest hit.1 p))
 
-  pub arms : (s : Setting) (a : Access) (index : ℕ) (records : List Record) (outcome : Outcome) (rest : List Record) → Arms s a index records outcome rest
+  arms : (s : Setting) (a : Access) (index : ℕ) (records : List Record) (outcome : Outcome) (rest : List Record) → Arms s a index records outcome rest
       → P rest → P records
   arms s a index records outcome rest h p = step_done s.task (Name index (ticket_number a)) _ records tt h (λ later got.
       loads_from s a (source_of s a) later got.0 got.2 got.4
       (loads_from s a (source_of s a) got.2 got.1 got.3 got.5 (judges s a index (both_values got.0 got.1) got.3 outcome rest got.6 p)))
 
-  pub frees : (s : Setting) (index : ℕ) (records rest : List Record) → Frees s index records rest → P rest → P records
+  frees : (s : Setting) (index : ℕ) (records rest : List Record) → Frees s index records rest → P rest → P records
   frees s index records rest h p = step_done s.task (Clear index) _ records tt h (λ later got.
       step_done s.task (Remove index) _ later tt got (λ after over. ends after rest over p))
-
-  -- a watchpoint that was set up, or tries for one
-  watches_at : (s : Setting) (a : Access) (place : Option ℕ) (records : List Record) (judged : Option Judged) (rest : List Record)
-      → WatchesAt s a place records judged rest → P rest → P records
-  watches_at s a None records judged rest h p = ends records rest h.1 p
-  watches_at s a (Some index) records judged rest h p = arms s a index records h.0 rest h.1 p
-
-  pub sets_up : (s : Setting) (a : Access) (word : ℕ) (judged : Option Judged) (records rest : List Record) → SetsUp s a word records judged rest
-      → P rest → P records
-  sets_up s a word judged records rest h p =
-      tries_insert s.task word (try_order (slot_of s a)) records h.0 h.1 h.2 (watches_at s a h.0 h.1 judged rest h.3 p)
 
   watched_at : (s : Setting) (a : Access) (asked : ℕ) (place : Option ℕ) (records : List Record) (judged : Option Judged) (later : List Record) (pass : Pass)
       (rest : List Record)
