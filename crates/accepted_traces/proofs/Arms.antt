@@ -1,5 +1,6 @@
 -- The armings of a run list whose tasks have ended may stand in a trace, and are true there.
-use Rattle.std.proofs.Common.{◌≡◌, ◌==◌, ◌⊎◌, ◌∙◌, ◌++◌, ◌∷◌, [], Bool, true, false, inl, inr, ℕ, suc, All, Contains, IsTrue, List, MatchBool, None, Option, Some, ap, append_assoc, append-nil, arith, if◌then◌else◌, length, map, refl, slice_index_or, subst, sym}
+use Rattle.std.proofs.Common.{◌≡◌, ◌==◌, ◌⊎◌, ◌∙◌, ◌++◌, ◌∷◌, [], Bool, true, false, inl, inr, ℕ, suc, All, Contains, IsTrue, List, MatchBool, None, Option}
+use Rattle.std.proofs.Common.{Some, ap, append_assoc, append-nil, arith, if◌then◌else◌, length, map, refl, slice_index_or, subst, sym}
 use Rattle.std.specs.List.{filter}
 use Rattle.std.specs.Option.{option_map}
 use Rattle.std.proofs.lemmas.Bool.Decides.{eqb_tells}

@@ -1,5 +1,6 @@
 -- Accesses that are in progress in a run list whose tasks have ended are among those that have ended.
-use Rattle.std.proofs.Common.{◌≡◌, ◌≢◌, ◌<◌, ◌≤◌, ◌+◌, ◌^◌, ◌⊎◌, ◌∙◌, ◌++◌, ◌∷◌, [], drop, inl, inr, ℕ, suc, zero, Contains, List, ap, append_assoc, append-nil, arith, length, refl, subst, sym, take, Bool, true, false, if◌then◌else◌, nat_eq}
+use Rattle.std.proofs.Common.{◌≡◌, ◌≢◌, ◌<◌, ◌≤◌, ◌+◌, ◌^◌, ◌⊎◌, ◌∙◌, ◌++◌, ◌∷◌, [], drop, inl, inr, ℕ, suc, zero, Contains, List, ap, append_assoc, append-nil}
+use Rattle.std.proofs.Common.{arith, length, refl, subst, sym, take, Bool, true, false, if◌then◌else◌, nat_eq}
 use Rattle.std.proofs.lemmas.Bool.{eq-eqb, eqb-false, eqb-true}
 use Rattle.std.proofs.lemmas.List.{length-append, take-append-drop}
 use Rattle.std.proofs.lemmas.List.Elements.{All-contains, Contains-append_left, Contains-append_right}

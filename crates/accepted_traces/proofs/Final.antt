@@ -1,5 +1,7 @@
 -- The accesses, armings, takings and reports of a run list whose tasks have ended are the parts of one true trace.
-use Rattle.std.proofs.Common.{◌≡◌, ◌≢◌, ◌<◌, ◌≤◌, ◌==◌, ◌&&◌, ◌+◌, ◌^◌, ◌⊎◌, ◌∙◌, ◌++◌, ◌∷◌, [], Bool, true, false, inl, inr, ℕ, suc, zero, All, AllPairs, Contains, IsTrue, List, Some, ap, append_assoc, arith, count_by, if◌then◌else◌, length, map, refl, reverse, slice_index_or, subst, sym}
+use Rattle.std.proofs.Common.{◌≡◌, ◌≢◌, ◌<◌, ◌≤◌, ◌==◌, ◌&&◌, ◌+◌, ◌^◌, ◌⊎◌, ◌∙◌, ◌++◌, ◌∷◌, [], Bool, true, false, inl, inr, ℕ, suc, zero, All, AllPairs}
+use Rattle.std.proofs.Common.{Contains, IsTrue, List, Some, ap, append_assoc, arith, count_by, if◌then◌else◌, length, map, refl, reverse, slice_index_or, subst}
+use Rattle.std.proofs.Common.{sym}
 use Rattle.std.specs.FinMap as fin
 use Rattle.std.proofs.lemmas.Bool.{eq-eqb, eqb-true, ne_eqb}
 use Rattle.std.proofs.lemmas.List.{length-append, length-reverse}

@@ -1,5 +1,6 @@
 -- What became of an arming may have: the finder of a hit could take it.
-use Rattle.std.proofs.Common.{◌≡◌, ◌≢◌, ◌↔◌, ◌<◌, ◌≤◌, ◌^◌, ◌∙◌, ◌++◌, ◌∷◌, [], inl, inr, ℕ, suc, zero, All, AllPairs, Contains, IsNone, IsSome, IsTrue, List, None, Option, Some, ap, arith, Bool, false, length, refl, subst, sym, true}
+use Rattle.std.proofs.Common.{◌≡◌, ◌≢◌, ◌↔◌, ◌<◌, ◌≤◌, ◌^◌, ◌∙◌, ◌++◌, ◌∷◌, [], inl, inr, ℕ, suc, zero, All, AllPairs, Contains, IsNone, IsSome, IsTrue, List}
+use Rattle.std.proofs.Common.{None, Option, Some, ap, arith, Bool, false, length, refl, subst, sym, true}
 use Rattle.std.proofs.lemmas.Bool.{ne_eqb}
 use Rattle.std.proofs.lemmas.Bool.Decides.{leb_tells}
 use Rattle.std.proofs.lemmas.List.Elements.{All-contains}

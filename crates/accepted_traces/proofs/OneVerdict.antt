@@ -1,5 +1,6 @@
 -- At most one verdict falls on an access that is no scoped assertion.
-use Rattle.std.proofs.Common.{◌≡◌, ◌<◌, ◌≤◌, ◌==◌, ◌&&◌, ◌+◌, ◌∙◌, ◌++◌, ◌∷◌, [], Bool, true, false, inl, inr, ℕ, suc, List, Some, ap, append_assoc, append-nil, arith, count_by, if◌then◌else◌, length, map, nat_le, refl, reverse, slice_get, subst, sym}
+use Rattle.std.proofs.Common.{◌≡◌, ◌<◌, ◌≤◌, ◌==◌, ◌&&◌, ◌+◌, ◌∙◌, ◌++◌, ◌∷◌, [], Bool, true, false, inl, inr, ℕ, suc, List, Some, ap, append_assoc, append-nil}
+use Rattle.std.proofs.Common.{arith, count_by, if◌then◌else◌, length, map, nat_le, refl, reverse, slice_get, subst, sym}
 use Rattle.std.specs.List.{filter}
 use Rattle.std.specs.Prelude.{not}
 use Rattle.std.proofs.lemmas.Bool.Decides.{eqb_tells, leb_tells}

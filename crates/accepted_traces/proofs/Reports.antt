@@ -1,5 +1,6 @@
 -- The reports of a run list whose tasks have ended may stand in a trace, and are true there.
-use Rattle.std.proofs.Common.{◌≡◌, ◌≢◌, ◌<◌, ◌+◌, ◌*◌, ◌^◌, ◌∙◌, ◌∷◌, ◌++◌, length, [], inl, inr, ℕ, suc, zero, All, Bool, Contains, IsTrue, List, None, Option, Some, ap, arith, false, refl, subst, sym, take, true}
+use Rattle.std.proofs.Common.{◌≡◌, ◌≢◌, ◌<◌, ◌+◌, ◌*◌, ◌^◌, ◌∙◌, ◌∷◌, ◌++◌, length, [], inl, inr, ℕ, suc, zero, All, Bool, Contains, IsTrue, List, None, Option}
+use Rattle.std.proofs.Common.{Some, ap, arith, false, refl, subst, sym, take, true}
 use Rattle.std.proofs.Math.Nat.{pow-suc}
 use Rattle.std.proofs.lemmas.Bool.{ne_eqb}
 use Rattle.std.proofs.lemmas.Bool.Decides.{eqb_tells}

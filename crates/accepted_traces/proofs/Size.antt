@@ -1,5 +1,6 @@
 -- a written trace has no more bytes than a trace may have
-use Rattle.std.proofs.Common.{◌≡◌, ◌∷◌, ◌++◌, ◌∙◌, ◌+◌, ◌<◌, ◌≤◌, ◌==◌, ◌^◌, ◌*◌, ℕ, List, [], Bool, true, false, ap, append_assoc, arith, inl, inr, length, length-append, map, refl, suc, sym, unwrap_or}
+use Rattle.std.proofs.Common.{◌≡◌, ◌∷◌, ◌++◌, ◌∙◌, ◌+◌, ◌<◌, ◌≤◌, ◌==◌, ◌^◌, ◌*◌, ℕ, List, [], Bool, true, false, ap, append_assoc, arith, inl, inr, length}
+use Rattle.std.proofs.Common.{length-append, map, refl, suc, sym, unwrap_or}
 use Rattle.std.specs.Prelude.{All, codes}
 use Rattle.std.specs.Fmt.{decimal}
 use Rattle.std.specs.List.{flat_map}

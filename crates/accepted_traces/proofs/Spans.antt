@@ -1,5 +1,6 @@
 -- The stamps, the names and the letters of the accesses that have ended in a run list.
-use Rattle.std.proofs.Common.{◌≡◌, ◌≢◌, ◌<◌, ◌≤◌, ◌+◌, ◌^◌, ◌⊎◌, ◌∙◌, ◌++◌, ◌∷◌, [], inl, inr, ℕ, suc, zero, Bool, true, false, All, AllPairs, IsTrue, List, Some, ap, append_assoc, append-nil, arith, if◌then◌else◌, length, refl, reverse, slice_get, slice_index_or, subst, sym, unwrap_or}
+use Rattle.std.proofs.Common.{◌≡◌, ◌≢◌, ◌<◌, ◌≤◌, ◌+◌, ◌^◌, ◌⊎◌, ◌∙◌, ◌++◌, ◌∷◌, [], inl, inr, ℕ, suc, zero, Bool, true, false, All, AllPairs, IsTrue, List}
+use Rattle.std.proofs.Common.{Some, ap, append_assoc, append-nil, arith, if◌then◌else◌, length, refl, reverse, slice_get, slice_index_or, subst, sym, unwrap_or}
 use Rattle.std.proofs.lemmas.List.{length-append}
 use Rattle.std.proofs.lemmas.List.Elements.{All-append, All-nil, All-weaker}
 use Rattle.access_types.specs.Access as access
