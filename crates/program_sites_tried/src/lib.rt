@@ -1,6 +1,10 @@
-//! The accesses that programs can make, tried on texts whose accesses were worked out by hand. Nothing stands on this
-//! crate.
+//! What a program has before any task of it runs, tried on rows that were worked out by hand: the values of its expressions and the
+//! sites of its texts, where its variables stand, and the accesses that it can make. Nothing stands on this crate.
 #![tactic(auto)]
 
 #[cfg(test)]
-mod tests;
+mod layouts;
+#[cfg(test)]
+mod sites;
+#[cfg(test)]
+mod values;
