@@ -116,25 +116,3 @@ impl Arm {
         self.outcome
     }
 }
-
-#[cfg(test)]
-mod tests {
-    use super::*;
-
-    #[test]
-    fn armings_read_back(rt: HostRuntime) {
-        for outcome in [
-            ArmOutcome::Quiet,
-            ArmOutcome::Origin,
-            ArmOutcome::Hit {
-                finder: 65537,
-                result: HitResult::Report,
-            },
-        ] {
-            let arm = Arm::new(1, 2, 17, 0x0008_0000_0001_0000, outcome);
-            assert_eq!(rt; (arm.setter(), arm.number(), arm.index()), (1, 2, 17));
-            assert_eq!(rt; arm.watch_word(), 0x0008_0000_0001_0000);
-            assert_eq!(rt; arm.outcome(), outcome);
-        }
-    }
-}

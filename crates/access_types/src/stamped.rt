@@ -92,22 +92,3 @@ impl Stamped {
         self.silenced
     }
 }
-
-#[cfg(test)]
-mod tests {
-    use super::*;
-    use crate::kind::{Kind, Operation};
-    use std::test::Fail;
-
-    #[test]
-    fn stamped_accesses_read_back(rt: HostRuntime) -> Result<(), Fail> {
-        let write = Access::new(1, 0, 0x10000, 4, Kind::Plain(Operation::Write), None)?;
-        for (marked, silenced) in [(true, false), (false, true)] {
-            let stamped = Stamped::new(write, 1, 2, marked, silenced);
-            assert_eq!(rt; stamped.access(), write);
-            assert_eq!(rt; (stamped.begin(), stamped.end()), (1, 2));
-            assert_eq!(rt; (stamped.marked(), stamped.silenced()), (marked, silenced));
-        }
-        Ok(())
-    }
-}

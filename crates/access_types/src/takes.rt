@@ -55,16 +55,3 @@ impl Take {
         self.setter
     }
 }
-
-#[cfg(test)]
-mod tests {
-    use super::*;
-
-    #[test]
-    fn takings_read_back(rt: HostRuntime) {
-        let take = Take::new(65537, 17, 1);
-        assert_eq!(rt; take.finder(), 65537);
-        assert_eq!(rt; take.index(), 17);
-        assert_eq!(rt; take.setter(), 1);
-    }
-}

@@ -53,26 +53,3 @@ pub fn tickets_differ()
     ensures { (a b : spec.Access) → IsInLimits a → IsInLimits b → ticket_number a ≡ ticket_number b
         → AreOneTurn a b }
 {}
-
-#[cfg(test)]
-mod tests {
-    use super::*;
-    use crate::kind::{Kind, Operation};
-    use std::test::Fail;
-
-    #[test]
-    fn tickets_name_accesses(rt: HostRuntime) -> Result<(), Fail> {
-        for (task, site, rep, number) in [(1, 0, 0, 65537), (0, 0, 2, 3)] {
-            assert!(rt; task < 16 && site < 256 && rep < 256);
-            let read = Kind::Plain(Operation::Read);
-            let access = Access::new_rep(task, site, rep, 0x10000, 4, read, None)?;
-            assert_eq!(rt; ticket(&access), number);
-            assert!(rt; number > 0);
-            assert_eq!(rt;
-                (task_of(number), site_of(number), rep_of(number)),
-                (task, site, rep)
-            );
-        }
-        Ok(())
-    }
-}

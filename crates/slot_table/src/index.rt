@@ -31,17 +31,3 @@ pub fn try_order(page_slot: usize) -> [usize; 3]
 {
     [page_slot + 1, page_slot + 2, page_slot]
 }
-
-#[cfg(test)]
-mod tests {
-    use super::*;
-
-    #[test]
-    fn indices_of_addresses(rt: HostRuntime) {
-        let last = page_slot(0x3F000, 64);
-        assert_eq!(rt; last, 63);
-        assert_eq!(rt; look_order(last), [63, 64, 65]);
-        assert_eq!(rt; try_order(last), [64, 65, 63]);
-        assert_eq!(rt; page_slot(0x10000, 3), 1);
-    }
-}

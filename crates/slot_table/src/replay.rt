@@ -47,6 +47,3 @@ pub fn keeps_rules(alloc: Global, shape: Shape<'_>, made: &[Record]) -> Result<b
     }
     Ok(true)
 }
-
-#[cfg(test)]
-mod tests;

@@ -1,6 +1,0 @@
--- The table stays.
-use Rattle.std.proofs.Common.{◌≡◌}
-use Rattle.runner_tried.proofs.words.Player.hear.Given as goal
-
-abbrev pub invariant-turns : goal.invariant-turns
-invariant-turns g l = l.self.table.now ≡ l.initial.self.table.now

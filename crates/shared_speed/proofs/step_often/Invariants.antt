@@ -1,6 +1,0 @@
--- The seat stays at its table.
-use Rattle.std.proofs.Common.{◌≡◌}
-use Rattle.shared_speed.proofs.step_often.Given as goal
-
-abbrev pub invariant-rounds : goal.invariant-rounds
-invariant-rounds l = l.board.table ≡ l.table

@@ -1,0 +1,65 @@
+//! Texts that rows call by a name: files, and what is written.
+
+use std::alloc::{AllocError, Global};
+use test_escapes::unescaped;
+
+/// A text with its name.
+#[derive(Drop)]
+struct Named {
+    name: String,
+    text: String,
+}
+
+/// The texts so far, by name.
+#[derive(Drop)]
+pub struct Texts {
+    alloc: Global,
+    named: Vec<Named>,
+}
+
+impl Texts {
+    /// No text.
+    pub fn new(alloc: Global) -> Texts {
+        Texts {
+            alloc,
+            named: Vec::new(alloc),
+        }
+    }
+
+    /// Keeps the text of a line: its name, a blank, and the text with its escapes.
+    pub fn keep(&mut self, line: &str) -> Result<(), AllocError> {
+        let (name, text) = line.split_once(' ').unwrap_or((line, ""));
+        let name = String::from_str(self.alloc, name)?;
+        let text = unescaped(self.alloc, text)?;
+        self.named.push(Named { name, text })?;
+        Ok(())
+    }
+
+    /// Adds a line, which may begin with a blank of its own, to the text that was kept last.
+    pub fn go_on(&mut self, line: &str) -> Result<(), AllocError> {
+        let line = unescaped(self.alloc, line.strip_prefix(' ').unwrap_or(line))?;
+        if let Some(last) = self.named.last_mut() {
+            last.text.push_str(&line)?;
+            last.text.push('\n')?;
+        }
+        Ok(())
+    }
+
+    /// The text of a name.
+    pub fn get(&self, name: &str) -> Option<&str> {
+        let named = self.named.iter().find(|named| named.name.as_str() == name)?;
+        Some(named.text.as_str())
+    }
+
+    /// The texts of names with `+` between them, one behind the other.
+    pub fn join(&self, names: &str) -> Result<Option<String>, AllocError> {
+        let mut whole = String::new(self.alloc);
+        for name in names.split('+') {
+            match self.get(name) {
+                Some(text) => whole.push_str(text)?,
+                None => return Ok(None),
+            }
+        }
+        Ok(Some(whole))
+    }
+}

@@ -1,0 +1,14 @@
+//! The calls on one pair word.
+
+use slot::pair::Pair;
+
+#[test]
+fn names_both_sides(rt: HostRuntime) {
+    let mut pair = Pair::new();
+    pair.name(1);
+    pair.tell(65537);
+    assert_eq!(rt; pair.halves(), (1, 65537));
+    pair.clear();
+    assert_eq!(rt; pair.halves(), (0, 0));
+    assert_eq!(rt; pair, Pair::default());
+}

@@ -1,0 +1,54 @@
+//! What values say of a change, and the verdict.
+
+use access_types::{Access, Claim, Kind, Operation};
+use std::test::Fail;
+use value_filter::values::change;
+use value_filter::verdict::Change::{Maybe, Ruled, Seen};
+use value_filter::verdict::Verdict::{Quiet, Report};
+use value_filter::verdict::{Reason, Verdict, judge};
+
+const PLAIN: Kind = Kind::Plain(Operation::Read);
+
+const BITS: Kind = Kind::Assert(Claim::NoWrites);
+
+#[test]
+fn values_say_whether_they_changed(rt: HostRuntime) -> Result<(), Fail> {
+    for (mask, values, wanted) in [
+        (Some(0xf), Some((0, 16)), Ruled),
+        (Some(0xf), Some((0, 1)), Seen),
+        (Some(0xf), None, Ruled),
+        (None, Some((5, 5)), Maybe),
+        (None, Some((0, 16)), Seen),
+        (None, None, Maybe),
+        (Some(0), Some((0, 16)), Seen),
+        (Some(0), None, Maybe),
+    ] {
+        let access = Access::new(0, 0, 0x10000, 4, BITS, mask)?;
+        assert_eq!(rt; change(&access, values), wanted, "{mask:?} {values:?}");
+    }
+    Ok(())
+}
+
+#[test]
+fn verdicts_are_those_of_the_table(rt: HostRuntime) -> Result<(), Fail> {
+    let same_value = Verdict::Drop(Reason::SameValue);
+    let masked_bits = Verdict::Drop(Reason::MaskedBits);
+    // The verdicts: taken with value-change-only on, taken with it off, and not taken.
+    for (kind, size, change, [changes_only, all, untaken]) in [
+        (BITS, 4, Ruled, [masked_bits, masked_bits, Quiet]),
+        (BITS, 4, Seen, [Report, Report, Report]),
+        (BITS, 4, Maybe, [Report, Report, Quiet]),
+        (PLAIN, 4, Ruled, [masked_bits, masked_bits, Quiet]),
+        (PLAIN, 4, Seen, [Report, Report, Report]),
+        (PLAIN, 4, Maybe, [same_value, Report, Quiet]),
+        (PLAIN, 8, Maybe, [same_value, Report, Quiet]),
+        (PLAIN, 9, Maybe, [Report, Report, Quiet]),
+    ] {
+        let setter = Access::new(0, 0, 0x10000, size, kind, None)?;
+        assert_eq!(rt; judge(change, &setter, true, true), changes_only);
+        assert_eq!(rt; judge(change, &setter, true, false), all);
+        assert_eq!(rt; judge(change, &setter, false, true), untaken);
+        assert_eq!(rt; judge(change, &setter, false, false), untaken);
+    }
+    Ok(())
+}
