@@ -46,32 +46,3 @@ pub fn content_after(history: &[Moment], k: usize, bytes: Bytes) -> Option<u64>
     }
     Some(value)
 }
-
-#[cfg(test)]
-mod tests {
-    use super::*;
-
-    #[test]
-    fn a_write_lays_its_bytes_down_from_the_lowest_on(rt: HostRuntime) {
-        let four = Bytes { addr: 8, size: 4 };
-        let two = Bytes { addr: 10, size: 2 };
-        let history = [(four, 0x0403_0201), (two, 0x0908)].map(|(bytes, value)| Moment {
-            task: 0,
-            happening: Happening::Write(bytes, value),
-        });
-        let wanted = [
-            (1, 8, 4, 0x0403_0201),
-            (2, 8, 4, 0x0908_0201),
-            (2, 9, 2, 0x0802),
-            (2, 7, 1, 0),
-            (2, 11, 2, 0x09),
-        ];
-        for (k, addr, size, value) in wanted {
-            assert!(rt; k <= history.len());
-            assert_eq!(rt;
-                content_after(&history, k, Bytes { addr, size }),
-                Some(value)
-            );
-        }
-    }
-}

@@ -16,9 +16,6 @@ use crate::moments::begin;
 use access_types::{Access, Happening, Kind, Mark, Moment, Operation};
 use std::alloc::{AllocError, Global};
 
-#[cfg(test)]
-mod rows;
-
 /// An answer, where memory suffices.
 pub type Answer = Result<bool, AllocError>;
 

@@ -10,9 +10,6 @@ use crate::moments::{begin, end};
 use access_types::{Access, Moment, conflicts};
 use std::alloc::Global;
 
-#[cfg(test)]
-mod rows;
-
 /// The access has begun after k moments and not ended.
 pub fn in_progress(history: &[Moment], access: &Access, k: usize) -> bool
     requires { k ≤ length history.now }

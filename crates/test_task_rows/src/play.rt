@@ -4,102 +4,146 @@ ghost use Rattle.std.specs.Prelude.{IfOk};
 ghost use Rattle.litmus_syntax.specs.Limits.{KeepsLimits};
 ghost use Rattle.litmus_syntax.specs.Views.{program_of};
 
+use crate::notation::Story;
 use litmus_parse::{ParseError, Program, parse};
-use litmus_syntax::Name;
 use program_layout::{Layout, Place};
 use program_sites::{SitesError, sites_of};
 use setup_access::Rules;
-use slot_table::{Answer, Board, PlainBoard, Shape, Step};
+use slot_table::{Answer, Board, BoardError, PlainBoard, Shape, Step};
 use std::alloc::{AllocError, Global};
-use std::process::Abort;
-use std::test::Fail;
+use step_schedule::{Entry, Schedule};
 use task_run::{TaskRun, TaskRunError};
+use thiserror::Error;
 
-/// A step of a task, and its answer.
-pub(crate) type Made = (u32, Step, Answer);
+/// A program has so many tasks at most.
+const TASKS: u32 = 16;
 
-/// What tasks did, and where the first of them came to.
-#[derive(Debug, Drop)]
-pub(crate) struct Played {
-    pub(crate) made: Vec<Made>,
-    pub(crate) registers: Vec<u64>,
-    pub(crate) cells: Vec<u64>,
-    /// No step is left of the first task.
-    pub(crate) ended: bool,
-    pub(crate) stuck: bool,
-    pub(crate) unbalanced: u64,
+/// A litmus text, what its tasks go by, which of them makes how many steps, and where its variables stand.
+#[derive(Drop)]
+pub struct Scene {
+    pub text: String,
+    pub rules: Rules,
+    pub schedule: Schedule,
+    pub places: Vec<Place>,
 }
 
-/// No access is watched, unless it is the thousandth that is asked for.
-pub(crate) const UNWATCHED: Rules = Rules {
-    slots: 64,
-    skip: 1000,
-    randomize: false,
-    seed: 1,
-    value_change_only: true,
-    plain_writes_atomic: true,
-    layout: watch_word::Layout::W64,
-    turns: 1000,
-};
+/// Why a text isn't played.
+#[derive(Clone, Copy, Debug, Error)]
+pub enum PlayError {
+    #[error("out of memory")]
+    OutOfMemory,
+    #[error("refused: {0}")]
+    Text(ParseError),
+    #[error("{0}")]
+    Task(TaskRunError),
+    #[error("there is no task {0}")]
+    NoTask(u64),
+    #[error("a step names a word that isn't there")]
+    NoWord,
+}
 
-/// Each access is watched that may be.
-pub(crate) const WATCHED: Rules = Rules {
-    skip: 0,
-    ..UNWATCHED
-};
+impl From<AllocError> for PlayError {
+    fn from(_: AllocError) -> PlayError {
+        PlayError::OutOfMemory
+    }
+}
+
+impl From<ParseError> for PlayError {
+    fn from(error: ParseError) -> PlayError {
+        match error {
+            ParseError::OutOfMemory => PlayError::OutOfMemory,
+            error => PlayError::Text(error),
+        }
+    }
+}
+
+impl From<TaskRunError> for PlayError {
+    fn from(error: TaskRunError) -> PlayError {
+        match error {
+            TaskRunError::OutOfMemory => PlayError::OutOfMemory,
+            error => PlayError::Task(error),
+        }
+    }
+}
+
+/// What the tasks of a scene did, in words.
+pub fn played(alloc: Global, scene: &Scene) -> Result<String, PlayError> {
+    let program = parsed(alloc, &scene.text)?;
+    play(alloc, &program, scene)
+}
 
 /// The program that a text spells.
-pub(crate) fn parsed(alloc: Global, text: &str) -> Result<Program, ParseError>
+fn parsed(alloc: Global, text: &str) -> Result<Program, ParseError>
     ensures { IfOk result (λ program. KeepsLimits (program_of program)) }
 {
     parse(alloc, text.as_bytes())
 }
 
-/// Places of variables, by their names.
-fn placed(alloc: Global, at: &[(&str, u64)]) -> Result<Vec<Place>, AllocError> {
-    let mut places = Vec::new(alloc);
-    for (name, addr) in at {
-        let mut text = String::new(alloc);
-        text.push_str(*name)?;
-        places.push(Place {
-            name: Name::from_string(text),
-            addr: *addr,
-        })?;
-    }
-    Ok(places)
-}
-
-/// The words of a program of two tasks at most, before their first steps.
-fn first_words(
-    alloc: Global,
-    program: &Program,
-    places: &[Place],
-    rules: &Rules,
-) -> Result<PlainBoard, Fail>
+/// What the tasks of a program did, in words.
+fn play(alloc: Global, program: &Program, scene: &Scene) -> Result<String, PlayError>
     requires { KeepsLimits (program_of program.now) }
 {
-    let layout = Layout::new(alloc, program.variables.as_slice(), places)?;
+    let mut board = first_words(alloc, program, scene)?;
+    let mut runs = first_tasks(alloc, program, scene)?;
+    let mut story = Story::new(alloc);
+    for entry in scene.schedule.entries() {
+        go(&mut board, &mut runs, entry, &mut story)?;
+    }
+    story.registers(runs.as_slice())?;
+    story.cells(board.cells())?;
+    story.ends(runs.as_slice())?;
+    Ok(story.into_words())
+}
+
+/// The words of a program before its first step.
+fn first_words(alloc: Global, program: &Program, scene: &Scene) -> Result<PlainBoard, TaskRunError>
+    requires { KeepsLimits (program_of program.now) }
+{
+    let layout = Layout::new(alloc, program.variables.as_slice(), scene.places.as_slice())?;
     let cells = layout.cells_at_first(alloc)?;
     let shape = Shape {
-        slots: rules.slots,
-        tasks: 2,
+        slots: scene.rules.slots,
+        tasks: TASKS,
         locks: layout.locks(),
         cells: cells.as_slice(),
     };
-    Ok(PlainBoard::new(alloc, shape)?)
+    match PlainBoard::new(alloc, shape) {
+        Ok(board) => Ok(board),
+        Err(BoardError::BadSlots) => Err(TaskRunError::BadSlots),
+        Err(BoardError::OutOfMemory) => Err(TaskRunError::OutOfMemory),
+    }
 }
 
-/// A task of a program before its first step.
-pub(crate) fn first_task<'a>(
-    rt: &impl Abort,
+/// The tasks of a program before their first steps.
+fn first_tasks<'a>(
+    alloc: Global,
+    program: &'a Program,
+    scene: &Scene,
+) -> Result<Vec<TaskRun<'a>>, TaskRunError>
+    requires { KeepsLimits (program_of program.now) }
+{
+    let mut runs = Vec::new(alloc);
+    for number in 0..TASKS {
+        let Some(run) = first_task(alloc, program, number, scene)? else {
+            break;
+        };
+        if let Err(e) = runs.push(run) {
+            return Err(AllocError::from(e).into());
+        }
+    }
+    Ok(runs)
+}
+
+/// The task of a number before its first step, if there is one.
+fn first_task<'a>(
     alloc: Global,
     program: &'a Program,
     number: u32,
-    places: &[Place],
-    rules: &Rules,
-) -> Result<TaskRun<'a>, TaskRunError>
+    scene: &Scene,
+) -> Result<Option<TaskRun<'a>>, TaskRunError>
     requires { KeepsLimits (program_of program.now) }
 {
+    let places = scene.places.as_slice();
     let layout = Layout::new(alloc, program.variables.as_slice(), places)?;
     let cells = layout.cells(alloc)?;
     let sites = match sites_of(alloc, program, places) {
@@ -107,122 +151,63 @@ pub(crate) fn first_task<'a>(
         Err(SitesError::OutOfMemory) => return Err(TaskRunError::OutOfMemory),
         Err(SitesError::BadPlace) => return Err(TaskRunError::BadPlace),
     };
-    let task = program
-        .tasks
-        .as_slice()
-        .get(number as usize)
-        .expect(rt, "a task");
-    TaskRun::new(
+    let Some(task) = program.tasks.as_slice().get(number as usize) else {
+        return Ok(None);
+    };
+    let run = TaskRun::new(
         alloc,
         program,
         number,
         task,
-        rules,
+        &scene.rules,
         places,
         cells.as_slice(),
         sites,
-    )
+    )?;
+    Ok(Some(run))
 }
 
-/// Where a task and the words came to, which made these steps.
-fn came_to(
-    alloc: Global,
-    made: Vec<Made>,
-    run: TaskRun<'_>,
-    board: &PlainBoard,
-) -> Result<Played, AllocError> {
-    Ok(Played {
-        made,
-        registers: Vec::from_slice(alloc, run.registers())?,
-        cells: Vec::from_slice(alloc, board.cells())?,
-        ended: run.next().is_none(),
-        stuck: run.stuck(),
-        unbalanced: run.unbalanced(),
-    })
-}
-
-/// A task makes its steps, up to so many.
+/// The task of an entry makes so many steps, or up to its last.
 fn go(
-    rt: &impl Abort,
-    alloc: Global,
-    mut board: PlainBoard,
-    mut run: TaskRun<'_>,
-    steps: usize,
-) -> Result<Played, AllocError> {
-    let mut made = Vec::new(alloc);
-    for _ in 0..steps {
-        let Some(step) = run.next() else {
+    board: &mut PlainBoard,
+    runs: &mut Vec<TaskRun<'_>>,
+    entry: &Entry,
+    story: &mut Story,
+) -> Result<(), PlayError> {
+    match runs.get_mut(entry.task as usize) {
+        Some(run) => go_on(board, run, entry, story),
+        None => Err(PlayError::NoTask(entry.task)),
+    }
+}
+
+/// This task makes so many steps, or up to its last.
+fn go_on(
+    board: &mut PlainBoard,
+    run: &mut TaskRun<'_>,
+    entry: &Entry,
+    story: &mut Story,
+) -> Result<(), PlayError> {
+    for _ in 0..entry.steps {
+        let Some((step, answer)) = make(board, run)? else {
             break;
         };
-        assert!(rt; board.has(step));
-        let answer = board.step(step);
-        run.answer(answer);
-        made.push((0, step, answer))?;
+        story.step(entry.task, step, answer)?;
     }
-    came_to(alloc, made, run, &board)
+    Ok(())
 }
 
-/// Two tasks make steps in this order, up to one that has none.
-fn go_both(
-    rt: &impl Abort,
-    alloc: Global,
-    mut board: PlainBoard,
-    mut run: TaskRun<'_>,
-    mut other: TaskRun<'_>,
-    order: &[u32],
-) -> Result<Played, AllocError> {
-    let mut made = Vec::new(alloc);
-    for task in order {
-        if *task == 0 {
-            let Some(step) = run.next() else {
-                break;
-            };
-            assert!(rt; board.has(step));
-            let answer = board.step(step);
-            run.answer(answer);
-            made.push((0, step, answer))?;
-        } else {
-            let Some(step) = other.next() else {
-                break;
-            };
-            assert!(rt; board.has(step));
-            let answer = board.step(step);
-            other.answer(answer);
-            made.push((1, step, answer))?;
-        }
+/// A task makes its next step, if it has one.
+fn make(
+    board: &mut PlainBoard,
+    run: &mut TaskRun<'_>,
+) -> Result<Option<(Step, Answer)>, PlayError> {
+    let Some(step) = run.next() else {
+        return Ok(None);
+    };
+    if !board.has(step) {
+        return Err(PlayError::NoWord);
     }
-    came_to(alloc, made, run, &board)
-}
-
-/// The only task of a text makes its steps, up to so many.
-pub(crate) fn play(
-    rt: &impl Abort,
-    alloc: Global,
-    text: &str,
-    at: &[(&str, u64)],
-    rules: &Rules,
-    steps: usize,
-) -> Result<Played, Fail> {
-    let program = parsed(alloc, text)?;
-    let places = placed(alloc, at)?;
-    let board = first_words(alloc, &program, places.as_slice(), rules)?;
-    let run = first_task(rt, alloc, &program, 0, places.as_slice(), rules)?;
-    Ok(go(rt, alloc, board, run, steps)?)
-}
-
-/// The tasks 0 and 1 of a text make steps in this order, up to one that has none.
-pub(crate) fn play_both(
-    rt: &impl Abort,
-    alloc: Global,
-    text: &str,
-    at: &[(&str, u64)],
-    rules: &Rules,
-    order: &[u32],
-) -> Result<Played, Fail> {
-    let program = parsed(alloc, text)?;
-    let places = placed(alloc, at)?;
-    let board = first_words(alloc, &program, places.as_slice(), rules)?;
-    let run = first_task(rt, alloc, &program, 0, places.as_slice(), rules)?;
-    let other = first_task(rt, alloc, &program, 1, places.as_slice(), rules)?;
-    Ok(go_both(rt, alloc, board, run, other, order)?)
+    let answer = board.step(step);
+    run.answer(answer);
+    Ok(Some((step, answer)))
 }

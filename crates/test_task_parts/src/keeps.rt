@@ -1,0 +1,93 @@
+//! What a task keeps over a few of its doings, and of its steps.
+
+use crate::fault::Fault;
+use crate::notation::{Phrase, cut, kind_of, number, push_flag, push_number};
+use crate::process::SITES;
+use crate::script::{Asked, begin_word};
+use access_types::Access;
+use setup_access::Begun;
+use slot_table::{Answer, Step};
+use std::alloc::{AllocError, Global};
+use task_log::log::TaskLog;
+use task_log::noted::Noted;
+use task_plan::Progress;
+
+/// What a task keeps of what it did: `REGISTERS VARIABLES`.
+pub fn progress(alloc: Global, start: &str, script: &str) -> Result<String, Fault> {
+    let (registers, variables) = cut(start, ' ')?;
+    let (registers, variables) = (number(registers)? as usize, number(variables)? as usize);
+    let mut progress = Progress::new(alloc, registers, variables)?;
+    let mut came = String::new(alloc);
+    for word in script.split(' ') {
+        let Asked::Question(phrase) = begin_word(&mut came, word)? else {
+            return Err(Fault::NoRow);
+        };
+        goes_on(&mut came, &mut progress, phrase)?;
+    }
+    Ok(came)
+}
+
+/// What comes at a word: what is kept, or something that the task does.
+fn goes_on(came: &mut String, progress: &mut Progress, phrase: Phrase<'_>) -> Result<(), Fault> {
+    match phrase.name {
+        "registers" => push_all(came, progress.registers())?,
+        "begun" => push_number(came, progress.begun_at(phrase.index()?))?,
+        "has" => push_flag(came, progress.has_lock(phrase.index()?))?,
+        "unbalanced" => push_number(came, progress.unbalanced())?,
+        "assign" => progress.assign(phrase.index()?, phrase.number(1)?),
+        "begins" => begins(progress, phrase.index()?)?,
+        "takes" => progress.set_lock(phrase.index()?, true),
+        "gives" => progress.set_lock(phrase.index()?, false),
+        "counts" => progress.counts_unbalanced(),
+        _ => return Err(Fault::NoRow),
+    }
+    Ok(())
+}
+
+/// An access begins at a site.
+fn begins(progress: &mut Progress, site: usize) -> Result<(), Fault> {
+    if site >= SITES {
+        return Err(Fault::NoRow);
+    }
+    progress.begins_at(site);
+    Ok(())
+}
+
+/// Writes numbers with commas between them.
+fn push_all(came: &mut String, numbers: &[u64]) -> Result<(), AllocError> {
+    for (place, number) in numbers.iter().enumerate() {
+        if place > 0 {
+            came.push(',')?;
+        }
+        push_number(came, *number)?;
+    }
+    Ok(())
+}
+
+/// What a log keeps of an access that has begun, and goes on: `KIND STAMP`.
+pub fn log(alloc: Global, start: &str) -> Result<String, Fault> {
+    let (kind, stamp) = cut(start, ' ')?;
+    let access = Access::new(1, 0, 0x10000, 4, kind_of(kind)?, None)?;
+    let begins = Noted {
+        step: Step::Clock,
+        answer: Answer::Word(number(stamp)?),
+        begins: Some(Begun {
+            access,
+            marked: true,
+            silenced: false,
+        }),
+        outcome: None,
+    };
+    let mut log = TaskLog::new(alloc, 2, 1)?;
+    let is_reported = log.note(&begins).is_some();
+    let accesses = log.accesses(alloc)?.len();
+    let (arms, takes) = (log.arms().len(), log.takes().len());
+    let counters = log.counters();
+    let mut sum = counters;
+    sum.add(&counters);
+    let (armed, lost, quiet) = (counters.arms, counters.lost, sum.quiet);
+    let kept = format!(in alloc;
+        "reported={is_reported} accesses={accesses} arms={arms} takes={takes}"
+    )?;
+    Ok(format!(in alloc; "{kept} armed={armed} lost={lost} quiet={quiet}")?)
+}

@@ -1,0 +1,68 @@
+//! Scripts: words, one behind the other, each with what comes of it. `STEP=ANSWER` is a step that the part itself makes,
+//! `+STEP=ANSWER` one that another task makes, `QUESTION=ANSWER` what the part says of itself.
+
+use crate::fault::Fault;
+use crate::notation::{Phrase, push_answer, push_step};
+use slot_table::{Answer, Board, PlainBoard, Step};
+use std::alloc::AllocError;
+
+/// A step, and its answer.
+pub type Made = (Step, Answer);
+
+/// What a word of a script asks.
+#[derive(Clone, Copy)]
+pub enum Asked<'t> {
+    /// The next step that the part makes.
+    Step,
+    /// A step of another task, or what the part says of itself.
+    Question(Phrase<'t>),
+}
+
+/// What a word asks, and writes that behind what came so far; of a step, what comes of it says what it is.
+pub fn begin_word<'t>(came: &mut String, word: &'t str) -> Result<Asked<'t>, AllocError> {
+    if !came.is_empty() {
+        came.push(' ')?;
+    }
+    if word
+        .as_bytes()
+        .first()
+        .is_some_and(|byte| byte.is_ascii_uppercase())
+    {
+        return Ok(Asked::Step);
+    }
+    match word.split_once('=') {
+        Some((question, _)) => {
+            came.push_str(question)?;
+            came.push('=')?;
+            Ok(Asked::Question(Phrase::read(question)))
+        }
+        None => {
+            came.push_str(word)?;
+            Ok(Asked::Question(Phrase::read(word)))
+        }
+    }
+}
+
+/// Writes a step that was made, with its answer, or `none`.
+pub fn push_made(came: &mut String, made: Option<Made>) -> Result<(), AllocError> {
+    let Some((step, answer)) = made else {
+        return push_step(came, None);
+    };
+    push_step(came, Some(step))?;
+    came.push('=')?;
+    push_answer(came, answer)
+}
+
+/// Another task makes a step.
+pub fn make_other(
+    came: &mut String,
+    board: &mut PlainBoard,
+    phrase: Phrase<'_>,
+) -> Result<(), Fault> {
+    let step = phrase.step()?;
+    if !board.has(step) {
+        return Err(Fault::NoRow);
+    }
+    push_answer(came, board.step(step))?;
+    Ok(())
+}

@@ -1,0 +1,136 @@
+//! Rows: litmus texts, how their tasks are asked for steps, and what comes of that.
+
+use crate::play::{PlayError, Scene, played};
+use crate::texts::Texts;
+use place_list::parse_places;
+use setup_access::Rules;
+use std::alloc::{AllocError, Global};
+use step_schedule::Schedule;
+use watch_word::Layout;
+
+/// No access is watched, unless it is the thousandth that is asked for.
+const UNWATCHED: Rules = Rules {
+    slots: 64,
+    skip: 1000,
+    randomize: false,
+    seed: 1,
+    value_change_only: true,
+    plain_writes_atomic: true,
+    layout: Layout::W64,
+    turns: 1000,
+};
+
+/// Each access is watched that may be.
+const WATCHED: Rules = Rules {
+    skip: 0,
+    ..UNWATCHED
+};
+
+/// The rules and the schedule of a text of one task.
+const ALONE: &str = "unwatched 0x1000";
+
+/// A scene, and what is to come of it.
+#[derive(Drop)]
+struct Row {
+    scene: Scene,
+    wanted: String,
+}
+
+/// What is to come of a row, and what comes of it.
+#[derive(Drop)]
+pub struct Tried {
+    pub wanted: String,
+    pub comes: String,
+}
+
+/// Tries the row of a line, if it is one.
+pub fn tried(alloc: Global, texts: &Texts, line: &str) -> Result<Option<Tried>, AllocError> {
+    let Some(Row { scene, wanted }) = read(alloc, texts, line)? else {
+        return Ok(None);
+    };
+    let comes = match played(alloc, &scene) {
+        Ok(words) => words,
+        Err(PlayError::OutOfMemory) => return Err(AllocError),
+        Err(error) => format!(in alloc; "{error}")?,
+    };
+    Ok(Some(Tried { wanted, comes }))
+}
+
+/// The row of a line: a scene, `=>`, and the words of what is to come of it.
+fn read(alloc: Global, texts: &Texts, line: &str) -> Result<Option<Row>, AllocError> {
+    let Some((scene, wanted)) = line.split_once(" => ") else {
+        return Ok(None);
+    };
+    match (scene_of(alloc, texts, scene)?, texts.words(wanted)?) {
+        (Some(scene), Some(wanted)) => Ok(Some(Row { scene, wanted })),
+        _ => Ok(None),
+    }
+}
+
+/// The scene that begins with a word for its kind.
+fn scene_of(alloc: Global, texts: &Texts, line: &str) -> Result<Option<Scene>, AllocError> {
+    let Some((kind, rest)) = line.split_once(' ') else {
+        return Ok(None);
+    };
+    match kind {
+        "play" => called(alloc, texts, rest),
+        "one" => framed(alloc, rest),
+        _ => Ok(None),
+    }
+}
+
+/// A scene that has its text by a name: `NAME RULES SCHEDULE PLACES`.
+fn called(alloc: Global, texts: &Texts, line: &str) -> Result<Option<Scene>, AllocError> {
+    let Some((name, course)) = line.split_once(' ') else {
+        return Ok(None);
+    };
+    match texts.get(name) {
+        Some(text) => with_course(alloc, String::from_str(alloc, text)?, course),
+        None => Ok(None),
+    }
+}
+
+/// A scene of one task with one variable `x`: `TYPE VALUE STATEMENTS`, with the value that it has at first.
+fn framed(alloc: Global, line: &str) -> Result<Option<Scene>, AllocError> {
+    let Some((contents, rest)) = line.split_once(' ') else {
+        return Ok(None);
+    };
+    let Some((value, statements)) = rest.split_once(' ') else {
+        return Ok(None);
+    };
+    let text = format!(in alloc;
+        "C one\n{{ {contents} x = {value}; }}\nP0({contents} *x)\n{{\nint r0;\n{statements}\n}}\nexists (true)\n"
+    )?;
+    with_course(alloc, text, ALONE)
+}
+
+/// The scene of a text and of the words `RULES SCHEDULE PLACES`, where the last may be missing.
+fn with_course(alloc: Global, text: String, course: &str) -> Result<Option<Scene>, AllocError> {
+    let Some((rules, rest)) = course.split_once(' ') else {
+        return Ok(None);
+    };
+    let (schedule, places) = rest.split_once(' ').unwrap_or((rest, ""));
+    let schedule = Schedule::parse(alloc, schedule)?;
+    let places = parse_places(alloc, places)?;
+    match (rules_of(rules), schedule, places) {
+        (Some(rules), Some(schedule), Some(places)) => Ok(Some(Scene {
+            text,
+            rules,
+            schedule,
+            places,
+        })),
+        _ => Ok(None),
+    }
+}
+
+/// The rules of a word: `watched`, `unwatched`, or `turns=N`, where also a wait is stuck after so many vain tries.
+fn rules_of(word: &str) -> Option<Rules> {
+    match word {
+        "watched" => Some(WATCHED),
+        "unwatched" => Some(UNWATCHED),
+        other => Some(Rules {
+            turns: other.strip_prefix("turns=")?.parse().ok()?,
+            ..UNWATCHED
+        }),
+    }
+}
