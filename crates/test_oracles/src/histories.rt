@@ -9,9 +9,16 @@ use std::alloc::Global;
 pub fn history_of(alloc: Global, text: &str) -> Result<Vec<Moment>, Fault> {
     let mut history = Vec::new(alloc);
     for moment in text.split(", ") {
-        history.push(moment_of(moment)?)?;
+        add_moment(&mut history, moment)?;
     }
     Ok(history)
+}
+
+/// Puts the moment of a text behind the others.
+fn add_moment(history: &mut Vec<Moment>, text: &str) -> Result<(), Fault> {
+    let Moment { task, happening } = moment_of(text)?;
+    history.push(Moment { task, happening })?;
+    Ok(())
 }
 
 /// The moment of a text.

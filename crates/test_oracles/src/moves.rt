@@ -7,6 +7,7 @@ use access_types::Access;
 use oracle_checks::Reading;
 use setup_access::Outcome;
 use slot_table::{Answer, Step};
+use std::alloc::{AllocError, Global};
 
 /// What is done with a task.
 #[derive(Clone, Copy)]
@@ -52,6 +53,13 @@ pub enum Came {
     Reads(Reading),
     /// The check is over, and its records read with other outcomes.
     ReadsOtherOutcomes,
+}
+
+impl Came {
+    /// What comes, and the text of the move of which it comes.
+    pub fn at(&self, alloc: Global, text: &str) -> Result<String, AllocError> {
+        format!(in alloc; "{self:?} at {text}")
+    }
 }
 
 /// A move, and what is to come of it.

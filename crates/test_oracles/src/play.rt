@@ -170,13 +170,22 @@ impl Play {
         let (task, moves) = text.split_once(' ').ok_or(Fault::NoRow)?;
         let task = small_of(task)?;
         for text in moves.split(", ") {
-            let made = Move::read(text)?;
-            let came = self.act(task, made.act)?;
-            if came != made.comes {
-                return Ok(Some(format!(in alloc; "{came:?} at {text}")?));
+            let came = self.make(alloc, task, text)?;
+            if came.is_some() {
+                return Ok(came);
             }
         }
         Ok(None)
+    }
+
+    /// Makes a move, and says what comes of it where something else comes.
+    fn make(&mut self, alloc: Global, task: u32, text: &str) -> Result<Option<String>, Fault> {
+        let made = Move::read(text)?;
+        match self.act(task, made.act) {
+            Err(fault) => Err(fault),
+            Ok(came) if came == made.comes => Ok(None),
+            Ok(came) => Ok(Some(came.at(alloc, text)?)),
+        }
     }
 
     /// What comes of something done with a task.

@@ -7,7 +7,7 @@ mod play;
 mod row;
 mod texts;
 
-use row::{Tried, tried};
+use row::{Tried, try_row};
 use std::alloc::{AllocError, Global};
 use std::io;
 use std::process::ExitCode;
@@ -83,8 +83,8 @@ fn comes_as_said(rt: &HostRuntime, texts: &Texts, line: &str) -> io::Result<bool
 /// What a row wants and what comes of it. Where that is want of memory, the row is tried a second time: where one growth of memory
 /// is refused, so much has to be said of it, and the row comes out the same.
 fn tried_again(alloc: Global, texts: &Texts, line: &str) -> Result<Option<Tried>, AllocError> {
-    match tried(alloc, texts, line) {
+    match try_row(alloc, texts, line) {
         Ok(tried) => Ok(tried),
-        Err(AllocError) => tried(alloc, texts, line),
+        Err(AllocError) => try_row(alloc, texts, line),
     }
 }

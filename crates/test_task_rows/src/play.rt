@@ -87,7 +87,7 @@ fn play(alloc: Global, program: &Program, scene: &Scene) -> Result<String, PlayE
     let mut runs = first_tasks(alloc, program, scene)?;
     let mut story = Story::new(alloc);
     for entry in scene.schedule.entries() {
-        go(&mut board, &mut runs, entry, &mut story)?;
+        go(&mut board, runs.as_mut_slice(), entry, &mut story)?;
     }
     story.registers(runs.as_slice())?;
     story.cells(board.cells())?;
@@ -170,25 +170,12 @@ fn first_task<'a>(
 /// The task of an entry makes so many steps, or up to its last.
 fn go(
     board: &mut PlainBoard,
-    runs: &mut Vec<TaskRun<'_>>,
-    entry: &Entry,
-    story: &mut Story,
-) -> Result<(), PlayError> {
-    match runs.get_mut(entry.task as usize) {
-        Some(run) => go_on(board, run, entry, story),
-        None => Err(PlayError::NoTask(entry.task)),
-    }
-}
-
-/// This task makes so many steps, or up to its last.
-fn go_on(
-    board: &mut PlainBoard,
-    run: &mut TaskRun<'_>,
+    runs: &mut [TaskRun<'_>],
     entry: &Entry,
     story: &mut Story,
 ) -> Result<(), PlayError> {
     for _ in 0..entry.steps {
-        let Some((step, answer)) = make(board, run)? else {
+        let Some((step, answer)) = make(board, runs, entry.task)? else {
             break;
         };
         story.step(entry.task, step, answer)?;
@@ -199,15 +186,20 @@ fn go_on(
 /// A task makes its next step, if it has one.
 fn make(
     board: &mut PlainBoard,
-    run: &mut TaskRun<'_>,
+    runs: &mut [TaskRun<'_>],
+    number: u64,
 ) -> Result<Option<(Step, Answer)>, PlayError> {
-    let Some(step) = run.next() else {
+    let task = number as usize;
+    if task >= runs.len() {
+        return Err(PlayError::NoTask(number));
+    }
+    let Some(step) = runs[task].next() else {
         return Ok(None);
     };
     if !board.has(step) {
         return Err(PlayError::NoWord);
     }
     let answer = board.step(step);
-    run.answer(answer);
+    runs[task].answer(answer);
     Ok(Some((step, answer)))
 }

@@ -44,7 +44,7 @@ pub struct Tried {
 }
 
 /// Tries the row of a line, if it is one.
-pub fn tried(alloc: Global, texts: &Texts, line: &str) -> Result<Option<Tried>, AllocError> {
+pub fn try_row(alloc: Global, texts: &Texts, line: &str) -> Result<Option<Tried>, AllocError> {
     let Some(Row { scene, wanted }) = read(alloc, texts, line)? else {
         return Ok(None);
     };
