@@ -2,19 +2,21 @@
 
 ghost use Rattle.std.specs.Prelude.{◌≤◌};
 
+use crate::refusal::Refusal;
 use access_types::{Access, Bytes, Happening, Mark, Moment, Sites, ticket};
 use oracle_headline::armings::last_arming;
 use oracle_headline::meetings::in_hand;
 use oracle_headline::{Armed, Came, Told};
 use setup_access::{Checker, Rules};
 use slot_table::{Answer, Board, PlainBoard, Record, Shape, Step};
-use std::alloc::Global;
-use std::process::Abort;
-use std::test::Fail;
+use std::alloc::{AllocError, Global};
+
+/// So many tasks a board has.
+pub const TASKS: usize = 4;
 
 /// What a task does, one after the other.
-#[derive(Clone, Copy, Debug)]
-pub(crate) enum Part {
+#[derive(Clone, Copy)]
+pub enum Part {
     /// It reads the bytes of an access.
     Reads(Access),
     /// It writes a value to the four bytes of an access at the front of the cell.
@@ -30,7 +32,7 @@ pub(crate) enum Part {
 }
 
 /// How far a task is with a part.
-#[derive(Clone, Copy, Debug, PartialEq, Eq)]
+#[derive(Clone, Copy, PartialEq, Eq)]
 enum At {
     Before,
     Check,
@@ -40,7 +42,7 @@ enum At {
 }
 
 /// A task of a list.
-#[derive(Debug, Drop)]
+#[derive(Drop)]
 struct Task {
     checker: Checker,
     part: usize,
@@ -81,7 +83,7 @@ fn value_of(part: &Part) -> Option<u64> {
 }
 
 /// The records so far, the latest first.
-fn latest_first(alloc: Global, made: &[Record]) -> Result<Vec<Record>, Fail> {
+fn latest_first(alloc: Global, made: &[Record]) -> Result<Vec<Record>, AllocError> {
     let mut records = Vec::new(alloc);
     for record in made.iter().rev() {
         records.push(*record)?;
@@ -90,7 +92,7 @@ fn latest_first(alloc: Global, made: &[Record]) -> Result<Vec<Record>, Fail> {
 }
 
 /// The arming that a task has in hand.
-fn armed_by(alloc: Global, made: &[Record], task: u32) -> Result<Option<Armed>, Fail> {
+fn armed_by(alloc: Global, made: &[Record], task: u32) -> Result<Option<Armed>, AllocError> {
     let records = latest_first(alloc, made)?;
     let Some(hand) = in_hand(records.as_slice(), task) else {
         return Ok(None);
@@ -101,8 +103,10 @@ fn armed_by(alloc: Global, made: &[Record], task: u32) -> Result<Option<Armed>, 
 }
 
 /// Makes a step of memory or of the clock.
-fn make_plain(rt: &impl Abort, list: &mut List, task: u32, step: Step) -> Result<Answer, Fail> {
-    assert!(rt; list.board.has(step));
+fn make_plain(list: &mut List, task: u32, step: Step) -> Result<Answer, Refusal> {
+    if !list.board.has(step) {
+        return Err(Refusal::OffBoard);
+    }
     let answer = list.board.step(step);
     list.made.push(Record { task, step, answer })?;
     Ok(answer)
@@ -110,15 +114,16 @@ fn make_plain(rt: &impl Abort, list: &mut List, task: u32, step: Step) -> Result
 
 /// Makes the step that a checker says, if it says one, and gives it the answer.
 fn make_checked(
-    rt: &impl Abort,
     list: &mut List,
     task: u32,
     checker: &mut Checker,
-) -> Result<Option<Step>, Fail> {
+) -> Result<Option<Step>, Refusal> {
     let Some(step) = checker.next() else {
         return Ok(None);
     };
-    assert!(rt; list.board.has(step));
+    if !list.board.has(step) {
+        return Err(Refusal::OffBoard);
+    }
     let answer = list.board.step(step);
     checker.answer(answer, &list.sites);
     list.made.push(Record { task, step, answer })?;
@@ -126,7 +131,7 @@ fn make_checked(
 }
 
 /// A moment of a task.
-fn tell(list: &mut List, task: u32, happening: Happening) -> Result<(), Fail> {
+fn tell(list: &mut List, task: u32, happening: Happening) -> Result<(), Refusal> {
     list.history.push(Moment { task, happening })?;
     Ok(())
 }
@@ -138,7 +143,7 @@ fn fell(
     number: u32,
     task: &mut Task,
     access: Access,
-) -> Result<(), Fail> {
+) -> Result<(), Refusal> {
     let Some(outcome) = task.checker.outcomes().get(task.outcomes).copied() else {
         return Ok(());
     };
@@ -165,7 +170,7 @@ fn note(
     closes: bool,
     access: Access,
     step: Step,
-) -> Result<(), Fail> {
+) -> Result<(), Refusal> {
     if step == Step::Clock {
         if closes {
             tell(list, number, Happening::End(access))?;
@@ -177,16 +182,19 @@ fn note(
 }
 
 /// A part begins: its access is decided.
-fn begin(rt: &impl Abort, task: &mut Task, part: &Part, access: Access) {
+fn begin(task: &mut Task, part: &Part, access: Access) -> Result<(), Refusal> {
     task.outcomes = 0;
     task.at = At::Check;
     if closes(part) {
         task.scope = None;
         task.checker.close_scoped();
-        return;
+        return Ok(());
     }
-    assert!(rt; access.size() > 0);
+    if access.size() == 0 {
+        return Err(Refusal::NoBytes);
+    }
     task.checker.begin(&access);
+    Ok(())
 }
 
 /// Whether a part ends a scoped assertion.
@@ -232,16 +240,15 @@ fn after_own(at: At, writes: bool, answer: Answer) -> At {
 
 /// What a step of memory or of the clock comes to.
 fn make_own(
-    rt: &impl Abort,
     list: &mut List,
     number: u32,
     task: &mut Task,
     value: Option<u64>,
     access: Access,
-) -> Result<(), Fail> {
+) -> Result<(), Refusal> {
     let at = task.at;
     let step = own_step(at, value);
-    let answer = make_plain(rt, list, number, step)?;
+    let answer = make_plain(list, number, step)?;
     task.at = after_own(at, value.is_some(), answer);
     if step == Step::Clock {
         task.part = task.part.saturating_add(1);
@@ -258,7 +265,6 @@ fn make_own(
 }
 
 /// What a try to make a step comes to.
-#[derive(Clone, Copy, Debug, PartialEq, Eq)]
 enum Made {
     Step,
     Stuck,
@@ -268,22 +274,21 @@ enum Made {
 
 /// Tries to make a step of a part.
 fn try_make(
-    rt: &impl Abort,
     alloc: Global,
     list: &mut List,
     number: u32,
     task: &mut Task,
     part: &Part,
     access: Access,
-) -> Result<Made, Fail> {
+) -> Result<Made, Refusal> {
     if task.at == At::Before {
-        begin(rt, task, part, access);
+        begin(task, part, access)?;
     }
     if task.at != At::Check {
-        make_own(rt, list, number, task, value_of(part), access)?;
+        make_own(list, number, task, value_of(part), access)?;
         return Ok(Made::Step);
     }
-    if let Some(step) = make_checked(rt, list, number, &mut task.checker)? {
+    if let Some(step) = make_checked(list, number, &mut task.checker)? {
         note(alloc, list, number, task, closes(part), access, step)?;
         return Ok(Made::Step);
     }
@@ -311,13 +316,12 @@ fn open(task: &mut Task, parts: &[Part]) {
 
 /// Makes the step that a task makes next; whether there is one.
 fn make(
-    rt: &impl Abort,
     alloc: Global,
     list: &mut List,
     number: u32,
     task: &mut Task,
     parts: &[Part],
-) -> Result<bool, Fail> {
+) -> Result<bool, Refusal> {
     for _ in 0..8 {
         let Some(part) = parts.get(task.part) else {
             return Ok(false);
@@ -326,7 +330,7 @@ fn make(
             open(task, parts);
             continue;
         };
-        match try_make(rt, alloc, list, number, task, part, access)? {
+        match try_make(alloc, list, number, task, part, access)? {
             Made::Step => return Ok(true),
             Made::Stuck => return Ok(false),
             Made::More => {}
@@ -336,51 +340,59 @@ fn make(
 }
 
 /// What the tasks do, each one thing after the other, and how it is checked.
-#[derive(Clone, Copy, Debug)]
-pub(crate) struct Program<'a> {
-    pub(crate) tasks: &'a [&'a [Part]],
+#[derive(Drop)]
+pub struct Program {
+    pub tasks: Vec<Vec<Part>>,
     /// The task whose reports are turned off, if it is one.
-    pub(crate) silenced: u32,
-    pub(crate) rules: Rules,
+    pub silenced: Option<u32>,
+    pub rules: Rules,
 }
 
 /// The accesses of a program.
-fn accesses_of(alloc: Global, program: &Program<'_>) -> Result<Vec<Access>, Fail> {
+fn accesses_of(alloc: Global, program: &Program) -> Result<Vec<Access>, Refusal> {
     let mut accesses = Vec::new(alloc);
-    for parts in program.tasks {
-        for part in *parts {
-            if closes(part) {
-                continue;
-            }
-            if let Some(access) = access_of(part) {
-                accesses.push(access)?;
-            }
-        }
+    for parts in program.tasks.as_slice() {
+        add_accesses(&mut accesses, parts.as_slice())?;
     }
     Ok(accesses)
 }
 
+/// Adds the accesses of a task. A scoped assertion that ends is no other than the one that began.
+fn add_accesses(accesses: &mut Vec<Access>, parts: &[Part]) -> Result<(), Refusal> {
+    for part in parts {
+        if closes(part) {
+            continue;
+        }
+        if let Some(access) = access_of(part) {
+            accesses.push(access)?;
+        }
+    }
+    Ok(())
+}
+
 /// The accesses by their tickets.
-fn sites_of(rt: &impl Abort, alloc: Global, accesses: &[Access]) -> Result<Sites, Fail> {
+fn sites_of(alloc: Global, accesses: &[Access]) -> Result<Sites, Refusal> {
     let mut sites = Sites::new(alloc);
     for access in accesses {
-        assert!(rt; sites.get(ticket(access)).is_none());
+        if sites.get(ticket(access)).is_some() {
+            return Err(Refusal::EqualTickets);
+        }
         sites.add(access)?;
     }
     Ok(sites)
 }
 
 /// A list with no steps.
-fn first_list(rt: &impl Abort, alloc: Global, accesses: &[Access]) -> Result<List, Fail> {
+fn first_list(alloc: Global, accesses: &[Access]) -> Result<List, Refusal> {
     let shape = Shape {
         slots: 64,
-        tasks: 4,
+        tasks: TASKS as u32,
         locks: 0,
         cells: &[0],
     };
     Ok(List {
         board: PlainBoard::new(alloc, shape)?,
-        sites: sites_of(rt, alloc, accesses)?,
+        sites: sites_of(alloc, accesses)?,
         made: Vec::new(alloc),
         history: Vec::new(alloc),
         outcomes: Vec::new(alloc),
@@ -392,12 +404,12 @@ fn first_task(
     alloc: Global,
     list: &mut List,
     number: u32,
-    program: &Program<'_>,
-) -> Result<Task, Fail>
+    program: &Program,
+) -> Result<Task, Refusal>
     requires { number ≤ 15 }
 {
     let mut checker = Checker::new(alloc, number, &program.rules, &[0x10000])?;
-    if number == program.silenced {
+    if program.silenced == Some(number) {
         checker.context().disable();
         tell(list, number, Happening::Mark(Mark::Disable))?;
     }
@@ -420,12 +432,14 @@ struct Going {
 }
 
 /// Before the first step.
-fn start(rt: &impl Abort, alloc: Global, program: &Program<'_>) -> Result<Going, Fail> {
+fn start(alloc: Global, program: &Program) -> Result<Going, Refusal> {
     let accesses = accesses_of(alloc, program)?;
-    let mut list = first_list(rt, alloc, accesses.as_slice())?;
+    let mut list = first_list(alloc, accesses.as_slice())?;
     let mut tasks = Vec::new(alloc);
     for number in 0..program.tasks.len() {
-        assert!(rt; number < 4);
+        if number >= TASKS {
+            return Err(Refusal::NoRow);
+        }
         tasks.push(first_task(alloc, &mut list, number as u32, program)?)?;
     }
     let mut moments = Vec::new(alloc);
@@ -440,17 +454,16 @@ fn start(rt: &impl Abort, alloc: Global, program: &Program<'_>) -> Result<Going,
 
 /// One more step, of this task; whether it has one.
 fn go_on(
-    rt: &impl Abort,
     alloc: Global,
-    program: &Program<'_>,
+    program: &Program,
     going: &mut Going,
     number: u32,
-) -> Result<bool, Fail> {
+) -> Result<bool, Refusal> {
     let place = number as usize;
-    assert!(rt; place < going.tasks.len() && place < program.tasks.len());
-    let parts = program.tasks[place];
-    let task = &mut going.tasks[place];
-    if !make(rt, alloc, &mut going.list, number, task, parts)? {
+    let (Some(parts), Some(task)) = (program.tasks.get(place), going.tasks.get_mut(place)) else {
+        return Ok(false);
+    };
+    if !make(alloc, &mut going.list, number, task, parts.as_slice())? {
         return Ok(false);
     }
     going.moments.push(going.list.history.len())?;
@@ -458,7 +471,7 @@ fn go_on(
 }
 
 /// Whether all tasks have ended.
-fn have_ended(program: &Program<'_>, tasks: &[Task]) -> bool {
+fn have_ended(program: &Program, tasks: &[Task]) -> bool {
     let parts = program.tasks.iter();
     parts
         .zip(tasks.iter())
@@ -466,7 +479,7 @@ fn have_ended(program: &Program<'_>, tasks: &[Task]) -> bool {
 }
 
 /// What the list tells.
-fn told_of(alloc: Global, program: &Program<'_>, going: Going) -> Result<Told, Fail> {
+fn told_of(alloc: Global, program: &Program, going: Going) -> Result<Told, Refusal> {
     let Going {
         accesses,
         list,
@@ -491,44 +504,42 @@ fn told_of(alloc: Global, program: &Program<'_>, going: Going) -> Result<Told, F
     })
 }
 
-/// The list that the tasks make in this order, and what it tells; none where a task is asked that has no step.
-pub(crate) fn play(
-    rt: &impl Abort,
+/// Makes the steps of an order.
+fn go_on_by(
     alloc: Global,
-    program: &Program<'_>,
+    program: &Program,
+    going: &mut Going,
     order: &[u32],
-) -> Result<Option<Told>, Fail> {
-    let mut going = start(rt, alloc, program)?;
+) -> Result<(), Refusal> {
     for number in order {
-        if !go_on(rt, alloc, program, &mut going, *number)? {
-            return Ok(None);
+        if !go_on(alloc, program, going, *number)? {
+            return Err(Refusal::NoStep);
         }
     }
-    Ok(Some(told_of(alloc, program, going)?))
+    Ok(())
+}
+
+/// The list that the tasks make in this order, and what it tells.
+pub fn play(alloc: Global, program: &Program, order: &[u32]) -> Result<Told, Refusal> {
+    let mut going = start(alloc, program)?;
+    go_on_by(alloc, program, &mut going, order)?;
+    told_of(alloc, program, going)
 }
 
 /// The list that two tasks make in this order, and then each as long as it has a step, the first before the second,
 /// and what it tells. The order is then that of the whole list.
-pub(crate) fn play_out(
-    rt: &impl Abort,
-    alloc: Global,
-    program: &Program<'_>,
-    order: &mut Vec<u32>,
-) -> Result<Told, Fail> {
-    let mut going = start(rt, alloc, program)?;
-    for number in order.as_slice() {
-        let made = go_on(rt, alloc, program, &mut going, *number)?;
-        assert!(rt; made, "task {number} in the order {order:?}");
-    }
+pub fn play_out(alloc: Global, program: &Program, order: &mut Vec<u32>) -> Result<Told, Refusal> {
+    let mut going = start(alloc, program)?;
+    go_on_by(alloc, program, &mut going, order.as_slice())?;
     for _ in 0..1000 {
-        let number = if go_on(rt, alloc, program, &mut going, 0)? {
+        let number = if go_on(alloc, program, &mut going, 0)? {
             0
-        } else if go_on(rt, alloc, program, &mut going, 1)? {
+        } else if go_on(alloc, program, &mut going, 1)? {
             1
         } else {
             return told_of(alloc, program, going);
         };
         order.push(number)?;
     }
-    panic!(rt; "no end in the order {order:?}")
+    Err(Refusal::NoEnd)
 }
