@@ -1,15 +1,15 @@
 //! What is true of the trace of a run.
 
 ghost use Rattle.std.specs.Prelude.{◌≤◌, ◌≡◌, ◌++◌, ◌∷◌, ℕ, All, List, length};
-ghost use Rattle.access_types.specs.Arms.{Arm};
-ghost use Rattle.access_types.specs.Stamped.{Stamped};
-ghost use Rattle.access_types.specs.Takes.{Take};
-ghost use Rattle.access_types.specs.declared.report.Report.{Report};
+ghost use Rattle.watch_word.specs.of_access_types_Arms.{Arm};
+ghost use Rattle.watch_word.specs.of_access_types_Stamped.{Stamped};
+ghost use Rattle.watch_word.specs.of_access_types_Takes.{Take};
+ghost use Rattle.watch_word.specs.of_access_types_declared.report.Report.{Report};
 ghost use Rattle.accepted_traces.specs.Parts.{AccessFits, AreOther, AreParts, HasLowMask};
 ghost use Rattle.accepted_traces.specs.Traces.{AreOf};
-ghost use Rattle.litmus_syntax.specs.Limits.{KeepsLimits};
-ghost use Rattle.report_text.specs.Faults.{IsTrueTrace};
-ghost use Rattle.report_text.specs.TraceText.{second, written_lines, written_trace};
+ghost use Rattle.litmus_meaning.specs.of_litmus_syntax_Limits.{KeepsLimits};
+ghost use Rattle.trace_replay.specs.of_report_text_Faults.{IsTrueTrace};
+ghost use Rattle.trace_replay.specs.of_report_text_TraceText.{second, written_lines, written_trace};
 ghost use Rattle.run_lists.specs.Run.{Run};
 ghost use Rattle.run_lists.specs.Reports.{reports_of};
 ghost use Rattle.run_lists.specs.RunList.{AllHaveEnded, RunList};

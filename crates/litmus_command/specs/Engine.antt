@@ -1,7 +1,7 @@
 -- What is left of the run of a litmus text, and why there is none.
 use Rattle.std.specs.Prelude.{◌≡◌, ◌<◌, ◌==◌, ◌↔◌, ◌⊎◌, ◌++◌, ◌∷◌, ℕ, List, [], Option, Bool, IfSome, IsTrue, length, not}
 use Rattle.std.specs.List.{flat_map}
-use Rattle.access_types.specs.Sites.{AccessMap}
+use Rattle.litmus_syntax.specs.of_access_types_Sites.{AccessMap}
 use Rattle.run_tally.specs.Finals.{HoldsAtEnd}
 use Rattle.litmus_command.specs.declared.engine.EngineError.{EngineError}
 use Rattle.litmus_command.specs.declared.engine.EngineError.TheVariants as engine
@@ -16,17 +16,17 @@ use Rattle.litmus_syntax.specs.declared.program.Program.{Program}
 use Rattle.program_layout.specs.Places.{AreFit}
 use Rattle.report_text.specs.ReportOf.{report_text}
 use Rattle.report_text.specs.Sink.{HoldsBeginning, appended}
-use Rattle.run_headline.specs.Headline.{Headline}
-use Rattle.run_lists.specs.Reports.{reports_of}
-use Rattle.run_lists.specs.Run.{Run}
-use Rattle.run_lists.specs.RunList.{AllHaveEnded, RunList}
-use Rattle.run_kept.specs.Totals.{CountsList, IsUnbalanced}
+use Rattle.litmus_step.specs.of_run_headline_Headline.{Headline}
+use Rattle.litmus_step.specs.of_run_lists_Reports.{reports_of}
+use Rattle.litmus_step.specs.of_run_lists_Run.{Run}
+use Rattle.litmus_step.specs.of_run_lists_RunList.{AllHaveEnded, RunList}
+use Rattle.litmus_step.specs.of_run_kept_Totals.{CountsList, IsUnbalanced}
 use Rattle.run_output.specs.Output.{output_text}
-use Rattle.slot_table.specs.declared.records.Record.{Record}
+use Rattle.run_output.specs.of_slot_table_declared.records.Record.{Record}
 use Rattle.step_schedule.specs.Order.{AreAsked, IsOrder, Tasks}
 use Rattle.step_schedule.specs.Schedule.{names_stranger}
 use Rattle.step_schedule.specs.declared.schedule.Entry.{Entry}
-use Rattle.task_log.specs.declared.counters.Counters.{Counters}
+use Rattle.run_output.specs.of_task_log_declared.counters.Counters.{Counters}
 use Rattle.traced_worlds.specs.Traces.{IsToBeAccepted, IsTraceOf}
 
 -- what the engine answers for a text that is refused

@@ -1,7 +1,7 @@
 -- What is written of a trace that is accepted.
 use Rattle.std.specs.Prelude.{◌≡◌, ◌++◌, ℕ, List, codes}
 use Rattle.std.specs.Fmt.{decimal}
-use Rattle.access_types.specs.ReportText.{line}
+use Rattle.litmus_syntax.specs.of_access_types_ReportText.{line}
 use Rattle.trace_replay.specs.Answer.{IsAccepted}
 use Rattle.trace_replay.specs.declared.accepted.Accepted.{Accepted}
 use Rattle.trace_replay.specs.declared.accepted.Accepted.TheVariants as accepted

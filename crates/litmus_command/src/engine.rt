@@ -11,10 +11,10 @@ ghost use Rattle.litmus_step.specs.Steps.{LeadsTo};
 ghost use Rattle.litmus_syntax.specs.Limits.{KeepsLimits};
 ghost use Rattle.litmus_syntax.specs.Views.{program_of};
 ghost use Rattle.report_text.specs.Sink.{CountsFailure};
-ghost use Rattle.run_lists.specs.Reports.{reports_of};
-ghost use Rattle.run_lists.specs.Run.{Run};
-ghost use Rattle.run_lists.specs.RunList.{AllHaveEnded};
-ghost use Rattle.slot_table.specs.declared.records.Record.{Record};
+ghost use Rattle.litmus_step.specs.of_run_lists_Reports.{reports_of};
+ghost use Rattle.litmus_step.specs.of_run_lists_Run.{Run};
+ghost use Rattle.litmus_step.specs.of_run_lists_RunList.{AllHaveEnded};
+ghost use Rattle.run_output.specs.of_slot_table_declared.records.Record.{Record};
 ghost use Rattle.step_schedule.specs.Schedule.{entries_of};
 ghost use Rattle.traced_worlds.specs.Traces.{IsToBeAccepted};
 

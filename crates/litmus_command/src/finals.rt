@@ -1,7 +1,7 @@
 //! What registers and variables hold at the end of a run.
 
 ghost use Rattle.std.specs.Prelude.{◌≡◌, ℕ, List, IfOk, IsErrOf, map};
-ghost use Rattle.access_types.specs.Sites.{AccessMap};
+ghost use Rattle.litmus_syntax.specs.of_access_types_Sites.{AccessMap};
 ghost use Rattle.final_condition.specs.Holds.{variable_of};
 ghost use Rattle.litmus_step.specs.Runs.{run_of};
 ghost use Rattle.litmus_step.specs.Steps.{LeadsTo};
@@ -9,9 +9,9 @@ ghost use Rattle.litmus_syntax.specs.Limits.{KeepsLimits};
 ghost use Rattle.litmus_syntax.specs.Views.{program_of};
 ghost use Rattle.program_layout.specs.Places.{AreFit, places_of};
 ghost use Rattle.run_tally.specs.Finals.{AreAllRegisters, variable_value};
-ghost use Rattle.run_lists.specs.Run.{Run};
-ghost use Rattle.run_lists.specs.Told.{history_of};
-ghost use Rattle.slot_table.specs.declared.records.Record.{Record};
+ghost use Rattle.litmus_step.specs.of_run_lists_Run.{Run};
+ghost use Rattle.litmus_step.specs.of_run_lists_Told.{history_of};
+ghost use Rattle.run_output.specs.of_slot_table_declared.records.Record.{Record};
 
 use final_condition::Finals;
 use litmus_step::{Settings, World};

@@ -1,8 +1,8 @@
 -- A world after one step more, by what is changed in it.
 use Rattle.std.proofs.Common.{Option, ap, inl, inr, ◌∙◌, ◌≡◌, ◌<◌, ◌≤◌, ◌+◌, ◌*◌, ◌∷◌, [], ℕ, List, Some, length, vec_capacity, arith}
 use Rattle.std.proofs.Common.{get_or, refl, set, slice_get, subst, sym}
-use Rattle.run_lists.specs.Run.{Run, first_words, task_setting}
-use Rattle.run_lists.specs.RunList.{RunList}
+use Rattle.step_bounds.specs.of_run_lists_Run.{Run, first_words, task_setting}
+use Rattle.step_bounds.specs.of_run_lists_RunList.{RunList}
 use Rattle.setup_access.specs.Parts.{made}
 use Rattle.slot_table.specs.Answer.{Answers}
 use Rattle.slot_table.specs.StepLine.{step_line}
@@ -20,7 +20,7 @@ use Rattle.task_log.specs.Keeps.{Keeps}
 use Rattle.task_log.specs.declared.log.TaskLog.{TaskLog}
 use Rattle.litmus_step.specs.Steps.{IsMachine, LeadsTo, tasks_in}
 use Rattle.litmus_step.specs.declared.world.World.{World}
-use Rattle.task_plan.specs.Counts.{up_to_last}
+use Rattle.task_laws.specs.of_task_plan_Counts.{up_to_last}
 use Rattle.task_log.specs.declared.noted.Noted.{Noted}
 use Rattle.litmus_syntax.specs.Tree.{Block}
 use Rattle.setup_access.specs.declared.begun.Begun.{Begun}
@@ -29,7 +29,7 @@ use Rattle.task_run.specs.Fell.{FellAt, fell_of}
 use Rattle.task_run.specs.Leads.{BeginsNext, Leads, LeadsOn, stands_at}
 use Rattle.task_run.specs.Points.{HasMade}
 use Rattle.task_run.specs.Says.{Says}
-use Rattle.written_order.specs.Standing.{Setting}
+use Rattle.written_tellings.specs.of_written_order_Standing.{Setting}
 use Rattle.std.proofs.lemmas.List.{append-nil, get_or-set_same}
 use Rattle.std.proofs.lemmas.Option.{slice_get_cases}
 use Rattle.task_run.specs.declared.run.TaskRun.{TaskRun}

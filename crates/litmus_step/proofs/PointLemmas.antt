@@ -4,10 +4,10 @@ use Rattle.std.proofs.Common.{set, slice_get, subst, sym}
 use Rattle.std.proofs.lemmas.Option.{slice_get_within}
 use Rattle.access_types.specs.declared.history.Happening.{Happening}
 use Rattle.litmus_syntax.specs.Tree.{Block}
-use Rattle.memory_operation.specs.Leads.{GoesOn}
-use Rattle.run_lists.specs.Run.{Run, task_of, task_setting}
-use Rattle.run_lists.specs.RunList.{RunList}
-use Rattle.run_lists.specs.Told.{made_by}
+use Rattle.written_tellings.specs.of_memory_operation_Leads.{GoesOn}
+use Rattle.step_bounds.specs.of_run_lists_Run.{Run, task_of, task_setting}
+use Rattle.step_bounds.specs.of_run_lists_RunList.{RunList}
+use Rattle.step_bounds.specs.of_run_lists_Told.{made_by}
 use Rattle.run_kept.specs.Noted.{AreNoted, IsBegun, IsNoted}
 use Rattle.setup_access.specs.Parts.{made}
 use Rattle.setup_access.specs.declared.begun.Begun.{Begun}
@@ -35,10 +35,10 @@ use Rattle.task_run.specs.declared.machine.Machine.{Machine}
 use Rattle.task_run.specs.declared.points.Before.{Before}
 use Rattle.task_run.specs.declared.run.TaskRun.{TaskRun}
 use Rattle.task_run.specs.declared.stage.Stage.{Stage}
-use Rattle.written_order.specs.Standing.{Setting, Standing}
-use Rattle.written_order.specs.Told.{did_by, did_next}
-use Rattle.written_order.specs.Waits.{OnlyStep}
-use Rattle.written_order.specs.WrittenOrder.{SpellsAll, WrittenOrder}
+use Rattle.written_tellings.specs.of_written_order_Standing.{Setting, Standing}
+use Rattle.written_tellings.specs.of_written_order_Told.{did_by, did_next}
+use Rattle.written_tellings.specs.of_written_order_Waits.{OnlyStep}
+use Rattle.written_tellings.specs.of_written_order_WrittenOrder.{SpellsAll, WrittenOrder}
 
 -- an access begins where one is noted
 pub begun_so : (plain_writes_atomic : Bool) (task : ℕ) (before next : List Happening) (begins : Option Begun)

@@ -7,9 +7,9 @@ use Rattle.std.proofs.lemmas.List.{length-set, reverse-append, reverse-reverse}
 use Rattle.std.proofs.lemmas.Option.{slice_get_within}
 use Rattle.litmus_syntax.specs.Limits.{TaskKeepsLimits}
 use Rattle.litmus_syntax.specs.Tree.{Task}
-use Rattle.memory_operation.specs.Leads.{GoesOn}
-use Rattle.run_lists.specs.Run.{Run, first_words, idle, task_of, task_setting}
-use Rattle.run_lists.specs.RunList.{InWrittenOrder, RunList}
+use Rattle.written_tellings.specs.of_memory_operation_Leads.{GoesOn}
+use Rattle.step_bounds.specs.of_run_lists_Run.{Run, first_words, idle, task_of, task_setting}
+use Rattle.step_bounds.specs.of_run_lists_RunList.{InWrittenOrder, RunList}
 use Rattle.setup_access.specs.Parts.{made}
 use Rattle.slot_table.specs.Answer.{Answers}
 use Rattle.slot_table.specs.Records.{records_of, words_after}
@@ -25,13 +25,13 @@ use Rattle.litmus_step.specs.Kept.{AreKept}
 use Rattle.litmus_step.specs.Leads.{AreAtPoints, LeadsTask, LeadsToAll, MakesNextIn}
 use Rattle.task_log.specs.declared.log.TaskLog.{TaskLog}
 use Rattle.litmus_step.specs.Runs.{CanBeMade, tasks_of}
-use Rattle.task_plan.specs.Counts.{up_to_last}
+use Rattle.task_laws.specs.of_task_plan_Counts.{up_to_last}
 use Rattle.task_run.specs.Leads as task_run
 use Rattle.task_run.specs.Leads.{LeadsOn}
 use Rattle.task_run.specs.declared.run.TaskRun.{TaskRun}
-use Rattle.written_order.specs.Standing.{Setting}
-use Rattle.written_order.specs.Waits.{OnlyStep, WithinTurns}
-use Rattle.written_order.specs.WrittenOrder.{SpellsAll, WrittenOrder}
+use Rattle.written_tellings.specs.of_written_order_Standing.{Setting}
+use Rattle.written_tellings.specs.of_written_order_Waits.{OnlyStep, WithinTurns}
+use Rattle.written_tellings.specs.of_written_order_WrittenOrder.{SpellsAll, WrittenOrder}
 
 -- what is answered leads on
 abbrev pub AnAnswerLeadsOn : Type 0

@@ -1,9 +1,9 @@
 -- What is kept of the steps of a run, by the list.
 use Rattle.std.specs.Prelude.{◌≡◌, ◌⊎◌, ◌*◌, ◌≤◌, ◌++◌, ◌<◌, ◌∷◌, [], ℕ, List, Option, None, Some, length, map, slice_get}
 use Rattle.access_types.specs.declared.report.Report.{Report}
-use Rattle.run_lists.specs.Reports.{reports_of}
-use Rattle.run_lists.specs.Run.{Run}
-use Rattle.run_lists.specs.RunList.{RunList}
+use Rattle.step_bounds.specs.of_run_lists_Reports.{reports_of}
+use Rattle.step_bounds.specs.of_run_lists_Run.{Run}
+use Rattle.step_bounds.specs.of_run_lists_RunList.{RunList}
 use Rattle.run_kept.specs.Noted.{Notes}
 use Rattle.slot_table.specs.declared.records.Record.{Record}
 use Rattle.litmus_step.specs.Runs.{tasks_of}

@@ -2,8 +2,8 @@
 use Rattle.std.specs.Prelude.{◌≡◌, ◌++◌, ◌∷◌, [], ℕ, List, Some, is_some, length, map, reverse, slice_get}
 use Rattle.access_types.specs.declared.report.Report.{Report}
 use Rattle.litmus_syntax.specs.Tree.{Block}
-use Rattle.run_lists.specs.Run.{Run, first_words, task_of, task_setting}
-use Rattle.run_lists.specs.RunList.{RunList}
+use Rattle.step_bounds.specs.of_run_lists_Run.{Run, first_words, task_of, task_setting}
+use Rattle.step_bounds.specs.of_run_lists_RunList.{RunList}
 use Rattle.run_kept.specs.Noted.{Notes}
 use Rattle.setup_access.specs.Parts.{made}
 use Rattle.slot_table.specs.Records.{records_of, words_after}
@@ -15,13 +15,13 @@ use Rattle.litmus_step.specs.Kept.{AreKept}
 use Rattle.litmus_step.specs.Runs.{CanBeMade, tasks_of}
 use Rattle.task_log.specs.declared.log.TaskLog.{TaskLog}
 use Rattle.task_log.specs.declared.noted.Noted.{Noted}
-use Rattle.task_plan.specs.Counts.{up_to_last}
+use Rattle.task_laws.specs.of_task_plan_Counts.{up_to_last}
 use Rattle.task_run.specs.Leads as task_run
 use Rattle.task_run.specs.Points.{HasMade, Stepped}
 use Rattle.task_run.specs.Says.{Says}
 use Rattle.task_run.specs.declared.run.TaskRun.{TaskRun}
-use Rattle.written_order.specs.Standing.{Setting}
-use Rattle.written_order.specs.Waits.{OnlyStep, WithinTurns}
+use Rattle.written_tellings.specs.of_written_order_Standing.{Setting}
+use Rattle.written_tellings.specs.of_written_order_Waits.{OnlyStep, WithinTurns}
 
 -- a task's records in the list lead to its machine
 abbrev pub LeadsTask : Run → ℕ → List Record → TaskRun → Type 0

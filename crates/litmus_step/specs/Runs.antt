@@ -5,14 +5,14 @@ use Rattle.litmus_syntax.specs.Limits.{KeepsLimits}
 use Rattle.litmus_syntax.specs.Views.{program_of}
 use Rattle.litmus_syntax.specs.declared.program.Program.{Program}
 use Rattle.program_layout.specs.Places.{places_of}
-use Rattle.run_lists.specs.Run.{Run, task_of, task_setting}
+use Rattle.step_bounds.specs.of_run_lists_Run.{Run, task_of, task_setting}
 use Rattle.slot_table.specs.Records.{records_of}
 use Rattle.slot_table.specs.declared.records.Record.{Record}
 use Rattle.task_laws.specs.Fits.{ArePlaced}
 use Rattle.litmus_step.specs.Settings.{rules_of}
 use Rattle.litmus_step.specs.declared.settings.Settings.{Settings}
-use Rattle.written_order.specs.Waits as waits
-use Rattle.written_order.specs.WrittenOrder.{SpellsAll}
+use Rattle.written_tellings.specs.of_written_order_Waits as waits
+use Rattle.written_tellings.specs.of_written_order_WrittenOrder.{SpellsAll}
 
 -- the run of a program under these settings, where tickets name these accesses
 abbrev pub run_of : Program → Settings → AccessMap → Run

@@ -1,7 +1,7 @@
 -- What is known of the tasks of a world that a list leads to, and worlds to which tasks that are asked lead.
 use Rattle.std.specs.Prelude.{◌≡◌, ◌++◌, ◌<◌, ◌≤◌, ◌+◌, ◌∷◌, ℕ, List, length}
-use Rattle.run_lists.specs.Run.{Run}
-use Rattle.run_lists.specs.RunList as run_lists
+use Rattle.step_bounds.specs.of_run_lists_Run.{Run}
+use Rattle.step_bounds.specs.of_run_lists_RunList as run_lists
 use Rattle.slot_table.specs.declared.records.Record.{Record}
 use Rattle.step_schedule.specs.Order.{AreAsked, IsOrder, Tasks}
 use Rattle.step_schedule.specs.declared.schedule.Entry.{Entry}

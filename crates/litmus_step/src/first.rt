@@ -2,12 +2,12 @@
 
 ghost use Rattle.std.specs.Prelude.{◌≡◌, ◌≤◌, ◌<◌, ◌↔◌, ◌⊎◌, [], ℕ, IfErr, IfOk, IsErrOf, Some, length, slice_get};
 ghost use Rattle.access_types.specs.Sites.{AccessMap};
-ghost use Rattle.litmus_meaning.specs.Layout.{cells_of};
+ghost use Rattle.program_layout.specs.of_litmus_meaning_Layout.{cells_of};
 ghost use Rattle.litmus_syntax.specs.Limits.{KeepsLimits};
 ghost use Rattle.litmus_syntax.specs.Views.{program_of};
 ghost use Rattle.program_layout.specs.Places.{AreFit, places_of};
 ghost use Rattle.program_sites.specs.Sites.{AreSitesOf};
-ghost use Rattle.run_lists.specs.Run.{first_words};
+ghost use Rattle.step_bounds.specs.of_run_lists_Run.{first_words};
 ghost use Rattle.litmus_step.specs.Kept.{accesses_kept, watches_kept};
 ghost use Rattle.litmus_step.specs.Leads.{LeadsTask, LeadsTasks};
 ghost use Rattle.litmus_step.specs.Runs.{run_of};

@@ -3,8 +3,8 @@
 ghost use Rattle.std.specs.Prelude.{◌≡◌, IfErr, IfOk, List};
 ghost use Rattle.litmus_step.specs.Kept.{AreLogs};
 ghost use Rattle.litmus_syntax.specs.Limits.{KeepsLimits};
-ghost use Rattle.run_lists.specs.Run.{Run};
-ghost use Rattle.run_lists.specs.RunList.{RunList};
+ghost use Rattle.step_bounds.specs.of_run_lists_Run.{Run};
+ghost use Rattle.step_bounds.specs.of_run_lists_RunList.{RunList};
 ghost use Rattle.run_kept.specs.Lists.{AreAccesses, AreArms, AreTakes};
 ghost use Rattle.run_kept.specs.Totals.{CountsList};
 ghost use Rattle.slot_table.specs.declared.records.Record.{Record};

@@ -1,14 +1,14 @@
 //! What is read of a world.
 
 ghost use Rattle.std.specs.Prelude.{◌≡◌, ◌<◌, All, IfErr, IfOk, List};
-ghost use Rattle.litmus_meaning.specs.RunOfProgram.{RunOfProgram};
+ghost use Rattle.program_layout.specs.of_litmus_meaning_RunOfProgram.{RunOfProgram};
 ghost use Rattle.litmus_step.specs.Runs.{HasEnded};
 ghost use Rattle.run_headline.specs.Headline.{Headline};
 ghost use Rattle.run_headline.specs.Cells.{CellsHold, memory_after, run_cells};
 ghost use Rattle.run_headline.specs.Reported.{IsTrueReport};
-ghost use Rattle.run_lists.specs.Reports.{reports_of};
-ghost use Rattle.run_lists.specs.Run.{Run};
-ghost use Rattle.run_lists.specs.Told.{history_of};
+ghost use Rattle.step_bounds.specs.of_run_lists_Reports.{reports_of};
+ghost use Rattle.step_bounds.specs.of_run_lists_Run.{Run};
+ghost use Rattle.step_bounds.specs.of_run_lists_Told.{history_of};
 ghost use Rattle.slot_table.specs.declared.records.Record.{Record};
 
 use crate::error::WorldError;

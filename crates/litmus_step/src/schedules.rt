@@ -3,7 +3,7 @@
 ghost use Rattle.std.specs.Prelude.{◌≡◌, ◌≢◌, ◌<◌, ◌↔◌, ◌⊎◌, ℕ, IfErr, IsErrOf, IsTrue, List, OnOk, false, replicate, true};
 ghost use Rattle.std.specs.List.{range_with_len};
 ghost use Rattle.run_headline.specs.Headline.{Headline};
-ghost use Rattle.run_lists.specs.Run.{Run};
+ghost use Rattle.step_bounds.specs.of_run_lists_Run.{Run};
 ghost use Rattle.slot_table.specs.declared.records.Record.{Record};
 ghost use Rattle.step_schedule.specs.Order.{asked_by, in_rounds};
 ghost use Rattle.step_schedule.specs.Schedule.{entries_of, names_stranger};

@@ -6,7 +6,7 @@ ghost use Rattle.litmus_syntax.specs.Limits.{KeepsLimits};
 ghost use Rattle.litmus_syntax.specs.Views.{program_of};
 ghost use Rattle.program_layout.specs.Places.{AreFit};
 ghost use Rattle.run_headline.specs.Headline.{Headline};
-ghost use Rattle.run_lists.specs.Run.{Run};
+ghost use Rattle.step_bounds.specs.of_run_lists_Run.{Run};
 ghost use Rattle.slot_table.specs.declared.records.Record.{Record};
 ghost use Rattle.litmus_step.specs.Leads.{IsLedTo, MakesNextIn};
 ghost use Rattle.litmus_step.specs.Kept.{Added, IsNotedIn, rooms_of};

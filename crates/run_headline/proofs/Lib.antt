@@ -34,3 +34,7 @@ pub mod Heard
 pub mod Bags
 pub mod Answered
 pub mod Agree
+pub use Rattle.access_run.proofs.of_memory_operation_WordLemmas as of_memory_operation_WordLemmas
+pub use Rattle.access_run.proofs.CheckFronts as of_access_run_CheckFronts
+pub use Rattle.access_run.proofs.LeadsLemmas as of_access_run_LeadsLemmas
+pub use Rattle.access_run.proofs.WholeLemmas as of_access_run_WholeLemmas

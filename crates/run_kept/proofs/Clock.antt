@@ -4,10 +4,10 @@ use Rattle.std.proofs.Common.{append-nil, arith, count_by, filter, if◌then◌e
 use Rattle.std.proofs.Math.Nat.{suc-mul}
 use Rattle.std.proofs.lemmas.List.Sums.{sum_by-cons}
 use Rattle.std.proofs.lemmas.Bool.Decides.{eqb_tells}
-use Rattle.access_types.specs.declared.history.Happening.{Happening}
-use Rattle.access_types.specs.declared.history.Happening.TheVariants as happenings
-use Rattle.litmus_syntax.specs.Limits.{BodyKeepsLimits, KeepsLimits}
-use Rattle.litmus_syntax.specs.Tree as tree
+use Rattle.slot_table.specs.of_access_types_declared.history.Happening.{Happening}
+use Rattle.slot_table.specs.of_access_types_declared.history.Happening.TheVariants as happenings
+use Rattle.written_order.specs.of_litmus_syntax_Limits.{BodyKeepsLimits, KeepsLimits}
+use Rattle.written_order.specs.of_litmus_syntax_Tree as tree
 use Rattle.run_lists.specs.Run.{Run, idle, task_of, task_setting}
 use Rattle.run_lists.specs.RunList.{RunList}
 use Rattle.run_lists.specs.Told.{made_by}

@@ -6,16 +6,16 @@ use Rattle.std.proofs.lemmas.Bool.{and_right, eq-eqb}
 use Rattle.std.proofs.lemmas.Bool.Decides.{eqb_tells}
 use Rattle.std.proofs.lemmas.List.{append-nil}
 use Rattle.std.proofs.lemmas.List.Elements.{All-cons, All-nil}
-use Rattle.access_types.specs.Access.{Access}
-use Rattle.access_types.specs.History.{History, beginning, happenings_of}
-use Rattle.access_types.specs.Marked as spec
-use Rattle.access_types.specs.Marked.{BeginsAfter, CountedAsMarked, CountsAfter, EndsRaised, IsWithinNext, Silenced, begins_countable, is_countable_begin, is_disable, is_enable, is_next, marks_of, next_mark}
-use Rattle.access_types.specs.declared.history.Happening.{Happening}
-use Rattle.access_types.specs.declared.history.Happening.TheVariants as happenings
-use Rattle.access_types.specs.declared.history.Mark.{Mark}
-use Rattle.access_types.specs.declared.history.Moment.{Moment}
-use Rattle.litmus_meaning.proofs.TextSitesLemmas.{begun_at}
-use Rattle.litmus_meaning.proofs.TicketLemmas.{numbered}
+use Rattle.slot_table.specs.of_access_types_Access.{Access}
+use Rattle.slot_table.specs.of_access_types_History.{History, beginning, happenings_of}
+use Rattle.slot_table.specs.of_access_types_Marked as spec
+use Rattle.slot_table.specs.of_access_types_Marked.{BeginsAfter, CountedAsMarked, CountsAfter, EndsRaised, IsWithinNext, Silenced, begins_countable, is_countable_begin, is_disable, is_enable, is_next, marks_of, next_mark}
+use Rattle.slot_table.specs.of_access_types_declared.history.Happening.{Happening}
+use Rattle.slot_table.specs.of_access_types_declared.history.Happening.TheVariants as happenings
+use Rattle.slot_table.specs.of_access_types_declared.history.Mark.{Mark}
+use Rattle.slot_table.specs.of_access_types_declared.history.Moment.{Moment}
+use Rattle.written_order.proofs.of_litmus_meaning_TextSitesLemmas.{begun_at}
+use Rattle.written_order.proofs.of_litmus_meaning_TicketLemmas.{numbered}
 use Rattle.run_lists.specs.Run.{Run, task_of, task_setting}
 use Rattle.run_lists.specs.RunList.{RunList}
 use Rattle.run_lists.specs.Told.{history_by, history_of, made_by, moments_of}
@@ -28,16 +28,16 @@ use Rattle.run_kept.proofs.Begun.{begins_first}
 use Rattle.run_kept.proofs.Sums.{counted}
 use Rattle.run_headline.specs.Events.{DoesEvent, EachDoesItsEvent}
 use Rattle.run_headline.proofs.Watches.{is_below}
-use Rattle.setup_access.specs.declared.begun.Begun.{Begun}
+use Rattle.written_order.specs.of_setup_access_declared.begun.Begun.{Begun}
 use Rattle.slot_table.specs.Records.{records_of}
 use Rattle.slot_table.specs.declared.records.Record.{Record}
 use Rattle.slot_table.specs.declared.step.Answer.{Answer}
 use Rattle.slot_table.specs.declared.step.Answer.TheVariants as answers
 use Rattle.slot_table.specs.declared.step.Step.{Step}
 use Rattle.slot_table.specs.declared.step.Step.TheVariants as steps
-use Rattle.task_log.specs.Touches.{accesses_of, end_newest, goes_on, stamped, stamped_at, touches_at, touches_of}
-use Rattle.task_log.specs.declared.noted.Noted.{Noted}
-use Rattle.task_log.specs.declared.touches.Touch.{Touch}
+use Rattle.run_headline.specs.of_task_log_Touches.{accesses_of, end_newest, goes_on, stamped, stamped_at, touches_at, touches_of}
+use Rattle.run_headline.specs.of_task_log_declared.noted.Noted.{Noted}
+use Rattle.run_headline.specs.of_task_log_declared.touches.Touch.{Touch}
 use Rattle.written_order.specs.Standing as tasks
 use Rattle.written_order.specs.Standing.{Standing}
 use Rattle.written_order.specs.Told.{did_by, did_next}

@@ -2,9 +2,9 @@
 use Rattle.std.proofs.Common.{◌≡◌, ◌∙◌, ◌++◌, ◌∷◌, [], ℕ, true, List, ap, arith, drop, le_refl, length, refl, replicate, subst, sym}
 use Rattle.std.proofs.lemmas.Bool.{le-leb}
 use Rattle.std.proofs.lemmas.List.{append-nil}
-use Rattle.access_types.specs.declared.history.Happening.TheVariants as happenings
-use Rattle.litmus_meaning.specs.Task as meaning
-use Rattle.litmus_syntax.specs.Tree.{Block}
+use Rattle.slot_table.specs.of_access_types_declared.history.Happening.TheVariants as happenings
+use Rattle.written_order.specs.of_litmus_meaning_Task as meaning
+use Rattle.written_order.specs.of_litmus_syntax_Tree.{Block}
 use Rattle.slot_table.specs.declared.records.Record.{Record}
 use Rattle.task_run.specs.Told.{last_of}
 use Rattle.written_order.proofs.Induction.{Kept, by_block}

@@ -5,8 +5,8 @@ use Rattle.std.proofs.lemmas.Bool.Decides.{eqb_tells}
 use Rattle.std.proofs.lemmas.List.{length-append, length-map, length-reverse}
 use Rattle.std.proofs.lemmas.List.Elements.{All-get_or}
 use Rattle.std.proofs.Math.Nat.{suc-mul}
-use Rattle.access_types.specs.declared.report.Report.{Report}
-use Rattle.litmus_syntax.specs.Limits.{BodyKeepsLimits, KeepsLimits, TaskKeepsLimits}
+use Rattle.slot_table.specs.of_access_types_declared.report.Report.{Report}
+use Rattle.written_order.specs.of_litmus_syntax_Limits.{BodyKeepsLimits, KeepsLimits, TaskKeepsLimits}
 use Rattle.run_lists.specs.Reports as lists
 use Rattle.run_lists.specs.Reports.{reports_of}
 use Rattle.run_lists.specs.Run.{Run, idle, task_of}
@@ -16,7 +16,7 @@ use Rattle.run_lists.proofs.OwnLasts.{own_latest}
 use Rattle.run_kept.specs.Totals.{outcomes_below}
 use Rattle.run_kept.proofs.Sums.{all_came, came_of, counted, no_outcome_below, one_task_came}
 use Rattle.run_kept.proofs.Fallen.{few_fell, fell_by}
-use Rattle.setup_access.specs.declared.outcome.Outcome.{Outcome}
+use Rattle.written_order.specs.of_setup_access_declared.outcome.Outcome.{Outcome}
 use Rattle.slot_table.specs.Records.{records_of}
 use Rattle.slot_table.specs.declared.records.Record.{Record}
 use Rattle.written_order.specs.Told.{fell_next}

@@ -1,8 +1,8 @@
 -- Armings and their verdicts, side by side.
 use Rattle.std.proofs.Common.{◌≡◌, ◌∙◌, ◌++◌, ◌∷◌, [], inl, inr, ℕ, All, List, None, Option, Some, ap, map, refl, sym}
 use Rattle.std.proofs.lemmas.List.{append-nil, map-append}
-use Rattle.access_types.specs.Arms.{Arm}
-use Rattle.access_types.specs.Ticket.{ticket_number}
+use Rattle.slot_table.specs.of_access_types_Arms.{Arm}
+use Rattle.slot_table.specs.of_access_types_Ticket.{ticket_number}
 use Rattle.run_lists.specs.Run.{Run, first_cells, locks_of}
 use Rattle.run_lists.specs.RunList.{RunList}
 use Rattle.run_lists.specs.Told.{OutcomeAt, outcomes_of}
@@ -10,7 +10,7 @@ use Rattle.run_kept.specs.Lists.{AreArmsBy, verdicts_by}
 use Rattle.run_kept.proofs.Settling.{HandSays, HitSays, Known, Match, PartSays, Pending, Settled}
 use Rattle.run_kept.proofs.Pairing.{all_paired}
 use Rattle.run_headline.specs.Watches.{IfVerdict}
-use Rattle.slot.specs.Pair.{Halves}
+use Rattle.slot_table.specs.of_slot_Pair.{Halves}
 use Rattle.slot_table.specs.Discipline.{heard, in_hand}
 use Rattle.slot_table.specs.Records.{records_of}
 use Rattle.slot_table.specs.declared.discipline.InHand.{InHand}

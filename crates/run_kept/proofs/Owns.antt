@@ -1,11 +1,11 @@
 -- What comes of a task's checks is of its own accesses.
 use Rattle.std.proofs.Common.{◌≡◌, ◌++◌, ◌||◌, ◌∷◌, [], ℕ, Bool, true, false, List, MatchBool, subst, sym}
-use Rattle.litmus_syntax.specs.Tree.{Block}
-use Rattle.setup_access.specs.Check.{Check, ChecksBegun, Close, Fallen, Passes, Rechecks, left_to_check}
-use Rattle.setup_access.specs.Own.{AreOwn}
-use Rattle.setup_access.specs.Setting as checks
-use Rattle.setup_access.specs.declared.begun.Begun.{Begun}
-use Rattle.setup_access.proofs.DisciplineLemmas.{on_word}
+use Rattle.written_order.specs.of_litmus_syntax_Tree.{Block}
+use Rattle.written_order.specs.of_setup_access_Check.{Check, ChecksBegun, Close, Fallen, Passes, Rechecks, left_to_check}
+use Rattle.written_order.specs.of_setup_access_Own.{AreOwn}
+use Rattle.written_order.specs.of_setup_access_Setting as checks
+use Rattle.written_order.specs.of_setup_access_declared.begun.Begun.{Begun}
+use Rattle.written_order.proofs.of_setup_access_DisciplineLemmas.{on_word}
 use Rattle.slot_table.specs.declared.records.Record.{Record}
 use Rattle.written_order.specs.Standing.{Setting, Standing, checks_of, counting}
 use Rattle.written_order.specs.WrittenOrder.{SpellsAll, at_first}

@@ -5,9 +5,9 @@ use Rattle.std.specs.Option.{option_map}
 use Rattle.std.proofs.lemmas.Bool.{eq-eqb}
 use Rattle.std.proofs.lemmas.Bool.Decides.{eqb_tells}
 use Rattle.std.proofs.lemmas.List.{append-nil}
-use Rattle.access_types.specs.Arms.{Arm}
-use Rattle.access_types.specs.Ticket.{ticket_number}
-use Rattle.access_types.specs.declared.arms.ArmOutcome.{ArmOutcome}
+use Rattle.slot_table.specs.of_access_types_Arms.{Arm}
+use Rattle.slot_table.specs.of_access_types_Ticket.{ticket_number}
+use Rattle.slot_table.specs.of_access_types_declared.arms.ArmOutcome.{ArmOutcome}
 use Rattle.run_kept.proofs.Named.{named_so, rules_then}
 use Rattle.run_lists.specs.Run.{Run, first_cells, locks_of}
 use Rattle.run_lists.specs.RunList.{RunList}
@@ -26,9 +26,9 @@ use Rattle.run_headline.specs.Watches.{IfVerdict, is_verdict}
 use Rattle.run_headline.proofs.Counts.{Answered, Unanswered}
 use Rattle.run_headline.proofs.Falls.{outcomes_in}
 use Rattle.run_headline.proofs.Lists.{SettledAt, settled_at}
-use Rattle.setup_access.specs.Check.{Fallen}
-use Rattle.setup_access.specs.declared.outcome.Outcome.{Outcome}
-use Rattle.slot.specs.Pair.{Halves}
+use Rattle.written_order.specs.of_setup_access_Check.{Fallen}
+use Rattle.written_order.specs.of_setup_access_declared.outcome.Outcome.{Outcome}
+use Rattle.slot_table.specs.of_slot_Pair.{Halves}
 use Rattle.slot_table.specs.Armings.{last_arming, last_arming_number, named_at, number_made}
 use Rattle.slot_table.specs.Discipline.{Allows, hand_after, heard, heard_after, in_hand}
 use Rattle.slot_table.specs.Meetings.{finders_told}

@@ -2,7 +2,7 @@
 use Rattle.std.proofs.Common.{◌≡◌, ◌∙◌, ◌<◌, ◌≤◌, ◌++◌, ◌∷◌, [], inl, inr, ℕ, List, arith, refl}
 use Rattle.std.proofs.lemmas.Bool.{le-leb}
 use Rattle.std.proofs.lemmas.Bool.Decides.{leb_tells}
-use Rattle.access_types.specs.declared.history.Happening.{Happening}
+use Rattle.slot_table.specs.of_access_types_declared.history.Happening.{Happening}
 use Rattle.run_lists.proofs.Ways.{Chain}
 use Rattle.task_run.specs.Told.{AllFrom, last_of}
 use Rattle.written_order.specs.Standing.{Point, point_by}

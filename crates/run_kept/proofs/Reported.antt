@@ -6,9 +6,9 @@ use Rattle.std.proofs.lemmas.Bool.{eq-eqb, ne_eqb}
 use Rattle.std.proofs.lemmas.Bool.Decides.{eqb_tells}
 use Rattle.std.proofs.lemmas.List.{append-nil}
 use Rattle.std.proofs.lemmas.List.Elements.{All-contains, filter-append, filter_map-append}
-use Rattle.access_types.specs.Ticket.{task_in, ticket_number}
-use Rattle.access_types.specs.declared.report.Report.{Report}
-use Rattle.access_types.specs.declared.report.Report.TheVariants as reports
+use Rattle.slot_table.specs.of_access_types_Ticket.{task_in, ticket_number}
+use Rattle.slot_table.specs.of_access_types_declared.report.Report.{Report}
+use Rattle.slot_table.specs.of_access_types_declared.report.Report.TheVariants as reports
 use Rattle.run_lists.specs.Answers.{AnswersTaking, IfAnswer, IsOfPair, is_answer}
 use Rattle.run_lists.specs.Reports as lists
 use Rattle.run_lists.specs.Run.{Run, first_cells, locks_of}
@@ -23,10 +23,10 @@ use Rattle.run_headline.specs.Settles.{Settles}
 use Rattle.run_headline.specs.Watches.{IfVerdict, is_verdict}
 use Rattle.run_headline.proofs.Falls.{outcomes_in}
 use Rattle.run_headline.proofs.Lists.{SettledAt, settled_at}
-use Rattle.setup_access.specs.Check.{Fallen}
-use Rattle.setup_access.specs.declared.outcome.Outcome.{Outcome}
-use Rattle.setup_access.specs.declared.outcome.Outcome.TheVariants as outcomes
-use Rattle.slot.specs.Pair.{Halves}
+use Rattle.written_order.specs.of_setup_access_Check.{Fallen}
+use Rattle.written_order.specs.of_setup_access_declared.outcome.Outcome.{Outcome}
+use Rattle.written_order.specs.of_setup_access_declared.outcome.Outcome.TheVariants as outcomes
+use Rattle.slot_table.specs.of_slot_Pair.{Halves}
 use Rattle.slot_table.specs.Discipline.{Allows, Discipline, in_hand}
 use Rattle.slot_table.specs.Records.{records_of}
 use Rattle.slot_table.specs.declared.discipline.InHand.{InHand}
@@ -36,11 +36,11 @@ use Rattle.slot_table.specs.declared.step.Step.{Step}
 use Rattle.slot_table.specs.declared.step.Step.TheVariants as steps
 use Rattle.slot_table.proofs.Lists.{Keeps}
 use Rattle.slot_table.proofs.Moves.{some_same}
-use Rattle.task_log.specs.Arms.{setter_named}
-use Rattle.task_log.specs.Noted.{named_by}
-use Rattle.task_log.specs.Reports as logs
-use Rattle.task_log.specs.Reports.{reported_in}
-use Rattle.task_log.specs.declared.noted.Noted.{Noted}
+use Rattle.run_headline.specs.of_task_log_Arms.{setter_named}
+use Rattle.run_headline.specs.of_task_log_Noted.{named_by}
+use Rattle.run_headline.specs.of_task_log_Reports as logs
+use Rattle.run_headline.specs.of_task_log_Reports.{reported_in}
+use Rattle.run_headline.specs.of_task_log_declared.noted.Noted.{Noted}
 use Rattle.written_order.specs.Told.{fell_next}
 
 -- a task's last name is a ticket of its own

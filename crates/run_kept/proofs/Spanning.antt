@@ -7,10 +7,10 @@ use Rattle.std.proofs.Math.Bool.{◌||◌}
 use Rattle.std.proofs.lemmas.Bool.Decides.{eqb_tells}
 use Rattle.std.proofs.lemmas.List.{append-nil}
 use Rattle.std.proofs.lemmas.List.Elements.{All-cons, All-nil, filter_map-append}
-use Rattle.access_types.specs.Access.{Access}
-use Rattle.access_types.specs.Stamped.{Stamped}
-use Rattle.access_types.specs.declared.history.Happening.{Happening}
-use Rattle.access_types.specs.declared.history.Happening.TheVariants as happenings
+use Rattle.slot_table.specs.of_access_types_Access.{Access}
+use Rattle.slot_table.specs.of_access_types_Stamped.{Stamped}
+use Rattle.slot_table.specs.of_access_types_declared.history.Happening.{Happening}
+use Rattle.slot_table.specs.of_access_types_declared.history.Happening.TheVariants as happenings
 use Rattle.run_lists.specs.Run.{Run, first_words, task_of, task_setting}
 use Rattle.run_lists.specs.RunList.{RunList}
 use Rattle.run_lists.specs.Told.{made_by}
@@ -22,7 +22,7 @@ use Rattle.run_kept.proofs.Balance.{ArePlain, IsPlain, Runs, plain_both, runs_on
 use Rattle.run_kept.proofs.Begun.{NoneBegins, none_begun}
 use Rattle.run_kept.proofs.Sums.{counted, counted_both}
 use Rattle.run_headline.specs.Events.{AreMarks, DoesEvent, EachDoesItsEvent, IsEvent, IsMark, ReadsAtMost, Writes}
-use Rattle.setup_access.specs.declared.begun.Begun.{Begun}
+use Rattle.written_order.specs.of_setup_access_declared.begun.Begun.{Begun}
 use Rattle.slot_table.specs.Records.{Legal, records_of, words_after}
 use Rattle.slot_table.specs.Words.{Words}
 use Rattle.slot_table.specs.declared.records.Record.{Record}
@@ -31,9 +31,9 @@ use Rattle.slot_table.specs.declared.step.Answer.TheVariants as answers
 use Rattle.slot_table.specs.declared.step.Step.{Step}
 use Rattle.slot_table.specs.declared.step.Step.TheVariants as steps
 use Rattle.slot_table.specs.StepLine.{step_line}
-use Rattle.task_log.specs.Touches.{accesses_of, end_newest, goes_on, stamped, stamped_at, touches_at, touches_of}
-use Rattle.task_log.specs.declared.noted.Noted.{Noted}
-use Rattle.task_log.specs.declared.touches.Touch.{Touch}
+use Rattle.run_headline.specs.of_task_log_Touches.{accesses_of, end_newest, goes_on, stamped, stamped_at, touches_at, touches_of}
+use Rattle.run_headline.specs.of_task_log_declared.noted.Noted.{Noted}
+use Rattle.run_headline.specs.of_task_log_declared.touches.Touch.{Touch}
 use Rattle.written_order.specs.Standing as tasks
 use Rattle.written_order.specs.Told.{did_by, did_next}
 

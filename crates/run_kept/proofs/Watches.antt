@@ -7,9 +7,9 @@ use Rattle.run_kept.proofs.Sums.{counted, counted_both, of_record}
 use Rattle.run_lists.proofs.CheckFacts.{back}
 use Rattle.run_headline.specs.Settles.{One, Settles, hears_finder}
 use Rattle.run_headline.proofs.Falls.{Falls, outcomes_in}
-use Rattle.setup_access.specs.Check.{Fallen}
-use Rattle.setup_access.specs.declared.outcome.Outcome.{Outcome}
-use Rattle.slot.specs.Pair.{Halves}
+use Rattle.written_order.specs.of_setup_access_Check.{Fallen}
+use Rattle.written_order.specs.of_setup_access_declared.outcome.Outcome.{Outcome}
+use Rattle.slot_table.specs.of_slot_Pair.{Halves}
 use Rattle.slot_table.specs.Discipline.{Allows, Discipline, hand_after, heard, heard_after, in_hand}
 use Rattle.slot_table.specs.declared.discipline.InHand.{InHand}
 use Rattle.slot_table.specs.declared.discipline.Part.{Part}

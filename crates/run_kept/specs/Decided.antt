@@ -1,8 +1,8 @@
 -- What the history decides of an access that begins.
 use Rattle.std.specs.Prelude.{◌↔◌, Bool, IsTrue, List}
-use Rattle.access_types.specs.Access.{Access}
-use Rattle.access_types.specs.Marked.{CountedAsMarked, Silenced}
-use Rattle.access_types.specs.Stamped.{Stamped}
+use Rattle.slot_table.specs.of_access_types_Access.{Access}
+use Rattle.slot_table.specs.of_access_types_Marked.{CountedAsMarked, Silenced}
+use Rattle.slot_table.specs.of_access_types_Stamped.{Stamped}
 use Rattle.run_lists.specs.Run.{Run}
 use Rattle.run_lists.specs.RunList.{RunList}
 use Rattle.run_lists.specs.Told.{history_of}

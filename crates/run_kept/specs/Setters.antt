@@ -1,8 +1,8 @@
 -- Whose watchpoint a report is of.
 use Rattle.std.specs.Prelude.{◌==◌, ℕ, Bool, List, filter}
-use Rattle.access_types.specs.Ticket.{task_in}
-use Rattle.access_types.specs.declared.report.Report.{Report}
-use Rattle.access_types.specs.declared.report.Report.TheVariants.{Two, Unknown}
+use Rattle.slot_table.specs.of_access_types_Ticket.{task_in}
+use Rattle.slot_table.specs.of_access_types_declared.report.Report.{Report}
+use Rattle.slot_table.specs.of_access_types_declared.report.Report.TheVariants.{Two, Unknown}
 
 -- the ticket of the access that set the watchpoint up
 abbrev pub setter_of : Report → ℕ

@@ -1,8 +1,8 @@
 -- When the accesses of a task begin and end.
 use Rattle.std.specs.Prelude.{◌≡◌, ◌++◌, ℕ, Bool, List, ◌∷◌, false, true}
-use Rattle.access_types.specs.Stamped.{Stamped}
-use Rattle.access_types.specs.declared.history.Happening.{Happening}
-use Rattle.access_types.specs.declared.history.Happening.TheVariants.{Begin, End}
+use Rattle.slot_table.specs.of_access_types_Stamped.{Stamped}
+use Rattle.slot_table.specs.of_access_types_declared.history.Happening.{Happening}
+use Rattle.slot_table.specs.of_access_types_declared.history.Happening.TheVariants.{Begin, End}
 use Rattle.run_lists.specs.Run.{Run}
 use Rattle.run_lists.specs.RunList.{RunList}
 use Rattle.run_lists.specs.Told.{made_by}

@@ -4,8 +4,8 @@ use Rattle.run_lists.specs.Run.{Run}
 use Rattle.run_lists.specs.RunList.{RunList}
 use Rattle.run_lists.specs.Told.{OutcomeAt, came_next, outcomes_of}
 use Rattle.slot_table.specs.declared.records.Record.{Record}
-use Rattle.task_log.specs.Counters.{is_arming, is_capacity, is_encoding, is_lost, is_masked, is_quiet, is_same, is_taken, is_two_sided, is_unencodable, is_unknown, resting, together}
-use Rattle.task_log.specs.declared.counters.Counters.{Counters}
+use Rattle.run_headline.specs.of_task_log_Counters.{is_arming, is_capacity, is_encoding, is_lost, is_masked, is_quiet, is_same, is_taken, is_two_sided, is_unencodable, is_unknown, resting, together}
+use Rattle.run_headline.specs.of_task_log_declared.counters.Counters.{Counters}
 use Rattle.written_order.specs.WrittenOrder.{stands_after}
 
 -- the outcomes that fell at these records of the tasks below a number

@@ -2,9 +2,9 @@
 
 ghost use Rattle.std.specs.Prelude.{◌≡◌, ◌==◌, ◌++◌, ℕ, List, map};
 ghost use Rattle.std.specs.List.{flat_map};
-ghost use Rattle.access_types.specs.Arms.{Arm};
-ghost use Rattle.access_types.specs.Takes.{Take};
-ghost use Rattle.access_types.specs.Ticket.{ticket_number};
+ghost use Rattle.slot_table.specs.of_access_types_Arms.{Arm};
+ghost use Rattle.slot_table.specs.of_access_types_Takes.{Take};
+ghost use Rattle.slot_table.specs.of_access_types_Ticket.{ticket_number};
 ghost use Rattle.report_text.specs.Truth.{AreOneBag, hits_in, is_pair, is_take, origins_in, pairs_in, race_in, unknown_in};
 ghost use Rattle.run_lists.specs.Reports.{reports_of};
 ghost use Rattle.run_lists.specs.Run.{Run};

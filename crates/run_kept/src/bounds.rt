@@ -1,16 +1,16 @@
 //! What comes of a run of a program that keeps the limits, at most.
 
 ghost use Rattle.std.specs.Prelude.{◌*◌, ◌<◌, ◌≤◌, ℕ, List, length, reverse};
-ghost use Rattle.litmus_syntax.specs.Limits.{BodyKeepsLimits, KeepsLimits};
-ghost use Rattle.litmus_syntax.specs.Tree.{Block};
+ghost use Rattle.written_order.specs.of_litmus_syntax_Limits.{BodyKeepsLimits, KeepsLimits};
+ghost use Rattle.written_order.specs.of_litmus_syntax_Tree.{Block};
 ghost use Rattle.run_lists.specs.Reports.{reports_of};
 ghost use Rattle.run_lists.specs.Run.{Run};
 ghost use Rattle.run_lists.specs.RunList.{RunList};
 ghost use Rattle.run_kept.specs.Noted.{AreNoted, Notes};
 ghost use Rattle.slot_table.specs.declared.records.Record.{Record};
-ghost use Rattle.task_log.specs.Arms.{arms_of, takes_of};
-ghost use Rattle.task_log.specs.Reports.{reported_in};
-ghost use Rattle.task_log.specs.declared.noted.Noted.{Noted};
+ghost use Rattle.run_headline.specs.of_task_log_Arms.{arms_of, takes_of};
+ghost use Rattle.run_headline.specs.of_task_log_Reports.{reported_in};
+ghost use Rattle.run_headline.specs.of_task_log_declared.noted.Noted.{Noted};
 ghost use Rattle.written_order.specs.Standing.{Setting};
 ghost use Rattle.written_order.specs.WrittenOrder.{SpellsAll, WrittenOrder};
 

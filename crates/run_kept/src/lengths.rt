@@ -1,10 +1,10 @@
 //! How many accesses, armings and takings a run list has.
 
 ghost use Rattle.std.specs.Prelude.{◌*◌, ◌≤◌, List, length};
-ghost use Rattle.access_types.specs.Arms.{Arm};
-ghost use Rattle.access_types.specs.Stamped.{Stamped};
-ghost use Rattle.access_types.specs.Takes.{Take};
-ghost use Rattle.litmus_syntax.specs.Limits.{KeepsLimits};
+ghost use Rattle.slot_table.specs.of_access_types_Arms.{Arm};
+ghost use Rattle.slot_table.specs.of_access_types_Stamped.{Stamped};
+ghost use Rattle.slot_table.specs.of_access_types_Takes.{Take};
+ghost use Rattle.written_order.specs.of_litmus_syntax_Limits.{KeepsLimits};
 ghost use Rattle.run_lists.specs.Run.{Run};
 ghost use Rattle.run_lists.specs.RunList.{RunList};
 ghost use Rattle.run_kept.specs.Lists.{AreAccesses, AreArms, AreTakes};

@@ -7,8 +7,8 @@ ghost use Rattle.run_lists.specs.RunList.{RunList};
 ghost use Rattle.run_kept.specs.Noted.{Notes};
 ghost use Rattle.run_kept.specs.Setters.{reports_by};
 ghost use Rattle.slot_table.specs.declared.records.Record.{Record};
-ghost use Rattle.task_log.specs.Reports.{reported_in};
-ghost use Rattle.task_log.specs.declared.noted.Noted.{Noted};
+ghost use Rattle.run_headline.specs.of_task_log_Reports.{reported_in};
+ghost use Rattle.run_headline.specs.of_task_log_declared.noted.Noted.{Noted};
 
 use run_headline::verdicts::verdicts_are_on_watches;
 use run_lists::laws::{answers_are_to_takings, run_lists_keep_the_discipline};

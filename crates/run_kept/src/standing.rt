@@ -1,8 +1,8 @@
 //! What the records of a task say of its machine.
 
 ghost use Rattle.std.specs.Prelude.{◌≡◌, ℕ, List};
-ghost use Rattle.litmus_meaning.specs.Meaning.{MeansBlock};
-ghost use Rattle.litmus_syntax.specs.Tree.{Block};
+ghost use Rattle.written_order.specs.of_litmus_meaning_Meaning.{MeansBlock};
+ghost use Rattle.written_order.specs.of_litmus_syntax_Tree.{Block};
 ghost use Rattle.slot_table.specs.declared.records.Record.{Record};
 ghost use Rattle.task_run.specs.Leads.{Leads, stands_at};
 ghost use Rattle.task_run.specs.Says.{IsStopped};

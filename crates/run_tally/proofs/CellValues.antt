@@ -16,7 +16,7 @@ use Rattle.litmus_meaning.specs.Values.{sign_extended, size_of, with_sign}
 use Rattle.litmus_syntax.specs.declared.program.Variable.{Variable}
 use Rattle.program_layout.specs.Cells.{LieInOneCell}
 use Rattle.run_tally.specs.Finals.{value_in_cells, value_of, variable_value, word_at}
-use Rattle.memory_operation.proofs.WordLemmas.{range_is}
+use Rattle.run_headline.proofs.of_memory_operation_WordLemmas.{range_is}
 use Rattle.run_headline.specs.Cells.{CellsHold}
 use Rattle.run_headline.proofs.WordBytes.{value_of_bytes}
 

@@ -16,14 +16,14 @@ use Rattle.program_layout.specs.Places.{places_of}
 use Rattle.program_sites.specs.Sites.{AreSitesOf}
 use Rattle.report_text.specs.ReportOf.{NamesAccesses}
 use Rattle.run_headline.specs.Reported.{IsTrueReport}
-use Rattle.run_kept.specs.Setters.{is_by, reports_by}
-use Rattle.run_lists.specs.Reports.{reports_of}
-use Rattle.run_lists.specs.Run.{IsOfProgram, Run}
-use Rattle.run_lists.specs.RunList.{RunList}
-use Rattle.run_kept.specs.Lists.{ByTask}
+use Rattle.litmus_step.specs.of_run_kept_Setters.{is_by, reports_by}
+use Rattle.run_headline.specs.of_run_lists_Reports.{reports_of}
+use Rattle.run_headline.specs.of_run_lists_Run.{IsOfProgram, Run}
+use Rattle.run_headline.specs.of_run_lists_RunList.{RunList}
+use Rattle.litmus_step.specs.of_run_kept_Lists.{ByTask}
 use Rattle.runner.specs.Result.{IsRunOnce}
 use Rattle.runner.specs.declared.result.RunResult.{RunResult}
-use Rattle.slot_table.specs.declared.records.Record.{Record}
+use Rattle.task_log.specs.of_slot_table_declared.records.Record.{Record}
 
 there : {X : Type 0} (found : Option X) (x : X) → found ≡ Some x → IsSome found
 there None x is = absurd (cc)

@@ -14,11 +14,11 @@ use Rattle.litmus_step.specs.Readers.{AreRegisters}
 use Rattle.litmus_step.specs.Runs.{tasks_of}
 use Rattle.report_text.specs.Groups.{Group, counted}
 use Rattle.run_tally.specs.Finals.{AreAllRegisters, AreRegistersFrom}
-use Rattle.run_lists.specs.Run.{Run}
-use Rattle.run_lists.specs.RunList.{RunList}
-use Rattle.run_kept.specs.Totals.{AddUp}
+use Rattle.run_headline.specs.of_run_lists_Run.{Run}
+use Rattle.run_headline.specs.of_run_lists_RunList.{RunList}
+use Rattle.litmus_step.specs.of_run_kept_Totals.{AddUp}
 use Rattle.run_tally.specs.Output.{AreSums}
-use Rattle.slot_table.specs.declared.records.Record.{Record}
+use Rattle.task_log.specs.of_slot_table_declared.records.Record.{Record}
 use Rattle.task_log.specs.Counters.{resting, together}
 use Rattle.task_log.specs.declared.counters.Counters.{Counters}
 

@@ -9,10 +9,10 @@ use Rattle.litmus_meaning.specs.Values.{sign_extended}
 use Rattle.litmus_step.specs.Readers.{AreRegisters}
 use Rattle.litmus_step.specs.Runs.{tasks_of}
 use Rattle.litmus_syntax.specs.declared.program.Variable.{Variable}
-use Rattle.run_lists.specs.Run.{Run}
-use Rattle.run_lists.specs.RunList.{RunList}
-use Rattle.run_lists.specs.Told.{history_of}
-use Rattle.slot_table.specs.declared.records.Record.{Record}
+use Rattle.run_headline.specs.of_run_lists_Run.{Run}
+use Rattle.run_headline.specs.of_run_lists_RunList.{RunList}
+use Rattle.run_headline.specs.of_run_lists_Told.{history_of}
+use Rattle.task_log.specs.of_slot_table_declared.records.Record.{Record}
 
 -- the value of the variable of a number, with these places, where this history has ended: the content of its bytes, with its sign, in 64
 -- bits

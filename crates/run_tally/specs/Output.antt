@@ -14,7 +14,7 @@ use Rattle.program_sites.specs.Sites.{AreSitesOf}
 use Rattle.report_text.specs.Groups.{AreGroupsOf, Group, group_text}
 use Rattle.report_text.specs.ReportOf.{report_text}
 use Rattle.report_text.specs.TraceText.{written_trace}
-use Rattle.run_kept.specs.Lists.{AreAccesses, AreArms, AreTakes}
+use Rattle.litmus_step.specs.of_run_kept_Lists.{AreAccesses, AreArms, AreTakes}
 use Rattle.run_output.specs.Lines.{condition_line, counters_line}
 use Rattle.run_tally.specs.Errors.{IsReadAs}
 use Rattle.run_tally.specs.Runs.{OneRun}

@@ -4,7 +4,7 @@ use Rattle.litmus_step.specs.declared.settings.Settings.{Settings}
 use Rattle.litmus_syntax.specs.declared.program.Program.{Program}
 use Rattle.run_tally.specs.Finals.{HoldsAtEnd}
 use Rattle.run_headline.specs.Headline.{Headline}
-use Rattle.run_kept.specs.Totals.{CountsList}
+use Rattle.litmus_step.specs.of_run_kept_Totals.{CountsList}
 use Rattle.runner.specs.Result.{IsRunOnce}
 use Rattle.runner.specs.declared.result.RunResult.{RunResult}
 use Rattle.task_log.specs.declared.counters.Counters.{Counters}

@@ -12,11 +12,11 @@ ghost use Rattle.program_layout.specs.Lays.{Lays};
 ghost use Rattle.program_layout.specs.Places.{AreFit, places_of};
 ghost use Rattle.run_tally.specs.Finals as spec;
 ghost use Rattle.run_tally.specs.Finals.{AreAllRegisters, HoldsAtEnd, value_in_cells, variable_value};
-ghost use Rattle.run_lists.specs.Run.{first_words};
-ghost use Rattle.run_lists.specs.RunList.{RunList};
-ghost use Rattle.run_lists.specs.Told.{history_of};
-ghost use Rattle.slot_table.specs.Records.{words_after};
-ghost use Rattle.slot_table.specs.declared.records.Record.{Record};
+ghost use Rattle.run_headline.specs.of_run_lists_Run.{first_words};
+ghost use Rattle.run_headline.specs.of_run_lists_RunList.{RunList};
+ghost use Rattle.run_headline.specs.of_run_lists_Told.{history_of};
+ghost use Rattle.task_log.specs.of_slot_table_Records.{words_after};
+ghost use Rattle.task_log.specs.of_slot_table_declared.records.Record.{Record};
 
 use access_types::Bytes;
 use final_condition::{Finals, holds};

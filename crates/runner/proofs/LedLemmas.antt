@@ -17,9 +17,9 @@ use Rattle.run_kept.specs.Noted.{AreNoted, IsNoted}
 use Rattle.runner.proofs.DoneWith.{does_last}
 use Rattle.runner.specs.Led.{IsLed}
 use Rattle.runner.specs.Machine.{SaysBegin}
-use Rattle.setup_access.specs.Parts.{made}
-use Rattle.setup_access.specs.declared.begun.Begun.{Begun}
-use Rattle.setup_access.specs.declared.outcome.Outcome.{Outcome}
+use Rattle.task_log.specs.of_setup_access_Parts.{made}
+use Rattle.task_log.specs.of_setup_access_declared.begun.Begun.{Begun}
+use Rattle.task_log.specs.of_setup_access_declared.outcome.Outcome.{Outcome}
 use Rattle.slot_table.specs.Answer.{Answers}
 use Rattle.slot_table.specs.Discipline.{Allows, Discipline}
 use Rattle.slot_table.specs.StepLine.{Names}

@@ -33,7 +33,7 @@ use Rattle.task_log.specs.Keeps.{Keeps}
 use Rattle.task_log.specs.Reports.{reported_in}
 use Rattle.task_log.specs.declared.log.TaskLog.{TaskLog}
 use Rattle.task_log.specs.declared.noted.Noted.{Noted}
-use Rattle.task_plan.specs.Counts.{up_to_last}
+use Rattle.task_laws.specs.of_task_plan_Counts.{up_to_last}
 use Rattle.written_order.specs.Standing.{Setting}
 use Rattle.written_order.specs.Waits.{WithinTurns}
 use Rattle.written_order.specs.WrittenOrder.{SpellsAll, at_first, stands_after}

@@ -17,9 +17,9 @@ use Rattle.runner.specs.Machine.{SaysBegin}
 use Rattle.runner.specs.Terms.{AreTerms, run_by}
 use Rattle.runner.specs.declared.seated.Found.{Found}
 use Rattle.runner.specs.declared.terms.Terms.{Terms}
-use Rattle.setup_access.specs.Parts.{made}
-use Rattle.setup_access.specs.declared.begun.Begun.{Begun}
-use Rattle.setup_access.specs.declared.outcome.Outcome.{Outcome}
+use Rattle.task_log.specs.of_setup_access_Parts.{made}
+use Rattle.task_log.specs.of_setup_access_declared.begun.Begun.{Begun}
+use Rattle.task_log.specs.of_setup_access_declared.outcome.Outcome.{Outcome}
 use Rattle.shared_table.specs.Given as given
 use Rattle.shared_table.specs.Seats.{MayMake, Opened, Sitting, seat_after}
 use Rattle.slot_table.specs.Answer.{Answers}
@@ -32,7 +32,7 @@ use Rattle.slot_table.specs.declared.step.Step.{Step}
 use Rattle.task_log.specs.Reports.{reported_in}
 use Rattle.task_log.specs.declared.log.TaskLog.{TaskLog}
 use Rattle.task_log.specs.declared.noted.Noted.{Noted}
-use Rattle.task_plan.specs.Counts.{up_to_last}
+use Rattle.task_laws.specs.of_task_plan_Counts.{up_to_last}
 use Rattle.task_run.specs.Fell.{FellAt, fell_of}
 use Rattle.task_run.specs.Leads.{Leads, LeadsOn, stands_at}
 use Rattle.task_run.specs.Says.{IsStopped}

@@ -2,7 +2,7 @@
 use Rattle.std.specs.Prelude.{◌⊎◌, ℕ, List, Option}
 use Rattle.litmus_step.specs.Steps.{Reaches}
 use Rattle.litmus_syntax.specs.Tree.{Block}
-use Rattle.setup_access.specs.declared.begun.Begun.{Begun}
+use Rattle.task_log.specs.of_setup_access_declared.begun.Begun.{Begun}
 use Rattle.slot_table.specs.declared.records.Record.{Record}
 use Rattle.task_run.specs.Leads.{BeginsNext, Leads, stands_at}
 use Rattle.task_run.specs.declared.run.TaskRun.{TaskRun}

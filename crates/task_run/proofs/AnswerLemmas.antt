@@ -23,8 +23,8 @@ use Rattle.setup_access.specs.declared.begun.Begun.{Begun}
 use Rattle.setup_access.specs.declared.checker.Checker.{Checker}
 use Rattle.setup_access.specs.declared.stage.Stage.TheVariants as check_stages
 use Rattle.slot_table.specs.declared.records.Record.{Record}
-use Rattle.task_context.specs.Context.{Context}
-use Rattle.task_context.specs.History.{Concerns, LeadsTo}
+use Rattle.setup_access.specs.of_task_context_Context.{Context}
+use Rattle.setup_access.specs.of_task_context_History.{Concerns, LeadsTo}
 use Rattle.task_plan.specs.Follow.{Follow}
 use Rattle.task_plan.specs.Keeps.{Keeps}
 use Rattle.task_plan.specs.declared.progress.Progress.{Progress}
@@ -36,8 +36,8 @@ use Rattle.task_run.specs.Stands.{Counts, IsOf, Stands}
 use Rattle.task_run.specs.declared.machine.Machine.{Machine}
 use Rattle.text_walk.specs.Left.{WalkLeft}
 use Rattle.text_walk.specs.declared.walk.Walk.{Walk}
-use Rattle.written_order.specs.Access.{operated}
-use Rattle.written_order.specs.Standing.{BeginsNow, IsDisabled, IsLockAt, Setting, Standing, checks_of, doing, lock_number}
+use Rattle.text_walk.specs.of_written_order_Access.{operated}
+use Rattle.text_walk.specs.of_written_order_Standing.{BeginsNow, IsDisabled, IsLockAt, Setting, Standing, checks_of, doing, lock_number}
 
 -- only the checker is another, and the access whose begin is the next step
 abbrev pub OtherChecker : Machine → Machine → Type 0

@@ -30,7 +30,7 @@ use Rattle.setup_access.specs.declared.begun.Begun.{Begun}
 use Rattle.setup_access.specs.declared.checker.Checker.{Checker}
 use Rattle.slot_table.specs.declared.records.Record.{Record}
 use Rattle.slot_table.specs.declared.step.Step.TheVariants.{Clock}
-use Rattle.task_context.specs.History.{Follows}
+use Rattle.setup_access.specs.of_task_context_History.{Follows}
 use Rattle.task_plan.proofs.KeepsLemmas.{begun_still, marks_other}
 use Rattle.task_plan.specs.Counts.{up_to_last}
 use Rattle.task_plan.specs.Follow.{Follow, assigned, condition, goes_on, loaded_by, marks_next, nobody, so_many_off, so_often, to_register}
@@ -60,7 +60,7 @@ use Rattle.text_walk.specs.Left.{DueLeft}
 use Rattle.text_walk.specs.declared.due.Due.{Due}
 use Rattle.text_walk.specs.declared.due.Due.TheVariants as dues
 use Rattle.text_walk.specs.declared.walk.Walk.{Walk}
-use Rattle.written_order.specs.Standing.{BeginsNow, Setting, Standing, checks_of, coming, counting, doing, is_lock, lock_number, moments, registered}
+use Rattle.text_walk.specs.of_written_order_Standing.{BeginsNow, Setting, Standing, checks_of, coming, counting, doing, is_lock, lock_number, moments, registered}
 
 -- what is due is the part itself, or the text is over
 pub begins_stopped : (s : Setting) (due : Due) (machine : Machine) → Stops s (DueLeft s due machine.walk) machine

@@ -13,15 +13,15 @@ use Rattle.memory_operation.specs.declared.operation.Operation.{Operation}
 use Rattle.memory_operation.specs.declared.operation.Operation.TheVariants as operations
 use Rattle.setup_access.specs.Shown.{context_of}
 use Rattle.slot_table.specs.declared.records.Record.{Record}
-use Rattle.task_context.specs.Context.{Context}
-use Rattle.task_context.specs.History.{Concerns, Follows, LeadsTo}
-use Rattle.task_context.proofs.OtherMoments.{other_moment}
+use Rattle.setup_access.specs.of_task_context_Context.{Context}
+use Rattle.setup_access.specs.of_task_context_History.{Concerns, Follows, LeadsTo}
+use Rattle.setup_access.proofs.of_task_context_OtherMoments.{other_moment}
 use Rattle.task_plan.proofs.KeepsLemmas.{keeps_alike, keeps_on}
 use Rattle.task_plan.specs.Alike.{AreOther, IsOther}
 use Rattle.task_run.specs.Stands.{Counts}
 use Rattle.task_run.specs.declared.machine.Machine.{Machine}
-use Rattle.written_order.specs.Access.{operated}
-use Rattle.written_order.specs.Standing.{Setting, Standing, doing}
+use Rattle.text_walk.specs.of_written_order_Access.{operated}
+use Rattle.text_walk.specs.of_written_order_Standing.{Setting, Standing, doing}
 
 -- what a task did, as moments
 abbrev pub history_of : ℕ → List Happening → History

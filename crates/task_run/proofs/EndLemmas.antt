@@ -21,9 +21,9 @@ use Rattle.slot_table.specs.declared.step.Answer.{Answer}
 use Rattle.slot_table.specs.declared.step.Answer.TheVariants as answers
 use Rattle.setup_access.specs.Records.{OnFlag}
 use Rattle.text_walk.specs.Left.{ClosesNewest}
-use Rattle.written_order.specs.Access.{Makes, operated}
-use Rattle.written_order.specs.Standing.{BeginsNow, IsDisabled, Setting, Standing, checks_of, doing}
-use Rattle.written_order.specs.WrittenOrder.{OpensScope}
+use Rattle.text_walk.specs.of_written_order_Access.{Makes, operated}
+use Rattle.text_walk.specs.of_written_order_Standing.{BeginsNow, IsDisabled, Setting, Standing, checks_of, doing}
+use Rattle.text_walk.specs.of_written_order_WrittenOrder.{OpensScope}
 
 abbrev pub passes_of : ℕ → List Fallen → Passes
 passes_of asked outcomes = record { outcomes = outcomes; asked = asked }

@@ -19,8 +19,8 @@ use Rattle.task_run.specs.declared.stage.Stage.{Stage}
 use Rattle.text_walk.proofs.StepsLemmas.{through}
 use Rattle.text_walk.specs.Left.{BodyLeft, Same, WalkLeft}
 use Rattle.text_walk.specs.declared.walk.Walk.{Walk}
-use Rattle.written_order.specs.Standing.{Setting, Standing, doing, registered}
-use Rattle.written_order.specs.WrittenOrder.{Steps}
+use Rattle.text_walk.specs.of_written_order_Standing.{Setting, Standing, doing, registered}
+use Rattle.text_walk.specs.of_written_order_WrittenOrder.{Steps}
 
 -- what is left is the same in another walk that is the same
 pub walk_as : (s : Setting) (walk other : Walk) → other ≡ walk → (before : Standing) (records : List Record) (after : Standing) (rest : List Record)

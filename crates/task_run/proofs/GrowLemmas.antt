@@ -19,11 +19,11 @@ use Rattle.text_walk.specs.declared.block.AtEnd.TheVariants as ends
 use Rattle.text_walk.specs.declared.block.Choice.{Choice}
 use Rattle.text_walk.specs.declared.block.OpenBlock.{OpenBlock}
 use Rattle.text_walk.specs.declared.walk.Walk.{Walk}
-use Rattle.written_order.specs.Access.{Makes, operated}
-use Rattle.written_order.specs.Standing.{Setting, Standing, counting, doing}
-use Rattle.written_order.specs.WrittenOrder.{ClosesScope, OpensScope, Steps, StepsOfBlock, StepsOfTurns}
-use Rattle.written_order.proofs.Induction.{Kept, by_block}
-use Rattle.written_order.proofs.WayLemmas.{Begins}
+use Rattle.text_walk.specs.of_written_order_Access.{Makes, operated}
+use Rattle.text_walk.specs.of_written_order_Standing.{Setting, Standing, counting, doing}
+use Rattle.text_walk.specs.of_written_order_WrittenOrder.{ClosesScope, OpensScope, Steps, StepsOfBlock, StepsOfTurns}
+use Rattle.text_walk.proofs.of_written_order_Induction.{Kept, by_block}
+use Rattle.text_walk.proofs.of_written_order_WayLemmas.{Begins}
 
 pub begins_same : (did all : List Happening) → all ≡ did → Begins did all
 begins_same did all is = ([], is ∙ sym (append-nil did))

@@ -43,7 +43,7 @@ use Rattle.slot_table.specs.declared.step.Step.{Step}
 use Rattle.slot_table.specs.declared.step.Step.TheVariants.{CellExchange, CellLoad, Clear, Clock, Consume, Insert, Load, LockStore, LockTry, Name, PairLoad, Remove, Tell, TryConsume}
 use Rattle.task_run.proofs.PairLemmas.{AreOfOne, GoesOnAt, IsOfIndex, StartsAt}
 use Rattle.task_run.proofs.TriesLemmas.{exchange_ends, onto}
-use Rattle.written_order.specs.Waits.{IsTooMuch, vain_tries, was_vain}
+use Rattle.text_walk.specs.of_written_order_Waits.{IsTooMuch, vain_tries, was_vain}
 
 -- the records go on with a load of the pair at this index
 abbrev pub LoadsNext : ℕ → List Record → Type 0

@@ -33,7 +33,7 @@ use Rattle.task_run.specs.Part.{Part, closes, makes, opens}
 use Rattle.task_run.specs.declared.machine.Machine.{Machine}
 use Rattle.task_run.specs.declared.run.TaskRun.{TaskRun}
 use Rattle.task_run.specs.declared.stage.Stage.TheVariants as stages
-use Rattle.written_order.specs.Standing.{Setting, Standing, checks_of}
+use Rattle.text_walk.specs.of_written_order_Standing.{Setting, Standing, checks_of}
 
 -- the next outcome of the checker is the one that falls
 next_fell : (last : Record) (later : List Record) (limit : ℕ) (outcomes before after : List Fallen) (old new : Checker) (fell : Option Outcome)

@@ -41,25 +41,25 @@ use Rattle.task_run.proofs.ToldLemmas.{first_told, told_on}
 use Rattle.task_run.proofs.TriesLemmas.{access_tried, all_onto, check_tried, lock_tried, onto}
 use Rattle.task_run.proofs.StageLemmas.{in_closing, in_locking, in_making, in_opening, in_unlocking}
 use Rattle.setup_access.specs.Shown.{context_of}
-use Rattle.task_context.proofs.Leads.{leads-nil}
-use Rattle.task_context.specs.Context.{Context, idle}
-use Rattle.task_context.specs.History.{LeadsTo}
+use Rattle.setup_access.proofs.of_task_context_Leads.{leads-nil}
+use Rattle.setup_access.specs.of_task_context_Context.{Context, idle}
+use Rattle.setup_access.specs.of_task_context_History.{LeadsTo}
 use Rattle.task_plan.specs.Keeps.{Keeps}
 use Rattle.task_run.specs.Stands.{IsOf, Stands, StandsBy}
 use Rattle.task_run.specs.declared.machine.Machine.{Machine}
 use Rattle.text_walk.proofs.StepsLemmas.{through}
 use Rattle.text_walk.specs.Left.{Same, WalkLeft}
-use Rattle.written_order.specs.WrittenOrder.{SpellsAll, StepsOfBlock, at_first}
+use Rattle.text_walk.specs.of_written_order_WrittenOrder.{SpellsAll, StepsOfBlock, at_first}
 use Rattle.task_run.specs.Agrees.{Agrees, Begins, IsIn, in_part}
 use Rattle.task_run.specs.Leads.{IsStuck, Leads, WaitsTooLong}
-use Rattle.written_order.specs.Waits.{IsTooMuch, OnlyStep, WithinTurns, vain_tries}
+use Rattle.text_walk.specs.of_written_order_Waits.{IsTooMuch, OnlyStep, WithinTurns, vain_tries}
 use Rattle.task_run.specs.Says.{IsStopped, Says, StageSays}
 use Rattle.setup_access.specs.Waits.{IsStuckBy}
 use Rattle.task_run.specs.Part.{Part, PartLeft, closes, locks, makes, opens, over, stops, unlocks}
 use Rattle.task_run.specs.declared.run.TaskRun.{TaskRun}
 use Rattle.task_run.specs.declared.stage.Stage.{Stage}
 use Rattle.task_run.specs.declared.stage.Stage.TheVariants as stages
-use Rattle.written_order.specs.Standing.{Setting, Standing, checks_of, is_lock, lock_number}
+use Rattle.text_walk.specs.of_written_order_Standing.{Setting, Standing, checks_of, is_lock, lock_number}
 
 -- an access that begins leaves the registers as they are, and how many calls had nothing to end
 pub part_registers : (part : Part) (before : Standing) → (in_part part before).progress.registers ≡ before.progress.registers

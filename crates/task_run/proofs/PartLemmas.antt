@@ -22,9 +22,9 @@ use Rattle.task_plan.specs.Plans.{load_plan}
 use Rattle.task_run.specs.Plans.{PlanLeft}
 use Rattle.text_walk.specs.Left.{BodyLeft, WalkLeft}
 use Rattle.text_walk.specs.declared.walk.Walk.{Walk}
-use Rattle.written_order.specs.Access.{Makes, operated}
-use Rattle.written_order.specs.Standing.{Setting, Standing, coming, counting, doing, registered}
-use Rattle.written_order.specs.WrittenOrder.{Only, Steps}
+use Rattle.text_walk.specs.of_written_order_Access.{Makes, operated}
+use Rattle.text_walk.specs.of_written_order_Standing.{Setting, Standing, coming, counting, doing, registered}
+use Rattle.text_walk.specs.of_written_order_WrittenOrder.{Only, Steps}
 
 -- a part from a standing is one from a standing that is the same
 pub on : (N : Steps) {a b : Standing} → a ≡ b → (records : List Record) (after : Standing) (rest : List Record)

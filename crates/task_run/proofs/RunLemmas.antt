@@ -27,8 +27,8 @@ use Rattle.slot_table.specs.declared.records.Record.{Record}
 use Rattle.slot_table.specs.declared.step.Answer.TheVariants.{Done}
 use Rattle.slot_table.specs.declared.step.Step.{Step}
 use Rattle.slot_table.specs.declared.step.Step.TheVariants.{LockStore, LockTry}
-use Rattle.task_context.specs.Context.{Context}
-use Rattle.task_context.specs.History.{LeadsTo}
+use Rattle.setup_access.specs.of_task_context_Context.{Context}
+use Rattle.setup_access.specs.of_task_context_History.{LeadsTo}
 use Rattle.task_plan.proofs.KeepsLemmas.{keeps_alike}
 use Rattle.task_plan.specs.Follow.{Follow, assigned, goes_on, loaded_by, marks_next}
 use Rattle.task_plan.specs.Keeps.{Keeps}
@@ -56,9 +56,9 @@ use Rattle.task_run.specs.declared.stage.Stage.TheVariants as stages
 use Rattle.text_walk.proofs.StepsLemmas.{through}
 use Rattle.text_walk.specs.Left.{WalkLeft}
 use Rattle.text_walk.specs.declared.walk.Walk.{Walk}
-use Rattle.written_order.specs.Access.{operated}
-use Rattle.written_order.specs.Standing.{Setting, Standing, checks_of, doing, lock_number}
-use Rattle.written_order.specs.Waits.{was_vain}
+use Rattle.text_walk.specs.of_written_order_Access.{operated}
+use Rattle.text_walk.specs.of_written_order_Standing.{Setting, Standing, checks_of, doing, lock_number}
+use Rattle.text_walk.specs.of_written_order_Waits.{was_vain}
 
 -- what is there is within the list
 pub in_list : {A : Type 0} (xs : List A) (index : ℕ) (P : A → Type 0) → IsSomeAnd (slice_get xs index) P → index < length xs

@@ -16,9 +16,9 @@ use Rattle.task_run.specs.Stops.{AreScoped, ScopesAreTold}
 use Rattle.task_run.specs.Told.{Computes, nothing, one_more}
 use Rattle.text_bounds.proofs.Scopes as bounds
 use Rattle.text_bounds.specs.Scopes.{AreOfNoScope, in_force, is_scoped}
-use Rattle.written_order.specs.Access.{operated}
-use Rattle.written_order.specs.Standing.{Standing, coming, counting}
-use Rattle.written_order.specs.WrittenOrder.{at_first}
+use Rattle.text_walk.specs.of_written_order_Access.{operated}
+use Rattle.text_walk.specs.of_written_order_Standing.{Standing, coming, counting}
+use Rattle.text_walk.specs.of_written_order_WrittenOrder.{at_first}
 
 -- the task did more, and no scoped assertion began or ended
 scopes_still : (before after : Standing) (does : List Happening) → after.scopes ≡ before.scopes → in_force after.progress.did ≡ in_force before.progress.did

@@ -14,7 +14,7 @@ use Rattle.task_run.specs.Part.{Part, closes, locks, makes, opens, over, stops, 
 use Rattle.task_run.specs.declared.machine.Machine.{Machine}
 use Rattle.task_run.specs.declared.stage.Stage.{Stage}
 use Rattle.task_run.specs.declared.stage.Stage.TheVariants as stages
-use Rattle.written_order.specs.Standing.{Setting, Standing}
+use Rattle.text_walk.specs.of_written_order_Standing.{Setting, Standing}
 
 module _ (s : Setting) (before : Standing) (mine : List Record) (machine : Machine) (stage : Stage) where
   pub in_opening : (part : Part) → IsIn s part before mine machine stage → stage ≡ stages.Opening → (a : access.Access) × (part ≡ opens a)

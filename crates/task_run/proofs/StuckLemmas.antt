@@ -51,10 +51,10 @@ use Rattle.task_run.specs.declared.stage.Stage.TheVariants as stages
 use Rattle.text_bounds.proofs.Passes.{passes_none}
 use Rattle.text_walk.specs.Left.{DueLeft}
 use Rattle.text_walk.specs.declared.due.Due.{Due}
-use Rattle.written_order.specs.Standing.{Setting, Standing, checks_of, lock_number}
-use Rattle.written_order.specs.Waits as waits
-use Rattle.written_order.specs.Waits.{IsTooMuch, OnlyStep}
-use Rattle.written_order.specs.WrittenOrder.{SpellsAll, WrittenOrder}
+use Rattle.text_walk.specs.of_written_order_Standing.{Setting, Standing, checks_of, lock_number}
+use Rattle.text_walk.specs.of_written_order_Waits as waits
+use Rattle.text_walk.specs.of_written_order_Waits.{IsTooMuch, OnlyStep}
+use Rattle.text_walk.specs.of_written_order_WrittenOrder.{SpellsAll, WrittenOrder}
 
 loads_next : (task index : ℕ) (records : List Record) → checks.GoOn task (PairLoad index) records → LoadsNext index records
 loads_next task index [] h = h

@@ -15,7 +15,7 @@ use Rattle.task_run.specs.declared.points.News.{News}
 use Rattle.task_run.specs.declared.run.TaskRun.{TaskRun}
 use Rattle.task_run.specs.declared.stage.Stage.{Stage}
 use Rattle.task_run.specs.declared.stage.Stage.TheVariants as stages
-use Rattle.written_order.specs.Standing.{BeginsNow, Setting, Standing}
+use Rattle.text_walk.specs.of_written_order_Standing.{BeginsNow, Setting, Standing}
 
 -- no access begins in this stage
 abbrev pub IsQuiet : Stage → Type 0

@@ -21,9 +21,9 @@ use Rattle.task_plan.specs.Follow.{Follow, assigned, condition, goes_on, loaded_
 use Rattle.task_run.specs.Part.{before_access}
 use Rattle.task_run.specs.Told.{AllFellFrom, AllFrom, Computes, IsTold, last_of, nothing, one_more}
 use Rattle.text_bounds.specs.Scopes.{AreOfNoScope}
-use Rattle.written_order.specs.Access.{operated}
-use Rattle.written_order.specs.Standing.{Point, Standing, coming, counting, doing, registered}
-use Rattle.written_order.specs.WrittenOrder.{at_first, first_point}
+use Rattle.text_walk.specs.of_written_order_Access.{operated}
+use Rattle.text_walk.specs.of_written_order_Standing.{Point, Standing, coming, counting, doing, registered}
+use Rattle.text_walk.specs.of_written_order_WrittenOrder.{at_first, first_point}
 
 -- what is computed at once
 pub does_more : (later : List Record) (before between : Standing) (does : List Happening) → AreOfNoScope does → Computes later before between

@@ -49,7 +49,7 @@ use Rattle.slot_table.specs.declared.step.Answer.TheVariants as answers
 use Rattle.slot_table.specs.declared.step.Step.{Step}
 use Rattle.slot_table.specs.declared.step.Step.TheVariants.{CellExchange, CellLoad, Clear, Clock, Consume, Insert, Load, LockStore, LockTry, Name, PairLoad, Remove, Tell, TryConsume}
 use Rattle.task_run.proofs.WaitLemmas.{check_says}
-use Rattle.written_order.specs.Waits.{IsTooMuch, vain_tries, was_vain}
+use Rattle.text_walk.specs.of_written_order_Waits.{IsTooMuch, vain_tries, was_vain}
 
 -- records, the oldest first, before others, which stand with the latest first
 abbrev pub onto : List Record → List Record → List Record

@@ -31,7 +31,7 @@ use Rattle.slot_table.specs.declared.step.Answer.TheVariants as answers
 use Rattle.slot_table.specs.declared.step.Step.{Step}
 use Rattle.slot_table.specs.declared.step.Step.TheVariants.{CellExchange, CellLoad, Clear, Clock, Consume, Insert, Load, LockStore, LockTry, Name, PairLoad, Remove, Tell, TryConsume}
 use Rattle.task_run.specs.Leads.{EndInNoWait}
-use Rattle.written_order.specs.Waits.{is_no, is_refused, tries_lock, vain_tries, was_vain}
+use Rattle.text_walk.specs.of_written_order_Waits.{is_no, is_refused, tries_lock, vain_tries, was_vain}
 
 -- the step tries no lock
 abbrev pub IsNoTry : Step → Type 0

@@ -26,10 +26,10 @@ use Rattle.task_plan.specs.declared.follow.Then.{Then}
 use Rattle.task_run.specs.declared.machine.Machine.{Machine}
 use Rattle.task_run.specs.declared.stage.Stage.{Stage}
 use Rattle.task_run.specs.declared.stage.Stage.TheVariants as stages
-use Rattle.written_order.specs.Standing.{BeginsNow, IsDisabled, IsLockAt, Setting, Standing, checks_of, doing, lock_number}
+use Rattle.text_walk.specs.of_written_order_Standing.{BeginsNow, IsDisabled, IsLockAt, Setting, Standing, checks_of, doing, lock_number}
 use Rattle.text_bounds.specs.Scopes.{is_scoped}
 use Rattle.text_walk.specs.Left.{DueLeft}
-use Rattle.written_order.specs.WrittenOrder.{Steps}
+use Rattle.text_walk.specs.of_written_order_WrittenOrder.{Steps}
 
 -- where the task stands while it is in the part: an access begins with it
 abbrev pub in_part : Part → Standing → Standing

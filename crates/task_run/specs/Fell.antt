@@ -16,9 +16,9 @@ use Rattle.task_run.specs.Leads.{Leads}
 use Rattle.task_run.specs.Part.{Part, closes, makes, opens}
 use Rattle.task_run.specs.Says.{Says}
 use Rattle.task_run.specs.declared.run.TaskRun.{TaskRun}
-use Rattle.written_order.specs.Access.{Makes}
-use Rattle.written_order.specs.Standing.{Setting, Standing}
-use Rattle.written_order.specs.WrittenOrder.{ClosesScope, OpensScope}
+use Rattle.text_walk.specs.of_written_order_Access.{Makes}
+use Rattle.text_walk.specs.of_written_order_Standing.{Setting, Standing}
+use Rattle.text_walk.specs.of_written_order_WrittenOrder.{ClosesScope, OpensScope}
 
 abbrev pub fell_of : TaskRun → Option Outcome
 fell_of run = run.news.fell

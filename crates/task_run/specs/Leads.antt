@@ -16,9 +16,9 @@ use Rattle.task_run.specs.Says.{Says}
 use Rattle.task_run.specs.Stops.{ScopesAreTold}
 use Rattle.task_run.specs.Told.{IsTold}
 use Rattle.task_run.specs.declared.run.TaskRun.{TaskRun}
-use Rattle.written_order.specs.Standing.{BeginsNow, Setting, Standing, checks_of, lock_number}
-use Rattle.written_order.specs.Waits.{vain_tries}
-use Rattle.written_order.specs.WrittenOrder.{StepsOfBlock, at_first}
+use Rattle.text_walk.specs.of_written_order_Standing.{BeginsNow, Setting, Standing, checks_of, lock_number}
+use Rattle.text_walk.specs.of_written_order_Waits.{vain_tries}
+use Rattle.text_walk.specs.of_written_order_WrittenOrder.{StepsOfBlock, at_first}
 
 -- these records, the oldest first, end in no vain try of a lock
 abbrev pub EndInNoWait : List Record → Type 0

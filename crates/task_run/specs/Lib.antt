@@ -11,3 +11,6 @@ pub mod Says
 pub mod Leads
 pub mod Fell
 pub mod Points
+pub use Rattle.text_walk.specs.Left as of_text_walk_Left
+pub use Rattle.text_walk.specs.declared as of_text_walk_declared
+pub use Rattle.task_plan.specs.Follow as of_task_plan_Follow

@@ -17,9 +17,9 @@ use Rattle.task_plan.specs.Follow.{Follow, Taker, assigned, condition, goes_on, 
 use Rattle.text_walk.specs.Left.{BodyLeft, ClosesNewest, DueLeft, NothingLeft, WalkLeft}
 use Rattle.text_walk.specs.declared.due.Due.{Due}
 use Rattle.text_walk.specs.declared.walk.Walk.{Walk}
-use Rattle.written_order.specs.Access.{Makes}
-use Rattle.written_order.specs.Standing.{IsLockAt, Setting, Standing, doing, lock_number, registered}
-use Rattle.written_order.specs.WrittenOrder.{OpensScope, Steps, marked_so_often}
+use Rattle.text_walk.specs.of_written_order_Access.{Makes}
+use Rattle.text_walk.specs.of_written_order_Standing.{IsLockAt, Setting, Standing, doing, lock_number, registered}
+use Rattle.text_walk.specs.of_written_order_WrittenOrder.{OpensScope, Steps, marked_so_often}
 
 -- reports are turned off, or on again, so many times over
 abbrev pub disabled : ℕ → Standing → List Record → Standing

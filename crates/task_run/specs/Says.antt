@@ -8,7 +8,7 @@ use Rattle.slot_table.specs.declared.step.Step.TheVariants.{LockStore}
 use Rattle.task_run.specs.declared.run.TaskRun.{TaskRun}
 use Rattle.task_run.specs.declared.stage.Stage.{Stage}
 use Rattle.task_run.specs.declared.stage.Stage.TheVariants as stages
-use Rattle.written_order.specs.Standing.{is_lock}
+use Rattle.text_walk.specs.of_written_order_Standing.{is_lock}
 
 -- a task in a stage is before this step
 abbrev pub StageSays : Stage → TaskRun → Step → Type 0

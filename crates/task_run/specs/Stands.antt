@@ -7,11 +7,11 @@ use Rattle.setup_access.specs.Leads as checks
 use Rattle.setup_access.specs.Shown.{context_of}
 use Rattle.setup_access.specs.declared.begun.Begun.{Begun}
 use Rattle.slot_table.specs.declared.records.Record.{Record}
-use Rattle.task_context.specs.History.{LeadsTo}
+use Rattle.setup_access.specs.of_task_context_History.{LeadsTo}
 use Rattle.task_plan.specs.Keeps.{Keeps}
 use Rattle.task_run.specs.declared.machine.Machine.{Machine}
-use Rattle.written_order.specs.Standing.{Setting, Standing, checks_of, doing, moments}
-use Rattle.written_order.specs.WrittenOrder.{Steps}
+use Rattle.text_walk.specs.of_written_order_Standing.{Setting, Standing, checks_of, doing, moments}
+use Rattle.text_walk.specs.of_written_order_WrittenOrder.{Steps}
 
 -- the machine is of this task, and goes by the same
 pub record IsOf (s : Setting) (machine : Machine) : Type 0 where

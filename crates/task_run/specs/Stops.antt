@@ -7,8 +7,8 @@ use Rattle.task_run.specs.Stands.{Stands}
 use Rattle.task_run.specs.declared.machine.Machine.{Machine}
 use Rattle.text_bounds.specs.Passes.{PassesALimit}
 use Rattle.text_bounds.specs.Scopes.{in_force, is_scoped}
-use Rattle.written_order.specs.Standing.{Setting, Standing}
-use Rattle.written_order.specs.WrittenOrder.{Steps}
+use Rattle.text_walk.specs.of_written_order_Standing.{Setting, Standing}
+use Rattle.text_walk.specs.of_written_order_WrittenOrder.{Steps}
 
 -- each of these is a scoped assertion
 abbrev pub AreScoped : List Begun → Type 0

@@ -22,7 +22,7 @@ ghost use Rattle.task_plan.specs.Views.{plan_of, taker_of};
 ghost use Rattle.text_walk.specs.Cost.{walk_cost};
 ghost use Rattle.text_walk.specs.Left.{DueLeft, WalkLeft};
 ghost use Rattle.text_walk.specs.declared.due.Due.TheVariants as dues;
-ghost use Rattle.written_order.specs.Standing.{BeginsNow, Setting, Standing, checks_of};
+ghost use Rattle.text_walk.specs.of_written_order_Standing.{BeginsNow, Setting, Standing, checks_of};
 
 use crate::machine::{Beyond, Machine};
 use crate::stage::Stage;

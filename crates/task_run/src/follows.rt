@@ -7,7 +7,7 @@ ghost use Rattle.task_run.specs.Follows.{IsRead};
 ghost use Rattle.task_run.specs.Part.{FollowLeft, TakerLeft};
 ghost use Rattle.task_run.specs.Stands.{StandsBy};
 ghost use Rattle.task_plan.specs.Views.{follow_of, taker_of};
-ghost use Rattle.written_order.specs.Standing.{Setting, Standing};
+ghost use Rattle.text_walk.specs.of_written_order_Standing.{Setting, Standing};
 
 use crate::machine::Machine;
 use litmus_meaning::{loading_value, sign_extended};

@@ -13,7 +13,7 @@ ghost use Rattle.task_run.specs.Due.{StatementDue};
 ghost use Rattle.task_run.specs.Part.{disabled, enabled};
 ghost use Rattle.task_run.specs.Stands.{AfterMark, Stands};
 ghost use Rattle.task_run.specs.Stops.{Stops};
-ghost use Rattle.written_order.specs.Standing.{EndsNothing, Setting, Standing, counting, doing, is_lock, lock_number};
+ghost use Rattle.text_walk.specs.of_written_order_Standing.{EndsNothing, Setting, Standing, counting, doing, is_lock, lock_number};
 
 use crate::machine::{Beyond, Machine};
 use access_types::Mark;

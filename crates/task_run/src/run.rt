@@ -98,14 +98,14 @@ impl<'a> TaskRun<'a> {
     ghost use Rattle.std.specs.Option.{is_some};
     ghost use Rattle.setup_access.specs.declared.begun.Begun.{Begun};
     ghost use Rattle.task_run.specs.Points.{HasMade, Stepped, kept_by, last_was, next_is};
-    ghost use Rattle.written_order.specs.Waits.{OnlyStep, WithinTurns};
+    ghost use Rattle.text_walk.specs.of_written_order_Waits.{OnlyStep, WithinTurns};
     ghost use Rattle.setup_access.specs.Parts.{made};
     ghost use Rattle.slot_table.specs.declared.step.Answer.{Answer};
     ghost use Rattle.task_run.specs.declared.run.TaskRunError.TheVariants.{BadPlace, BadSlots};
     ghost use Rattle.task_run.specs.declared.stage.Stage.TheVariants.{Closing, Locking, Making, Opening, Unlocking};
-    ghost use Rattle.written_order.specs.Standing.{Setting};
-    ghost use Rattle.written_order.specs.Waits as waits;
-    ghost use Rattle.written_order.specs.WrittenOrder.{SpellsAll, WrittenOrder};
+    ghost use Rattle.text_walk.specs.of_written_order_Standing.{Setting};
+    ghost use Rattle.text_walk.specs.of_written_order_Waits as waits;
+    ghost use Rattle.text_walk.specs.of_written_order_WrittenOrder.{SpellsAll, WrittenOrder};
 
     /// A task that has made no step yet. `cells` are the addresses of the cells of memory, and `sites`
     /// the accesses of the whole program. It takes all its room, and no call after it takes memory.

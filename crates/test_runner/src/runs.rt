@@ -1,8 +1,8 @@
 //! Programs on real threads.
 
 ghost use Rattle.std.specs.Prelude.{IfOk};
-ghost use Rattle.litmus_syntax.specs.Limits.{KeepsLimits};
-ghost use Rattle.litmus_syntax.specs.Views.{program_of};
+ghost use Rattle.litmus_parse.specs.of_litmus_syntax_Limits.{KeepsLimits};
+ghost use Rattle.litmus_parse.specs.of_litmus_syntax_Views.{program_of};
 
 use litmus_parse::{ParseError, Program, parse};
 use litmus_step::Settings;

@@ -3,8 +3,8 @@
 #![tactic(auto)]
 
 ghost use Rattle.std.specs.Prelude.{IfOk};
-ghost use Rattle.litmus_syntax.specs.Limits.{KeepsLimits};
-ghost use Rattle.litmus_syntax.specs.Views.{program_of};
+ghost use Rattle.program_layout.specs.of_litmus_syntax_Limits.{KeepsLimits};
+ghost use Rattle.program_layout.specs.of_litmus_syntax_Views.{program_of};
 
 use litmus_parse::{ParseError, Program, parse};
 use program_layout::{Layout, LayoutError};

@@ -1,8 +1,8 @@
 //! Tasks of a program make their steps on plain words.
 
 ghost use Rattle.std.specs.Prelude.{IfOk};
-ghost use Rattle.litmus_syntax.specs.Limits.{KeepsLimits};
-ghost use Rattle.litmus_syntax.specs.Views.{program_of};
+ghost use Rattle.program_layout.specs.of_litmus_syntax_Limits.{KeepsLimits};
+ghost use Rattle.program_layout.specs.of_litmus_syntax_Views.{program_of};
 
 use crate::notation::Story;
 use litmus_parse::{ParseError, Program, parse};

@@ -5,3 +5,5 @@ pub mod Bags
 pub mod Going
 pub mod Naming
 pub mod OneAnswer
+pub use Rattle.trace_lines.proofs.Hex as of_trace_lines_Hex
+pub use Rattle.report_text.proofs.TrueLines as of_report_text_TrueLines

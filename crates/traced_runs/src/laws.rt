@@ -1,21 +1,21 @@
 //! What is true of the trace of a run on threads.
 
 ghost use Rattle.std.specs.Prelude.{◌≤◌, List, length};
-ghost use Rattle.access_types.specs.Arms.{Arm};
-ghost use Rattle.access_types.specs.Stamped.{Stamped};
-ghost use Rattle.access_types.specs.Takes.{Take};
+ghost use Rattle.run_kept.specs.of_access_types_Arms.{Arm};
+ghost use Rattle.run_kept.specs.of_access_types_Stamped.{Stamped};
+ghost use Rattle.run_kept.specs.of_access_types_Takes.{Take};
 ghost use Rattle.accepted_traces.specs.Parts.{AreParts};
 ghost use Rattle.accepted_traces.specs.Traces.{AreOf};
-ghost use Rattle.litmus_step.specs.declared.settings.Settings.{Settings};
-ghost use Rattle.litmus_syntax.specs.declared.program.Program.{Program};
-ghost use Rattle.report_text.specs.TraceText.{written_trace};
-ghost use Rattle.run_lists.specs.Run.{Run};
-ghost use Rattle.run_lists.specs.RunList.{RunList};
+ghost use Rattle.runner.specs.of_litmus_step_declared.settings.Settings.{Settings};
+ghost use Rattle.run_kept.specs.of_litmus_syntax_declared.program.Program.{Program};
+ghost use Rattle.run_kept.specs.of_report_text_TraceText.{written_trace};
+ghost use Rattle.run_kept.specs.of_run_lists_Run.{Run};
+ghost use Rattle.run_kept.specs.of_run_lists_RunList.{RunList};
 ghost use Rattle.runner.specs.Result.{IsOf, IsRunOnce};
 ghost use Rattle.runner.specs.declared.result.RunResult.{RunResult};
-ghost use Rattle.slot_table.specs.declared.records.Record.{Record};
-ghost use Rattle.trace_replay.specs.Answer.{IsAccepted};
-ghost use Rattle.trace_replay.specs.declared.accepted.Accepted.TheVariants as accepted;
+ghost use Rattle.run_kept.specs.of_slot_table_declared.records.Record.{Record};
+ghost use Rattle.accepted_traces.specs.of_trace_replay_Answer.{IsAccepted};
+ghost use Rattle.accepted_traces.specs.of_trace_replay_declared.accepted.Accepted.TheVariants as accepted;
 
 use accepted_traces::laws::{parts_make_a_true_trace, traces_of_ended_runs_are_true};
 use run_kept::reports::a_task_reports_its_own;

@@ -4,13 +4,13 @@ use Rattle.access_types.specs.Arms.{Arm}
 use Rattle.access_types.specs.Stamped.{Stamped}
 use Rattle.access_types.specs.Takes.{Take}
 use Rattle.report_text.specs.TraceText.{written_trace}
-use Rattle.run_lists.specs.Reports.{reports_of}
-use Rattle.run_lists.specs.Run.{Run}
-use Rattle.run_lists.specs.RunList.{RunList}
-use Rattle.run_kept.specs.Lists.{AreAccesses, AreArms, AreTakes}
-use Rattle.slot_table.specs.declared.records.Record.{Record}
-use Rattle.trace_replay.specs.Answer.{IsAccepted}
-use Rattle.trace_replay.specs.declared.accepted.Accepted.{Accepted}
+use Rattle.accepted_traces.specs.of_run_lists_Reports.{reports_of}
+use Rattle.accepted_traces.specs.of_run_lists_Run.{Run}
+use Rattle.accepted_traces.specs.of_run_lists_RunList.{RunList}
+use Rattle.accepted_traces.specs.of_run_kept_Lists.{AreAccesses, AreArms, AreTakes}
+use Rattle.accepted_traces.specs.of_slot_table_declared.records.Record.{Record}
+use Rattle.accepted_traces.specs.of_trace_replay_Answer.{IsAccepted}
+use Rattle.accepted_traces.specs.of_trace_replay_declared.accepted.Accepted.{Accepted}
 use Rattle.watch_word.specs.declared.layout.Layout.{Layout}
 
 -- the bytes are the trace of the list's accesses, armings, takings and reports

@@ -2,9 +2,9 @@
 
 ghost use Rattle.std.specs.Prelude.{◌≡◌, ◌≤◌, IfOk, List};
 ghost use Rattle.litmus_step.specs.Steps.{LeadsTo};
-ghost use Rattle.run_lists.specs.Run.{Run};
-ghost use Rattle.run_lists.specs.RunList.{AllHaveEnded};
-ghost use Rattle.slot_table.specs.declared.records.Record.{Record};
+ghost use Rattle.accepted_traces.specs.of_run_lists_Run.{Run};
+ghost use Rattle.accepted_traces.specs.of_run_lists_RunList.{AllHaveEnded};
+ghost use Rattle.accepted_traces.specs.of_slot_table_declared.records.Record.{Record};
 ghost use Rattle.traced_worlds.specs.Traces.{IsToBeAccepted, IsTraceOf};
 
 use crate::masks::masks_are_low;

@@ -7,7 +7,7 @@ use Rattle.run_output.specs.Output.{output_text}
 use Rattle.run_output.specs.declared.output.Found.{Found}
 use Rattle.final_condition.specs.Holds.{Holds}
 use Rattle.program_layout.specs.Places.{places_of}
-use Rattle.run_lists.specs.Told.{history_of}
+use Rattle.litmus_step.specs.of_run_lists_Told.{history_of}
 use Rattle.litmus_command.proofs.engine.output_of.Goals as goal
 
 pub returns-in-Ok : goal.returns-in-Ok

@@ -1,6 +1,6 @@
 -- a variable's value in the cells is the content of its bytes
 use Rattle.std.proofs.Common.{◌∙◌, ap}
-use Rattle.slot_table.specs.Words.{Words}
+use Rattle.run_output.specs.of_slot_table_Words.{Words}
 use Rattle.litmus_command.proofs.finals.finals_of.Goals as goal
 
 pub returns-clause-variables : goal.returns-clause-variables

@@ -2,8 +2,8 @@
 use Rattle.std.proofs.Common.{◌≡◌, List, length, map}
 use Rattle.run_tally.specs.Finals.{AreRegistersFrom}
 use Rattle.litmus_step.specs.Steps.{LeadsTo}
-use Rattle.run_lists.specs.Run.{Run}
-use Rattle.slot_table.specs.declared.records.Record.{Record}
+use Rattle.litmus_step.specs.of_run_lists_Run.{Run}
+use Rattle.run_output.specs.of_slot_table_declared.records.Record.{Record}
 use Rattle.litmus_command.proofs.finals.registers_of.Given as goal
 
 abbrev pub invariant-loop-task : goal.invariant-loop-task

@@ -2,7 +2,7 @@
 use Rattle.std.proofs.Common.{refl}
 use Rattle.litmus_syntax.specs.Views.{program_of, task_of}
 use Rattle.program_layout.specs.Places.{places_of}
-use Rattle.written_order.specs.Standing.{Setting}
+use Rattle.written_tellings.specs.of_written_order_Standing.{Setting}
 use Rattle.oracle_accesses.proofs.TextLemmas.{is_below, keeps_limits}
 use Rattle.oracle_accesses.proofs.reading.read_text.Goals as goal
 

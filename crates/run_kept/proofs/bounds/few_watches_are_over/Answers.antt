@@ -1,7 +1,7 @@
 -- Each arming that is over has its verdict, and each taking its telling.
 use Rattle.std.proofs.Common.{◌≡◌, ◌∙◌, ◌+◌, ◌++◌, ℕ, [], List, arith, length, reverse, subst, sym}
 use Rattle.std.proofs.lemmas.List.{length-append, length-reverse}
-use Rattle.litmus_syntax.specs.Tree.{Block}
+use Rattle.written_order.specs.of_litmus_syntax_Tree.{Block}
 use Rattle.run_kept.proofs.Fallen.{few_fell, few_reported_in, so_many_arms, so_many_takes}
 use Rattle.run_kept.proofs.Watches.{count_reverse, few_removes, few_tells, is_remove, is_tell}
 use Rattle.run_lists.proofs.CheckFacts.{back}

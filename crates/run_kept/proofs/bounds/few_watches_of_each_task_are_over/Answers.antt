@@ -7,7 +7,7 @@ use Rattle.run_lists.specs.RunList.{RunList}
 use Rattle.run_kept.specs.Noted.{AreNoted, Notes}
 use Rattle.slot_table.specs.Records.{records_of}
 use Rattle.slot_table.specs.declared.records.Record.{Record}
-use Rattle.task_log.specs.declared.noted.Noted.{Noted}
+use Rattle.run_headline.specs.of_task_log_declared.noted.Noted.{Noted}
 use Rattle.run_kept.proofs.bounds.few_watches_of_each_task_are_over.Goals as goal
 
 turned : (run : Run) (records : List Record) (list : RunList run records) (task : ℕ) (noted : List Noted) → Notes list task noted

@@ -1,7 +1,7 @@
 -- Task by task.
 use Rattle.std.proofs.Common.{◌≡◌, ◌∙◌, ◌++◌, ℕ, [], List, ap, arith, length, reverse, subst, sym}
 use Rattle.std.proofs.lemmas.List.{append-nil, length-reverse}
-use Rattle.litmus_syntax.specs.Tree.{Block}
+use Rattle.written_order.specs.of_litmus_syntax_Tree.{Block}
 use Rattle.run_kept.proofs.Lists.{keeps_body}
 use Rattle.run_kept.proofs.Watches.{count_reverse, few_removes, few_tells, is_remove, is_tell}
 use Rattle.run_kept.proofs.FewKept.{by_tasks, few_ended, so_many_arms, so_many_takes}

@@ -5,7 +5,7 @@ use Rattle.program_layout.specs.Places.{AreFit, places_of}
 use Rattle.litmus_step.specs.Runs.{run_of}
 use Rattle.run_headline.proofs.CellBlocks.{cells_are_blocks}
 use Rattle.run_headline.specs.Cells.{CellsHold, memory_after, run_cells}
-use Rattle.run_lists.specs.Told.{history_of}
+use Rattle.run_headline.specs.of_run_lists_Told.{history_of}
 use Rattle.run_tally.proofs.CellValues.{variable_told}
 use Rattle.run_tally.proofs.finals.finals_at.Goals as goal
 

@@ -5,7 +5,7 @@ use Rattle.litmus_syntax.specs.Views.{proposition_of}
 use Rattle.program_layout.specs.Places.{places_of}
 use Rattle.run_tally.proofs.FinalLemmas.{all_registers_same, holds_alike, holds_back, registers_same}
 use Rattle.run_tally.specs.Finals.{AreAllRegisters, register_value, variable_value}
-use Rattle.run_lists.specs.Told.{history_of}
+use Rattle.run_headline.specs.of_run_lists_Told.{history_of}
 use Rattle.run_tally.proofs.finals.holds_at_end.Goals as goal
 
 pub returns-clause-held : goal.returns-clause-held

@@ -1,10 +1,10 @@
 -- the list of the run is one of the program under the settings
 use Rattle.std.proofs.Common.{◌≡◌, ◌∙◌, ◌↔◌, IsTrue, map, subst, sym}
 use Rattle.run_tally.specs.Finals.{AreAllRegisters, HoldsAtEnd}
-use Rattle.run_lists.specs.Run.{Run, first_words}
-use Rattle.run_lists.specs.RunList.{RunList}
+use Rattle.run_headline.specs.of_run_lists_Run.{Run, first_words}
+use Rattle.run_headline.specs.of_run_lists_RunList.{RunList}
 use Rattle.run_tally.proofs.TallyLemmas.{all_registers}
-use Rattle.slot_table.specs.Records.{words_after}
+use Rattle.task_log.specs.of_slot_table_Records.{words_after}
 use Rattle.run_tally.proofs.tally.has_held.Goals as goal
 
 pub returns-clause-held : goal.returns-clause-held

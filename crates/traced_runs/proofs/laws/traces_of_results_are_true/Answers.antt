@@ -3,18 +3,18 @@ use Rattle.std.proofs.Common.{◌≡◌, ◌≤◌, ◌==◌, ◌*◌, ◌∙◌
 use Rattle.std.proofs.lemmas.List.{length-append}
 use Rattle.accepted_traces.proofs.Sections.{hold_all}
 use Rattle.accepted_traces.specs.Parts.{AreParts, ReportFits}
-use Rattle.access_types.specs.declared.report.Report.{Report}
-use Rattle.litmus_step.specs.Runs.{run_of}
-use Rattle.report_text.specs.TraceText.{second, written_lines, written_trace}
-use Rattle.report_text.specs.Truth.{is_pair, race_in, unknown_in}
-use Rattle.run_lists.specs.Reports.{reports_of}
-use Rattle.run_lists.specs.Run.{Run}
+use Rattle.run_kept.specs.of_access_types_declared.report.Report.{Report}
+use Rattle.runner.specs.of_litmus_step_Runs.{run_of}
+use Rattle.run_kept.specs.of_report_text_TraceText.{second, written_lines, written_trace}
+use Rattle.run_kept.specs.of_report_text_Truth.{is_pair, race_in, unknown_in}
+use Rattle.run_kept.specs.of_run_lists_Reports.{reports_of}
+use Rattle.run_kept.specs.of_run_lists_Run.{Run}
 use Rattle.runner.proofs.ResultLemmas.{all_reported}
-use Rattle.trace_replay.specs.Answer.{IsAccepted}
-use Rattle.trace_replay.specs.declared.accepted.Accepted.TheVariants as accepted
+use Rattle.accepted_traces.specs.of_trace_replay_Answer.{IsAccepted}
+use Rattle.accepted_traces.specs.of_trace_replay_declared.accepted.Accepted.TheVariants as accepted
 use Rattle.traced_runs.proofs.Parted.{counts_add, measures_alike, none_reported}
 use Rattle.traced_runs.proofs.laws.traces_of_results_are_true.Goals as goal
-use Rattle.watch_word.specs.declared.layout.Layout.{Layout}
+use Rattle.run_kept.specs.of_watch_word_declared.layout.Layout.{Layout}
 
 pub returns-clause-parts : goal.returns-clause-parts
 returns-clause-parts c = λ run records list result is few accesses arms takes are.

@@ -2,9 +2,9 @@
 use Rattle.std.proofs.Common.{◌≡◌, ◌≤◌, ◌∙◌, ℕ, All, List, ap, length, rules, subst, sym}
 use Rattle.accepted_traces.specs.Parts.{HasLowMask}
 use Rattle.report_text.specs.TraceText.{written_trace}
-use Rattle.run_lists.specs.Reports.{reports_of}
-use Rattle.trace_replay.specs.Answer.{IsAccepted}
-use Rattle.trace_replay.specs.declared.accepted.Accepted.TheVariants as accepted
+use Rattle.accepted_traces.specs.of_run_lists_Reports.{reports_of}
+use Rattle.accepted_traces.specs.of_trace_replay_Answer.{IsAccepted}
+use Rattle.accepted_traces.specs.of_trace_replay_declared.accepted.Accepted.TheVariants as accepted
 use Rattle.traced_worlds.proofs.trace.trace_of.Goals as goal
 use Rattle.watch_word.specs.declared.layout.Layout.{Layout}
 

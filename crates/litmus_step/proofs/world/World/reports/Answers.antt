@@ -5,7 +5,7 @@ use Rattle.litmus_step.proofs.world.World.reports.Goals as goal
 use Rattle.litmus_step.specs.Kept.{watches_kept}
 use Rattle.litmus_step.specs.Runs.{tasks_of}
 use Rattle.run_headline.specs.Reported.{IsTrueReport}
-use Rattle.run_lists.specs.Reports.{reports_of}
+use Rattle.step_bounds.specs.of_run_lists_Reports.{reports_of}
 
 pub returns-clause-told : goal.returns-clause-told
 returns-clause-told c = λ run records leads.

@@ -19,7 +19,7 @@ use Rattle.setup_access.specs.Shown.{context_of}
 use Rattle.task_run.proofs.StopLemmas.{at_once_stops}
 use Rattle.task_run.proofs.machine.Machine.assigns_at_once.Goals as goal
 use Rattle.text_walk.specs.Left.{WalkLeft}
-use Rattle.written_order.specs.Standing.{Standing, registered}
+use Rattle.text_walk.specs.of_written_order_Standing.{Standing, registered}
 
 pub returns-clause-begins : goal.returns-clause-begins
 returns-clause-begins c = λ s site before stands.

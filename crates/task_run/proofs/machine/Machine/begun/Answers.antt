@@ -4,11 +4,11 @@ use Rattle.access_types.specs.Marked.{CountsAfter}
 use Rattle.setup_access.specs.Lending.{with_context}
 use Rattle.setup_access.specs.declared.rules.Rules.{Rules}
 use Rattle.std.specs.Prelude.{ℕ}
-use Rattle.task_context.specs.Context.{Context}
-use Rattle.task_context.specs.History.{LeadsTo}
+use Rattle.setup_access.specs.of_task_context_Context.{Context}
+use Rattle.setup_access.specs.of_task_context_History.{LeadsTo}
 use Rattle.task_run.proofs.TellLemmas.{not_heard}
 use Rattle.task_run.proofs.machine.Machine.begun.Goals as goal
-use Rattle.written_order.specs.Standing.{moments}
+use Rattle.text_walk.specs.of_written_order_Standing.{moments}
 
 pub returns-clause-begins : goal.returns-clause-begins
 returns-clause-begins c = λ s before stands own.

@@ -4,7 +4,7 @@ use Rattle.slot_table.specs.declared.records.Record.{Record}
 use Rattle.task_run.specs.Part.{enabled}
 use Rattle.task_run.specs.Stands.{Stands}
 use Rattle.task_run.proofs.machine.Machine.enable.Given as goal
-use Rattle.written_order.specs.Standing.{Setting, Standing}
+use Rattle.text_walk.specs.of_written_order_Standing.{Setting, Standing}
 
 abbrev pub invariant-loop : goal.invariant-loop
 invariant-loop l = record {

@@ -12,7 +12,7 @@ use Rattle.task_run.specs.declared.machine.Machine.{Machine}
 use Rattle.task_run.specs.declared.stage.Stage.TheVariants as stages
 use Rattle.text_walk.specs.Left.{DueLeft}
 use Rattle.text_walk.specs.declared.due.Due.TheVariants as dues
-use Rattle.written_order.specs.Standing.{Standing, checks_of}
+use Rattle.text_walk.specs.of_written_order_Standing.{Standing, checks_of}
 
 pub returns-clause-begins : goal.returns-clause-begins
 returns-clause-begins c = λ s.

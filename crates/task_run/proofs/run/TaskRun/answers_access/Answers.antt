@@ -7,7 +7,7 @@ use Rattle.task_run.proofs.RunLemmas.{access_ended, access_inside}
 use Rattle.task_run.proofs.WaitLemmas.{access_no_try, no_try_no_wait}
 use Rattle.task_run.specs.Says.{StageSays}
 use Rattle.task_run.proofs.run.TaskRun.answers_access.Goals as goal
-use Rattle.written_order.specs.Standing.{checks_of}
+use Rattle.text_walk.specs.of_written_order_Standing.{checks_of}
 
 pub returns-then-is_over-clause-leads : goal.returns-then-is_over-clause-leads
 returns-then-is_over-clause-leads c = λ is s registers body records step leads says.

@@ -10,7 +10,7 @@ use Rattle.task_run.specs.Says.{StageSays}
 use Rattle.task_run.specs.Stands.{Stands}
 use Rattle.task_run.proofs.run.TaskRun.answers_open.Goals as goal
 use Rattle.text_walk.specs.Left.{WalkLeft}
-use Rattle.written_order.specs.Standing.{checks_of}
+use Rattle.text_walk.specs.of_written_order_Standing.{checks_of}
 
 pub returns-then-came-clause-leads : goal.returns-then-came-clause-leads
 returns-then-came-clause-leads c = λ is s registers body records step leads says.

@@ -6,7 +6,7 @@ use Rattle.slot_table.specs.declared.step.Step.TheVariants.{LockStore}
 use Rattle.task_run.proofs.RunLemmas.{unlock_ended}
 use Rattle.task_run.specs.Says.{StageSays}
 use Rattle.task_run.proofs.run.TaskRun.answers_unlock.Goals as goal
-use Rattle.written_order.specs.Standing.{is_lock}
+use Rattle.text_walk.specs.of_written_order_Standing.{is_lock}
 
 pub returns : goal.returns
 returns c = λ is s registers body records step leads says.

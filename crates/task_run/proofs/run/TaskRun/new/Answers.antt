@@ -13,7 +13,7 @@ use Rattle.task_run.specs.declared.machine.Machine.{Machine}
 use Rattle.task_run.specs.declared.points.Latest.TheVariants.{Other}
 use Rattle.task_run.specs.declared.run.TaskRun.{TaskRun}
 use Rattle.text_walk.specs.Left.{WalkLeft}
-use Rattle.written_order.specs.Standing.{Setting, Standing}
+use Rattle.text_walk.specs.of_written_order_Standing.{Setting, Standing}
 
 pub new-requires-2 : goal.new-requires-2
 new-requires-2 c = rw c.as_slice.ensures.value (few_task_sites c.args.program.now c.args.number c.args.task.now c.requires.limits c.requires.task)

@@ -1,0 +1,4 @@
+pub use Rattle.run_lists.specs.Reports as of_run_lists_Reports
+pub use Rattle.run_lists.specs.Run as of_run_lists_Run
+pub use Rattle.run_lists.specs.RunList as of_run_lists_RunList
+pub use Rattle.run_lists.specs.Told as of_run_lists_Told
