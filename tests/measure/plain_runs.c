@@ -1,8 +1,11 @@
 // The steps that `kcsan_litmus run` makes of three litmus programs, in plain C11 with pthreads: one thread a task, atomic words
-// that the threads share, sequentially consistent. `plain_runs PROGRAM RUNS DELAY`, where PROGRAM is race, readers or increments; prints
-// the runs, the microseconds, the steps (the loads of the delay aside) and in how many of the runs a watchpoint was hit.
+// that the threads share, sequentially consistent. After each load of a delay, which ends early where no other task can come,
+// and where a task has to wait, the thread yields; in each run another task starts first. `plain_runs PROGRAM RUNS DELAY`, where
+// PROGRAM is race, readers or increments; prints the runs, the microseconds, the steps (the loads of the delay aside) and in how
+// many of the runs a watchpoint was hit.
 #define _POSIX_C_SOURCE 199309L
 #include <pthread.h>
+#include <sched.h>
 #include <stdalign.h>
 #include <stdatomic.h>
 #include <stdbool.h>
@@ -29,17 +32,34 @@ struct task {
 };
 
 static struct words words;
-static alignas(64) _Atomic uint64_t idle;
-static uint64_t delay;
+// How many tasks of the run delay, and how many do so, wait for the lock, or make no step more.
+static alignas(64) _Atomic uint64_t delaying, away;
+static uint64_t delay, tasks_of_run;
 
 static void tick(struct task *t) {
   atomic_fetch_add(&words.clock, 1);
   t->steps++;
 }
 
+// At most so many loads, up to where no other task can come.
 static void stall(void) {
-  for (uint64_t turn = 0; turn < delay; turn++)
-    (void)atomic_load(&idle);
+  atomic_fetch_add(&delaying, 1);
+  atomic_fetch_add(&away, 1);
+  for (uint64_t turn = 0; turn < delay && atomic_load(&away) < tasks_of_run; turn++)
+    sched_yield();
+  atomic_fetch_sub(&away, 1);
+  atomic_fetch_sub(&delaying, 1);
+}
+
+// A task that waits for the lock tries again once nobody delays.
+static void wait_for_lock(void) {
+  atomic_fetch_add(&away, 1);
+  for (uint64_t turn = 0; turn < (delay ? delay : 1); turn++) {
+    sched_yield();
+    if (atomic_load(&delaying) == 0)
+      break;
+  }
+  atomic_fetch_sub(&away, 1);
 }
 
 // Looks for a watchpoint that a write hits, and tells its setter. Whether there was one.
@@ -75,8 +95,10 @@ static void watch(struct task *t, uint64_t word) {
     (void)atomic_load(&words.cell);
     t->steps += 4;
     if (atomic_exchange(&words.watch[at], 1) != word) {
-      while (atomic_load(&words.pair[at]) >> 32 == 0)
+      while (atomic_load(&words.pair[at]) >> 32 == 0) {
         t->steps++;
+        sched_yield();
+      }
       t->steps++;
       t->hit = true;
     }
@@ -117,6 +139,7 @@ static void increment_locked(struct task *t) {
   while (!atomic_compare_exchange_strong(&words.lock, &free, t->number + 1)) {
     free = 0;
     t->steps++;
+    wait_for_lock();
   }
   tick(t);
   if (!find(t, true))
@@ -133,16 +156,19 @@ static void *race(void *task) {
     read_plainly(t);
   else
     write_plainly(t);
+  atomic_fetch_add(&away, 1);
   return NULL;
 }
 
 static void *readers(void *task) {
   read_plainly(task);
+  atomic_fetch_add(&away, 1);
   return NULL;
 }
 
 static void *increments(void *task) {
   increment_locked(task);
+  atomic_fetch_add(&away, 1);
   return NULL;
 }
 
@@ -152,13 +178,16 @@ static uint64_t micros(void) {
   return (uint64_t)now.tv_sec * 1000000 + (uint64_t)now.tv_nsec / 1000;
 }
 
-// One run. Whether a watchpoint was hit.
-static bool run_once(void *(*text)(void *), unsigned count, uint64_t *steps) {
+// The run of a number. Whether a watchpoint was hit.
+static bool run_once(void *(*text)(void *), unsigned count, uint64_t run, uint64_t *steps) {
   pthread_t threads[MOST];
   struct task tasks[MOST];
   bool hit = false;
   memset(&words, 0, sizeof words);
-  for (unsigned n = 0; n < count; n++) {
+  delaying = away = 0;
+  tasks_of_run = count;
+  for (unsigned started = 0; started < count; started++) {
+    unsigned n = (run + started) % count;
     tasks[n] = (struct task){n, 0, false};
     if (pthread_create(&threads[n], NULL, text, &tasks[n]) != 0)
       exit(1);
@@ -179,7 +208,7 @@ int main(int argc, char **argv) {
   delay = strtoull(argv[3], NULL, 10);
   uint64_t start = micros();
   for (uint64_t run = 0; run < runs; run++)
-    hits += run_once(of_race ? race : of_readers ? readers : increments, of_readers ? 16 : 2, &steps);
+    hits += run_once(of_race ? race : of_readers ? readers : increments, of_readers ? 16 : 2, run, &steps);
   printf("%llu %llu %llu %llu\n", (unsigned long long)runs, (unsigned long long)(micros() - start), (unsigned long long)steps,
          (unsigned long long)hits);
   return 0;

@@ -13,11 +13,13 @@ pub record KeepsBounds (options : RunOptions) : Type 0 where
   pub turns_from : 1 ≤ options.turns
   pub turns_to : options.turns ≤ 1000000000
 
--- and from 1 to 100,000 runs, with a delay of at most 1,000,000 loads
+-- and from 1 to 100,000 runs, of which 1 to 64 side by side, with a delay of at most 1,000,000 loads
 pub record KeepsRunBounds (request : RunRequest) : Type 0 where
   pub runs : 1 ≤ request.runs
   pub runs_to : request.runs ≤ 100000
   pub delay : request.delay ≤ 1000000
+  pub jobs : 1 ≤ request.jobs
+  pub jobs_to : request.jobs ≤ 64
   pub options : KeepsBounds request.options
 
 -- what may be asked: numbers within their bounds

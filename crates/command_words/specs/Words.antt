@@ -66,13 +66,16 @@ step_app sizes =
     (word_rule (codes "FILE")))
     (default_rule (codes "schedule") [])) sizes
 
--- `run`, with its file, how many runs there are, the delay of a watch, and those options
+-- `run`, with its file, how many runs there are, the delay of a watch, how many runs are made side by side, where they end, and those options
 abbrev pub run_app : Bor (List (Bor Text)) → App
 run_app sizes =
-    with_options (with_rule (with_rule (with_rule (new_app (codes "run"))
+    with_options (with_rule (with_rule (with_rule (with_rule (with_rule (with_rule (new_app (codes "run"))
     (word_rule (codes "FILE")))
     (number_rule (codes "runs") 1 100000 (codes "100")))
-    (number_rule (codes "delay") 0 1000000 (codes "64"))) sizes
+    (number_rule (codes "delay") 0 1000000 (codes "64")))
+    (number_rule (codes "jobs") 1 64 (codes "1")))
+    (flag_rule (codes "stop-at-first")))
+    (flag_rule (codes "keep-going"))) sizes
 
 -- `replay`, with its file
 abbrev pub replay_app : App
@@ -147,6 +150,9 @@ pub record AskRun (values : List Row) (request : RunRequest) : Type 0 where
   pub file : first_of (codes "FILE") values ≡ Some request.file.now
   pub runs : IsNumber values (codes "runs") request.runs
   pub delay : IsNumber values (codes "delay") request.delay
+  pub jobs : IsNumber values (codes "jobs") request.jobs
+  pub stop_at_first : IsFlag values (codes "stop-at-first") request.stop_at_first
+  pub keep_going : IsFlag values (codes "keep-going") request.keep_going
   pub options : AskOptions values request.options
 
 -- the values of `replay` ask for this

@@ -118,16 +118,20 @@ pub const RUN: &str =
 /// What follows the options of `run`.
 pub const AFTER_RUN: &str = "\
     Each task runs on a thread of its own, and all of them share the memory and the\n\
-    watchpoints. A task that has set up a watchpoint waits for the delay, so that another may\n\
-    hit it. Each run begins anew, with the same settings; which races show in it is left to\n\
-    the machine. For example\n\
+    watchpoints. A task that has set up a watchpoint waits for the delay, in which others may\n\
+    hit it. Each run begins anew, with the same settings, and with another task first; which\n\
+    races show in it is left to the machine. For example\n\
     \n\
-    \x20\x20\x20\x20kcsan_litmus run race.litmus --runs 1000 --delay 1000000\n\
+    \x20\x20\x20\x20kcsan_litmus run race.litmus --runs 1000\n\
     \n\
     runs the two tasks a thousand times. Each distinct report is printed once, in the order in\n\
     which they were first seen, with how often it was seen; then what became of the checks of\n\
     all runs, and in how many of the runs the condition held. While the runs go on, a line on\n\
     standard error counts them, where that is a terminal. A trace is that of the last run.\n\
+    \n\
+    A run in which a task gets stuck has no end, and ends all with status 70; with --keep-going\n\
+    it is only counted, in a last line. Threads wait their turn, so a long delay together with\n\
+    few --turns makes tasks seem stuck that only wait.\n\
     \n\
     'kcsan_litmus step --help' says what a place list is.\n\
     \n\
@@ -142,3 +146,12 @@ pub const RUNS: &str = "How many runs there are, 1 to 100000";
 /// What `--delay` says.
 pub const DELAY: &str =
     "How many loads of a word a task waits at each watchpoint that it sets up, up to 1000000";
+
+/// What `--jobs` says.
+pub const JOBS: &str = "How many runs are made side by side, 1 to 64";
+
+/// What `--stop-at-first` does.
+pub const STOP_AT_FIRST: &str = "Ends after the first run with a report";
+
+/// What `--keep-going` does.
+pub const KEEP_GOING: &str = "Counts runs in which a task gets stuck, and goes on";

@@ -20,6 +20,9 @@ const RUNS: (u64, u64) = (1, 100_000);
 /// The fewest and the most loads of a delay.
 const DELAY: (u64, u64) = (0, 1_000_000);
 
+/// The fewest and the most runs side by side.
+const JOBS: (u64, u64) = (1, 64);
+
 /// The fewest and the most page slots.
 const SLOTS: (u64, u64) = (3, 1024);
 
@@ -70,6 +73,12 @@ pub struct RunRequest<'a> {
     pub runs: u64,
     /// How many loads of a word the delay of a watch takes.
     pub delay: u64,
+    /// How many runs are made side by side.
+    pub jobs: u64,
+    /// Whether the first run with a report is the last.
+    pub stop_at_first: bool,
+    /// Whether runs in which a task gets stuck are counted, and the others go on.
+    pub keep_going: bool,
     /// What `step` could be given as well.
     pub options: RunOptions<'a>,
 }
@@ -146,6 +155,9 @@ fn run_request<'a>(run: &ArgMatches<'a>) -> Option<RunRequest<'a>>
         file: run.get_str("FILE")?,
         runs: number(run, "runs", RUNS)?,
         delay: number(run, "delay", DELAY)?,
+        jobs: number(run, "jobs", JOBS)?,
+        stop_at_first: run.get_flag("stop-at-first"),
+        keep_going: run.get_flag("keep-going"),
         options: options(run)?,
     })
 }
@@ -247,7 +259,10 @@ fn run_command<'a>(alloc: Global, sizes: &'static [&'static str]) -> Result<Comm
         .after_help(help::AFTER_RUN)
         .arg(file(alloc, "FILE", help::FILE))?
         .arg(number_option(alloc, "runs", help::RUNS, RUNS, "100"))?
-        .arg(number_option(alloc, "delay", help::DELAY, DELAY, "64"))?;
+        .arg(number_option(alloc, "delay", help::DELAY, DELAY, "64"))?
+        .arg(number_option(alloc, "jobs", help::JOBS, JOBS, "1"))?
+        .arg(flag(alloc, "stop-at-first", help::STOP_AT_FIRST))?
+        .arg(flag(alloc, "keep-going", help::KEEP_GOING))?;
     with_shared(alloc, command, sizes)
 }
 

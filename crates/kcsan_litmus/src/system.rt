@@ -89,13 +89,15 @@ impl Progress for System {
     fn ran(&self, runs: u64, of: u64) {
         let rt = &self.output.rt;
         let apart = (of / LINES).max(1);
-        if !rt.stderr().is_terminal() {
-            return;
-        }
-        if runs == of {
-            let _ = rt.eprint("\x1b[K");
-        } else if runs.is_multiple_of(apart) {
+        if runs.is_multiple_of(apart) && rt.stderr().is_terminal() {
             let _ = rt.eprint(format_args!("run {runs} of {of}\x1b[K\r"));
+        }
+    }
+
+    fn over(&self) {
+        let rt = &self.output.rt;
+        if rt.stderr().is_terminal() {
+            let _ = rt.eprint("\x1b[K");
         }
     }
 }

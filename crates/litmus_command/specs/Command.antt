@@ -21,6 +21,7 @@ use Rattle.run_tally.specs.Errors as tally
 use Rattle.run_tally.specs.Output as tally_output
 use Rattle.run_tally.specs.declared.error.RunsError.{RunsError}
 use Rattle.run_tally.specs.declared.error.RunsError.TheVariants as runs
+use Rattle.run_tally.specs.declared.times.Times.{Times}
 use Rattle.runner.specs.declared.error.RunError.{RunError}
 use Rattle.runner.specs.declared.error.RunError.TheVariants as run
 use Rattle.step_schedule.specs.Spelling as schedules
@@ -147,13 +148,22 @@ pub record IsLeft (request : StepRequest) (text : List ℕ) (raced : Bool) (outp
   pub leaves : TextLeaves text settings entries raced output trace
   pub traced : is_some trace ≡ is_some request.options.trace
 
--- This is left of so many runs on threads of the program that a text spells, under the settings that are asked for: whether there was a
--- report, the output, and the trace of the last run, if it is asked for.
+-- how often a program is run, and how, as it is asked for
+abbrev pub times_of : RunRequest → Times
+times_of request = record {
+  runs = request.runs;
+  delay = request.delay;
+  jobs = request.jobs;
+  stop_at_first = request.stop_at_first;
+  keep_going = request.keep_going;
+}
+
+-- This is left of runs on threads of the program that a text spells, as often and under the settings as it is asked for: whether there was
+-- a report, the output, and the trace of the last run that ended, if it is asked for and there is one.
 pub record AreLeft (request : RunRequest) (text : List ℕ) (raced : Bool) (output : List ℕ) (trace : Option (List ℕ)) : Type 0 where
   pub settings : Settings
   pub asks : AskSettings request.options settings
-  pub leaves : tally_output.TextLeaves text settings request.runs raced output trace
-  pub traced : is_some trace ≡ is_some request.options.trace
+  pub leaves : tally_output.TextLeaves text settings (times_of request) (is_some request.options.trace) raced output trace
 
 -- what was done with files once the file of a name gave this text, and then the trace was written, if it is asked for
 abbrev pub files_after : (file : List ℕ) → RunOptions → (text : List ℕ) → (trace : Option (List ℕ)) → Option (List FileEvent)
@@ -204,7 +214,7 @@ pub record RunIsDone (request : RunRequest) (raced : Bool) (before after : State
   pub written : after.written ≡ appended before.written output
   pub files : after.files ≡ files_after request.file.now request.options text trace before.files
 
--- Not all of it could be written. A trace is asked for, and its file could not be written: standard output has what it had. Or that was
+-- Not all of it could be written. There is a trace, and its file could not be written: standard output has what it had. Or that was
 -- done, and standard output took but a beginning of the output.
 pub record RunIsCut (request : RunRequest) (before after : State) : Type 0 where
   pub text : List ℕ
@@ -212,7 +222,7 @@ pub record RunIsCut (request : RunRequest) (before after : State) : Type 0 where
   pub output : List ℕ
   pub trace : Option (List ℕ)
   pub left : AreLeft request text raced output trace
-  pub cut : ((is_some request.options.trace ≡ true) × (after.written ≡ before.written))
+  pub cut : ((is_some trace ≡ true) × (after.written ≡ before.written))
       ⊎ (HoldsBeginning output before.written after.written
       × (after.files ≡ files_after request.file.now request.options text trace before.files))
 
@@ -223,7 +233,7 @@ pub record RunIsRefused (request : RunRequest) (status : ℕ) (before after : St
   pub asks : AskSettings request.options settings
   pub text : List ℕ
   pub error : RunsError
-  pub refused : tally.IsRefused text settings error
+  pub refused : tally.IsRefused request.keep_going text settings error
   pub status_is : status ≡ runs_status_of error
   pub files : after.files ≡ noted before.files (Gave request.file.now file_bytes text)
 

@@ -7,7 +7,7 @@ ghost use Rattle.clap.specs.Words.{kind_of};
 ghost use Rattle.litmus_command.specs.Command.{AskForOne, AskSettings, AsksFor, EndsAs, HelpIsCut, HelpIsGiven, IsCut, IsDone, IsOfFile, IsRefusedOf};
 ghost use Rattle.litmus_command.specs.Command.{NothingIsWritten, ReplayIsCut, ReplayIsRefused, RunIsCut, RunIsDone, RunIsRefused};
 ghost use Rattle.litmus_command.specs.Command.{StepIsCut, StepIsDone, StepIsRefused, engine_status_of, read_failure, run_status_of, runs_status_of};
-ghost use Rattle.litmus_command.specs.Command.{settings_of, state_of, status_of, text_status_of, trace_status_of, with_trace};
+ghost use Rattle.litmus_command.specs.Command.{settings_of, state_of, status_of, text_status_of, times_of, trace_status_of, with_trace};
 ghost use Rattle.litmus_command.specs.declared.command.Failure.TheVariants.{Engine, OutOfMemory, Runs, Trace};
 ghost use Rattle.report_text.specs.Sink.{CountsFailure};
 ghost use Rattle.std.specs.Option.{option_map};
@@ -331,6 +331,7 @@ fn keep_trace<D: Desk>(
         (status_of failure ≡ 74) × CountsFailure (D.failures desk.old) (D.failures desk.new)) }
     ensures works { OnOk result (D.failures desk.new ≡ D.failures desk.old) }
     ensures asked { OnErr result (is_some path.entry ≡ true) }
+    ensures there { OnErr result (is_some trace.now ≡ true) }
 {
     match path {
         None => Ok(()),
@@ -374,6 +375,19 @@ fn step<D: Desk>(alloc: Global, request: &StepRequest<'_>, desk: &mut D) -> Resu
     }
 }
 
+/// How often a program is run, and how, as it is asked for.
+fn times_for(request: &RunRequest<'_>) -> Times
+    ensures { result ≡ times_of request.now }
+{
+    Times {
+        runs: request.runs,
+        delay: request.delay,
+        jobs: request.jobs,
+        stop_at_first: request.stop_at_first,
+        keep_going: request.keep_going,
+    }
+}
+
 /// Runs a file on threads, and writes the trace of the last run, if it is asked for, and then what is found of the runs. Whether
 /// there was a report.
 fn run<R: Threads + Wait + Sync, D: Desk>(
@@ -396,10 +410,7 @@ fn run<R: Threads + Wait + Sync, D: Desk>(
 {
     let settings = settings_for(alloc, &request.options)?;
     let litmus = desk.read_file(alloc, request.file, FILE_BYTES)?;
-    let times = Times {
-        runs: request.runs,
-        delay: request.delay,
-    };
+    let times = times_for(request);
     let traced = request.options.trace.is_some();
     let written = run_text_often(rt, alloc, &litmus, &settings, times, traced, &*desk)?;
     keep_trace(request.options.trace, &written.trace, desk)?;

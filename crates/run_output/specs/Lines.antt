@@ -18,3 +18,7 @@ counters_line c unbalanced = line (
 unfoldable pub condition_line : ℕ → ℕ → List ℕ
 condition_line held runs =
     line (codes "condition held in " ++ decimal held ++ codes " of " ++ decimal runs ++ codes " runs")
+
+-- in how many of so many runs a task got stuck
+unfoldable pub stuck_line : ℕ → ℕ → List ℕ
+stuck_line stuck runs = line (codes "stuck in " ++ decimal stuck ++ codes " of " ++ decimal runs ++ codes " runs")

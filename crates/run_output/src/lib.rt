@@ -5,5 +5,5 @@
 pub mod lines;
 pub mod output;
 
-pub use lines::{write_condition, write_counters};
+pub use lines::{write_condition, write_counters, write_stuck};
 pub use output::{Found, write_output};

@@ -1,6 +1,6 @@
-//! The line of counters and the line on the condition.
+//! The line of counters, the line on the condition, and that on stuck runs.
 
-ghost use Rattle.run_output.specs.Lines.{condition_line, counters_line};
+ghost use Rattle.run_output.specs.Lines.{condition_line, counters_line, stuck_line};
 ghost use Rattle.report_text.specs.Pieces.{text_of};
 ghost use Rattle.report_text.specs.Sink.{Writes};
 
@@ -65,6 +65,25 @@ pub fn write_condition<K: Sink>(held: u64, runs: u64, sink: &mut K) -> Result<()
         &[
             Piece::Text("condition held in "),
             Piece::Decimal(held),
+            Piece::Text(" of "),
+            Piece::Decimal(runs),
+            Piece::Text(" runs\n"),
+        ],
+    )
+}
+
+/// Writes in how many of so many runs a task got stuck.
+///
+/// `SinkFailed`: the sink failed in this call, and holds a beginning of the line.
+#[tactic(auto, unfolding(crate::specs::Lines::stuck_line))]
+pub fn write_stuck<K: Sink>(stuck: u64, runs: u64, sink: &mut K) -> Result<(), WriteError>
+    ensures { Writes K.written K.failures result (stuck_line stuck runs) sink.old sink.new }
+{
+    write_pieces(
+        sink,
+        &[
+            Piece::Text("stuck in "),
+            Piece::Decimal(stuck),
             Piece::Text(" of "),
             Piece::Decimal(runs),
             Piece::Text(" runs\n"),

@@ -80,7 +80,7 @@ groups_on f of all one old new is more =
     ∙ ap (λ (ts : List (List ℕ)). fold counted [] ts) (sym texts)))
 
 -- a count that isn't 0
-some : (n : ℕ) → 0 < n → not (n == 0) ≡ true
+pub some : (n : ℕ) → 0 < n → not (n == 0) ≡ true
 some n above = elim (eqb_tells n 0) [
   | inl none ↦ let is = none.1 in absurd (omega (arith, above, is))
   | inr differs ↦ ap not differs.0

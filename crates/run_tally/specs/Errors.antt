@@ -1,5 +1,5 @@
 -- Why runs have no output.
-use Rattle.std.specs.Prelude.{◌<◌, ◌⊎◌, ℕ, List}
+use Rattle.std.specs.Prelude.{◌≡◌, ◌<◌, ◌⊎◌, ℕ, Bool, List, false}
 use Rattle.access_types.specs.Sites.{AccessMap}
 use Rattle.litmus_parse.specs.Grammar.{SpellsProgram}
 use Rattle.litmus_step.specs.Runs.{run_of}
@@ -46,12 +46,21 @@ StopsRun program settings OutOfMemory = Unit {0}
 StopsRun program settings (Stuck task) = GetsStuck program settings task
 StopsRun program settings NoThread = Unit {0}
 
+-- whether a run without an end is only counted: a stuck one, where these are counted
+abbrev pub is_counted : (counted : Bool) → RunError → Bool
+is_counted counted BadSlots = false
+is_counted counted BadPlace = false
+is_counted counted OutOfMemory = false
+is_counted counted (Stuck task) = counted
+is_counted counted NoThread = false
+
 -- why the runs of a program stop
-abbrev pub Stops : Program → Settings → RunsError → Type 0
-Stops program settings (Text error) = ⊥
-Stops program settings (Run error) = StopsRun program settings error
+abbrev pub Stops : (counted : Bool) → Program → Settings → RunsError → Type 0
+Stops counted program settings (Text error) = ⊥
+Stops counted program settings (Run error) = StopsRun program settings error × (is_counted counted error ≡ false)
 
 -- why a text has no output of its runs: it is not read as a program, or the program's runs stop
-abbrev pub IsRefused : (text : List ℕ) → Settings → RunsError → Type 0
-IsRefused text settings (Text error) = Unit {0}
-IsRefused text settings (Run error) = (program : Program) × IsReadAs text program × StopsRun program settings error
+abbrev pub IsRefused : (counted : Bool) → (text : List ℕ) → Settings → RunsError → Type 0
+IsRefused counted text settings (Text error) = Unit {0}
+IsRefused counted text settings (Run error) =
+    (program : Program) × IsReadAs text program × StopsRun program settings error × (is_counted counted error ≡ false)

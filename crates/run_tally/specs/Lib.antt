@@ -3,3 +3,4 @@ pub mod Runs
 pub mod Finals
 pub mod Output
 pub mod Tally
+pub mod Made

@@ -1,5 +1,5 @@
 -- What is written of runs.
-use Rattle.std.specs.Prelude.{◌≡◌, ◌++◌, ◌∷◌, [], ◌==◌, ℕ, Bool, List, Option, IfSome, count_by, length, map, not}
+use Rattle.std.specs.Prelude.{◌≡◌, ◌≤◌, ◌<◌, ◌+◌, ◌++◌, ◌∷◌, [], ◌==◌, ◌&&◌, ℕ, Bool, List, Option, IfSome, count_by, false, is_some, length, map, not, true}
 use Rattle.std.specs.List.{flat_map, sum_by}
 use Rattle.access_types.specs.Arms.{Arm}
 use Rattle.access_types.specs.Sites.{AccessMap}
@@ -15,9 +15,10 @@ use Rattle.report_text.specs.Groups.{AreGroupsOf, Group, group_text}
 use Rattle.report_text.specs.ReportOf.{report_text}
 use Rattle.report_text.specs.TraceText.{written_trace}
 use Rattle.litmus_step.specs.of_run_kept_Lists.{AreAccesses, AreArms, AreTakes}
-use Rattle.run_output.specs.Lines.{condition_line, counters_line}
+use Rattle.run_output.specs.Lines.{condition_line, counters_line, stuck_line}
 use Rattle.run_tally.specs.Errors.{IsReadAs}
-use Rattle.run_tally.specs.Runs.{OneRun}
+use Rattle.run_tally.specs.Runs.{OneRun, StuckRun}
+use Rattle.run_tally.specs.declared.times.Times.{Times}
 use Rattle.task_log.specs.Counters.{resting}
 use Rattle.task_log.specs.declared.counters.Counters.{Counters}
 
@@ -47,17 +48,29 @@ unbalanced_in runs = resting (sum_by (λ one. one.result.unbalanced) runs)
 abbrev pub held_in : {program : Program} {settings : Settings} → List (OneRun program settings) → ℕ
 held_in runs = count_by (λ one. one.held) runs
 
--- The output of runs: each distinct report, in the order in which they were first seen, with how often it was seen, the sums of the
--- counters, and in how many of the runs the condition held.
-pub record IsOutput {program : Program} {settings : Settings} (runs : List (OneRun program settings)) (output : List ℕ) : Type 0 where
+-- What is found of runs that ended: each distinct report with how often it was seen, the sums of the counters, and in how many of so many
+-- runs the condition held.
+abbrev pub found_text : List Group → Counters → (unbalanced held ended : ℕ) → List ℕ
+found_text groups sums unbalanced held ended = flat_map group_text groups ++ counters_line sums unbalanced ++ condition_line held ended
+
+-- in how many of so many runs a task got stuck, where these are counted
+abbrev pub stuck_text : (counted : Bool) → (stuck many : ℕ) → List ℕ
+stuck_text true stuck many = stuck_line stuck many
+stuck_text false stuck many = []
+
+-- The output of runs that ended, and so many more in which a task got stuck: each distinct report, in the order in which they were first
+-- seen, with how often it was seen, the sums of the counters, in how many of those that ended the condition held, and, where stuck runs
+-- are counted, how many of all got stuck.
+pub record IsOutput {program : Program} {settings : Settings} (counted : Bool) (runs : List (OneRun program settings)) (stuck : ℕ)
+    (output : List ℕ) : Type 0 where
   pub sites : AccessMap
   pub sites_are : AreSitesOf (program_of program) (places_of settings.places.items) sites
   pub groups : List Group
   pub groups_are : AreGroupsOf (map (report_text sites) (reports_in runs)) groups
   pub sums : Counters
   pub sums_are : AreSums (map (λ one. one.counters) runs) sums
-  pub spelled : output ≡ flat_map group_text groups ++ counters_line sums (unbalanced_in runs)
-      ++ condition_line (held_in runs) (length runs)
+  pub spelled : output ≡ found_text groups sums (unbalanced_in runs) (held_in runs) (length runs)
+      ++ stuck_text counted stuck (length runs + stuck)
 
 -- the trace of the last of the runs: of its accesses, armings, takings and reports
 pub record IsTraceOfLast {program : Program} {settings : Settings} (runs : List (OneRun program settings)) (bytes : List ℕ) : Type 0 where
@@ -72,19 +85,35 @@ pub record IsTraceOfLast {program : Program} {settings : Settings} (runs : List 
   pub takes_are : AreTakes last.once.list takes
   pub spelled : bytes ≡ written_trace settings.slots settings.layout accesses arms takes last.result.reports.items
 
--- This is left of so many runs of the program on threads, under these settings: whether there was a report, the output, and the trace of
--- the last run, if there is one.
-pub record Leave (program : Program) (settings : Settings) (many : ℕ) (raced : Bool) (output : List ℕ) (trace : Option (List ℕ)) :
-    Type 0 where
+-- no run but the last has a report
+abbrev pub AreQuietBeforeLast : {program : Program} {settings : Settings} → List (OneRun program settings) → Type 0
+AreQuietBeforeLast {program = program} {settings = settings} runs =
+    (before : List (OneRun program settings)) (last : OneRun program settings) → runs ≡ before ++ last ∷ [] → reports_in before ≡ []
+
+-- Of the runs that are asked for these were made and ended, and in these others a task got stuck. That is all of them, or, where it is
+-- asked for, those up to the first with a report; and stuck ones are among them only where they are counted.
+pub record AreAsMany {program : Program} {settings : Settings} (times : Times) (runs : List (OneRun program settings))
+    (stuck : List (StuckRun program settings)) : Type 0 where
+  pub most : length runs + length stuck ≤ times.runs
+  pub fewer : length runs + length stuck < times.runs → (times.stop_at_first ≡ true) × ¬ (reports_in runs ≡ [])
+  pub first : times.stop_at_first ≡ true → AreQuietBeforeLast runs
+  pub counted : times.keep_going ≡ false → stuck ≡ []
+
+-- This is left of runs of the program on threads, under these settings, as often as is asked for: whether there was a report, the output,
+-- and the trace of the last run that ended, where one is wanted and there is such a run.
+pub record Leave (program : Program) (settings : Settings) (times : Times) (traced : Bool) (raced : Bool) (output : List ℕ)
+    (trace : Option (List ℕ)) : Type 0 where
   pub runs : List (OneRun program settings)
-  pub many_are : length runs ≡ many
-  pub output_is : IsOutput runs output
+  pub stuck : List (StuckRun program settings)
+  pub many_are : AreAsMany times runs stuck
+  pub output_is : IsOutput times.keep_going runs (length stuck) output
   pub trace_is : IfSome trace (IsTraceOfLast runs)
+  pub traced_is : is_some trace ≡ (traced && not (length runs == 0))
   pub raced_is : raced ≡ not (length (reports_in runs) == 0)
 
 -- so it is of the program that the text is read as
-pub record TextLeaves (text : List ℕ) (settings : Settings) (many : ℕ) (raced : Bool) (output : List ℕ) (trace : Option (List ℕ)) :
-    Type 0 where
+pub record TextLeaves (text : List ℕ) (settings : Settings) (times : Times) (traced : Bool) (raced : Bool) (output : List ℕ)
+    (trace : Option (List ℕ)) : Type 0 where
   pub program : Program
   pub read : IsReadAs text program
-  pub leave : Leave program settings many raced output trace
+  pub leave : Leave program settings times traced raced output trace

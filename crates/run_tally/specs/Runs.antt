@@ -1,11 +1,13 @@
 -- What is seen of runs on threads.
-use Rattle.std.specs.Prelude.{◌≡◌, ◌++◌, ◌∷◌, [], ◌↔◌, Bool, IsTrue, List, Option, None, Some}
+use Rattle.std.specs.Prelude.{◌≡◌, ◌++◌, ◌∷◌, [], ◌↔◌, ℕ, Bool, IfErr, IfOk, IsTrue, List, Option, None, Result, Some}
 use Rattle.litmus_step.specs.declared.settings.Settings.{Settings}
 use Rattle.litmus_syntax.specs.declared.program.Program.{Program}
+use Rattle.run_tally.specs.Errors.{GetsStuck, StopsRun}
 use Rattle.run_tally.specs.Finals.{HoldsAtEnd}
 use Rattle.run_headline.specs.Headline.{Headline}
 use Rattle.litmus_step.specs.of_run_kept_Totals.{CountsList}
 use Rattle.runner.specs.Result.{IsRunOnce}
+use Rattle.runner.specs.declared.error.RunError.{RunError}
 use Rattle.runner.specs.declared.result.RunResult.{RunResult}
 use Rattle.task_log.specs.declared.counters.Counters.{Counters}
 
@@ -19,6 +21,16 @@ pub record OneRun (program : Program) (settings : Settings) : Type 0 where
   pub counters_are : CountsList once.list counters
   pub held : Bool
   pub held_is : IsTrue held ↔ HoldsAtEnd once.list
+
+-- one run that had no end: a task of the program gets stuck
+pub record StuckRun (program : Program) (settings : Settings) : Type 0 where
+  pub task : ℕ
+  pub stuck : GetsStuck program settings task
+
+-- what comes of one run of the program on threads: a result, or a reason why there is none
+pub record Comes (program : Program) (settings : Settings) (outcome : Result RunResult RunError) : Type 0 where
+  pub once : IfOk outcome (IsRunOnce program settings)
+  pub stops : IfErr outcome (StopsRun program settings)
 
 -- this is the result of the last of the runs, if there is one
 abbrev pub IsLast : {program : Program} {settings : Settings} → List (OneRun program settings) → Option RunResult → Type 0

@@ -1,14 +1,13 @@
 -- What is kept of the runs so far.
-use Rattle.std.specs.Prelude.{◌≡◌, ◌==◌, [], ℕ, List, Option, fold, length, map, not}
+use Rattle.std.specs.Prelude.{◌≡◌, ◌==◌, [], List, fold, length, map, not}
 use Rattle.access_types.specs.Sites.{AccessMap}
 use Rattle.litmus_step.specs.declared.settings.Settings.{Settings}
 use Rattle.litmus_syntax.specs.declared.program.Program.{Program}
 use Rattle.report_text.specs.Groups.{counted}
 use Rattle.report_text.specs.ReportOf.{report_text}
 use Rattle.run_tally.specs.Output.{AreSums, held_in, reports_in, unbalanced_in}
-use Rattle.run_tally.specs.Runs.{IsLast, OneRun}
+use Rattle.run_tally.specs.Runs.{OneRun}
 use Rattle.run_tally.specs.declared.tally.Tally.{Tally}
-use Rattle.runner.specs.declared.result.RunResult.{RunResult}
 use Rattle.task_log.specs.Counters.{resting}
 
 -- What is kept is of these runs: their reports, by their texts, are counted one after the other; the counters are summed, and the runs
@@ -20,11 +19,3 @@ pub record Tallies (program : Program) (settings : Settings) (sites : AccessMap)
   pub unbalanced : tally.unbalanced ≡ unbalanced_in runs
   pub held : tally.held ≡ resting (held_in runs)
   pub raced : tally.raced ≡ not (length (reports_in runs) == 0)
-
--- So many runs were made: what is kept is of them, and this is the result of the last one, if there is one.
-pub record AreMade (program : Program) (settings : Settings) (sites : AccessMap) (many : ℕ) (tally : Tally) (last : Option RunResult) :
-    Type 0 where
-  pub runs : List (OneRun program settings)
-  pub many_are : length runs ≡ many
-  pub tallies : Tallies program settings sites runs tally
-  pub last_is : IsLast runs last

@@ -4,9 +4,12 @@
 pub mod delay;
 pub mod error;
 pub mod finals;
+mod made;
 pub mod runs;
 pub mod tally;
+pub mod times;
 
 pub use error::RunsError;
 pub use finals::{finals_at, holds_at_end};
-pub use runs::{Outcome, Progress, Times, run_text_often};
+pub use runs::{Outcome, run_text_often};
+pub use times::{Progress, Times};

@@ -1,21 +1,17 @@
 //! What is found of runs, taken together.
 
-ghost use Rattle.std.specs.Prelude.{◌≡◌, ◌++◌, ◌∷◌, ◌↔◌, [], All, List, IfErr, IfOk, IsTrue, OnOk, fold, length, map};
-ghost use Rattle.std.specs.List.{flat_map};
+ghost use Rattle.std.specs.Prelude.{◌≡◌, ◌++◌, ◌∷◌, ◌↔◌, [], All, List, IfErr, IfOk, IsTrue, OnOk, fold, map, true};
 ghost use Rattle.access_types.specs.Sites.{AccessMap};
 ghost use Rattle.litmus_step.specs.declared.settings.Settings as terms;
 ghost use Rattle.litmus_syntax.specs.Limits.{KeepsLimits};
 ghost use Rattle.litmus_syntax.specs.Views.{program_of};
 ghost use Rattle.litmus_syntax.specs.declared.program.Program as tree;
-ghost use Rattle.program_layout.specs.Places.{places_of};
-ghost use Rattle.program_sites.specs.Sites.{AreSitesOf};
-ghost use Rattle.report_text.specs.Groups.{counted, group_text};
+ghost use Rattle.report_text.specs.Groups.{counted};
 ghost use Rattle.report_text.specs.ReportOf.{NamesAccesses, report_text};
 ghost use Rattle.report_text.specs.Sink.{Writes};
 ghost use Rattle.run_tally.specs.Finals.{HoldsAtEnd};
-ghost use Rattle.run_output.specs.Lines.{condition_line, counters_line};
 ghost use Rattle.run_tally.specs.Errors.{Stops};
-ghost use Rattle.run_tally.specs.Output.{IsOutput};
+ghost use Rattle.run_tally.specs.Output.{found_text};
 ghost use Rattle.run_tally.specs.Runs.{OneRun};
 ghost use Rattle.run_tally.specs.Tally.{Tallies};
 ghost use Rattle.runner.specs.Result.{IsRunOnce};
@@ -25,8 +21,7 @@ use crate::finals::holds_at_end;
 use access_types::{Report, Sites};
 use litmus_parse::Program;
 use litmus_step::Settings;
-use report_text::laws::groups_are_of_their_texts;
-use report_text::{Groups, MemorySink, Sink, WriteError};
+use report_text::{Groups, Sink, WriteError};
 use run_headline::laws::the_headline_holds;
 use run_output::{write_condition, write_counters};
 use runner::RunResult;
@@ -74,7 +69,7 @@ fn has_held(
 ) -> Result<bool, RunsError>
     requires { KeepsLimits (program_of program.now) }
     ensures held { (once : IsRunOnce program.now settings.now ended.now) → IfOk result (λ held. IsTrue held ↔ HoldsAtEnd once.list) }
-    ensures stops { IfErr result (Stops program.now settings.now) }
+    ensures stops { IfErr result (Stops true program.now settings.now) }
 {
     let registers = registers_of(alloc, ended)?;
     Ok(holds_at_end(alloc, program, settings, registers, ended.memory())?)
@@ -116,7 +111,7 @@ impl Tally {
             → IsRunOnce program.now settings.now ended.now
             → OnOk result ((one : OneRun program.now settings.now) × (one.result ≡ ended.now)
             × Tallies program.now settings.now sites.now (runs ++ one ∷ []) self.new) }
-        ensures stops { IfErr result (Stops program.now settings.now) }
+        ensures stops { IfErr result (Stops true program.now settings.now) }
     {
         the_headline_holds();
         let held = has_held(alloc, program, settings, ended)?;
@@ -130,26 +125,12 @@ impl Tally {
 
     /// Writes each distinct report with how often it was seen, the summed counters, and in how many of so many runs the
     /// condition held.
-    fn write<K: Sink>(&self, runs: u64, sink: &mut K) -> Result<(), WriteError>
-        ensures { Writes K.written K.failures result (flat_map group_text self.now.groups
-            ++ counters_line self.now.counters self.now.unbalanced ++ condition_line self.now.held runs) sink.old sink.new }
+    pub(crate) fn write<K: Sink>(&self, runs: u64, sink: &mut K) -> Result<(), WriteError>
+        ensures { Writes K.written K.failures result (found_text self.now.groups self.now.counters self.now.unbalanced self.now.held runs)
+            sink.old sink.new }
     {
         self.groups.write(sink)?;
         write_counters(&self.counters, self.unbalanced, sink)?;
         write_condition(self.held, runs, sink)
-    }
-
-    /// What is written of so many runs.
-    pub(crate) fn output(&self, alloc: Global, many: u64) -> Result<Vec<u8>, AllocError>
-        ensures { (program : tree.Program) (settings : terms.Settings) (sites : AccessMap) (runs : List (OneRun program settings))
-            → Tallies program settings sites runs self.now → AreSitesOf (program_of program) (places_of settings.places.items) sites
-            → length runs ≡ many → IfOk result (λ output. IsOutput runs output.items) }
-    {
-        groups_are_of_their_texts();
-        let mut sink = MemorySink::new(alloc);
-        match self.write(many, &mut sink) {
-            Ok(()) => Ok(sink.into_bytes()),
-            Err(_) => Err(AllocError),
-        }
     }
 }

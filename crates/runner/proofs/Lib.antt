@@ -2,6 +2,7 @@ pub mod DoneWith
 pub mod LedLemmas
 pub mod SeatedLemmas
 pub mod StartLemmas
+pub mod TurnLemmas
 pub mod Sent
 pub mod PartLemmas
 pub mod OutcomeLemmas

@@ -1,5 +1,5 @@
 -- Tasks before their first steps, and what comes of them.
-use Rattle.std.specs.Prelude.{◌≡◌, ◌≤◌, ◌⊎◌, [], ℕ, IfErr, IfOk, IsErrOf, List, Result, Some, length, slice_get, vec_capacity}
+use Rattle.std.specs.Prelude.{◌≡◌, ◌≤◌, ◌<◌, ◌⊎◌, [], ℕ, IfErr, IfOk, IsErrOf, List, Result, Some, length, slice_get, vec_capacity}
 use Rattle.litmus_step.specs.Kept.{accesses_kept, watches_kept}
 use Rattle.run_lists.specs.Run.{Run}
 use Rattle.runner.specs.Found.{IsFound, IsInVain}
@@ -26,6 +26,11 @@ pub record AreStarts (opened : Opened) (starts : List TaskStart) : Type 0 where
   pub all : length starts ≡ opened.given.tasks
   pub each : (task : ℕ) (start : TaskStart) → slice_get starts task ≡ Some start → IsStart opened task start
 
+-- so it is of each of some tasks of the table, in any order
+abbrev pub AreSomeStarts : Opened → List TaskStart → Type 0
+AreSomeStarts opened starts = (at : ℕ) (start : TaskStart) → slice_get starts at ≡ Some start
+    → IsStart opened start.number start × (start.number < opened.given.tasks)
+
 -- A task is found after the steps of its whole text, or it is stuck and says so, or there was no memory for it.
 pub record IsOutcome (run : Run) (opened : Opened) (task : ℕ) (outcome : Result Found RunError) : Type 0 where
   pub found : IfOk outcome (IsFound run opened task)
@@ -36,3 +41,9 @@ pub record IsOutcome (run : Run) (opened : Opened) (task : ℕ) (outcome : Resul
 pub record AreOutcomes (run : Run) (opened : Opened) (tasks : ℕ) (outcomes : List (Result Found RunError)) : Type 0 where
   pub all : length outcomes ≡ tasks
   pub each : (task : ℕ) (outcome : Result Found RunError) → slice_get outcomes task ≡ Some outcome → IsOutcome run opened task outcome
+
+-- so it is of the task of each start, at the place of the start
+pub record ComeOf (run : Run) (opened : Opened) (starts : List TaskStart) (outcomes : List (Result Found RunError)) : Type 0 where
+  pub all : length outcomes ≡ length starts
+  pub each : (at : ℕ) (start : TaskStart) (outcome : Result Found RunError) → slice_get starts at ≡ Some start
+      → slice_get outcomes at ≡ Some outcome → IsOutcome run opened start.number outcome

@@ -2,7 +2,9 @@
 
 ghost use Rattle.std.specs.Prelude.{◌≡◌};
 
-use task_run::{After, Before};
+use slot_table::{Answer, Step};
+use std::thread;
+use task_run::{After, Before, TaskRun};
 
 /// A point on a task's way.
 #[derive(Clone, Copy, Debug, PartialEq, Eq)]
@@ -17,10 +19,18 @@ pub enum Point {
     End,
 }
 
-/// The delay between the two loads of a watch, as KCSAN's `udelay` there.
+/// The delay between the two loads of a watch, as KCSAN's `udelay` there, and what a task does that waits for a lock.
 pub trait Stall: Sync {
     /// A task has set up the watchpoint at an index.
     fn stall(&self, task: usize, index: usize);
+
+    /// A lock that a task wants isn't free, and the task will try again.
+    fn wait(&self, _task: usize) {
+        thread::yield_now();
+    }
+
+    /// A task makes no step more.
+    fn over(&self, _task: usize) {}
 }
 
 /// Where a test may hold a task.
@@ -63,5 +73,25 @@ pub(crate) fn has_passed<G: Gate>(gate: &G, task: usize, after: After) {
         After::Told { .. } => gate.pass(task, Point::Taken),
         After::Ended => gate.pass(task, Point::End),
         After::Other => {}
+    }
+}
+
+/// What follows on a step that is a vain try of a wait: of a lock that isn't free, or of a pair word whose other half is still empty, which
+/// is loaded again next.
+pub(crate) fn waits<S: Stall>(
+    stall: &S,
+    task: usize,
+    step: Step,
+    answer: Answer,
+    run: &TaskRun<'_>,
+) {
+    match (step, answer) {
+        (Step::LockTry(_, _), Answer::Flag(false)) => stall.wait(task),
+        (Step::PairLoad(_), _) => {
+            if run.next() == Some(step) {
+                thread::yield_now();
+            }
+        }
+        _ => {}
     }
 }

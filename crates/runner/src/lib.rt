@@ -14,4 +14,4 @@ mod threads;
 pub use error::RunError;
 pub use hooks::{Gate, NoStall, Open, Point, Stall};
 pub use result::RunResult;
-pub use run::run_once;
+pub use run::{run_from, run_once};

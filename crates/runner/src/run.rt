@@ -21,7 +21,7 @@ use crate::hooks::{Gate, Stall};
 use crate::result::RunResult;
 use crate::seated::Found;
 use crate::terms::Terms;
-use crate::threads::on_threads;
+use crate::threads::on_threads_from;
 use access_types::Report;
 use litmus_step::Settings;
 use litmus_step::laws::runs_begin;
@@ -56,7 +56,7 @@ fn all_found(alloc: Global, outcomes: Vec<Result<Found, RunError>>) -> Result<Ve
     Ok(found)
 }
 
-/// The program's tasks make their steps on the words of this table.
+/// The program's tasks make their steps on the words of this table, each on its thread, of which the first of these starts first.
 ///
 /// `Stuck`: a wait of the task had as many vain tries as are allowed; of several such tasks the smallest is named.
 /// `NoThread`: a thread couldn't be started.
@@ -65,6 +65,7 @@ fn steps_on<'t, R: Threads + Wait + Sync, S: Stall, G: Gate>(
     alloc: Global,
     terms: Terms<'t>,
     seats: Vec<TaskSeat>,
+    first: usize,
     stall: &'t S,
     gate: &'t G,
 ) -> Result<Vec<Found>, RunError>
@@ -77,7 +78,7 @@ fn steps_on<'t, R: Threads + Wait + Sync, S: Stall, G: Gate>(
     ensures bad_place { ¬ (IsErrOf result BadPlace) }
 {
     let starts = first_starts(alloc, seats)?;
-    let outcomes = on_threads(rt, alloc, terms, starts, stall, gate)?;
+    let outcomes = on_threads_from(rt, alloc, terms, starts, first, stall, gate)?;
     all_found(alloc, outcomes)
 }
 
@@ -152,6 +153,27 @@ pub fn run_once<R: Threads + Wait + Sync, S: Stall, G: Gate>(
     ensures stuck { (task : ℕ) → IsErrOf result (Stuck task) → (sites : AccessMap) × IsInVain (run_of program.now settings.now sites) task
         × ((below : ℕ) → below < task → IsThrough (run_of program.now settings.now sites) below) }
 {
+    run_from(rt, alloc, program, settings, 0, stall, gate)
+}
+
+/// Runs a program once, as [`run_once`] does. The thread of the first of these tasks starts first, then those of the tasks above, then
+/// those below: who starts first is often over before the last begins, so where a program is run often, each task is to be first in turn.
+pub fn run_from<R: Threads + Wait + Sync, S: Stall, G: Gate>(
+    rt: &R,
+    alloc: Global,
+    program: &Program,
+    settings: &Settings,
+    first: usize,
+    stall: &S,
+    gate: &G,
+) -> Result<RunResult, RunError>
+    requires limits { KeepsLimits (program_of program.now) }
+    ensures once { IfOk result (IsRunOnce program.now settings.now) }
+    ensures bad_slots { IsErrOf result BadSlots → (settings.now.slots < 3 ⊎ 1024 < settings.now.slots) }
+    ensures bad_place { IsErrOf result BadPlace → AreFit program.now.variables settings.now.places.items → ⊥ }
+    ensures stuck { (task : ℕ) → IsErrOf result (Stuck task) → (sites : AccessMap) × IsInVain (run_of program.now settings.now sites) task
+        × ((below : ℕ) → below < task → IsThrough (run_of program.now settings.now sites) below) }
+{
     runs_begin();
     the_written_order_keeps_the_discipline();
     a_task_reports_its_own();
@@ -165,7 +187,7 @@ pub fn run_once<R: Threads + Wait + Sync, S: Stall, G: Gate>(
         sites: &sites,
         table: &table,
     };
-    let found = steps_on(rt, alloc, terms, seats, stall, gate)?;
+    let found = steps_on(rt, alloc, terms, seats, first, stall, gate)?;
     let reports = reports_of(alloc, found.as_slice())?;
     let unbalanced = calls_of(found.as_slice());
     let Parts {

@@ -10,7 +10,7 @@ ghost use Rattle.runner.specs.declared.error.RunError.TheVariants.{OutOfMemory, 
 ghost use Rattle.runner.specs.declared.terms.Terms.{Terms};
 
 use crate::error::RunError;
-use crate::hooks::{Gate, Stall, comes_to, has_passed};
+use crate::hooks::{Gate, Stall, comes_to, has_passed, waits};
 use crate::laws::seats_lead_on;
 use crate::terms::Terms;
 use access_types::Report;
@@ -88,7 +88,8 @@ impl<'t> SeatedTask<'t> {
         self.steps(rt, terms, stall, gate).found(alloc)
     }
 
-    /// Makes the task's steps, each by the one before, until there is none that it makes next.
+    /// Makes the task's steps, each by the one before, until there is none that it makes next. After a vain try of a
+    /// wait it lets others run: the one that it waits for may be delaying, or have no processor.
     fn steps<R: Wait, S: Stall, G: Gate>(
         self,
         rt: &R,
@@ -127,7 +128,9 @@ impl<'t> SeatedTask<'t> {
             };
             note(&mut log, &mut reports, &noted);
             has_passed(gate, task, run.after());
+            waits(stall, task, step, answer, &run);
         }
+        stall.over(task);
         SeatedTask {
             number,
             run,

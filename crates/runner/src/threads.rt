@@ -3,7 +3,7 @@
 ghost use Rattle.std.specs.Prelude.{◌≡◌, ◌<◌, IfErr, IfOk, ◌⊎◌};
 ghost use Rattle.std.specs.Thread.{IsSync};
 ghost use Rattle.litmus_step.specs.Runs.{run_of, tasks_of};
-ghost use Rattle.runner.specs.Starts.{AreOutcomes, AreStarts, IsOutcome, IsStart};
+ghost use Rattle.runner.specs.Starts.{AreOutcomes, AreSomeStarts, AreStarts, ComeOf, IsOutcome, IsStart};
 ghost use Rattle.runner.specs.Terms.{AreGiven, AreTerms, run_by};
 ghost use Rattle.runner.specs.declared.error.RunError.TheVariants.{NoThread, OutOfMemory};
 
@@ -32,10 +32,36 @@ impl<'t> Promise<Result<Found, RunError>> for OfTask<'t> {
     ghost kept_by = { λ promise outcome. IsOutcome (run_by promise.terms) promise.terms.table.now promise.task outcome };
 }
 
-/// Makes the steps of each task on a thread of its own, and says what comes of each. All threads that were started are joined.
+/// Makes the steps of each task on a thread of its own, and says what comes of each. The thread of the first of these starts first,
+/// then those of the tasks above, then those below. All threads that were started are joined.
 ///
 /// `NoThread`: one couldn't be started.
-pub(crate) fn on_threads<'t, R: Threads + Wait + Sync, S: Stall, G: Gate>(
+pub(crate) fn on_threads_from<'t, R: Threads + Wait + Sync, S: Stall, G: Gate>(
+    rt: &'t R,
+    alloc: Global,
+    terms: Terms<'t>,
+    mut starts: Vec<TaskStart>,
+    first: usize,
+    stall: &'t S,
+    gate: &'t G,
+) -> Result<Vec<Result<Found, RunError>>, RunError>
+    requires terms { AreTerms terms }
+    requires starts { AreStarts terms.table.now starts.items }
+    ensures outcomes { IfOk result (λ all. AreOutcomes (run_by terms.entry) terms.entry.table.now (tasks_of (run_by terms.entry)) all.items) }
+    ensures errors { IfErr result (λ error. (error ≡ NoThread) ⊎ (error ≡ OutOfMemory)) }
+{
+    let first = first.min(starts.len());
+    starts.rotate_left(first);
+    let mut outcomes = on_threads(rt, alloc, terms, starts, stall, gate)?;
+    outcomes.rotate_right(first);
+    Ok(outcomes)
+}
+
+/// Makes the steps of each of these tasks on a thread of its own, and says what comes of each, in this order, in which the threads start
+/// too. All threads that were started are joined.
+///
+/// `NoThread`: one couldn't be started.
+fn on_threads<'t, R: Threads + Wait + Sync, S: Stall, G: Gate>(
     rt: &'t R,
     alloc: Global,
     terms: Terms<'t>,
@@ -44,8 +70,8 @@ pub(crate) fn on_threads<'t, R: Threads + Wait + Sync, S: Stall, G: Gate>(
     gate: &'t G,
 ) -> Result<Vec<Result<Found, RunError>>, RunError>
     requires terms { AreTerms terms }
-    requires starts { AreStarts terms.table.now starts.items }
-    ensures outcomes { IfOk result (λ all. AreOutcomes (run_by terms.entry) terms.entry.table.now (tasks_of (run_by terms.entry)) all.items) }
+    requires starts { AreSomeStarts terms.table.now starts.items }
+    ensures outcomes { IfOk result (λ all. ComeOf (run_by terms.entry) terms.entry.table.now starts.items all.items) }
     ensures errors { IfErr result (λ error. (error ≡ NoThread) ⊎ (error ≡ OutOfMemory)) }
 {
     let Terms {
@@ -60,9 +86,9 @@ pub(crate) fn on_threads<'t, R: Threads + Wait + Sync, S: Stall, G: Gate>(
         move |scope| -> Result<Vec<Result<Found, RunError>>, RunError>
             requires sync { IsSync R.row × IsSync S.row × IsSync G.row }
             requires terms { AreGiven program.now settings.now sites.now table.now }
-            requires starts { AreStarts table.now starts.items }
-            ensures outcomes { IfOk result (λ all. AreOutcomes (run_of program.entry.now settings.entry.now sites.entry.now) table.entry.now
-                (tasks_of (run_of program.entry.now settings.entry.now sites.entry.now)) all.items) }
+            requires starts { AreSomeStarts table.now starts.items }
+            ensures outcomes { IfOk result (λ all. ComeOf (run_of program.entry.now settings.entry.now sites.entry.now) table.entry.now
+                starts.items all.items) }
             ensures errors { IfErr result (λ error. (error ≡ NoThread) ⊎ (error ≡ OutOfMemory)) }
         {
             let mut handles = Vec::with_capacity(alloc, starts.len())?;

@@ -152,6 +152,9 @@ fn runs_are_asked_for(rt: HostRuntime) -> Result<(), Fail> {
             file: "t",
             runs: 100,
             delay: 64,
+            jobs: 1,
+            stop_at_first: false,
+            keep_going: false,
             options: OPTIONS,
         }),
     )?;
@@ -163,6 +166,9 @@ fn runs_are_asked_for(rt: HostRuntime) -> Result<(), Fail> {
             file: "t",
             runs: 1,
             delay: 0,
+            jobs: 1,
+            stop_at_first: false,
+            keep_going: false,
             options: RunOptions {
                 strict: true,
                 ..OPTIONS
@@ -177,6 +183,31 @@ fn runs_are_asked_for(rt: HostRuntime) -> Result<(), Fail> {
             file: "t",
             runs: 100_000,
             delay: 1_000_000,
+            jobs: 1,
+            stop_at_first: false,
+            keep_going: false,
+            options: OPTIONS,
+        }),
+    )?;
+    ask(
+        &rt,
+        rt.alloc(),
+        &[
+            "k",
+            "run",
+            "--keep-going",
+            "t",
+            "--jobs",
+            "64",
+            "--stop-at-first",
+        ],
+        Request::Run(RunRequest {
+            file: "t",
+            runs: 100,
+            delay: 64,
+            jobs: 64,
+            stop_at_first: true,
+            keep_going: true,
             options: OPTIONS,
         }),
     )

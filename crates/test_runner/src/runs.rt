@@ -1,16 +1,19 @@
 //! Programs on real threads.
 
-ghost use Rattle.std.specs.Prelude.{IfOk};
+ghost use Rattle.std.specs.Prelude.{◌≤◌, IfOk};
 ghost use Rattle.litmus_parse.specs.of_litmus_syntax_Limits.{KeepsLimits};
 ghost use Rattle.litmus_parse.specs.of_litmus_syntax_Views.{program_of};
 
 use litmus_parse::{ParseError, Program, parse};
 use litmus_step::Settings;
-use runner::{Gate, NoStall, Open, Point, RunError, RunResult, Stall, run_once};
+use run_tally::{Outcome, Progress, RunsError, Times, run_text_often};
+use runner::{Gate, NoStall, Open, Point, RunError, RunResult, Stall, run_from, run_once};
 use std::alloc::{AllocError, Global};
+use std::sync::Wait;
 use std::sync::atomic::{AtomicU64, Ordering};
 use std::test::Fail;
 use std::thread;
+use std::thread::Threads;
 use watch_word::Layout;
 
 /// For how many turns a task is held at most.
@@ -149,6 +152,36 @@ impl Gate for Start {
     }
 }
 
+/// Nobody is told how far runs have come.
+struct Unseen;
+
+impl Progress for Unseen {
+    fn ran(&self, _runs: u64, _of: u64) {}
+
+    fn over(&self) {}
+}
+
+/// A thousand runs at the default delay.
+const THOUSAND: Times = Times {
+    runs: 1000,
+    delay: 64,
+    jobs: 1,
+    stop_at_first: false,
+    keep_going: false,
+};
+
+/// A stall that is over at once, and counts how often it came.
+#[derive(Drop)]
+struct Counted {
+    stalls: AtomicU64,
+}
+
+impl Stall for Counted {
+    fn stall(&self, _task: usize, _index: usize) {
+        self.stalls.fetch_add(1, Ordering::SeqCst);
+    }
+}
+
 #[test]
 fn stall_holds_until_told(rt: HostRuntime) -> Result<(), Fail> {
     let alloc = rt.alloc();
@@ -239,6 +272,97 @@ fn the_smallest_stuck_task_is_named(rt: HostRuntime) -> Result<(), Fail> {
     for _ in 0..RUNS {
         let refused = run_once(&rt, alloc, &program, &settings, &NoStall, &Open).err();
         assert_eq!(rt; refused, Some(RunError::Stuck { task: 1 }));
+    }
+    Ok(())
+}
+
+#[test]
+fn each_arming_stalls_once(rt: HostRuntime) -> Result<(), Fail> {
+    let alloc = rt.alloc();
+    let program = parsed(alloc, LOCKED_INCREMENTS)?;
+    let settings = settings(alloc, false, 1_000_000_000);
+    let counted = Counted {
+        stalls: AtomicU64::new(0),
+    };
+    let ran = run_once(&rt, alloc, &program, &settings, &counted, &Open)?;
+    assert_eq!(rt; ran.counters().arms, 2);
+    assert_eq!(rt; counted.stalls.load(Ordering::SeqCst), 2);
+    Ok(())
+}
+
+#[test]
+fn any_task_may_start_first(rt: HostRuntime) -> Result<(), Fail> {
+    let alloc = rt.alloc();
+    let text = sixteen(
+        alloc,
+        "r0 = READ_ONCE(*x); WRITE_ONCE(*x, 7); r0 = READ_ONCE(*x);",
+    )?;
+    let program = parsed(alloc, text.as_str())?;
+    let settings = settings(alloc, false, 1_000_000_000);
+    for first in 0..18 {
+        let ran = run_from(&rt, alloc, &program, &settings, first, &NoStall, &Open)?;
+        for task in 0..16 {
+            assert_eq!(rt; register(&ran, task), Some(7));
+        }
+        assert_eq!(rt; ran.accesses()?.len(), 48);
+    }
+    Ok(())
+}
+
+/// The race, so often run.
+fn raced<R: Threads + Wait + Sync>(
+    rt: &R,
+    alloc: Global,
+    times: Times,
+) -> Result<Outcome, RunsError>
+    requires { 1 ≤ times.jobs }
+{
+    let settings = settings(alloc, false, 1_000_000);
+    run_text_often(rt, alloc, RACE.as_bytes(), &settings, times, true, &Unseen)
+}
+
+/// Whether a text has another one in it.
+fn has(text: &[u8], part: &str) -> bool {
+    match str::from_utf8(text) {
+        Ok(text) => text.contains(part),
+        Err(_) => false,
+    }
+}
+
+#[test]
+fn the_race_is_found(rt: HostRuntime) -> Result<(), Fail> {
+    let found = raced(&rt, rt.alloc(), THOUSAND)?;
+    assert!(rt; found.raced);
+    assert!(rt; has(found.output.as_slice(), " of 1000 runs\n"));
+    let apart = raced(
+        &rt,
+        rt.alloc(),
+        Times {
+            jobs: 4,
+            ..THOUSAND
+        },
+    )?;
+    assert!(rt; apart.raced);
+    assert!(rt; has(apart.output.as_slice(), " of 1000 runs\n"));
+    Ok(())
+}
+
+#[test]
+fn the_first_race_is_the_last_run(rt: HostRuntime) -> Result<(), Fail> {
+    for jobs in [1, 3] {
+        let found = raced(
+            &rt,
+            rt.alloc(),
+            Times {
+                jobs,
+                stop_at_first: true,
+                ..THOUSAND
+            },
+        )?;
+        assert!(rt; found.raced);
+        assert!(rt; has(found.output.as_slice(), " two-sided 1 "));
+        let trace = found.trace.unwrap_or(Vec::new(rt.alloc()));
+        assert!(rt; has(trace.as_slice(), "\nrace "));
     }
     Ok(())
 }

@@ -1,13 +1,24 @@
 -- what was asked for was run, and its output stands behind what was there
-use Rattle.std.proofs.Common.{◌≡◌, ◌∙◌, ap, inl, inr, is_some, refl, rules, subst}
+use Rattle.std.proofs.Common.{◌≡◌, ◌∙◌, ℕ, Bool, List, Option, ap, inl, inr, is_some, refl, rules, subst}
 use Rattle.std.specs.Option.{option_map}
 use Rattle.litmus_command.proofs.ResultLemmas.{err_holds, no_file, reads_no_sink, runs_write_no_sink, some_items}
 use Rattle.litmus_command.specs.Command.{read_failure, status_of, with_trace}
 use Rattle.run_tally.specs.Errors.{IsRefused}
 use Rattle.run_tally.specs.Output.{TextLeaves}
+use Rattle.run_tally.specs.declared.times.Times.{Times}
+use Rattle.litmus_step.specs.declared.settings.Settings.{Settings}
 use Rattle.litmus_command.specs.declared.command.Failure.TheVariants.{Runs}
 use Rattle.report_text.specs.Sink.{HoldsBeginning}
 use Rattle.litmus_command.proofs.command.run.Goals as goal
+
+-- what is left is left as it was asked for
+leaves_as_asked : {read text : List ℕ} {settings : Settings} {given times : Times} {given_traced traced raced : Bool} {output : List ℕ}
+    {trace : Option (List ℕ)} → read ≡ text → given ≡ times → given_traced ≡ traced
+    → TextLeaves read settings given given_traced raced output trace → TextLeaves text settings times traced raced output trace
+leaves_as_asked {read} {text} {settings} {given} {times} {given_traced} {traced} {raced} {output} {trace} is_text is_times is_traced leaves =
+    subst (λ (t : List ℕ). TextLeaves t settings times traced raced output trace) is_text
+    (subst (λ (t : Times). TextLeaves read settings t traced raced output trace) is_times
+    (subst (λ (b : Bool). TextLeaves read settings given b raced output trace) is_traced leaves))
 
 pub returns-in-Ok-clause-done : goal.returns-in-Ok-clause-done
 returns-in-Ok-clause-done g c =
@@ -22,10 +33,7 @@ returns-in-Ok-clause-done g c =
       left = record {
         settings = c.in_ok-settings.settings;
         asks = c.in_ok-settings.ensures.asks;
-        leaves = subst
-            (λ text. TextLeaves text c.in_ok-settings.settings c.args.request.now.runs written.raced output trace)
-            c.deref.ensures.value c.in_ok-written.ensures.leaves;
-        traced = some_items written.trace ∙ c.in_ok-written.ensures.traced ∙ wanted;
+        leaves = leaves_as_asked c.deref.ensures.value c.times_for-times.ensures wanted c.in_ok-written.ensures.leaves;
       };
       written = c.in-Ok.ensures.writes.holds
           ∙ rw (c.as_slice.ensures.value, c.keep_trace.ensures.written, c.read_file.ensures.written) refl;
@@ -48,8 +56,9 @@ returns-in_err-written-clause-refused g c =
       asks = c.in_ok-settings.ensures.asks;
       text = c.in_ok-litmus.litmus.items;
       error = error;
-      refused = subst (λ text. IsRefused text c.in_ok-settings.settings error) c.deref.ensures.value
-          c.in_err-written.ensures.refused;
+      refused = subst (λ text. IsRefused c.args.request.now.keep_going text c.in_ok-settings.settings error) c.deref.ensures.value
+          (subst (λ (times : Times). IsRefused times.keep_going c.deref.result.now c.in_ok-settings.settings error) c.times_for-times.ensures
+          c.in_err-written.ensures.refused);
       status_is = refl;
       files = c.in_ok-litmus.ensures.gave;
     })
@@ -69,12 +78,9 @@ returns-in_err-keep_trace-clause-cut g c =
       left = record {
         settings = c.in_ok-settings.settings;
         asks = c.in_ok-settings.ensures.asks;
-        leaves = subst
-            (λ text. TextLeaves text c.in_ok-settings.settings c.args.request.now.runs written.raced output trace)
-            c.deref.ensures.value c.in_ok-written.ensures.leaves;
-        traced = some_items written.trace ∙ c.in_ok-written.ensures.traced ∙ wanted;
+        leaves = leaves_as_asked c.deref.ensures.value c.times_for-times.ensures wanted c.in_ok-written.ensures.leaves;
       };
-      cut = inl (c.in_err-keep_trace.ensures.asked, c.keep_trace.ensures.written ∙ c.read_file.ensures.written);
+      cut = inl (some_items written.trace ∙ c.in_err-keep_trace.ensures.there, c.keep_trace.ensures.written ∙ c.read_file.ensures.written);
     })
 
 pub returns-clause-cut : goal.returns-clause-cut
@@ -92,10 +98,7 @@ returns-clause-cut g c =
       left = record {
         settings = c.in_ok-settings.settings;
         asks = c.in_ok-settings.ensures.asks;
-        leaves = subst
-            (λ text. TextLeaves text c.in_ok-settings.settings c.args.request.now.runs written.raced output trace)
-            c.deref.ensures.value c.in_ok-written.ensures.leaves;
-        traced = some_items written.trace ∙ c.in_ok-written.ensures.traced ∙ wanted;
+        leaves = leaves_as_asked c.deref.ensures.value c.times_for-times.ensures wanted c.in_ok-written.ensures.leaves;
       };
       cut = inr (
         subst (λ before. HoldsBeginning output before after) (c.keep_trace.ensures.written ∙ c.read_file.ensures.written)

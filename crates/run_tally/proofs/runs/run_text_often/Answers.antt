@@ -18,4 +18,5 @@ returns-clause-refused g c =
       spelled = c.in_ok-program.ensures.spelled;
       limits = c.in_ok-program.ensures.keeps_limits;
     } in
-    refused_of c.args.text.now c.in_ok-program.program c.args.settings.now c.run_often.result read c.run_often.ensures.stops
+    refused_of c.args.times.keep_going c.args.text.now c.in_ok-program.program c.args.settings.now c.run_often.result read
+    c.run_often.ensures.stops

@@ -1,5 +1,8 @@
 -- By what each start is of.
-use Rattle.std.proofs.Common.{rules, ◌≡◌, ◌<◌, ◌+◌, ◌∷◌, ◌∙◌, [], ℕ, suc, List, Result, Some, ap, arith, length, slice_get, slice_index_or, subst, sym, refl, vec_len}
+use Rattle.std.proofs.Common.{rules, ◌≡◌, ◌<◌, ◌∷◌, ◌++◌, ◌∙◌, [], ℕ, suc, List, Result, Some, ap, arith, length, map, slice_get, slice_index_or, subst, sym, refl, vec_len}
+use Rattle.std.proofs.lemmas.List.{append-nil, length-map}
+use Rattle.std.specs.Vec.Iter.{into_iter_items}
+use Rattle.runner.proofs.TurnLemmas.{empty_of, none_promised, promised_on, same_number}
 use Rattle.std.proofs.alloc.Global.TheSendSync as global
 use denote.Exit.{yes}
 use denote.Param.{param}
@@ -27,7 +30,7 @@ use Rattle.runner.proofs.Sent.{program_shared}
 use Rattle.runner.proofs.first.TaskStart.TheSendSync as start
 use Rattle.shared_table.proofs.table.SharedTable.TheSendSync as table
 use Rattle.runner.proofs.threads.fn.on_threads.scope.Goals as goal
-use Rattle.runner.specs.Starts.{IsOutcome, IsStart}
+use Rattle.runner.specs.Starts.{AreSomeStarts, IsOutcome}
 use Rattle.runner.specs.Terms.{run_by}
 use Rattle.runner.specs.declared.error.RunError.{RunError}
 use Rattle.runner.specs.declared.first.TaskStart.{TaskStart}
@@ -39,12 +42,10 @@ pub loop-start-init : goal.loop-start-init
 loop-start-init g c = record {
   made = omega (arith, c.in_ok-handles.ensures.len);
   room = omega (arith, c.in_ok-handles.ensures.capacity, c.len.ensures, c.into_iter-start-iterator.ensures.into_iter_gives.1);
-  rest = λ at start is. subst (λ (n : ℕ). IsStart c.captures.table.now n start) (omega (arith, c.in_ok-handles.ensures.len))
-      (c.requires.starts.each at start
-      (ap (λ (xs : List TaskStart). slice_get xs at) (sym c.into_iter-start-iterator.ensures.into_iter_gives.0) ∙ is));
-  runs = λ task handle is. absurd (let none : slice_get [] task ≡ Some handle = ap (λ (xs : List _). slice_get xs task) (sym c.in_ok-handles.ensures.items) ∙ is in cc);
-  tables = λ task handle is. absurd (let none : slice_get [] task ≡ Some handle = ap (λ (xs : List _). slice_get xs task) (sym c.in_ok-handles.ensures.items) ∙ is in cc);
-  tasks = λ task handle is. absurd (let none : slice_get [] task ≡ Some handle = ap (λ (xs : List _). slice_get xs task) (sym c.in_ok-handles.ensures.items) ∙ is in cc);
+  rest = subst (AreSomeStarts c.captures.table.now) (sym c.into_iter-start-iterator.ensures.into_iter_gives.0) c.requires.starts;
+  runs = λ at handle is. absurd (let none : slice_get [] at ≡ Some handle = ap (λ (xs : List _). slice_get xs at) (sym c.in_ok-handles.ensures.items) ∙ is in cc);
+  tables = λ at handle is. absurd (let none : slice_get [] at ≡ Some handle = ap (λ (xs : List _). slice_get xs at) (sym c.in_ok-handles.ensures.items) ∙ is in cc);
+  tasks = none_promised _ _ _ _ c.in_ok-handles.ensures.items;
 }
 
 -- a closure may be sent where each that it captures may
@@ -71,15 +72,11 @@ spawn_with-requires-send-F g c κs within =
 
 pub spawn_with-requires-clause-runs : goal.spawn_with-requires-clause-runs
 spawn_with-requires-clause-runs g c κs within =
-    let was = c.loop-start.invariant in
     let steps = c.in-Some.ensures.steps in
-    let it : IsStart c.captures.table.now (vec_len c.loop-start.handles + 0) c.in-Some.start =
-    was.rest 0 c.in-Some.start (ap (λ (xs : List TaskStart). slice_get xs 0) steps.0) in
-    let all : length c.captures.starts.items ≡ tasks_of (run_of c.captures.program.now c.captures.settings.now c.captures.sites.now) =
-    c.requires.starts.all ∙ c.requires.terms.tasks in
+    let it = c.loop-start.invariant.rest 0 c.in-Some.start (ap (λ (xs : List TaskStart). slice_get xs 0) steps.0) in
     let below : c.in-Some.start.number < tasks_of (run_of c.captures.program.now c.captures.settings.now c.captures.sites.now) =
-    omega (arith, it.number, was.made, steps.1, all, c.into_iter-start-iterator.ensures.into_iter_gives.1, c.captures.starts.ok.0) in
-    (c.requires.terms, (subst (λ (n : ℕ). IsStart c.captures.table.now n c.in-Some.start) (sym it.number) it, (below, search rules)))
+    subst (λ (n : ℕ). c.in-Some.start.number < n) c.requires.terms.tasks it.1 in
+    (c.requires.terms, (it.0, (below, search rules)))
 
 pub spawn_with-requires-clause-keeps : goal.spawn_with-requires-clause-keeps
 spawn_with-requires-clause-keeps g c κs within = λ r kept. kept
@@ -96,59 +93,58 @@ loop-start-preserved g c =
     let steps = c.in-Some.ensures.steps in
     let pushed = c.push_reserved.ensures in
     let run : Run = run_of c.captures.program.now c.captures.settings.now c.captures.sites.now in
-    let it : IsStart c.captures.table.now (vec_len c.loop-start.handles + 0) c.in-Some.start =
-    was.rest 0 c.in-Some.start (ap (λ (xs : List TaskStart). slice_get xs 0) steps.0) in
     record {
       made = omega (arith, was.made, steps.1, pushed.len);
       room = omega (arith, was.room, pushed.capacity);
-      rest = λ at start is. subst (λ (n : ℕ). IsStart c.captures.table.now n start) (omega (arith, pushed.len))
-          (was.rest (suc at) start (ap (λ (xs : List TaskStart). slice_get xs (suc at)) steps.0 ∙ is));
-      runs = subst (λ (all : List _). (task : ℕ) (handle : _) → slice_get all task ≡ Some handle → run_by handle.promise.terms ≡ run) (sym pushed.items)
-          (each_push (λ task handle. run_by handle.promise.terms ≡ run) c.loop-start.handles.items c.in-Ok.handle was.runs
+      rest = λ at start is. was.rest (suc at) start (ap (λ (xs : List TaskStart). slice_get xs (suc at)) steps.0 ∙ is);
+      runs = subst (λ (all : List _). (at : ℕ) (handle : _) → slice_get all at ≡ Some handle → run_by handle.promise.terms ≡ run) (sym pushed.items)
+          (each_push (λ at handle. run_by handle.promise.terms ≡ run) c.loop-start.handles.items c.in-Ok.handle was.runs
           (ap (λ (p : OfTask). run_by p.terms) c.in-Ok.ensures.ok));
-      tables = subst (λ (all : List _). (task : ℕ) (handle : _) → slice_get all task ≡ Some handle → handle.promise.terms.table.now ≡ c.captures.table.now)
+      tables = subst (λ (all : List _). (at : ℕ) (handle : _) → slice_get all at ≡ Some handle → handle.promise.terms.table.now ≡ c.captures.table.now)
           (sym pushed.items)
-          (each_push (λ task handle. handle.promise.terms.table.now ≡ c.captures.table.now) c.loop-start.handles.items c.in-Ok.handle was.tables
+          (each_push (λ at handle. handle.promise.terms.table.now ≡ c.captures.table.now) c.loop-start.handles.items c.in-Ok.handle was.tables
           (ap (λ (p : OfTask). p.terms.table.now) c.in-Ok.ensures.ok));
-      tasks = subst (λ (all : List _). (task : ℕ) (handle : _) → slice_get all task ≡ Some handle → handle.promise.task ≡ task) (sym pushed.items)
-          (each_push (λ task handle. handle.promise.task ≡ task) c.loop-start.handles.items c.in-Ok.handle was.tasks
-          (ap (λ (p : OfTask). p.task) c.in-Ok.ensures.ok ∙ (it.number ∙ omega (arith, c.loop-start.handles.ok.0))));
+      tasks = rw pushed.items (promised_on (λ handle. handle.promise.task) (λ (start : TaskStart). start.number) c.loop-start.handles.items
+          c.in-Ok.handle c.in-Some.start _ _ (ap (λ (p : OfTask). p.task) c.in-Ok.ensures.ok)
+          (ap (λ (xs : List TaskStart). map (λ handle. handle.promise.task) c.loop-start.handles.items ++ map (λ (start : TaskStart). start.number) xs)
+          (sym steps.0) ∙ was.tasks));
     }
 
 pub returns-in-Ok-join_promised : goal.returns-in-Ok-join_promised
 returns-in-Ok-join_promised g c =
     let was = c.loop-start.invariant in
-    let none = c.in-None.ensures.steps.0 in
     let run : Run = run_of c.captures.program.now c.captures.settings.now c.captures.sites.now in
     let handles = c.loop-start.handles.items in
+    let starts = c.captures.starts.items in
     let outcomes = c.in-Ok-join_promised.outcomes.items in
     let joined : vec_len c.in-Ok-join_promised.outcomes ≡ vec_len c.loop-start.handles = c.in-Ok-join_promised.ensures.len in
-    let tasks : length c.captures.starts.items ≡ tasks_of run = c.requires.starts.all ∙ c.requires.terms.tasks in
+    let none : into_iter_items c.loop-start.start-iterator ≡ [] =
+    empty_of (into_iter_items c.loop-start.start-iterator) (let over = c.in-None.ensures.steps.0 in omega (arith, over, c.loop-start.start-iterator.rest.ok.0)) in
+    let tasks : map (λ handle. handle.promise.task) handles ≡ map (λ (start : TaskStart). start.number) starts =
+    sym (append-nil (map (λ handle. handle.promise.task) handles))
+    ∙ (ap (λ (xs : List TaskStart). map (λ handle. handle.promise.task) handles ++ map (λ (start : TaskStart). start.number) xs) (sym none)
+    ∙ (was.tasks ∙ ap (map (λ (start : TaskStart). start.number)) c.into_iter-start-iterator.ensures.into_iter_gives.0)) in
+    let many : length handles ≡ length starts =
+    sym (length-map handles (λ handle. handle.promise.task))
+    ∙ (ap length tasks ∙ length-map starts (λ (start : TaskStart). start.number)) in
     record {
       outcomes = record {
-        all = omega (
-          arith,
-          joined,
-          was.made,
-          none,
-          tasks,
-          c.in-Ok-join_promised.outcomes.ok.0,
-          c.into_iter-start-iterator.ensures.into_iter_gives.1,
-          c.captures.starts.ok.0,
-        );
-        each = λ task outcome is.
-            let within : task < length outcomes = slice_get_within outcomes task outcome is in
-            let below : task < vec_len c.loop-start.handles = omega (arith, within, joined, c.in-Ok-join_promised.outcomes.ok.0) in
-            let kept = (c.in-Ok-join_promised.ensures.each task outcome below).1 in
-            let same = get_or_from_slice_get outcomes task outcome outcome is in
-            let stands = slice_get_read handles (length handles) task kept.handle refl (let b : task < length handles = omega (arith, below, c.loop-start.handles.ok.0) in b)
+        all = omega (arith, joined, many, c.in-Ok-join_promised.outcomes.ok.0, c.loop-start.handles.ok.0);
+        each = λ at start outcome is_start is.
+            let within : at < length outcomes = slice_get_within outcomes at outcome is in
+            let below : at < vec_len c.loop-start.handles = omega (arith, within, joined, c.in-Ok-join_promised.outcomes.ok.0) in
+            let kept = (c.in-Ok-join_promised.ensures.each at outcome below).1 in
+            let same = get_or_from_slice_get outcomes at outcome outcome is in
+            let stands = slice_get_read handles (length handles) at kept.handle refl (let b : at < length handles = omega (arith, below, c.loop-start.handles.ok.0) in b)
             kept.handle_is in
             let promise : OfTask = kept.handle.promise in
-            let found : Result Found RunError = slice_index_or outcomes task outcome in
-            subst (λ (o : Result Found RunError). IsOutcome run c.captures.table.now task o) same
-            (subst (λ (n : ℕ). IsOutcome run c.captures.table.now n found) (was.tasks task kept.handle stands)
-            (subst (λ (t : Opened). IsOutcome run t promise.task found) (was.tables task kept.handle stands)
-            (subst (λ (r : Run). IsOutcome r promise.terms.table.now promise.task found) (was.runs task kept.handle stands) kept.kept)));
+            let found : Result Found RunError = slice_index_or outcomes at outcome in
+            let number : promise.task ≡ start.number =
+            same_number (λ handle. handle.promise.task) (λ (s : TaskStart). s.number) handles starts at kept.handle start tasks stands is_start in
+            subst (λ (o : Result Found RunError). IsOutcome run c.captures.table.now start.number o) same
+            (subst (λ (n : ℕ). IsOutcome run c.captures.table.now n found) number
+            (subst (λ (t : Opened). IsOutcome run t promise.task found) (was.tables at kept.handle stands)
+            (subst (λ (r : Run). IsOutcome r promise.terms.table.now promise.task found) (was.runs at kept.handle stands) kept.kept)));
       };
       errors = tt;
     }

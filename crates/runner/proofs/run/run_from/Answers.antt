@@ -5,7 +5,7 @@ use Rattle.litmus_step.specs.Runs.{run_of}
 use Rattle.run_lists.specs.Run.{Run}
 use Rattle.runner.proofs.OutcomeLemmas.{all_are_here, at_the_table, same_error}
 use Rattle.runner.proofs.ResultLemmas.{is_of}
-use Rattle.runner.proofs.run.run_once.Goals as goal
+use Rattle.runner.proofs.run.run_from.Goals as goal
 use Rattle.runner.specs.Found.{calls_below}
 use Rattle.runner.specs.Result.{IsRunOnce}
 use Rattle.runner.specs.Terms.{AreGiven}

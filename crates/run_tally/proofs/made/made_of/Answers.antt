@@ -1,0 +1,55 @@
+-- each turn adds one run
+use Rattle.std.proofs.Common.{◌≡◌, ◌<◌, ◌++◌, ◌∷◌, ◌∙◌, [], arith, false, inl, inr, length, refl, subst, sym, true}
+use Rattle.std.proofs.lemmas.List.{length-append}
+use Rattle.run_tally.proofs.MadeLemmas.{none_before_none, none_of, quiet_before}
+use Rattle.run_tally.specs.Output.{reports_in}
+use Rattle.run_tally.proofs.made.made_of.Goals as goal
+use Rattle.run_tally.proofs.made.made_of.Goals.{else-times-via-then-times+else-raced, else-times-via-else-times}
+
+pub loop-run-init : goal.loop-run-init
+loop-run-init g c = record {
+  made = record {
+    runs = [];
+    stuck = [];
+    made_are = c.new-made.ensures c.args.program.now c.args.settings.now c.args.sites.now;
+    many_are = refl;
+    first = λ stop. none_before_none;
+    counted = λ off. refl;
+  };
+  ready = λ at d below. absurd (let none = c.new-ready.ensures.items in
+      let no = subst (λ items. at < length items) none below in omega (arith, no));
+}
+
+pub loop-run-preserved : goal.loop-run-preserved
+loop-run-preserved g c =
+    let was = c.loop-run.invariant.made in
+    let quiet : c.args.times.stop_at_first ≡ true → reports_in was.runs ≡ [] = λ stop.
+    none_of (reports_in was.runs) (sym was.made_are.tallies.raced
+    ∙ (elim c.else-times.branch [
+      | else-times-via-then-times+else-raced w ↦ sym w.raced.ensures ∙ w.if-raced.false
+      | else-times-via-else-times w ↦ absurd (let no : true ≡ false = sym stop ∙ w.if-times.false in cc)
+    ])) in
+    elim (c.in_ok-add.ensures.made was.runs was.stuck was.made_are) [
+      | inl ended ↦ record {
+        made = record {
+          runs = was.runs ++ ended.0 ∷ [];
+          stuck = was.stuck;
+          made_are = ended.1;
+          many_are = let many = was.many_are in omega (arith, many, length-append was.runs (ended.0 ∷ []));
+          first = λ stop. quiet_before was.runs ended.0 (quiet stop);
+          counted = was.counted;
+        };
+        ready = c.in_ok-outcome.ensures.ready;
+      }
+      | inr stuck ↦ record {
+        made = record {
+          runs = was.runs;
+          stuck = was.stuck ++ stuck.1.0 ∷ [];
+          made_are = stuck.1.1;
+          many_are = let many = was.many_are in omega (arith, many, length-append was.stuck (stuck.1.0 ∷ []));
+          first = was.first;
+          counted = λ off. absurd (let no : true ≡ false = sym stuck.0 ∙ off in cc);
+        };
+        ready = c.in_ok-outcome.ensures.ready;
+      }
+    ]

@@ -1,0 +1,38 @@
+-- The closure is shared by the threads: so may be each that it captures.
+use Rattle.std.proofs.Common.{◌∷◌, [], List}
+use Rattle.std.proofs.Crossing.{crosses}
+use Rattle.std.proofs.alloc.Global.TheSendSync as global
+use Rattle.std.specs.contracts.alloc.Global as global_row
+use denote.Exit.{yes}
+use denote.Param.{param}
+use denote.Param.Send.{AllSync, IsSync, arg_sync, param_sync, recorded_sync, sendable, shr_sync, struct_sync}
+use denote.RattleType.{RattleType}
+use denote.Struct.Declared as declared
+use denote.Struct.Field.{shr_ref_field, u64-field}
+use denote.Struct.Struct.{Struct}
+use denote.Struct.Tuple.{type_at}
+use mir.Syntax.{named}
+use Rattle.litmus_step.proofs.settings.Settings.TheSendSync as settings
+use Rattle.litmus_step.specs.contracts.settings.Settings as settings_row
+use Rattle.litmus_syntax.specs.contracts.program.Program as program_row
+use Rattle.runner.proofs.Sent.{program_shared}
+use Rattle.run_tally.proofs.made.side_by_side.Goals as goal
+use Rattle.run_tally.proofs.made.side_by_side.Lts as lts
+
+closure_sync : (T : declared.Declared) → AllSync (declared.shape T).fields → IsSync (declared.row T)
+closure_sync T all = recorded_sync (Struct (declared.shape T)) T.D T.to T.to_one (struct_sync (declared.shape T) all)
+
+pub map_indices-requires-sync-F : goal.map_indices-requires-sync-F
+map_indices-requires-sync-F g c κs within =
+    let rows : List RattleType =
+    u64-field.row
+    ∷ (shr_ref_field (record { mir = named 6; lft = κs.1.1.1.1.1.1.0 }) (param 0 g.row.R) tt).row
+    ∷ global_row.the_row
+    ∷ (shr_ref_field (record { mir = named 7; lft = κs.1.1.1.1.1.1.1.0 }) program_row.the_row tt).row
+    ∷ (shr_ref_field (record { mir = named 8; lft = κs.1.1.1.1.1.1.1.1.0 }) settings_row.the_row tt).row
+    ∷ u64-field.row
+    ∷ [] in
+    let number : IsSync u64-field.row = search (sendable, crosses) in
+    let all : AllSync rows =
+    (number, (shr_sync _ _ _ c.type_bounds.sync-R, (global.the_sync, (shr_sync _ _ _ program_shared, (shr_sync _ _ _ settings.the_sync, (number, tt)))))) in
+    param_sync 3 (lts.arg-0-3 g.row.R g.R.laws g.R.Threads-dict g.R.Wait-dict κs) (arg_sync _ yes _ (closure_sync (type_at _ rows) all))

@@ -1,0 +1,42 @@
+-- What is kept of the runs that were made.
+use Rattle.std.specs.Prelude.{◌≡◌, ◌⊎◌, ◌+◌, ◌++◌, ◌∷◌, [], ℕ, Bool, List, false, length, true}
+use Rattle.access_types.specs.Sites.{AccessMap}
+use Rattle.litmus_step.specs.declared.settings.Settings.{Settings}
+use Rattle.litmus_syntax.specs.declared.program.Program.{Program}
+use Rattle.run_tally.specs.Output.{AreAsMany, AreQuietBeforeLast}
+use Rattle.run_tally.specs.Runs.{IsLast, OneRun, StuckRun}
+use Rattle.run_tally.specs.Tally.{Tallies}
+use Rattle.run_tally.specs.declared.made.Made.{Made}
+use Rattle.run_tally.specs.declared.times.Times.{Times}
+
+-- These runs were made and ended, and in these others a task got stuck: both are counted, what is kept is of those that ended, and this is
+-- the result of the last of them, if there is one.
+pub record AreMade (program : Program) (settings : Settings) (sites : AccessMap) (runs : List (OneRun program settings))
+    (stuck : List (StuckRun program settings)) (made : Made) : Type 0 where
+  pub ended : made.ended ≡ length runs
+  pub stuck_are : made.stuck ≡ length stuck
+  pub tallies : Tallies program settings sites runs made.tally
+  pub last_is : IsLast runs made.last
+
+-- one run more was made: it ended, or it got stuck and is counted
+abbrev pub IsOneMore : (program : Program) (settings : Settings) (sites : AccessMap) (counted : Bool) → List (OneRun program settings)
+    → List (StuckRun program settings) → Made → Type 0
+IsOneMore program settings sites counted runs stuck made =
+    ((one : OneRun program settings) × AreMade program settings sites (runs ++ one ∷ []) stuck made)
+    ⊎ ((counted ≡ true) × ((one : StuckRun program settings) × AreMade program settings sites runs (stuck ++ one ∷ []) made))
+
+-- so many runs were made, on the way to those that are asked for
+pub record AreMadeSoFar (program : Program) (settings : Settings) (sites : AccessMap) (times : Times) (many : ℕ) (made : Made) : Type 0 where
+  pub runs : List (OneRun program settings)
+  pub stuck : List (StuckRun program settings)
+  pub made_are : AreMade program settings sites runs stuck made
+  pub many_are : length runs + length stuck ≡ many
+  pub first : times.stop_at_first ≡ true → AreQuietBeforeLast runs
+  pub counted : times.keep_going ≡ false → stuck ≡ []
+
+-- as many runs were made as are asked for
+pub record AreAllMade (program : Program) (settings : Settings) (sites : AccessMap) (times : Times) (made : Made) : Type 0 where
+  pub runs : List (OneRun program settings)
+  pub stuck : List (StuckRun program settings)
+  pub made_are : AreMade program settings sites runs stuck made
+  pub many_are : AreAsMany times runs stuck

@@ -1,0 +1,276 @@
+//! Runs of a program that are made, one after the other or several side by side, until there are as many as are asked for.
+
+ghost use Rattle.std.specs.Prelude.{◌≡◌, ◌≤◌, ◌<◌, ◌+◌, ◌-◌, ◌^◌, ◌++◌, ◌∷◌, [], All, List, IfErr, IfOk, OnOk, length, true, vec_len};
+ghost use Rattle.access_types.specs.Sites.{AccessMap};
+ghost use Rattle.litmus_step.specs.declared.settings.Settings as terms;
+ghost use Rattle.litmus_syntax.specs.Limits.{KeepsLimits};
+ghost use Rattle.litmus_syntax.specs.Views.{program_of};
+ghost use Rattle.litmus_syntax.specs.declared.program.Program as tree;
+ghost use Rattle.program_layout.specs.Places.{places_of};
+ghost use Rattle.program_sites.specs.Sites.{AreSitesOf};
+ghost use Rattle.report_text.specs.Sink.{Writes};
+ghost use Rattle.run_tally.specs.Errors as spec;
+ghost use Rattle.run_tally.specs.Errors.{Stops};
+ghost use Rattle.run_tally.specs.Made.{AreAllMade, AreMade, IsOneMore};
+ghost use Rattle.run_tally.specs.Output.{IsOutput, found_text, stuck_text};
+ghost use Rattle.run_tally.specs.Runs.{Comes, OneRun, StuckRun};
+ghost use Rattle.runner.specs.Result.{IsRunOnce};
+
+use crate::delay::Delay;
+use crate::error::RunsError;
+use crate::tally::Tally;
+use crate::times::{Progress, Times};
+use access_types::Sites;
+use litmus_parse::Program;
+use litmus_step::Settings;
+use report_text::laws::groups_are_of_their_texts;
+use report_text::{MemorySink, Sink, WriteError};
+use run_output::write_stuck;
+use runner::{Open, RunError, RunResult, run_from};
+use std::alloc::{AllocError, Global};
+use std::collections::VecDeque;
+use std::sync::Wait;
+use std::thread;
+use std::thread::Threads;
+
+/// What was made so far.
+#[derive(Drop)]
+pub(crate) struct Made {
+    tally: Tally,
+    last: Option<RunResult>,
+    ended: u64,
+    stuck: u64,
+}
+
+/// What comes of the run of a number. Of its tasks another one starts first than in the run before.
+fn one_run<R: Threads + Wait + Sync>(
+    rt: &R,
+    alloc: Global,
+    program: &Program,
+    settings: &Settings,
+    delay: u64,
+    number: u64,
+) -> Result<RunResult, RunError>
+    requires { KeepsLimits (program_of program.now) }
+    ensures { Comes program.now settings.now result }
+{
+    let tasks = program.tasks.as_slice().len() as u64;
+    let first = number.checked_rem(tasks).unwrap_or(0) as usize;
+    let delay = Delay::new(delay, tasks);
+    run_from(rt, alloc, program, settings, first, &delay, &Open)
+}
+
+/// What comes of so many runs, side by side, from the run of this number on.
+fn side_by_side<R: Threads + Wait + Sync>(
+    rt: &R,
+    alloc: Global,
+    program: &Program,
+    settings: &Settings,
+    delay: u64,
+    number: u64,
+    many: usize,
+) -> Result<Vec<Result<RunResult, RunError>>, AllocError>
+    requires { KeepsLimits (program_of program.now) }
+    ensures each { IfOk result (λ all. All (Comes program.now settings.now) all.items) }
+    ensures many { IfOk result (λ all. vec_len all ≡ many) }
+{
+    let run = move |at: usize| -> Result<RunResult, RunError>
+        requires { KeepsLimits (program_of program.now) }
+        ensures { Comes program.entry.now settings.entry.now result }
+    {
+        let number = number.wrapping_add(at as u64);
+        one_run(rt, alloc, program, settings, delay, number)
+    };
+    thread::map_indices(rt, alloc, many, &run)
+}
+
+/// What comes of the run of this number: what is ready first, or else the first of so many more that are made side by side, of which the
+/// rest is ready then.
+fn next_run<R: Threads + Wait + Sync>(
+    rt: &R,
+    alloc: Global,
+    program: &Program,
+    settings: &Settings,
+    delay: u64,
+    number: u64,
+    many: usize,
+    ready: &mut VecDeque<Result<RunResult, RunError>>,
+) -> Result<Result<RunResult, RunError>, AllocError>
+    requires limits { KeepsLimits (program_of program.now) }
+    requires many { 1 ≤ many }
+    requires ready { All (Comes program.now settings.now) ready.old.items }
+    ensures next { IfOk result (Comes program.now settings.now) }
+    ensures ready { OnOk result (All (Comes program.now settings.now) ready.new.items) }
+{
+    if ready.is_empty() {
+        *ready = VecDeque::from(side_by_side(rt, alloc, program, settings, delay, number, many)?);
+    }
+    let Some(outcome) = ready.pop_front() else {
+        unreachable!()
+    };
+    Ok(outcome)
+}
+
+/// Whether a run without an end is only counted: a stuck one, where these are counted.
+fn is_counted(counted: bool, error: RunError) -> bool
+    ensures { result ≡ spec.is_counted counted error }
+{
+    match error {
+        RunError::Stuck { .. } => counted,
+        RunError::BadSlots | RunError::BadPlace | RunError::OutOfMemory | RunError::NoThread => {
+            false
+        }
+    }
+}
+
+impl Made {
+    /// No run.
+    fn new(alloc: Global) -> Made
+        ensures { (program : tree.Program) (settings : terms.Settings) (sites : AccessMap) → AreMade program settings sites [] [] result }
+    {
+        Made {
+            tally: Tally::new(alloc),
+            last: None,
+            ended: 0,
+            stuck: 0,
+        }
+    }
+
+    /// Whether something was reported.
+    pub(crate) fn raced(&self) -> bool
+        ensures { result ≡ self.now.tally.raced }
+    {
+        self.tally.raced()
+    }
+
+    /// What came of the last run that ended, if one did.
+    pub(crate) fn last(&self) -> &Option<RunResult>
+        ensures { result.now ≡ self.now.last }
+    {
+        &self.last
+    }
+
+    /// Adds a run that ended.
+    fn add_ended(
+        &mut self,
+        alloc: Global,
+        program: &Program,
+        settings: &Settings,
+        sites: &Sites,
+        ended: RunResult,
+    ) -> Result<(), RunsError>
+        requires limits { KeepsLimits (program_of program.now) }
+        requires sites { AreSitesOf (program_of program.now) (places_of settings.now.places.items) sites.now }
+        requires once { IsRunOnce program.now settings.now ended }
+        requires few { self.old.ended < 2 ^ 64 - 1 }
+        ensures made { (runs : List (OneRun program.now settings.now)) (stuck : List (StuckRun program.now settings.now))
+            → AreMade program.now settings.now sites.now runs stuck self.old
+            → OnOk result ((one : OneRun program.now settings.now) × AreMade program.now settings.now sites.now (runs ++ one ∷ []) stuck self.new) }
+        ensures stops { IfErr result (Stops true program.now settings.now) }
+    {
+        self.tally.add(alloc, program, settings, sites, &ended)?;
+        self.last = Some(ended);
+        self.ended += 1;
+        Ok(())
+    }
+
+    /// Adds what came of one run more. Where stuck runs are counted, one is no reason to stop.
+    fn add(
+        &mut self,
+        alloc: Global,
+        program: &Program,
+        settings: &Settings,
+        sites: &Sites,
+        counted: bool,
+        outcome: Result<RunResult, RunError>,
+    ) -> Result<(), RunsError>
+        requires limits { KeepsLimits (program_of program.now) }
+        requires sites { AreSitesOf (program_of program.now) (places_of settings.now.places.items) sites.now }
+        requires comes { Comes program.now settings.now outcome }
+        requires few { (self.old.ended < 2 ^ 64 - 1) × (self.old.stuck < 2 ^ 64 - 1) }
+        ensures made { (runs : List (OneRun program.now settings.now)) (stuck : List (StuckRun program.now settings.now))
+            → AreMade program.now settings.now sites.now runs stuck self.old
+            → OnOk result (IsOneMore program.now settings.now sites.now counted runs stuck self.new) }
+        ensures stops { IfErr result (Stops counted program.now settings.now) }
+    {
+        match outcome {
+            Ok(ended) => self.add_ended(alloc, program, settings, sites, ended),
+            Err(error) => {
+                if !is_counted(counted, error) {
+                    return Err(RunsError::Run(error));
+                }
+                self.stuck += 1;
+                Ok(())
+            }
+        }
+    }
+
+    /// Writes what is found of the runs that ended, and, where stuck runs are counted, how many of all got stuck.
+    fn write<K: Sink>(&self, counted: bool, sink: &mut K) -> Result<(), WriteError>
+        requires { self.now.ended + self.now.stuck < 2 ^ 64 }
+        ensures { Writes K.written K.failures result (found_text self.now.tally.groups self.now.tally.counters self.now.tally.unbalanced
+            self.now.tally.held self.now.ended ++ stuck_text counted self.now.stuck (self.now.ended + self.now.stuck)) sink.old sink.new }
+    {
+        self.tally.write(self.ended, sink)?;
+        match counted {
+            true => write_stuck(self.stuck, self.ended + self.stuck, sink),
+            false => Ok(()),
+        }
+    }
+
+    /// What is written of the runs.
+    pub(crate) fn output(&self, alloc: Global, counted: bool) -> Result<Vec<u8>, AllocError>
+        requires { self.now.ended + self.now.stuck < 2 ^ 64 }
+        ensures { (program : tree.Program) (settings : terms.Settings) (sites : AccessMap) (runs : List (OneRun program settings))
+            (stuck : List (StuckRun program settings)) → AreMade program settings sites runs stuck self.now
+            → AreSitesOf (program_of program) (places_of settings.places.items) sites
+            → IfOk result (λ output. IsOutput counted runs (length stuck) output.items) }
+    {
+        groups_are_of_their_texts();
+        let mut sink = MemorySink::new(alloc);
+        match self.write(counted, &mut sink) {
+            Ok(()) => Ok(sink.into_bytes()),
+            Err(_) => Err(AllocError),
+        }
+    }
+}
+
+/// Runs a program on threads, as often as is asked for, and takes together what comes of the runs.
+pub(crate) fn made_of<R: Threads + Wait + Sync, P: Progress>(
+    rt: &R,
+    alloc: Global,
+    program: &Program,
+    settings: &Settings,
+    sites: &Sites,
+    times: Times,
+    progress: &P,
+) -> Result<Made, RunsError>
+    requires limits { KeepsLimits (program_of program.now) }
+    requires sites { AreSitesOf (program_of program.now) (places_of settings.now.places.items) sites.now }
+    requires jobs { 1 ≤ times.jobs }
+    ensures made { IfOk result (AreAllMade program.now settings.now sites.now times) }
+    ensures few { IfOk result (λ made. made.ended + made.stuck < 2 ^ 64) }
+    ensures stops { IfErr result (Stops times.keep_going program.now settings.now) }
+{
+    let mut made = Made::new(alloc);
+    let mut ready = VecDeque::new(alloc);
+    for run in 0..times.runs {
+        if times.stop_at_first && made.raced() {
+            return Ok(made);
+        }
+        let many = times.jobs.min(times.runs - run) as usize;
+        let outcome = next_run(
+            rt,
+            alloc,
+            program,
+            settings,
+            times.delay,
+            run,
+            many,
+            &mut ready,
+        )?;
+        made.add(alloc, program, settings, sites, times.keep_going, outcome)?;
+        progress.ran(run + 1, times.runs);
+    }
+    Ok(made)
+}

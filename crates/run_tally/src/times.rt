@@ -1,0 +1,25 @@
+//! How often a program is run, and who is told how far the runs have come.
+
+/// How often a program is run, and how.
+#[derive(Clone, Copy, Debug, PartialEq, Eq)]
+pub struct Times {
+    /// How many runs there are.
+    pub runs: u64,
+    /// How many loads of a word the delay of a watch takes, after each of which other threads may run.
+    pub delay: u64,
+    /// How many runs are made side by side.
+    pub jobs: u64,
+    /// Whether the first run with a report is the last.
+    pub stop_at_first: bool,
+    /// Whether runs in which a task gets stuck are counted; otherwise the first of them stops all.
+    pub keep_going: bool,
+}
+
+/// Who is told how far the runs have come.
+pub trait Progress {
+    /// So many runs of so many are over.
+    fn ran(&self, runs: u64, of: u64);
+
+    /// No run is made any more.
+    fn over(&self);
+}
