@@ -1,6 +1,7 @@
 // The steps that `kcsan_litmus run` makes of three litmus programs, in plain C11 with pthreads: one thread a task, atomic words
-// that the threads share, sequentially consistent. After each load of a delay, which ends early where no other task can come,
-// and where a task has to wait, the thread yields; in each run another task starts first. `plain_runs PROGRAM RUNS DELAY`, where
+// that the threads share, sequentially consistent. A delay begins once each task has come to its first access; after each load of it, and where
+// a task has to wait, the thread yields; it ends early where no other task can come. Those that may set up a watchpoint start first in turn.
+// `plain_runs PROGRAM RUNS DELAY`, where
 // PROGRAM is race, readers or increments; prints the runs, the microseconds, the steps (the loads of the delay aside) and in how
 // many of the runs a watchpoint was hit.
 #define _POSIX_C_SOURCE 199309L
@@ -15,7 +16,7 @@
 #include <string.h>
 #include <time.h>
 
-enum { SLOTS = 66, FIRST = 16, MOST = 16 };
+enum { SLOTS = 66, FIRST = 16, MOST = 16, PATIENCE = 100000 };
 
 // The watch word of a read of 4 bytes at 0x10000, and of a write there.
 static const uint64_t READ = 0x0008000000010000, WRITE = 0x8008000000010000;
@@ -32,17 +33,62 @@ struct task {
 };
 
 static struct words words;
-// How many tasks of the run delay, and how many do so, wait for the lock, or make no step more.
-static alignas(64) _Atomic uint64_t delaying, away;
+// A bit for each task of the run that has come; how many delay, and how many do so, wait for the lock, or make no step more.
+static alignas(64) _Atomic uint64_t here, delaying, away, open;
 static uint64_t delay, tasks_of_run;
+static unsigned first;
+
+static void come(struct task *t) {
+  if ((atomic_load(&here) >> t->number & 1) == 0)
+    atomic_fetch_or(&here, UINT64_C(1) << t->number);
+}
+
+// The others may make their first accesses once the task that starts first has set up a watchpoint or ended an access.
+static void opens(struct task *t) {
+  if (t->number == first && atomic_load(&open) == 0)
+    atomic_store(&open, 1);
+}
+
+static void begin(struct task *t) {
+  if (delay == 0)
+    return;
+  come(t);
+  if (t->number == first)
+    return;
+  for (uint64_t turn = 0; turn < PATIENCE; turn++) {
+    if (atomic_load(&open) == 1)
+      return;
+    sched_yield();
+  }
+  atomic_store(&open, 1);
+}
+
+static void end(struct task *t) {
+  come(t);
+  opens(t);
+  atomic_fetch_add(&away, 1);
+}
 
 static void tick(struct task *t) {
   atomic_fetch_add(&words.clock, 1);
   t->steps++;
 }
 
+static void await_all(void) {
+  for (uint64_t turn = 0; turn < PATIENCE; turn++) {
+    if ((uint64_t)__builtin_popcountll(atomic_load(&here)) >= tasks_of_run)
+      return;
+    sched_yield();
+  }
+  atomic_store(&here, UINT64_MAX);
+}
+
 // At most so many loads, up to where no other task can come.
-static void stall(void) {
+static void stall(struct task *t) {
+  if (delay == 0)
+    return;
+  opens(t);
+  await_all();
   atomic_fetch_add(&delaying, 1);
   atomic_fetch_add(&away, 1);
   for (uint64_t turn = 0; turn < delay && atomic_load(&away) < tasks_of_run; turn++)
@@ -52,7 +98,9 @@ static void stall(void) {
 }
 
 // A task that waits for the lock tries again once nobody delays.
-static void wait_for_lock(void) {
+static void wait_for_lock(struct task *t) {
+  come(t);
+  opens(t);
   atomic_fetch_add(&away, 1);
   for (uint64_t turn = 0; turn < (delay ? delay : 1); turn++) {
     sched_yield();
@@ -91,7 +139,7 @@ static void watch(struct task *t, uint64_t word) {
       continue;
     atomic_fetch_or(&words.pair[at], 65536 * t->number + 1);
     (void)atomic_load(&words.cell);
-    stall();
+    stall(t);
     (void)atomic_load(&words.cell);
     t->steps += 4;
     if (atomic_exchange(&words.watch[at], 1) != word) {
@@ -110,12 +158,14 @@ static void watch(struct task *t, uint64_t word) {
 }
 
 static void read_plainly(struct task *t) {
+  begin(t);
   tick(t);
   if (!find(t, false))
     watch(t, READ);
   (void)atomic_load(&words.cell);
   t->steps++;
   tick(t);
+  opens(t);
 }
 
 static void store(struct task *t, uint64_t add, uint64_t keep) {
@@ -127,10 +177,12 @@ static void store(struct task *t, uint64_t add, uint64_t keep) {
 }
 
 static void write_plainly(struct task *t) {
+  begin(t);
   tick(t);
   find(t, true);
   store(t, 1, 0);
   tick(t);
+  opens(t);
 }
 
 static void increment_locked(struct task *t) {
@@ -139,13 +191,15 @@ static void increment_locked(struct task *t) {
   while (!atomic_compare_exchange_strong(&words.lock, &free, t->number + 1)) {
     free = 0;
     t->steps++;
-    wait_for_lock();
+    wait_for_lock(t);
   }
+  begin(t);
   tick(t);
   if (!find(t, true))
     watch(t, WRITE);
   store(t, 1, 1);
   tick(t);
+  opens(t);
   atomic_store(&words.lock, 0);
   t->steps++;
 }
@@ -156,19 +210,19 @@ static void *race(void *task) {
     read_plainly(t);
   else
     write_plainly(t);
-  atomic_fetch_add(&away, 1);
+  end(t);
   return NULL;
 }
 
 static void *readers(void *task) {
   read_plainly(task);
-  atomic_fetch_add(&away, 1);
+  end(task);
   return NULL;
 }
 
 static void *increments(void *task) {
   increment_locked(task);
-  atomic_fetch_add(&away, 1);
+  end(task);
   return NULL;
 }
 
@@ -184,10 +238,12 @@ static bool run_once(void *(*text)(void *), unsigned count, uint64_t run, uint64
   struct task tasks[MOST];
   bool hit = false;
   memset(&words, 0, sizeof words);
-  delaying = away = 0;
+  here = delaying = away = open = 0;
   tasks_of_run = count;
+  // Of race the writer sets up no watchpoint.
+  first = text == race ? 0 : run % count;
   for (unsigned started = 0; started < count; started++) {
-    unsigned n = (run + started) % count;
+    unsigned n = (first + started) % count;
     tasks[n] = (struct task){n, 0, false};
     if (pthread_create(&threads[n], NULL, text, &tasks[n]) != 0)
       exit(1);

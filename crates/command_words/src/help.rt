@@ -119,8 +119,8 @@ pub const RUN: &str =
 pub const AFTER_RUN: &str = "\
     Each task runs on a thread of its own, and all of them share the memory and the\n\
     watchpoints. A task that has set up a watchpoint waits for the delay, in which others may\n\
-    hit it. Each run begins anew, with the same settings, and with another task first; which\n\
-    races show in it is left to the machine. For example\n\
+    hit it. Each run begins anew, with the same settings; those that may set up a watchpoint\n\
+    start first in turn. Which races show in a run is left to the machine. For example\n\
     \n\
     \x20\x20\x20\x20kcsan_litmus run race.litmus --runs 1000\n\
     \n\
@@ -145,7 +145,7 @@ pub const RUNS: &str = "How many runs there are, 1 to 100000";
 
 /// What `--delay` says.
 pub const DELAY: &str =
-    "How many loads of a word a task waits at each watchpoint that it sets up, up to 1000000";
+    "How many loads of a word a task waits at most at each watchpoint that it sets up, to 1000000";
 
 /// What `--jobs` says.
 pub const JOBS: &str = "How many runs are made side by side, 1 to 64";

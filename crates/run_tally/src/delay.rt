@@ -3,54 +3,127 @@
 ghost use Rattle.std.specs.Prelude.{◌≡◌};
 
 use crossbeam_utils::atomic::AtomicCell;
-use runner::Stall;
+use runner::{Gate, Point, Stall};
 use std::thread;
 
+/// After so many loads nobody waits any more for a task that hasn't come: its thread may not have started.
+const PATIENCE: u64 = 100_000;
+
 /// The delay of one run: at most so many loads of a word, after each of which other threads may run. Without that it is over before another
-/// task, which may have no processor yet, comes to the watchpoint. It ends early once no other task can come there: each delays too, waits
-/// for a lock, or makes no step more.
+/// task, which may have no processor yet, comes to the watchpoint. The loads count from when each task has come to its first access: a thread
+/// may take longer to start than all of them. It ends early once no other task can come: each delays too, waits for a lock, or makes no step
+/// more.
+///
+/// Also it has the others wait with their first access until the task that starts first has set up a watchpoint or ended an access: a thread
+/// that starts later may be sooner there.
 #[derive(Drop)]
-pub(crate) struct Delay {
+pub struct Delay {
     loads: u64,
     tasks: u64,
+    first: usize,
+    /// A bit for each task that has come.
+    here: AtomicCell<u64>,
+    /// 1 once the others may make their first accesses.
+    open: AtomicCell<u64>,
     /// How many tasks delay.
     delaying: AtomicCell<u64>,
     /// How many tasks delay, wait for a lock, or make no step more.
     away: AtomicCell<u64>,
+    /// How many turns tasks have delayed.
+    turns: AtomicCell<u64>,
 }
 
 impl Delay {
-    /// That of at most so many loads, in a run of so many tasks.
-    pub(crate) fn new(loads: u64, tasks: u64) -> Delay
+    /// That of at most so many loads, in a run of so many tasks of which this one starts first.
+    pub fn new(loads: u64, tasks: u64, first: usize) -> Delay
         ensures loads { result.loads ≡ loads }
         ensures tasks { result.tasks ≡ tasks }
     {
         Delay {
             loads,
             tasks,
+            first,
+            here: AtomicCell::new(0),
+            open: AtomicCell::new(0),
             delaying: AtomicCell::new(0),
             away: AtomicCell::new(0),
+            turns: AtomicCell::new(0),
         }
+    }
+
+    /// How many turns all tasks together have delayed so far: a load and a yield each.
+    pub fn turns(&self) -> u64 {
+        self.turns.load()
+    }
+
+    /// A task has come.
+    fn comes(&self, task: usize) {
+        let bit = 1u64.wrapping_shl((task % 64) as u32);
+        if self.here.load() & bit == 0 {
+            self.here.fetch_or(bit);
+        }
+    }
+
+    /// Where it is the task that starts first, the others may make their first accesses.
+    fn opens(&self, task: usize) {
+        if task == self.first && self.open.load() == 0 {
+            self.open.store(1);
+        }
+    }
+
+    /// A task other than the one that starts first waits for it.
+    fn awaits_first(&self, task: usize) {
+        if task == self.first {
+            return;
+        }
+        for _ in 0..PATIENCE {
+            if self.open.load() == 1 {
+                return;
+            }
+            thread::yield_now();
+        }
+        self.open.store(1);
+    }
+
+    /// Waits until all tasks have come. Where one doesn't, no delay waits for it again.
+    fn awaits_all(&self) {
+        for _ in 0..PATIENCE {
+            if self.here.load().count_ones() as u64 >= self.tasks {
+                return;
+            }
+            thread::yield_now();
+        }
+        self.here.store(u64::MAX);
     }
 }
 
 impl Stall for Delay {
-    fn stall(&self, _task: usize, _index: usize) {
+    fn stall(&self, task: usize, _index: usize) {
+        if self.loads == 0 {
+            return;
+        }
+        self.opens(task);
+        self.awaits_all();
         self.delaying.fetch_add(1);
         self.away.fetch_add(1);
-        for _ in 0..self.loads {
+        let mut turns = 0;
+        for turn in 0..self.loads {
             if self.away.load() >= self.tasks {
                 break;
             }
             thread::yield_now();
+            turns = turn + 1;
         }
+        self.turns.fetch_add(turns);
         self.away.fetch_sub(1);
         self.delaying.fetch_sub(1);
     }
 
     /// A task that waits for a lock may wait for the delays of many others, each of which would use up as many of its tries as it has loads: so
     /// it tries again only once nobody delays, or after as many loads.
-    fn wait(&self, _task: usize) {
+    fn wait(&self, task: usize) {
+        self.comes(task);
+        self.opens(task);
         self.away.fetch_add(1);
         for _ in 0..self.loads.max(1) {
             thread::yield_now();
@@ -61,7 +134,22 @@ impl Stall for Delay {
         self.away.fetch_sub(1);
     }
 
-    fn over(&self, _task: usize) {
+    fn over(&self, task: usize) {
+        self.comes(task);
+        self.opens(task);
         self.away.fetch_add(1);
+    }
+}
+
+impl Gate for Delay {
+    fn pass(&self, task: usize, point: Point) {
+        match point {
+            Point::Begin if self.loads > 0 => {
+                self.comes(task);
+                self.awaits_first(task);
+            }
+            Point::End => self.opens(task),
+            Point::Begin | Point::Armed | Point::Taken => {}
+        }
     }
 }

@@ -6,9 +6,11 @@ pub mod error;
 pub mod finals;
 mod made;
 pub mod runs;
+mod starters;
 pub mod tally;
 pub mod times;
 
+pub use delay::Delay;
 pub use error::RunsError;
 pub use finals::{finals_at, holds_at_end};
 pub use runs::{Outcome, run_text_often};

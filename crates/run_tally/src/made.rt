@@ -18,6 +18,7 @@ ghost use Rattle.runner.specs.Result.{IsRunOnce};
 
 use crate::delay::Delay;
 use crate::error::RunsError;
+use crate::starters::Starters;
 use crate::tally::Tally;
 use crate::times::{Progress, Times};
 use access_types::Sites;
@@ -26,7 +27,7 @@ use litmus_step::Settings;
 use report_text::laws::groups_are_of_their_texts;
 use report_text::{MemorySink, Sink, WriteError};
 use run_output::write_stuck;
-use runner::{Open, RunError, RunResult, run_from};
+use runner::{RunError, RunResult, run_from};
 use std::alloc::{AllocError, Global};
 use std::collections::VecDeque;
 use std::sync::Wait;
@@ -42,22 +43,23 @@ pub(crate) struct Made {
     stuck: u64,
 }
 
-/// What comes of the run of a number. Of its tasks another one starts first than in the run before.
+/// What comes of the run of a number.
 fn one_run<R: Threads + Wait + Sync>(
     rt: &R,
     alloc: Global,
     program: &Program,
     settings: &Settings,
     delay: u64,
+    starters: Starters,
     number: u64,
 ) -> Result<RunResult, RunError>
     requires { KeepsLimits (program_of program.now) }
     ensures { Comes program.now settings.now result }
 {
     let tasks = program.tasks.as_slice().len() as u64;
-    let first = number.checked_rem(tasks).unwrap_or(0) as usize;
-    let delay = Delay::new(delay, tasks);
-    run_from(rt, alloc, program, settings, first, &delay, &Open)
+    let first = starters.first(number, tasks);
+    let delay = Delay::new(delay, tasks, first);
+    run_from(rt, alloc, program, settings, first, &delay, &delay)
 }
 
 /// What comes of so many runs, side by side, from the run of this number on.
@@ -67,6 +69,7 @@ fn side_by_side<R: Threads + Wait + Sync>(
     program: &Program,
     settings: &Settings,
     delay: u64,
+    starters: Starters,
     number: u64,
     many: usize,
 ) -> Result<Vec<Result<RunResult, RunError>>, AllocError>
@@ -79,7 +82,7 @@ fn side_by_side<R: Threads + Wait + Sync>(
         ensures { Comes program.entry.now settings.entry.now result }
     {
         let number = number.wrapping_add(at as u64);
-        one_run(rt, alloc, program, settings, delay, number)
+        one_run(rt, alloc, program, settings, delay, starters, number)
     };
     thread::map_indices(rt, alloc, many, &run)
 }
@@ -92,6 +95,7 @@ fn next_run<R: Threads + Wait + Sync>(
     program: &Program,
     settings: &Settings,
     delay: u64,
+    starters: Starters,
     number: u64,
     many: usize,
     ready: &mut VecDeque<Result<RunResult, RunError>>,
@@ -103,7 +107,9 @@ fn next_run<R: Threads + Wait + Sync>(
     ensures ready { OnOk result (All (Comes program.now settings.now) ready.new.items) }
 {
     if ready.is_empty() {
-        *ready = VecDeque::from(side_by_side(rt, alloc, program, settings, delay, number, many)?);
+        *ready = VecDeque::from(side_by_side(
+            rt, alloc, program, settings, delay, starters, number, many,
+        )?);
     }
     let Some(outcome) = ready.pop_front() else {
         unreachable!()
@@ -252,6 +258,7 @@ pub(crate) fn made_of<R: Threads + Wait + Sync, P: Progress>(
     ensures few { IfOk result (λ made. made.ended + made.stuck < 2 ^ 64) }
     ensures stops { IfErr result (Stops times.keep_going program.now settings.now) }
 {
+    let starters = Starters::new(sites, settings.plain_writes_atomic);
     let mut made = Made::new(alloc);
     let mut ready = VecDeque::new(alloc);
     for run in 0..times.runs {
@@ -265,6 +272,7 @@ pub(crate) fn made_of<R: Threads + Wait + Sync, P: Progress>(
             program,
             settings,
             times.delay,
+            starters,
             run,
             many,
             &mut ready,

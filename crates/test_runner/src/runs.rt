@@ -6,7 +6,7 @@ ghost use Rattle.litmus_parse.specs.of_litmus_syntax_Views.{program_of};
 
 use litmus_parse::{ParseError, Program, parse};
 use litmus_step::Settings;
-use run_tally::{Outcome, Progress, RunsError, Times, run_text_often};
+use run_tally::{Delay, Outcome, Progress, RunsError, Times, run_text_often};
 use runner::{Gate, NoStall, Open, Point, RunError, RunResult, Stall, run_from, run_once};
 use std::alloc::{AllocError, Global};
 use std::sync::Wait;
@@ -287,6 +287,26 @@ fn each_arming_stalls_once(rt: HostRuntime) -> Result<(), Fail> {
     let ran = run_once(&rt, alloc, &program, &settings, &counted, &Open)?;
     assert_eq!(rt; ran.counters().arms, 2);
     assert_eq!(rt; counted.stalls.load(Ordering::SeqCst), 2);
+    Ok(())
+}
+
+#[test]
+fn a_delay_counts_its_turns(rt: HostRuntime) -> Result<(), Fail> {
+    let delay = Delay::new(64, 2, 1);
+    delay.pass(1, Point::End);
+    delay.pass(0, Point::Begin);
+    delay.pass(1, Point::Begin);
+    delay.stall(0, 0);
+    assert_eq!(rt; delay.turns(), 64);
+    delay.over(1);
+    delay.stall(0, 0);
+    assert_eq!(rt; delay.turns(), 64);
+    let none = Delay::new(0, 2, 0);
+    none.stall(0, 0);
+    assert_eq!(rt; none.turns(), 0);
+    let alone = Delay::new(64, 2, 0);
+    alone.stall(0, 0);
+    assert_eq!(rt; alone.turns(), 64);
     Ok(())
 }
 
