@@ -8,3 +8,4 @@ pub mod Hits
 pub mod OneVerdict
 pub mod Reports
 pub mod Final
+pub mod Parted

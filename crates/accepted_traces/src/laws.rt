@@ -14,6 +14,7 @@ ghost use Rattle.run_lists.specs.Run.{Run};
 ghost use Rattle.run_lists.specs.Reports.{reports_of};
 ghost use Rattle.run_lists.specs.RunList.{AllHaveEnded, RunList};
 ghost use Rattle.run_kept.specs.Lists.{AreAccesses};
+ghost use Rattle.run_kept.specs.Setters.{AreReportsOf};
 ghost use Rattle.slot_table.specs.declared.records.Record.{Record};
 ghost use Rattle.trace_replay.specs.Answer.{IsAccepted};
 ghost use Rattle.trace_replay.specs.declared.accepted.Accepted.TheVariants as accepted;
@@ -27,6 +28,7 @@ use run_headline::verdicts::{
 use run_kept::bags::{armings_have_their_own_verdicts, the_bags_are_equal};
 use run_kept::bounds::few_are_reported;
 use run_kept::lengths::few_are_kept;
+use run_kept::reports::a_task_reports_its_own;
 use run_kept::watched::{
     accesses_of_ended_tasks_have_ended, accesses_that_begin_fit, stamps_tell_the_order,
     watched_accesses_are_unmarked_and_heard,
@@ -97,4 +99,22 @@ pub fn traces_of_ended_runs_are_true()
     the_bags_are_equal();
     few_are_reported();
     few_are_kept();
+}
+
+/// Law: so is the trace in which these reports stand by the task of their setters, one task after the other.
+pub fn traces_in_either_order_are_true()
+    ensures parts { (run : Run) (records : List Record) (list : RunList run records) → KeepsLimits run.program
+        → 3 ≤ run.rules.slots → run.rules.slots ≤ 1024 → AllHaveEnded run records
+        → (accesses : List Stamped) (arms : List Arm) (takes : List Take) → AreOf list accesses arms takes
+        → (reports : List Report) → AreReportsOf list reports → AreParts run.rules.slots run.rules.layout accesses arms takes reports }
+    ensures accepted { (run : Run) (records : List Record) (list : RunList run records) → KeepsLimits run.program
+        → 3 ≤ run.rules.slots → run.rules.slots ≤ 1024 → AllHaveEnded run records
+        → (accesses : List Stamped) (arms : List Arm) (takes : List Take) → AreOf list accesses arms takes
+        → (reports : List Report) → AreReportsOf list reports
+        → IsAccepted (written_trace run.rules.slots run.rules.layout accesses arms takes reports)
+        (accepted.Second (length accesses) (length arms) (length takes) (length reports)) }
+{
+    traces_of_ended_runs_are_true();
+    parts_make_a_true_trace();
+    a_task_reports_its_own();
 }

@@ -1,5 +1,5 @@
 -- What is known of an access under way, by its records.
-use Rattle.std.proofs.Common.{◌≡◌, ◌↔◌, ◌∙◌, ◌++◌, ◌∷◌, [], ℕ, Bool, true, false, List, Option, None, Some, IfSome, IsNone, IsSome, IsTrue, ap, append_assoc, inl, inr, not, refl, subst, sym}
+use Rattle.std.proofs.Common.{◌≡◌, ◌↔◌, ◌∙◌, ◌++◌, ◌∷◌, [], ℕ, List, Option, None, Some, IfSome, IsSome, ap, append_assoc, inl, inr, refl, subst, sym}
 use Rattle.std.proofs.lemmas.List.{append-nil}
 use Rattle.access_run.specs.Access.{MakesAccess}
 use Rattle.access_run.specs.Leads.{AccessIsComplete, AccessIsDone, AccessIsOver, AccessIsStuck, AccessOnlyStep, HasCell, IsChecked, IsStuckIn, Runs, StageLeads, WaitsTooLong, in_check, in_operation, same_effect}
@@ -463,12 +463,3 @@ pub never_ready : (s : Setting) (a : Access) (operation : Option Operation) (of 
 never_ready s a operation of is none has =
     let some : IsSome (source_of s a) = subst (λ o. HasCell s a o) is has in
     let never : IsSome {T = Source} None = subst (λ (o : Option Source). IsSome o) none some in cc
-
--- what is so isn't otherwise
-pub not_both : (b : Bool) → b ≡ true → ¬ IsTrue (not b)
-not_both true is h = let no : false ≡ true = h in cc
-not_both false is h = let no : false ≡ true = is in cc
-
--- what has a step has some
-pub some_step : (says : Option Step) (step : Step) → says ≡ Some step → ¬ IsNone says
-some_step says step is none = let never : IsNone (Some step) = subst (λ o. IsNone o) is none in let no : true ≡ false = never in cc

@@ -1,13 +1,13 @@
 //! What an access does next.
 
-ghost use Rattle.std.specs.Prelude.{◌≡◌, ◌↔◌, ◌<◌, ◌++◌, ◌∷◌, [], ℕ, List, Option, IsTrue};
+ghost use Rattle.std.specs.Prelude.{◌<◌, ◌++◌, ◌∷◌, [], ℕ, List, Option};
 ghost use Rattle.access_run.specs.Leads.{HasCell, IsChecked, IsReady, IsUnderWay, Runs, StageLeads};
 ghost use Rattle.access_run.specs.Whole.{NoneWhole};
 ghost use Rattle.memory_operation.specs.Operations.{Operates};
 ghost use Rattle.memory_operation.specs.declared.operation.Operation as kinds;
 ghost use Rattle.setup_access.specs.Check.{Check};
 ghost use Rattle.setup_access.specs.Checker.{Checks};
-ghost use Rattle.setup_access.specs.Leads.{IsComplete, IsDone, Leads, Rests};
+ghost use Rattle.setup_access.specs.Leads.{Leads, Rests};
 ghost use Rattle.setup_access.specs.Setting.{Setting};
 ghost use Rattle.setup_access.specs.declared.begun.Begun.{Begun};
 ghost use Rattle.setup_access.specs.declared.checker.Checker as checkers;
@@ -45,20 +45,6 @@ pub(crate) fn ready(
     Some(OperationRun::new(access, source, operation))
 }
 
-/// The checker's check is over: it has no step left and isn't stuck.
-fn is_checked(checker: &Checker) -> bool
-    ensures done { (s : Setting) (scopes : List Begun) (begun : Begun) (asked : ℕ) (records : List Record)
-        → Leads s scopes (Checks begun) asked records checker.now → (IsTrue result ↔ IsDone s scopes (Checks begun) asked records) }
-    ensures complete { (s : Setting) (scopes : List Begun) (begun : Begun) (asked : ℕ) (records : List Record)
-        → Leads s scopes (Checks begun) asked records checker.now → IsDone s scopes (Checks begun) asked records
-        → IsComplete s scopes (Checks begun) asked records checker.now }
-{
-    match checker.next() {
-        Some(_) => false,
-        None => !checker.stuck(),
-    }
-}
-
 /// What follows on a step of the check.
 pub(crate) fn after_check(checker: &Checker, run: Option<OperationRun>) -> Stage
     ensures going { IsUnderWay result }
@@ -67,7 +53,7 @@ pub(crate) fn after_check(checker: &Checker, run: Option<OperationRun>) -> Stage
         → NoneWhole (Check s scopes begun asked) records → IsReady s begun.access operation run
         → StageLeads s scopes begun asked operation (records ++ last ∷ []) result checker.now }
 {
-    if !is_checked(checker) {
+    if !checker.is_over() {
         return Stage::Check(run);
     }
     match run {

@@ -1,27 +1,35 @@
 -- What holds where a call succeeds, and where it fails.
-use Rattle.std.proofs.Common.{◌≢◌, ◌≤◌, ◌⊎◌, arith, inl, inr, ◌≡◌, ◌∙◌, ℕ, List, Option, None, Some, Result, Ok, Err, IfOk, IfErr, IfSome, MatchResult, is_some}
+use Rattle.std.proofs.Common.{◌<◌, Bool, OnErr, OnOk, ap, ◌≢◌, ◌≤◌, ◌⊎◌, arith, inl, inr, ◌≡◌, ◌∙◌, ℕ, List, Option, None, Some, Result, Ok, Err, IfOk, IfErr, IfSome, MatchResult, is_some}
 use Rattle.std.proofs.Common.{refl, subst, sym, Vec}
 use Rattle.std.specs.Global.{Global}
 use Rattle.std.specs.Prelude.{IsErrAnd}
-use Rattle.litmus_command.specs.Command.{EndsAs, IsOfFile, NothingIsWritten, State, engine_status_of, read_failure, run_status_of, runs_status_of, status_of, text_status_of, trace_status_of}
+use Rattle.litmus_command.specs.Command.{EndsAs, IsOfFile, NothingIsWritten, State, engine_status_of, read_failure, run_status_of, status_of, text_status_of, trace_status_of}
 use Rattle.litmus_command.specs.declared.command.Failure.{Failure}
 use Rattle.litmus_command.specs.declared.command.Failure.TheVariants as failure
 use Rattle.litmus_command.specs.declared.desk.ReadFault.{ReadFault}
 use Rattle.litmus_command.specs.declared.desk.ReadFault.TheVariants as fault
-use Rattle.litmus_command.specs.declared.engine.EngineError.{EngineError}
-use Rattle.litmus_command.specs.declared.engine.EngineError.TheVariants as engine
+use Rattle.run_output.specs.declared.error.EngineError.{EngineError}
+use Rattle.run_output.specs.declared.error.EngineError.TheVariants as engine
 use Rattle.std.specs.Option.{option_map}
-use Rattle.litmus_step.specs.declared.error.WorldError.{WorldError}
+use Rattle.litmus_step.specs.of_program_sites_declared.error.RunError.{RunError}
 use Rattle.litmus_syntax.specs.declared.error.ParseError.{ParseError}
 use Rattle.litmus_syntax.specs.declared.error.ParseError.TheVariants as parse
-use Rattle.run_tally.specs.declared.error.RunsError.{RunsError}
-use Rattle.run_tally.specs.declared.error.RunsError.TheVariants as runs
 use Rattle.report_text.specs.Sink.{CountsFailure}
-use Rattle.runner.specs.declared.error.RunError.{RunError}
-use Rattle.runner.specs.declared.error.RunError.TheVariants as run
+use Rattle.litmus_step.specs.of_program_sites_declared.error.RunError.{RunError}
+use Rattle.litmus_step.specs.of_program_sites_declared.error.RunError.TheVariants as run
 use Rattle.trace_replay.specs.declared.accepted.TraceError.{TraceError}
 use Rattle.trace_replay.specs.declared.accepted.TraceError.TheVariants as trace
-use Rattle.litmus_step.specs.declared.error.WorldError.TheVariants.{BadPlace, BadSchedule, BadSlots, OutOfMemory, Stuck}
+use Rattle.command_words.specs.declared.request.RunOptions.{RunOptions}
+use Rattle.litmus_command.specs.Command.{FileIsRun, FileIsRunInPart, IsGiven, IsGivenInPart, once_read, trace_path}
+use Rattle.litmus_command.specs.Engine.{IsRefused, Stops, StopsRun}
+use Rattle.litmus_command.specs.Files.{FileEvent, Gave, noted}
+use Rattle.litmus_parse.specs.Read.{IsReadAs}
+use Rattle.litmus_parse.specs.Text.{file_bytes}
+use Rattle.litmus_syntax.specs.declared.program.Program.{Program}
+use Rattle.program_layout.specs.Places.{AreFit}
+use Rattle.litmus_step.specs.of_program_sites_Errors.{IsOfPreparing}
+use Rattle.litmus_step.specs.of_program_sites_declared.settings.Settings.{Settings}
+use Rattle.step_schedule.specs.declared.schedule.Entry.{Entry}
 
 -- a status that a failure can end with
 abbrev pub IsKnown : ℕ → Type 0
@@ -59,37 +67,21 @@ pub no_error : {X E : Type 0} (result : Result X E) (x : X) (e : E) → result �
 no_error {X} {E} result x e is bad =
     subst (λ (r : Result X E). MatchResult r (λ _. Unit {0}) (λ _. ⊥)) (sym is ∙ bad) tt
 
--- the error is that a task is stuck
-abbrev IsOfStuck : WorldError → Type 0
-IsOfStuck BadSlots = ⊥
-IsOfStuck BadPlace = ⊥
-IsOfStuck OutOfMemory = ⊥
-IsOfStuck (Stuck task) = Unit {0}
-IsOfStuck BadSchedule = ⊥
+-- the error that a call answers is another
+apart : {X : Type 0} (result : Result X RunError) (one other : RunError) → result ≡ Err one → result ≡ Err other → one ≡ other
+apart result one other is_one is_other = cc
 
--- that is another error than a bad schedule
-pub stuck_is_other : {X : Type 0} (result : Result X WorldError) (task : ℕ) → result ≡ Err (Stuck task) → result ≡ Err BadSchedule → ⊥
-stuck_is_other {X} result task is bad =
-    subst (λ (r : Result X WorldError). MatchResult r (λ _. ⊥) IsOfStuck) (sym is ∙ bad) tt
+stuck_is_no_schedule : (task : ℕ) → run.Stuck task ≡ run.BadSchedule → ⊥
+stuck_is_no_schedule task same = absurd (cc)
+
+pub stuck_is_other : {X : Type 0} (result : Result X RunError) (task : ℕ) → result ≡ Err (run.Stuck task) → result ≡ Err run.BadSchedule → ⊥
+stuck_is_other result task is bad = stuck_is_no_schedule task (apart result (run.Stuck task) run.BadSchedule is bad)
 
 -- what holds of an error holds of what is answered with it
 pub err_holds : {X E : Type 0} (P : E → Type 0) (result : Result X E) (error : E) → IsErrAnd result (λ found. found ≡ error) → P error
     → IfErr result P
 err_holds P (Ok x) error is holds = tt
 err_holds P (Err found) error is holds = subst P (sym is) holds
-
--- where no sink failed the status is not that of one
-pub writes_no_sink : (error : EngineError) → (error ≡ engine.SinkFailed → ⊥) → engine_status_of error ≡ 74 → ⊥
-writes_no_sink engine.BadSlots other is = omega (arith, is)
-writes_no_sink engine.OutOfMemory other is = omega (arith, is)
-writes_no_sink (engine.Syntax line) other is = omega (arith, is)
-writes_no_sink (engine.Unsupported line) other is = omega (arith, is)
-writes_no_sink (engine.Limit limit) other is = omega (arith, is)
-writes_no_sink engine.NotAscii other is = omega (arith, is)
-writes_no_sink engine.BadPlace other is = omega (arith, is)
-writes_no_sink (engine.Stuck task) other is = omega (arith, is)
-writes_no_sink engine.BadSchedule other is = omega (arith, is)
-writes_no_sink engine.SinkFailed other is = other refl
 
 text_is_no_sink : (error : ParseError) → text_status_of error ≡ 74 → ⊥
 text_is_no_sink parse.OutOfMemory is = omega (arith, is)
@@ -103,29 +95,20 @@ run_is_no_sink run.BadSlots is = omega (arith, is)
 run_is_no_sink run.BadPlace is = omega (arith, is)
 run_is_no_sink run.OutOfMemory is = omega (arith, is)
 run_is_no_sink (run.Stuck task) is = omega (arith, is)
+run_is_no_sink run.BadSchedule is = omega (arith, is)
 run_is_no_sink run.NoThread is = omega (arith, is)
 
-pub runs_write_no_sink : (error : RunsError) → runs_status_of error ≡ 74 → ⊥
-runs_write_no_sink (runs.Text error) is = text_is_no_sink error is
-runs_write_no_sink (runs.Run error) is = run_is_no_sink error is
+-- where no sink failed the status is not that of one
+pub writes_no_sink : (error : EngineError) → (error ≡ engine.SinkFailed → ⊥) → engine_status_of error ≡ 74 → ⊥
+writes_no_sink (engine.Text error) other is = text_is_no_sink error is
+writes_no_sink (engine.Run error) other is = run_is_no_sink error is
+writes_no_sink engine.SinkFailed other is = other refl
 
 pub reads_no_sink : (fault : ReadFault) → status_of (read_failure fault) ≡ 74 → ⊥
 reads_no_sink fault.OutOfMemory is = omega (arith, is)
 reads_no_sink fault.CannotRead is = omega (arith, is)
 
 -- a failure ends with one of these statuses
-engine_known : (error : EngineError) → IsKnown (engine_status_of error)
-engine_known engine.BadSlots = inl (omega arith, omega arith)
-engine_known engine.OutOfMemory = inr (inr (inl refl))
-engine_known (engine.Syntax line) = inl (omega arith, omega arith)
-engine_known (engine.Unsupported line) = inl (omega arith, omega arith)
-engine_known (engine.Limit limit) = inl (omega arith, omega arith)
-engine_known engine.NotAscii = inl (omega arith, omega arith)
-engine_known engine.BadPlace = inl (omega arith, omega arith)
-engine_known (engine.Stuck task) = inr (inl refl)
-engine_known engine.BadSchedule = inl (omega arith, omega arith)
-engine_known engine.SinkFailed = inr (inr (inr refl))
-
 text_known : (error : ParseError) → IsKnown (text_status_of error)
 text_known parse.OutOfMemory = inr (inr (inl refl))
 text_known (parse.Syntax line) = inl (omega arith, omega arith)
@@ -138,11 +121,13 @@ run_known run.BadSlots = inl (omega arith, omega arith)
 run_known run.BadPlace = inl (omega arith, omega arith)
 run_known run.OutOfMemory = inr (inr (inl refl))
 run_known (run.Stuck task) = inr (inl refl)
+run_known run.BadSchedule = inl (omega arith, omega arith)
 run_known run.NoThread = inr (inr (inl refl))
 
-runs_known : (error : RunsError) → IsKnown (runs_status_of error)
-runs_known (runs.Text error) = text_known error
-runs_known (runs.Run error) = run_known error
+engine_known : (error : EngineError) → IsKnown (engine_status_of error)
+engine_known (engine.Text error) = text_known error
+engine_known (engine.Run error) = run_known error
+engine_known engine.SinkFailed = inr (inr (inr refl))
 
 trace_known : (error : TraceError) → IsKnown (trace_status_of error)
 trace_known trace.OutOfMemory = inr (inr (inl refl))
@@ -156,7 +141,6 @@ failures_are_known failure.CannotRead = inl (omega arith, omega arith)
 failures_are_known failure.CannotWrite = inr (inr (inr refl))
 failures_are_known failure.OutOfMemory = inr (inr (inl refl))
 failures_are_known (failure.Engine error) = engine_known error
-failures_are_known (failure.Runs error) = runs_known error
 failures_are_known (failure.Trace error) = trace_known error
 
 -- which is neither 0 nor 2
@@ -194,3 +178,92 @@ ends_so failure status before middle after is known same silent failed = record 
 pub no_file : (status : ℕ) → status ≡ 74 → IsOfFile status → ⊥
 no_file status unwritten (inl is) = omega (arith, unwritten, is)
 no_file status unwritten (inr is) = omega (arith, unwritten, is)
+
+-- why a program can't be made ready
+pub preparing_stops : (program : Program) (settings : Settings) (entries : List Entry) (error : RunError) → IsOfPreparing error
+    → (error ≡ run.BadSlots → (settings.slots < 3) ⊎ (1024 < settings.slots))
+    → (error ≡ run.BadPlace → AreFit program.variables settings.places.items → ⊥) → StopsRun program settings entries error
+preparing_stops program settings entries run.BadSlots of slots place = slots refl
+preparing_stops program settings entries run.BadPlace of slots place = place refl
+preparing_stops program settings entries run.OutOfMemory of slots place = tt
+preparing_stops program settings entries (run.Stuck task) of slots place = absurd of
+preparing_stops program settings entries run.BadSchedule of slots place = absurd of
+preparing_stops program settings entries run.NoThread of slots place = absurd of
+
+-- where the run of a program has no output, its text has none
+pub refused_of : {X : Type 0} (text : List ℕ) (program : Program) (settings : Settings) (entries : List Entry) (result : Result X EngineError)
+    → IsReadAs text program → IfErr result (Stops program settings entries) → IfErr result (IsRefused text settings entries)
+refused_of text program settings entries (Ok x) read stops = tt
+refused_of text program settings entries (Err (engine.Text error)) read stops = tt
+refused_of text program settings entries (Err (engine.Run error)) read stops = (program, read, stops)
+refused_of text program settings entries (Err engine.SinkFailed) read stops = stops
+
+-- and that is not for a sink
+pub no_sink_stops : {X : Type 0} (program : Program) (settings : Settings) (entries : List Entry) (result : Result X EngineError)
+    → IfErr result (Stops program settings entries) → result ≡ Err engine.SinkFailed → ⊥
+no_sink_stops {X} program settings entries result stops is =
+    subst (λ (r : Result X EngineError). IfErr r (Stops program settings entries)) is stops
+
+-- the state of a desk that a file was read from
+pub is_once_read : (written other : Option (List ℕ)) (failures more : ℕ) (files later : Option (List FileEvent)) (file text : List ℕ)
+    → other ≡ written → more ≡ failures → later ≡ noted files (Gave file file_bytes text)
+    → let before : State = record { written = written; failures = failures; files = files } in
+    let after : State = record { written = other; failures = more; files = later } in after ≡ once_read file text before
+is_once_read written other failures more files later file text same_written same_failures gave =
+    let State_of : Option (List ℕ) → ℕ → Option (List FileEvent) → State = λ w n f. record { written = w; failures = n; files = f } in
+    ap (λ w. State_of w more later) same_written
+    ∙ (ap (λ n. State_of written n later) same_failures ∙ ap (λ f. State_of written failures f) gave)
+
+-- what is left of a file's run is given, where it was read so
+module _ (file : List ℕ) (options : RunOptions) (Left : List ℕ → Bool → List ℕ → Option (List ℕ) → Type 0) (text output : List ℕ) (raced : Bool)
+    (trace : Option (List ℕ)) (left : Left text raced output trace) (result : Result Bool Failure) (before middle after : State)
+    (is_read : middle ≡ once_read file text before) where
+  pub given_done : IfOk result (λ found. found ≡ raced) → OnOk result (IsGiven (trace_path options) output trace middle after)
+      → IfOk result (λ found. FileIsRun file options Left found before after)
+  given_done told given = both result told given
+    where
+      both : (r : Result Bool Failure) → IfOk r (λ found. found ≡ raced) → OnOk r (IsGiven (trace_path options) output trace middle after)
+          → IfOk r (λ found. FileIsRun file options Left found before after)
+      both (Ok found) same given = record {
+        text = text;
+        output = output;
+        trace = trace;
+        left = subst (λ b. Left text b output trace) (sym same) left;
+        given = subst (λ m. IsGiven (trace_path options) output trace m after) is_read given;
+      }
+      both (Err failure) same given = tt
+
+  pub given_in_part : OnErr result (IsGivenInPart (trace_path options) output trace middle after)
+      → IfErr result (λ failure. status_of failure ≡ 74 → FileIsRunInPart file options Left before after)
+  given_in_part part = both result part
+    where
+      both : (r : Result Bool Failure) → OnErr r (IsGivenInPart (trace_path options) output trace middle after)
+          → IfErr r (λ failure. status_of failure ≡ 74 → FileIsRunInPart file options Left before after)
+      both (Ok found) part = tt
+      both (Err failure) part = λ unwritten. record {
+        text = text;
+        raced = raced;
+        output = output;
+        trace = trace;
+        left = left;
+        given = subst (λ m. IsGivenInPart (trace_path options) output trace m after) is_read part;
+      }
+
+-- what fails there is a write
+pub failed_silent : (result : Result Bool Failure) (Counts : Type 0) (before after : State)
+    → IfErr result (λ failure. (status_of failure ≡ 74) × Counts)
+    → IfErr result (λ failure. status_of failure ≢ 74 → NothingIsWritten before after)
+failed_silent (Ok found) Counts before after failed = tt
+failed_silent (Err failure) Counts before after failed = λ other. absurd (other failed.0)
+
+pub failed_counts : (result : Result Bool Failure) (first middle last : ℕ) → middle ≡ first
+    → IfErr result (λ failure. (status_of failure ≡ 74) × CountsFailure middle last)
+    → IfErr result (λ failure. status_of failure ≡ 74 → CountsFailure first last)
+failed_counts (Ok found) first middle last same failed = tt
+failed_counts (Err failure) first middle last same failed = λ unwritten. subst (λ n. CountsFailure n last) same failed.1
+
+pub failed_of_no_file : (result : Result Bool Failure) (Counts : Type 0) (Refused : ℕ → Type 0)
+    → IfErr result (λ failure. (status_of failure ≡ 74) × Counts)
+    → IfErr result (λ failure. IsOfFile (status_of failure) → Refused (status_of failure))
+failed_of_no_file (Ok found) Counts Refused failed = tt
+failed_of_no_file (Err failure) Counts Refused failed = λ of_file. absurd (no_file (status_of failure) failed.0 of_file)

@@ -19,14 +19,12 @@ use Rattle.litmus_syntax.specs.declared.error.ParseError.{ParseError}
 use Rattle.litmus_syntax.specs.declared.error.ParseError.TheVariants as parse
 use Rattle.run_tally.specs.Errors as tally
 use Rattle.run_tally.specs.Output as tally_output
-use Rattle.run_tally.specs.declared.error.RunsError.{RunsError}
-use Rattle.run_tally.specs.declared.error.RunsError.TheVariants as runs
 use Rattle.run_tally.specs.declared.times.Times.{Times}
-use Rattle.runner.specs.declared.error.RunError.{RunError}
-use Rattle.runner.specs.declared.error.RunError.TheVariants as run
+use Rattle.litmus_step.specs.of_program_sites_declared.error.RunError.{RunError}
+use Rattle.litmus_step.specs.of_program_sites_declared.error.RunError.TheVariants as run
 use Rattle.step_schedule.specs.Spelling as schedules
 use Rattle.step_schedule.specs.declared.schedule.Entry.{Entry}
-use Rattle.litmus_step.specs.declared.settings.Settings.{Settings}
+use Rattle.litmus_step.specs.of_program_sites_declared.settings.Settings.{Settings}
 use Rattle.trace_replay.specs.Answer as answers
 use Rattle.trace_replay.specs.declared.accepted.TraceError.{TraceError}
 use Rattle.trace_replay.specs.declared.accepted.TraceError.TheVariants as trace
@@ -37,21 +35,8 @@ use Rattle.litmus_command.specs.declared.command.Failure.{Failure}
 use Rattle.litmus_command.specs.declared.command.Failure.TheVariants as failure
 use Rattle.litmus_command.specs.declared.desk.ReadFault.{ReadFault}
 use Rattle.litmus_command.specs.declared.desk.ReadFault.TheVariants as fault
-use Rattle.litmus_command.specs.declared.engine.EngineError.{EngineError}
-use Rattle.litmus_command.specs.declared.engine.EngineError.TheVariants as engine
-
--- the status for a file that could not be stepped
-abbrev pub engine_status_of : EngineError → ℕ
-engine_status_of engine.BadSlots = 64
-engine_status_of engine.OutOfMemory = 71
-engine_status_of (engine.Syntax line) = 65
-engine_status_of (engine.Unsupported line) = 65
-engine_status_of (engine.Limit limit) = 65
-engine_status_of engine.NotAscii = 65
-engine_status_of engine.BadPlace = 64
-engine_status_of (engine.Stuck task) = 70
-engine_status_of engine.BadSchedule = 64
-engine_status_of engine.SinkFailed = 74
+use Rattle.run_output.specs.declared.error.EngineError.{EngineError}
+use Rattle.run_output.specs.declared.error.EngineError.TheVariants as engine
 
 -- the status for a litmus text that is refused
 abbrev pub text_status_of : ParseError → ℕ
@@ -61,18 +46,20 @@ text_status_of (parse.Unsupported line) = 65
 text_status_of (parse.Limit limit) = 65
 text_status_of parse.NotAscii = 65
 
--- the status for a program that can't be run on threads, or whose run doesn't come to its end
+-- the status for a program that can't be run, or whose run doesn't come to its end
 abbrev pub run_status_of : RunError → ℕ
 run_status_of run.BadSlots = 64
 run_status_of run.BadPlace = 64
 run_status_of run.OutOfMemory = 71
 run_status_of (run.Stuck task) = 70
+run_status_of run.BadSchedule = 64
 run_status_of run.NoThread = 71
 
--- the status for a file that could not be run on threads
-abbrev pub runs_status_of : RunsError → ℕ
-runs_status_of (runs.Text error) = text_status_of error
-runs_status_of (runs.Run error) = run_status_of error
+-- the status for a file that has no output
+abbrev pub engine_status_of : EngineError → ℕ
+engine_status_of (engine.Text error) = text_status_of error
+engine_status_of (engine.Run error) = run_status_of error
+engine_status_of engine.SinkFailed = 74
 
 -- the status for a trace that is not accepted
 abbrev pub trace_status_of : TraceError → ℕ
@@ -88,7 +75,6 @@ status_of failure.CannotRead = 66
 status_of failure.CannotWrite = 74
 status_of failure.OutOfMemory = 71
 status_of (failure.Engine error) = engine_status_of error
-status_of (failure.Runs error) = runs_status_of error
 status_of (failure.Trace error) = trace_status_of error
 
 -- what a file that gives no bytes means
@@ -165,77 +151,65 @@ pub record AreLeft (request : RunRequest) (text : List ℕ) (raced : Bool) (outp
   pub asks : AskSettings request.options settings
   pub leaves : tally_output.TextLeaves text settings (times_of request) (is_some request.options.trace) raced output trace
 
--- what was done with files once the file of a name gave this text, and then the trace was written, if it is asked for
-abbrev pub files_after : (file : List ℕ) → RunOptions → (text : List ℕ) → (trace : Option (List ℕ)) → Option (List FileEvent)
-    → Option (List FileEvent)
-files_after file options text trace before =
-    with_trace (noted before (Gave file file_bytes text)) (option_map (λ path. path.now) options.trace) trace
+-- What is left of runs was given: standard output took the output, and the trace was written, if it is asked for and there is one.
+pub record IsGiven (path : Option (List ℕ)) (output : List ℕ) (trace : Option (List ℕ)) (before after : State) : Type 0 where
+  pub written : after.written ≡ appended before.written output
+  pub files : after.files ≡ with_trace before.files path trace
 
--- The file that is asked for was read, and its program was stepped. What is left of that one run was written: its trace, if it is asked
--- for, and its output, which has a report or none.
-pub record StepIsDone (request : StepRequest) (raced : Bool) (before after : State) : Type 0 where
+-- Not all of it could be given. There is a trace, and its file could not be written: standard output has what it had. Or that was done,
+-- and standard output took but a beginning of the output.
+abbrev pub IsGivenInPart : (path : Option (List ℕ)) (output : List ℕ) (trace : Option (List ℕ)) (before after : State) → Type 0
+IsGivenInPart path output trace before after =
+    ((is_some trace ≡ true) × (after.written ≡ before.written))
+    ⊎ (HoldsBeginning output before.written after.written × (after.files ≡ with_trace before.files path trace))
+
+-- once the file of a name gave this text
+abbrev pub once_read : (file text : List ℕ) → State → State
+once_read file text before = record before { files = noted before.files (Gave file file_bytes text) }
+
+abbrev pub trace_path : RunOptions → Option (List ℕ)
+trace_path options = option_map (λ path. path.now) options.trace
+
+-- The file that is asked for was read, and its program was run as it is asked. What is left of that was given, which has a report or
+-- none.
+pub record FileIsRun (file : List ℕ) (options : RunOptions) (Left : List ℕ → Bool → List ℕ → Option (List ℕ) → Type 0) (raced : Bool)
+    (before after : State) : Type 0 where
   pub text : List ℕ
   pub output : List ℕ
   pub trace : Option (List ℕ)
-  pub left : IsLeft request text raced output trace
-  pub written : after.written ≡ appended before.written output
-  pub files : after.files ≡ files_after request.file.now request.options text trace before.files
+  pub left : Left text raced output trace
+  pub given : IsGiven (trace_path options) output trace (once_read file text before) after
 
--- Not all of it could be written. A trace is asked for, and its file could not be written: standard output has what it had. Or that was
--- done, and standard output took but a beginning of the output.
-pub record StepIsCut (request : StepRequest) (before after : State) : Type 0 where
+-- and it could not all be given
+pub record FileIsRunInPart (file : List ℕ) (options : RunOptions) (Left : List ℕ → Bool → List ℕ → Option (List ℕ) → Type 0)
+    (before after : State) : Type 0 where
   pub text : List ℕ
   pub raced : Bool
   pub output : List ℕ
   pub trace : Option (List ℕ)
-  pub left : IsLeft request text raced output trace
-  pub cut : ((is_some request.options.trace ≡ true) × (after.written ≡ before.written))
-      ⊎ (HoldsBeginning output before.written after.written
-      × (after.files ≡ files_after request.file.now request.options text trace before.files))
+  pub left : Left text raced output trace
+  pub given : IsGivenInPart (trace_path options) output trace (once_read file text before) after
 
 -- The file that is asked for was read, and its text has no output, for a reason that ends with this status. Nothing was written.
-pub record StepIsRefused (request : StepRequest) (status : ℕ) (before after : State) : Type 0 where
+pub record FileIsRefused (file : List ℕ) (Refuses : List ℕ → EngineError → Type 0) (status : ℕ) (before after : State) : Type 0 where
+  pub text : List ℕ
+  pub error : EngineError
+  pub refused : Refuses text error
+  pub status_is : status ≡ engine_status_of error
+  pub files : after.files ≡ noted before.files (Gave file file_bytes text)
+
+-- under the settings and the schedule that are asked for, the text has no output, for this reason
+pub record StepRefuses (request : StepRequest) (text : List ℕ) (error : EngineError) : Type 0 where
   pub settings : Settings
   pub entries : List Entry
   pub asks : AsksFor request settings entries
-  pub text : List ℕ
-  pub error : EngineError
   pub refused : IsRefused text settings entries error
-  pub status_is : status ≡ engine_status_of error
-  pub files : after.files ≡ noted before.files (Gave request.file.now file_bytes text)
 
--- The file that is asked for was read, and its program was run on threads as often as it is asked. What is left of these runs was
--- written: the trace of the last one, if it is asked for, and the output, which has a report or none.
-pub record RunIsDone (request : RunRequest) (raced : Bool) (before after : State) : Type 0 where
-  pub text : List ℕ
-  pub output : List ℕ
-  pub trace : Option (List ℕ)
-  pub left : AreLeft request text raced output trace
-  pub written : after.written ≡ appended before.written output
-  pub files : after.files ≡ files_after request.file.now request.options text trace before.files
-
--- Not all of it could be written. There is a trace, and its file could not be written: standard output has what it had. Or that was
--- done, and standard output took but a beginning of the output.
-pub record RunIsCut (request : RunRequest) (before after : State) : Type 0 where
-  pub text : List ℕ
-  pub raced : Bool
-  pub output : List ℕ
-  pub trace : Option (List ℕ)
-  pub left : AreLeft request text raced output trace
-  pub cut : ((is_some trace ≡ true) × (after.written ≡ before.written))
-      ⊎ (HoldsBeginning output before.written after.written
-      × (after.files ≡ files_after request.file.now request.options text trace before.files))
-
--- The file that is asked for was read, and the runs of its text have no output, for a reason that ends with this status. Nothing was
--- written.
-pub record RunIsRefused (request : RunRequest) (status : ℕ) (before after : State) : Type 0 where
+-- so it is of runs on threads, under the settings that are asked for
+pub record RunRefuses (request : RunRequest) (text : List ℕ) (error : EngineError) : Type 0 where
   pub settings : Settings
   pub asks : AskSettings request.options settings
-  pub text : List ℕ
-  pub error : RunsError
   pub refused : tally.IsRefused request.keep_going text settings error
-  pub status_is : status ≡ runs_status_of error
-  pub files : after.files ≡ noted before.files (Gave request.file.now file_bytes text)
 
 -- the file that is asked for was read, and is no true trace, for a reason that ends with this status
 pub record ReplayIsRefused (request : ReplayRequest) (status : ℕ) (before after : State) : Type 0 where
@@ -266,21 +240,22 @@ pub record ReplayIsCut (request : ReplayRequest) (before after : State) : Type 0
 
 -- what is asked was done, with a report or without one
 abbrev pub IsDone : Request → Bool → State → State → Type 0
-IsDone (requests.Step request) raced before after = StepIsDone request raced before after
-IsDone (requests.Run request) raced before after = RunIsDone request raced before after
+IsDone (requests.Step request) raced before after =
+    FileIsRun request.file.now request.options (IsLeft request) raced before after
+IsDone (requests.Run request) raced before after = FileIsRun request.file.now request.options (AreLeft request) raced before after
 IsDone (requests.Replay request) true before after = ⊥
 IsDone (requests.Replay request) false before after = ReplayIsDone request before after
 
 -- what is asked was done, and not all of it could be written
 abbrev pub IsCut : Request → State → State → Type 0
-IsCut (requests.Step request) before after = StepIsCut request before after
-IsCut (requests.Run request) before after = RunIsCut request before after
+IsCut (requests.Step request) before after = FileIsRunInPart request.file.now request.options (IsLeft request) before after
+IsCut (requests.Run request) before after = FileIsRunInPart request.file.now request.options (AreLeft request) before after
 IsCut (requests.Replay request) before after = ReplayIsCut request before after
 
 -- what is asked was refused of the file that it is about
 abbrev pub IsRefusedOf : Request → (status : ℕ) → State → State → Type 0
-IsRefusedOf (requests.Step request) status before after = StepIsRefused request status before after
-IsRefusedOf (requests.Run request) status before after = RunIsRefused request status before after
+IsRefusedOf (requests.Step request) status before after = FileIsRefused request.file.now (StepRefuses request) status before after
+IsRefusedOf (requests.Run request) status before after = FileIsRefused request.file.now (RunRefuses request) status before after
 IsRefusedOf (requests.Replay request) status before after = ReplayIsRefused request status before after
 
 -- the status says that a file is refused, or that a task is stuck

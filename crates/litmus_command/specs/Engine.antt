@@ -2,49 +2,32 @@
 use Rattle.std.specs.Prelude.{◌≡◌, ◌<◌, ◌==◌, ◌↔◌, ◌⊎◌, ◌++◌, ◌∷◌, ℕ, List, [], Option, Bool, IfSome, IsTrue, length, not}
 use Rattle.std.specs.List.{flat_map}
 use Rattle.litmus_syntax.specs.of_access_types_Sites.{AccessMap}
-use Rattle.run_tally.specs.Finals.{HoldsAtEnd}
-use Rattle.litmus_command.specs.declared.engine.EngineError.{EngineError}
-use Rattle.litmus_command.specs.declared.engine.EngineError.TheVariants as engine
-use Rattle.litmus_parse.specs.Grammar.{SpellsProgram}
+use Rattle.litmus_parse.specs.Read.{IsReadAs}
+use Rattle.litmus_step.specs.of_program_sites_declared.error.RunError.{RunError}
+use Rattle.litmus_step.specs.of_program_sites_declared.error.RunError.TheVariants.{BadPlace, BadSchedule, BadSlots, NoThread, OutOfMemory, Stuck}
+use Rattle.run_output.specs.Output.{IsOutput}
+use Rattle.run_output.specs.Traces.{IsToBeAccepted, IsTraceOf}
+use Rattle.run_output.specs.declared.error.EngineError.{EngineError}
+use Rattle.run_output.specs.declared.error.EngineError.TheVariants.{Run, SinkFailed, Text}
 use Rattle.litmus_step.specs.Runs.{HasEnded, IsStuck, run_of, tasks_of}
-use Rattle.litmus_step.specs.declared.settings.Settings.{Settings}
-use Rattle.litmus_syntax.specs.Limits.{KeepsLimits}
-use Rattle.litmus_syntax.specs.Views.{program_of}
-use Rattle.litmus_syntax.specs.declared.error.ParseError.{ParseError}
-use Rattle.litmus_syntax.specs.declared.error.ParseError.TheVariants as parse
+use Rattle.litmus_step.specs.of_program_sites_declared.settings.Settings.{Settings}
 use Rattle.litmus_syntax.specs.declared.program.Program.{Program}
 use Rattle.program_layout.specs.Places.{AreFit}
 use Rattle.report_text.specs.ReportOf.{report_text}
 use Rattle.report_text.specs.Sink.{HoldsBeginning, appended}
 use Rattle.litmus_step.specs.of_run_headline_Headline.{Headline}
 use Rattle.litmus_step.specs.of_run_lists_Reports.{reports_of}
-use Rattle.litmus_step.specs.of_run_lists_Run.{Run}
+use Rattle.litmus_step.specs.of_run_lists_Run as lists
 use Rattle.litmus_step.specs.of_run_lists_RunList.{AllHaveEnded, RunList}
-use Rattle.litmus_step.specs.of_run_kept_Totals.{CountsList, IsUnbalanced}
-use Rattle.run_output.specs.Output.{output_text}
-use Rattle.run_output.specs.of_slot_table_declared.records.Record.{Record}
+use Rattle.litmus_step.specs.of_slot_table_declared.records.Record.{Record}
 use Rattle.step_schedule.specs.Order.{AreAsked, IsOrder, Tasks}
 use Rattle.step_schedule.specs.Schedule.{names_stranger}
 use Rattle.step_schedule.specs.declared.schedule.Entry.{Entry}
-use Rattle.run_output.specs.of_task_log_declared.counters.Counters.{Counters}
-use Rattle.traced_worlds.specs.Traces.{IsToBeAccepted, IsTraceOf}
-
--- what the engine answers for a text that is refused
-abbrev pub parse_fault : ParseError → EngineError
-parse_fault parse.OutOfMemory = engine.OutOfMemory
-parse_fault (parse.Syntax line) = engine.Syntax line
-parse_fault (parse.Unsupported line) = engine.Unsupported line
-parse_fault (parse.Limit limit) = engine.Limit limit
-parse_fault parse.NotAscii = engine.NotAscii
-
--- a text is read as a program: it spells it, and the program keeps the limits
-pub record IsReadAs (text : List ℕ) (program : Program) : Type 0 where
-  pub spelled : SpellsProgram text (program_of program)
-  pub limits : KeepsLimits (program_of program)
+use Rattle.litmus_step.specs.of_task_log_declared.counters.Counters.{Counters}
 
 -- a task of the run that moves makes one step more; which tasks have ended, and which are stuck, is so by their steps. The latest step
 -- stands first.
-abbrev pub tasks_known : Run → Tasks (List Record)
+abbrev pub tasks_known : lists.Run → Tasks (List Record)
 tasks_known run = record {
   Moves = λ task before after. (made : Record) × (made.task ≡ task) × (after ≡ made ∷ before) × RunList run after;
   HasEnded = λ task records. HasEnded run task records;
@@ -52,26 +35,11 @@ tasks_known run = record {
 }
 
 -- from the first step on the tasks of the run were asked in the order of the schedule, and these are the steps that they made
-pub record AreStepped (run : Run) (entries : List Entry) (records : List Record) : Type 0 where
+pub record AreStepped (run : lists.Run) (entries : List Entry) (records : List Record) : Type 0 where
   pub list : RunList run records
   pub order : List ℕ
   pub in_order : IsOrder entries (tasks_of run) order
   pub asked : AreAsked (tasks_known run) (tasks_of run) [] order records
-
--- the trace of the list, under these settings
-abbrev pub IsTrace : Settings → {run : Run} {records : List Record} → RunList run records → List ℕ → Type 0
-IsTrace settings list bytes = IsTraceOf settings.slots settings.layout list bytes
-
--- the output of a list: its reports in order, its counters, and whether the condition of the program held at its end
-pub record IsOutput {run : Run} {records : List Record} (list : RunList run records) (output : List ℕ) : Type 0 where
-  pub counters : Counters
-  pub counters_are : CountsList list counters
-  pub unbalanced : ℕ
-  pub unbalanced_is : IsUnbalanced list unbalanced
-  pub held : Bool
-  pub held_is : IsTrue held ↔ HoldsAtEnd list
-  pub spelled : output ≡ output_text run.sites (reports_of list)
-      (record { counters = counters; unbalanced = unbalanced; held = held })
 
 -- What is left of one run of the program, under these settings and this schedule, in which all tasks ended: its output and its trace, if
 -- there is one, which `replay` accepts. There was a race if there is a report. And of that run the headline holds.
@@ -81,8 +49,8 @@ pub record Leaves (program : Program) (settings : Settings) (entries : List Entr
   pub records : List Record
   pub stepped : AreStepped (run_of program settings sites) entries records
   pub over : AllHaveEnded (run_of program settings sites) records
-  pub output_is : IsOutput stepped.list output
-  pub trace_is : IfSome trace (IsTrace settings stepped.list)
+  pub output_is : IsOutput stepped.list (reports_of stepped.list) output
+  pub trace_is : IfSome trace (IsTraceOf settings stepped.list (reports_of stepped.list))
   pub accepted : IfSome trace IsToBeAccepted
   pub raced_is : raced ≡ not (length (reports_of stepped.list) == 0)
   pub headline : Headline stepped.list
@@ -135,32 +103,21 @@ pub record GetsStuck (program : Program) (settings : Settings) (entries : List E
 
 -- why the run of a program has no output: want of memory, too few slots or too many, places that don't suit its variables, a
 -- schedule that names a task that isn't there, or a task that is stuck
-abbrev pub Stops : Program → Settings → List Entry → EngineError → Type 0
-Stops program settings entries engine.BadSlots = (settings.slots < 3) ⊎ (1024 < settings.slots)
-Stops program settings entries engine.OutOfMemory = Unit {0}
-Stops program settings entries (engine.Syntax line) = ⊥
-Stops program settings entries (engine.Unsupported line) = ⊥
-Stops program settings entries (engine.Limit limit) = ⊥
-Stops program settings entries engine.NotAscii = ⊥
-Stops program settings entries engine.BadPlace = ¬ AreFit program.variables settings.places.items
-Stops program settings entries (engine.Stuck task) = GetsStuck program settings entries task
-Stops program settings entries engine.BadSchedule = IsTrue (names_stranger (length program.tasks) entries)
-Stops program settings entries engine.SinkFailed = ⊥
+abbrev pub StopsRun : Program → Settings → List Entry → RunError → Type 0
+StopsRun program settings entries BadSlots = (settings.slots < 3) ⊎ (1024 < settings.slots)
+StopsRun program settings entries BadPlace = ¬ AreFit program.variables settings.places.items
+StopsRun program settings entries OutOfMemory = Unit {0}
+StopsRun program settings entries (Stuck task) = GetsStuck program settings entries task
+StopsRun program settings entries BadSchedule = IsTrue (names_stranger (length program.tasks) entries)
+StopsRun program settings entries NoThread = ⊥
 
--- a text gets this error where it is not read as a program
-abbrev pub IsOfText : EngineError → Type 0
-IsOfText engine.BadSlots = ⊥
-IsOfText engine.OutOfMemory = Unit {0}
-IsOfText (engine.Syntax line) = Unit {0}
-IsOfText (engine.Unsupported line) = Unit {0}
-IsOfText (engine.Limit limit) = Unit {0}
-IsOfText engine.NotAscii = Unit {0}
-IsOfText engine.BadPlace = ⊥
-IsOfText (engine.Stuck task) = ⊥
-IsOfText engine.BadSchedule = ⊥
-IsOfText engine.SinkFailed = ⊥
+abbrev pub Stops : Program → Settings → List Entry → EngineError → Type 0
+Stops program settings entries (Text error) = ⊥
+Stops program settings entries (Run error) = StopsRun program settings entries error
+Stops program settings entries SinkFailed = ⊥
 
 -- why a text has no output: it is not read as a program, or the program's run has none. Of a sink that fails other clauses speak.
 abbrev pub IsRefused : (text : List ℕ) → Settings → List Entry → EngineError → Type 0
-IsRefused text settings entries error =
-    IsOfText error ⊎ ((program : Program) × IsReadAs text program × Stops program settings entries error)
+IsRefused text settings entries (Text error) = Unit {0}
+IsRefused text settings entries (Run error) = (program : Program) × IsReadAs text program × StopsRun program settings entries error
+IsRefused text settings entries SinkFailed = ⊥

@@ -4,26 +4,27 @@ ghost use Rattle.std.specs.Prelude.{◌≡◌, ◌≢◌, ◌≤◌, ◌⊎◌, 
 ghost use Rattle.command_words.specs.Bounds.{KeepsBounds, KeepsRunBounds, MayBeAsked};
 ghost use Rattle.command_words.specs.Words.{AskForHelp, MayFail};
 ghost use Rattle.clap.specs.Words.{kind_of};
-ghost use Rattle.litmus_command.specs.Command.{AskForOne, AskSettings, AsksFor, EndsAs, HelpIsCut, HelpIsGiven, IsCut, IsDone, IsOfFile, IsRefusedOf};
-ghost use Rattle.litmus_command.specs.Command.{NothingIsWritten, ReplayIsCut, ReplayIsRefused, RunIsCut, RunIsDone, RunIsRefused};
-ghost use Rattle.litmus_command.specs.Command.{StepIsCut, StepIsDone, StepIsRefused, engine_status_of, read_failure, run_status_of, runs_status_of};
-ghost use Rattle.litmus_command.specs.Command.{settings_of, state_of, status_of, text_status_of, times_of, trace_status_of, with_trace};
-ghost use Rattle.litmus_command.specs.declared.command.Failure.TheVariants.{Engine, OutOfMemory, Runs, Trace};
+ghost use Rattle.litmus_command.specs.Command.{AreLeft, AskForOne, AskSettings, AsksFor, EndsAs, FileIsRefused, FileIsRun, FileIsRunInPart};
+ghost use Rattle.litmus_command.specs.Command.{HelpIsCut, HelpIsGiven, IsCut, IsDone, IsGiven, IsGivenInPart, IsLeft, IsOfFile, IsRefusedOf};
+ghost use Rattle.litmus_command.specs.Command.{NothingIsWritten, ReplayIsCut, ReplayIsRefused, RunRefuses, StepRefuses};
+ghost use Rattle.litmus_command.specs.Command.{engine_status_of, read_failure, run_status_of, settings_of, state_of, status_of, text_status_of};
+ghost use Rattle.litmus_command.specs.Command.{times_of, trace_status_of, with_trace};
+ghost use Rattle.litmus_command.specs.declared.command.Failure.TheVariants.{Engine, OutOfMemory, Trace};
 ghost use Rattle.report_text.specs.Sink.{CountsFailure};
 ghost use Rattle.std.specs.Option.{option_map};
 ghost use Rattle.step_schedule.specs.Schedule.{entries_of};
 
 use crate::desk::{Desk, ReadFault};
-use crate::engine::{EngineError, run_text};
+use crate::engine::run_text;
 use crate::replay::replayed;
 use clap::error::ErrorKind;
 use command_words::{ReplayRequest, Request, RunOptions, RunRequest, StepRequest, asked};
 use litmus_parse::{FILE_BYTES, ParseError};
-use litmus_step::Settings;
+use litmus_step::{RunError, Settings};
 use place_list::parse_places;
 use program_layout::Place;
-use run_tally::{RunsError, Times, run_text_often};
-use runner::RunError;
+use run_output::{EngineError, Written};
+use run_tally::{Times, run_text_often};
 use std::alloc::{AllocError, Global};
 use std::convert::AsStr;
 use std::sync::Wait;
@@ -72,8 +73,6 @@ enum Failure {
     #[error("{0}")]
     Engine(EngineError),
     #[error("{0}")]
-    Runs(RunsError),
-    #[error("{0}")]
     Trace(TraceError),
 }
 
@@ -104,14 +103,6 @@ impl From<EngineError> for Failure {
     }
 }
 
-impl From<RunsError> for Failure {
-    ghost from_gives = { λ error failure. failure ≡ Runs error };
-
-    fn from(error: RunsError) -> Failure {
-        Failure::Runs(error)
-    }
-}
-
 impl From<TraceError> for Failure {
     ghost from_gives = { λ error failure. failure ≡ Trace error };
 
@@ -131,25 +122,8 @@ impl Failure {
             Failure::CannotWrite => UNWRITABLE,
             Failure::OutOfMemory => OUT_OF_MEMORY,
             Failure::Engine(error) => engine_status(error),
-            Failure::Runs(error) => runs_status(error),
             Failure::Trace(error) => trace_status(error),
         }
-    }
-}
-
-/// The status for a file that could not be stepped.
-fn engine_status(error: EngineError) -> u8
-    ensures { result ≡ engine_status_of error }
-{
-    match error {
-        EngineError::OutOfMemory => OUT_OF_MEMORY,
-        EngineError::Syntax { .. }
-        | EngineError::Unsupported { .. }
-        | EngineError::Limit(_)
-        | EngineError::NotAscii => REFUSED,
-        EngineError::Stuck { .. } => STUCK,
-        EngineError::BadSlots | EngineError::BadPlace | EngineError::BadSchedule => USAGE,
-        EngineError::SinkFailed => UNWRITABLE,
     }
 }
 
@@ -166,24 +140,25 @@ fn text_status(error: ParseError) -> u8
     }
 }
 
-/// The status for a program that can't be run on threads, or whose run doesn't come to its end.
+/// The status for a program that can't be run, or whose run doesn't come to its end.
 fn run_status(error: RunError) -> u8
     ensures { result ≡ run_status_of error }
 {
     match error {
-        RunError::BadSlots | RunError::BadPlace => USAGE,
+        RunError::BadSlots | RunError::BadPlace | RunError::BadSchedule => USAGE,
         RunError::OutOfMemory | RunError::NoThread => OUT_OF_MEMORY,
         RunError::Stuck { .. } => STUCK,
     }
 }
 
-/// The status for a file that could not be run on threads.
-fn runs_status(error: RunsError) -> u8
-    ensures { result ≡ runs_status_of error }
+/// The status for a file that has no output.
+fn engine_status(error: EngineError) -> u8
+    ensures { result ≡ engine_status_of error }
 {
     match error {
-        RunsError::Text(error) => text_status(error),
-        RunsError::Run(error) => run_status(error),
+        EngineError::Text(error) => text_status(error),
+        EngineError::Run(error) => run_status(error),
+        EngineError::SinkFailed => UNWRITABLE,
     }
 }
 
@@ -330,7 +305,6 @@ fn keep_trace<D: Desk>(
     ensures failed { IfErr result (λ failure.
         (status_of failure ≡ 74) × CountsFailure (D.failures desk.old) (D.failures desk.new)) }
     ensures works { OnOk result (D.failures desk.new ≡ D.failures desk.old) }
-    ensures asked { OnErr result (is_some path.entry ≡ true) }
     ensures there { OnErr result (is_some trace.now ≡ true) }
 {
     match path {
@@ -345,34 +319,44 @@ fn keep_trace<D: Desk>(
     }
 }
 
-/// Steps a file, and writes the trace, if it is asked for, and then what is found. Whether there was a report.
+/// Gives what is left of runs: the trace, if it is asked for and there is one, and then the output. Whether there was a report.
+fn give<D: Desk>(path: Option<&str>, written: &Written, desk: &mut D) -> Result<bool, Failure>
+    ensures raced { IfOk result (λ raced. raced ≡ written.now.raced) }
+    ensures given { OnOk result (IsGiven (option_map (λ path. path.now) path.entry) written.now.output.items
+        (option_map (λ bytes. bytes.items) written.now.trace) (state_of D.written D.failures D.files desk.old)
+        (state_of D.written D.failures D.files desk.new)) }
+    ensures failed { IfErr result (λ failure.
+        (status_of failure ≡ 74) × CountsFailure (D.failures desk.old) (D.failures desk.new)) }
+    ensures part { OnErr result (IsGivenInPart (option_map (λ path. path.now) path.entry) written.now.output.items
+        (option_map (λ bytes. bytes.items) written.now.trace) (state_of D.written D.failures D.files desk.old)
+        (state_of D.written D.failures D.files desk.new)) }
+{
+    keep_trace(path, &written.trace, desk)?;
+    match desk.print(written.output.as_slice()) {
+        Ok(()) => Ok(written.raced),
+        Err(_) => Err(Failure::CannotWrite),
+    }
+}
+
+/// Steps a file, and gives what is left of that. Whether there was a report.
 fn step<D: Desk>(alloc: Global, request: &StepRequest<'_>, desk: &mut D) -> Result<bool, Failure>
     requires { KeepsBounds request.now.options }
-    ensures done { IfOk result (λ raced. StepIsDone request.now raced (state_of D.written D.failures D.files desk.old)
+    ensures done { IfOk result (λ raced. FileIsRun request.now.file.now request.now.options (IsLeft request.now) raced (state_of D.written D.failures D.files desk.old)
         (state_of D.written D.failures D.files desk.new)) }
     ensures silent { IfErr result (λ failure. status_of failure ≢ 74
         → NothingIsWritten (state_of D.written D.failures D.files desk.old) (state_of D.written D.failures D.files desk.new)) }
     ensures failed { IfErr result (λ failure.
         status_of failure ≡ 74 → CountsFailure (D.failures desk.old) (D.failures desk.new)) }
     ensures cut { IfErr result (λ failure. status_of failure ≡ 74
-        → StepIsCut request.now (state_of D.written D.failures D.files desk.old) (state_of D.written D.failures D.files desk.new)) }
-    ensures refused { IfErr result (λ failure. IsOfFile (status_of failure) → StepIsRefused request.now (status_of failure)
+        → FileIsRunInPart request.now.file.now request.now.options (IsLeft request.now) (state_of D.written D.failures D.files desk.old) (state_of D.written D.failures D.files desk.new)) }
+    ensures refused { IfErr result (λ failure. IsOfFile (status_of failure) → FileIsRefused request.now.file.now (StepRefuses request.now) (status_of failure)
         (state_of D.written D.failures D.files desk.old) (state_of D.written D.failures D.files desk.new)) }
 {
     let (settings, schedule) = asked_for(alloc, request)?;
     let text = desk.read_file(alloc, request.file, FILE_BYTES)?;
-    let written = run_text(
-        alloc,
-        &text,
-        &settings,
-        &schedule,
-        request.options.trace.is_some(),
-    )?;
-    keep_trace(request.options.trace, &written.trace, desk)?;
-    match desk.print(written.output.as_slice()) {
-        Ok(()) => Ok(written.raced),
-        Err(_) => Err(Failure::CannotWrite),
-    }
+    let traced = request.options.trace.is_some();
+    let written = run_text(alloc, &text, &settings, &schedule, traced)?;
+    give(request.options.trace, &written, desk)
 }
 
 /// How often a program is run, and how, as it is asked for.
@@ -388,8 +372,7 @@ fn times_for(request: &RunRequest<'_>) -> Times
     }
 }
 
-/// Runs a file on threads, and writes the trace of the last run, if it is asked for, and then what is found of the runs. Whether
-/// there was a report.
+/// Runs a file on threads, and gives what is left of the runs. Whether there was a report.
 fn run<R: Threads + Wait + Sync, D: Desk>(
     rt: &R,
     alloc: Global,
@@ -397,27 +380,23 @@ fn run<R: Threads + Wait + Sync, D: Desk>(
     desk: &mut D,
 ) -> Result<bool, Failure>
     requires { KeepsRunBounds request.now }
-    ensures done { IfOk result (λ raced. RunIsDone request.now raced (state_of D.written D.failures D.files desk.old)
+    ensures done { IfOk result (λ raced. FileIsRun request.now.file.now request.now.options (AreLeft request.now) raced (state_of D.written D.failures D.files desk.old)
         (state_of D.written D.failures D.files desk.new)) }
     ensures silent { IfErr result (λ failure. status_of failure ≢ 74
         → NothingIsWritten (state_of D.written D.failures D.files desk.old) (state_of D.written D.failures D.files desk.new)) }
     ensures failed { IfErr result (λ failure.
         status_of failure ≡ 74 → CountsFailure (D.failures desk.old) (D.failures desk.new)) }
     ensures cut { IfErr result (λ failure. status_of failure ≡ 74
-        → RunIsCut request.now (state_of D.written D.failures D.files desk.old) (state_of D.written D.failures D.files desk.new)) }
-    ensures refused { IfErr result (λ failure. IsOfFile (status_of failure) → RunIsRefused request.now (status_of failure)
+        → FileIsRunInPart request.now.file.now request.now.options (AreLeft request.now) (state_of D.written D.failures D.files desk.old) (state_of D.written D.failures D.files desk.new)) }
+    ensures refused { IfErr result (λ failure. IsOfFile (status_of failure) → FileIsRefused request.now.file.now (RunRefuses request.now) (status_of failure)
         (state_of D.written D.failures D.files desk.old) (state_of D.written D.failures D.files desk.new)) }
 {
     let settings = settings_for(alloc, &request.options)?;
-    let litmus = desk.read_file(alloc, request.file, FILE_BYTES)?;
+    let text = desk.read_file(alloc, request.file, FILE_BYTES)?;
     let times = times_for(request);
     let traced = request.options.trace.is_some();
-    let written = run_text_often(rt, alloc, &litmus, &settings, times, traced, &*desk)?;
-    keep_trace(request.options.trace, &written.trace, desk)?;
-    match desk.print(written.output.as_slice()) {
-        Ok(()) => Ok(written.raced),
-        Err(_) => Err(Failure::CannotWrite),
-    }
+    let written = run_text_often(rt, alloc, &text, &settings, times, traced, &*desk)?;
+    give(request.options.trace, &written, desk)
 }
 
 /// Checks a trace, and writes what is said of one that is accepted. No report is told of.

@@ -5,7 +5,7 @@
 pub mod command;
 pub mod desk;
 pub mod engine;
-pub mod finals;
 pub mod replay;
 
+pub use run_output::EngineError;
 pub use run_tally::Progress;

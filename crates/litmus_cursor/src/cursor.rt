@@ -224,18 +224,6 @@ impl<'a> Cursor<'a> {
         found
     }
 
-    /// Takes the word, if it is next.
-    pub fn accept_word(&mut self, word: Word) -> bool
-        ensures moves { IsTrue result → count_left self.new < count_left self.old }
-        ensures stays { count_left self.new ≤ count_left self.old }
-    {
-        let found = self.word() == Some(word);
-        if found {
-            self.advance();
-        }
-        found
-    }
-
     /// Takes the sign.
     #[tactic(auto, unfolding(crate::specs::Front::take_sign))]
     pub fn take(&mut self, sign: Sign) -> Result<(), Refusal>

@@ -3,6 +3,7 @@ pub mod Mentions
 pub mod Headers
 pub mod Conditions
 pub mod Grammar
+pub mod Read
 pub mod HeaderReader
 pub mod ConditionReader
 pub mod VariableReader

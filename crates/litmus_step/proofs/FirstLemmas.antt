@@ -28,7 +28,7 @@ use Rattle.step_bounds.specs.of_run_lists_RunList.{InWrittenOrder, RunList}
 use Rattle.task_laws.specs.Fits.{ArePlaced}
 use Rattle.litmus_step.specs.Leads.{LeadsTask}
 use Rattle.litmus_step.specs.Runs.{CanBeMade, run_of, tasks_of}
-use Rattle.litmus_step.specs.declared.settings.Settings.{Settings}
+use Rattle.program_sites.specs.declared.settings.Settings.{Settings}
 use Rattle.task_run.specs.Leads as task_run
 use Rattle.task_run.specs.declared.run.TaskRun.{TaskRun}
 use Rattle.written_tellings.specs.of_written_order_Standing as standing

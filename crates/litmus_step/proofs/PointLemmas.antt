@@ -19,7 +19,7 @@ use Rattle.slot_table.specs.declared.step.Step.{Step}
 use Rattle.litmus_step.proofs.KeptLemmas.{OneMoreIsNoted, OthersAreNoted}
 use Rattle.litmus_step.proofs.MakeLemmas.{SaysBegin}
 use Rattle.litmus_step.proofs.StepLemmas.{by_task, own_reversed, same_some, set_here, set_other}
-use Rattle.litmus_step.specs.Leads.{AreAtPoints, IsAtPoint, IsNotStuck, LeadsTask, steps_noted}
+use Rattle.litmus_step.specs.Leads.{AreAtPoints, IsAtPoint, LeadsTask, steps_noted}
 use Rattle.litmus_step.specs.Readers.{IsNext, some_access, some_begins, steps_by, steps_told}
 use Rattle.litmus_step.specs.Steps.{IsMachine, LeadsTo}
 use Rattle.litmus_step.specs.declared.world.World.{World}
@@ -61,10 +61,10 @@ noted_so s registers body records written (latest ∷ earlier) (one ∷ before) 
     (noted_so s registers body records written earlier before are.0))
 
 -- what is kept of the last steps is kept of one step more
-abbrev pub PointsOn : TaskRun → TaskRun → Type 0
-PointsOn old after = (s : Setting) (registers : ℕ) (body : Block) (records : List Record)
+abbrev pub PointsOn : TaskRun → TaskRun → Step → Type 0
+PointsOn old after step = (s : Setting) (registers : ℕ) (body : Block) (records : List Record)
     → (leads : Leads s registers body records old)
-    → (step : Step) (begins : Option Begun) (steps : List Stepped) → Says old step → (¬ IsStuck leads)
+    → (begins : Option Begun) (steps : List Stepped)
     → BeginsNext s leads.part (stands_at leads []) leads.mine begins → HasMade steps old
     → HasMade (record { step = step; begins = is_some begins } ∷ steps) after
 
@@ -108,17 +108,17 @@ StepsPoint = (run : Run) (records : List Record) (task : ℕ) (old after : TaskR
 -- in a world after one step more
 pub world_points : StepsPoint → (world : World) (task : ℕ) (step : Step) (answer : Answer) (old read after : TaskRun)
     (begins : Option Begun) (fell : Option Outcome)
-    → IsMachine world task old → read ≡ old → Says old step → IsNotStuck old → SaysBegin old begins → FellAt old fell answer
-    → PointsOn read after
+    → IsMachine world task old → read ≡ old → Says old step → SaysBegin old begins → FellAt old fell answer
+    → PointsOn read after step
     → (run : Run) (records : List Record) → LeadsTo run records world → (list : RunList run (made task step answer ∷ records))
     → AreAtPoints list (set world.tasks.items task after)
-world_points point world task step answer old read after begins fell stands same says free begun fallen on run records leads list =
+world_points point world task step answer old read after begins fell stands same says begun fallen on run records leads list =
     let led = leads.tasks.each task old stands in
     let there = slice_get_within world.tasks.items task old stands in
-    let on_old = subst (λ (machine : TaskRun). PointsOn machine after) same on in
+    let on_old = subst (λ (machine : TaskRun). PointsOn machine after step) same on in
     point run records task old after step answer begins fell world.tasks.items leads.list list led says (begun _ _ _ _ led) fallen
     leads.points stands there
-    (λ steps has. on_old _ _ _ _ led step begins steps says (free _ _ _ _ led) (begun _ _ _ _ led []) has)
+    (λ steps has. on_old _ _ _ _ led begins steps (begun _ _ _ _ led []) has)
 
 -- the access that begins with the next step of a part, if one does
 pub begins_of : Part → Machine → Option Begun

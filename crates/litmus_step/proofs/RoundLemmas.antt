@@ -10,8 +10,8 @@ use Rattle.litmus_step.proofs.OrderLemmas.{one_more, some_more}
 use Rattle.litmus_step.proofs.TurnLemmas.{asked_both, asked_nothing, each_machine}
 use Rattle.litmus_step.specs.Steps.{IsFree, IsMachine, Tells, tasks_in}
 use Rattle.litmus_step.specs.Turns.{Asked, IsStuckAt, NobodyIsStuck, RunsOn, StopsAt}
-use Rattle.litmus_step.specs.declared.error.WorldError.{WorldError}
-use Rattle.litmus_step.specs.declared.error.WorldError.TheVariants as errors
+use Rattle.program_sites.specs.declared.error.RunError.{RunError}
+use Rattle.program_sites.specs.declared.error.RunError.TheVariants as errors
 use Rattle.litmus_step.specs.declared.world.Stepped.{Stepped}
 use Rattle.litmus_step.specs.declared.world.Stepped.TheVariants.{Ended, Moved, Stuck}
 use Rattle.litmus_step.specs.declared.world.World.{World}
@@ -74,7 +74,7 @@ pub asked_along : (first world : World) (order other : List ℕ) → order ≡ o
 asked_along first world order other same asked = subst (λ (o : List ℕ). Asked first o world) same asked
 
 -- a task is stuck once more tasks were asked
-pub stops_after : (first before after : World) (order more : List ℕ) (error : WorldError) → Asked first order before
+pub stops_after : (first before after : World) (order more : List ℕ) (error : RunError) → Asked first order before
     → StopsAt before more after error → StopsAt first (order ++ more) after error
 stops_after first before after order more error asked stops = record {
   task = stops.task;
@@ -88,7 +88,7 @@ stops_after first before after order more error asked stops = record {
 }
 
 -- so it is where more were to be asked
-pub stops_before : (first after : World) (order more all : List ℕ) (error : WorldError) → order ++ more ≡ all
+pub stops_before : (first after : World) (order more all : List ℕ) (error : RunError) → order ++ more ≡ all
     → StopsAt first order after error → StopsAt first all after error
 stops_before first after order more all error same stops = record {
   task = stops.task;
@@ -124,7 +124,7 @@ runs_nowhere world entries = record {
   asked = asked_nothing world;
 }
 
-pub runs_in_entries : (first after : World) (entries : List Entry) (error : WorldError) → StopsAt first (asked_by entries) after error
+pub runs_in_entries : (first after : World) (entries : List Entry) (error : RunError) → StopsAt first (asked_by entries) after error
     → RunsOn first entries after
 runs_in_entries first after entries error stops = record {
   order = stops.front;
@@ -132,7 +132,7 @@ runs_in_entries first after entries error stops = record {
   asked = stops.asked;
 }
 
-pub runs_in_turn : {T : Type 0} (first between after : World) (entries : List Entry) (result : Result T WorldError)
+pub runs_in_turn : {T : Type 0} (first between after : World) (entries : List Entry) (result : Result T RunError)
     → Asked first (asked_by entries) between → tasks_in between ≡ tasks_in first
     → OnOk result ((rounds : ℕ) × Asked between (in_rounds (tasks_in between) rounds) after)
     → IfErr result (λ error. (rounds : ℕ) × StopsAt between (in_rounds (tasks_in between) rounds) after error)
@@ -155,7 +155,7 @@ runs_in_turn first between after entries (Err error) asked same on err = record 
 }
 
 -- the task that an error names is the one that is stuck
-pub stuck_by : (world : World) (error : WorldError) (named : ℕ) (task : ℕ) → error ≡ errors.Stuck named → error ≡ errors.Stuck task
+pub stuck_by : (world : World) (error : RunError) (named : ℕ) (task : ℕ) → error ≡ errors.Stuck named → error ≡ errors.Stuck task
     → named < tasks_in world → IsStuckAt world named → (task < tasks_in world) × IsStuckAt world task
 stuck_by world error named task is same below stuck =
     let one : named ≡ task = same_task named task (sym is ∙ same) in
@@ -164,10 +164,10 @@ stuck_by world error named task is same below stuck =
     same_task : (x y : ℕ) → errors.Stuck x ≡ errors.Stuck y → x ≡ y
     same_task x y e = cc
 
-pub same_error : {T : Type 0} (result : Result T WorldError) (one other : WorldError) → result ≡ Err one → result ≡ Err other → one ≡ other
+pub same_error : {T : Type 0} (result : Result T RunError) (one other : RunError) → result ≡ Err one → result ≡ Err other → one ≡ other
 same_error result one other is_one is_other = cc
 
-pub stuck_in_turn : {T : Type 0} (between after : World) (result : Result T WorldError) (task : ℕ)
+pub stuck_in_turn : {T : Type 0} (between after : World) (result : Result T RunError) (task : ℕ)
     → IfErr result (λ error. (rounds : ℕ) × StopsAt between (in_rounds (tasks_in between) rounds) after error)
     → result ≡ Err (errors.Stuck task) → (task < tasks_in after) × IsStuckAt after task
 stuck_in_turn between after (Ok value) task err is = absurd (cc)

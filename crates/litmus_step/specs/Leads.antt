@@ -81,14 +81,8 @@ pub record MakesNext (machine : TaskRun) (step : Step) : Type 0 where
       → (answer : Answer)
       → WithinTurns s.rules.turns (reverse (records ++ made s.text.task step answer ∷ []))
 
--- whatever records lead to the machine, it is in no wait with as many vain tries as are allowed
-abbrev pub IsNotStuck : TaskRun → Type 0
-IsNotStuck machine = (s : Setting) (registers : ℕ) (body : Block) (records : List Record)
-    → (leads : task_run.Leads s registers body records machine) → ¬ task_run.IsStuck leads
-
 -- so it is of the machine of a task
 pub record MakesNextIn (machines : List TaskRun) (task : ℕ) (step : Step) : Type 0 where
   pub machine : TaskRun
   pub stands : slice_get machines task ≡ Some machine
   pub makes : MakesNext machine step
-  pub free : IsNotStuck machine

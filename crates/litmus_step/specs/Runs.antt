@@ -9,8 +9,8 @@ use Rattle.step_bounds.specs.of_run_lists_Run.{Run, task_of, task_setting}
 use Rattle.slot_table.specs.Records.{records_of}
 use Rattle.slot_table.specs.declared.records.Record.{Record}
 use Rattle.task_laws.specs.Fits.{ArePlaced}
-use Rattle.litmus_step.specs.Settings.{rules_of}
-use Rattle.litmus_step.specs.declared.settings.Settings.{Settings}
+use Rattle.program_sites.specs.Settings.{rules_of}
+use Rattle.program_sites.specs.declared.settings.Settings.{Settings}
 use Rattle.written_tellings.specs.of_written_order_Waits as waits
 use Rattle.written_tellings.specs.of_written_order_WrittenOrder.{SpellsAll}
 

@@ -7,8 +7,8 @@ use Rattle.step_schedule.specs.Order.{AreAsked, IsOrder, Tasks}
 use Rattle.step_schedule.specs.declared.schedule.Entry.{Entry}
 use Rattle.litmus_step.specs.Runs.{HasEnded, IsStuck, tasks_of}
 use Rattle.litmus_step.specs.Steps.{IsFree, IsMachine, LeadsTo, tasks_in}
-use Rattle.litmus_step.specs.declared.error.WorldError.{WorldError}
-use Rattle.litmus_step.specs.declared.error.WorldError.TheVariants as errors
+use Rattle.program_sites.specs.declared.error.RunError.{RunError}
+use Rattle.program_sites.specs.declared.error.RunError.TheVariants as errors
 use Rattle.litmus_step.specs.declared.world.World.{World}
 use Rattle.task_run.specs.declared.run.TaskRun.{TaskRun}
 
@@ -60,7 +60,7 @@ AllHaveEnded world = (run : Run) (records : List Record) → LeadsTo run records
     → run_lists.AllHaveEnded run records
 
 -- the error is that a task is stuck, which is so now, once tasks were asked in this order or a beginning of it
-pub record StopsAt (before : World) (order : List ℕ) (after : World) (error : WorldError) : Type 0 where
+pub record StopsAt (before : World) (order : List ℕ) (after : World) (error : RunError) : Type 0 where
   pub task : ℕ
   pub is : error ≡ errors.Stuck task
   pub there : task < tasks_in after

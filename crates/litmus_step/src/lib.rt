@@ -1,15 +1,14 @@
 //! A whole litmus program, one step at a time: its tasks take turns on the words that they share.
 #![tactic(auto)]
 
-pub mod error;
 pub mod first;
 pub mod laws;
 pub mod logs;
+pub mod ran;
 mod readers;
 mod schedules;
-pub mod settings;
 pub mod world;
 
-pub use error::WorldError;
-pub use settings::Settings;
+pub use program_sites::{Prepared, RunError, Settings};
+pub use ran::Ran;
 pub use world::{Stepped, World};

@@ -1,19 +1,43 @@
 //! What is kept of the steps of all tasks.
 
-ghost use Rattle.std.specs.Prelude.{◌≡◌, IfErr, IfOk, List};
-ghost use Rattle.litmus_step.specs.Kept.{AreLogs};
+ghost use Rattle.std.specs.Prelude.{◌≡◌, IfOk, List, Option, vec_capacity};
+ghost use Rattle.litmus_step.specs.Kept.{Added, AreLogs, IsNotedIn};
 ghost use Rattle.litmus_syntax.specs.Limits.{KeepsLimits};
 ghost use Rattle.step_bounds.specs.of_run_lists_Run.{Run};
 ghost use Rattle.step_bounds.specs.of_run_lists_RunList.{RunList};
 ghost use Rattle.run_kept.specs.Lists.{AreAccesses, AreArms, AreTakes};
 ghost use Rattle.run_kept.specs.Totals.{CountsList};
 ghost use Rattle.slot_table.specs.declared.records.Record.{Record};
+ghost use Rattle.task_log.specs.Keeps.{room_in};
 
-use crate::error::WorldError;
 use crate::laws::{logs_count_the_list, logs_give_what_the_list_has};
-use access_types::{Arm, Stamped, Take};
-use std::alloc::Global;
-use task_log::{Counters, TaskLog};
+use access_types::{Arm, Report, Stamped, Take};
+use std::alloc::{AllocError, Global};
+use task_log::{Counters, Noted, TaskLog};
+
+/// A report, if there is one, is kept where there is room for it.
+fn add(reports: &mut Vec<Report>, report: Option<Report>)
+    ensures added { Added report (vec_capacity reports.old) reports.old.items reports.new.items }
+    ensures room { vec_capacity reports.new ≡ vec_capacity reports.old }
+{
+    let Some(report) = report else {
+        return;
+    };
+    if reports.len() < reports.capacity() {
+        reports.push_reserved(report);
+    }
+}
+
+/// A step of a task is noted, and what is reported at it is kept.
+pub fn note(log: &mut TaskLog, reports: &mut Vec<Report>, noted: &Noted)
+    ensures noted { (report : Option Report) × IsNotedIn log.old noted.now log.new report
+        × Added report (vec_capacity reports.old) reports.old.items reports.new.items }
+    ensures room { vec_capacity reports.new ≡ vec_capacity reports.old }
+    ensures log { room_in log.new ≡ room_in log.old }
+{
+    let report = log.note(noted);
+    add(reports, report);
+}
 
 /// How often each thing came of the checks of all tasks.
 pub fn counters_of(logs: &[TaskLog]) -> Counters
@@ -28,10 +52,9 @@ pub fn counters_of(logs: &[TaskLog]) -> Counters
 }
 
 /// The accesses that have ended, by task, and then in the order of their begins.
-pub fn accesses_of(alloc: Global, logs: &[TaskLog]) -> Result<Vec<Stamped>, WorldError>
-    ensures all { (run : Run) (records : List Record) → (list : RunList run records) → KeepsLimits run.program → AreLogs list logs.now
+pub fn accesses_of(alloc: Global, logs: &[TaskLog]) -> Result<Vec<Stamped>, AllocError>
+    ensures { (run : Run) (records : List Record) → (list : RunList run records) → KeepsLimits run.program → AreLogs list logs.now
         → IfOk result (λ all. AreAccesses list all.items) }
-    ensures errors { IfErr result (λ error. error ≡ WorldError.OutOfMemory) }
 {
     logs_give_what_the_list_has();
     let mut all = Vec::new(alloc);
@@ -42,10 +65,9 @@ pub fn accesses_of(alloc: Global, logs: &[TaskLog]) -> Result<Vec<Stamped>, Worl
 }
 
 /// The armings that are over, by task, and then in the order of their removes.
-pub fn arms_of(alloc: Global, logs: &[TaskLog]) -> Result<Vec<Arm>, WorldError>
-    ensures all { (run : Run) (records : List Record) → (list : RunList run records) → KeepsLimits run.program → AreLogs list logs.now
+pub fn arms_of(alloc: Global, logs: &[TaskLog]) -> Result<Vec<Arm>, AllocError>
+    ensures { (run : Run) (records : List Record) → (list : RunList run records) → KeepsLimits run.program → AreLogs list logs.now
         → IfOk result (λ all. AreArms list all.items) }
-    ensures errors { IfErr result (λ error. error ≡ WorldError.OutOfMemory) }
 {
     logs_give_what_the_list_has();
     let mut all = Vec::new(alloc);
@@ -56,10 +78,9 @@ pub fn arms_of(alloc: Global, logs: &[TaskLog]) -> Result<Vec<Arm>, WorldError>
 }
 
 /// The takings that are over, by task, and then in the order of their tells.
-pub fn takes_of(alloc: Global, logs: &[TaskLog]) -> Result<Vec<Take>, WorldError>
-    ensures all { (run : Run) (records : List Record) → (list : RunList run records) → KeepsLimits run.program → AreLogs list logs.now
+pub fn takes_of(alloc: Global, logs: &[TaskLog]) -> Result<Vec<Take>, AllocError>
+    ensures { (run : Run) (records : List Record) → (list : RunList run records) → KeepsLimits run.program → AreLogs list logs.now
         → IfOk result (λ all. AreTakes list all.items) }
-    ensures errors { IfErr result (λ error. error ≡ WorldError.OutOfMemory) }
 {
     logs_give_what_the_list_has();
     let mut all = Vec::new(alloc);

@@ -1,6 +1,7 @@
 //! What is read of a world.
 
-ghost use Rattle.std.specs.Prelude.{◌≡◌, ◌<◌, All, IfErr, IfOk, List};
+ghost use Rattle.std.specs.Prelude.{◌≡◌, ◌<◌, All, IfOk, List};
+ghost use Rattle.std.specs.Arc.{arc_value};
 ghost use Rattle.program_layout.specs.of_litmus_meaning_RunOfProgram.{RunOfProgram};
 ghost use Rattle.litmus_step.specs.Runs.{HasEnded};
 ghost use Rattle.run_headline.specs.Headline.{Headline};
@@ -11,16 +12,17 @@ ghost use Rattle.step_bounds.specs.of_run_lists_Run.{Run};
 ghost use Rattle.step_bounds.specs.of_run_lists_Told.{history_of};
 ghost use Rattle.slot_table.specs.declared.records.Record.{Record};
 
-use crate::error::WorldError;
 use crate::laws::{
     machines_stand_where_the_list_does, reports_have_room, worlds_tell_runs_of_the_program,
 };
 use crate::logs::{accesses_of, arms_of, counters_of, takes_of};
+use crate::ran::Ran;
 use crate::world::World;
 use access_types::{Arm, Report, Sites, Stamped, Take};
 use run_headline::histories::{cells_hold_the_content, reports_are_true};
 use run_headline::laws::the_headline_holds;
 use run_kept::logs::a_machine_says_what_begins;
+use std::alloc::AllocError;
 use task_log::Counters;
 use task_run::{After, Before};
 
@@ -56,6 +58,7 @@ impl<'a> World<'a> {
 
     /// What was reported so far, in order.
     pub fn reports(&self) -> &[Report]
+        ensures reports { result.now ≡ self.now.reports.items }
         ensures told { (run : Run) (records : List Record) → (leads : LeadsTo run records self.now) → result.now ≡ reports_of leads.list }
         ensures true_reports { (run : Run) (records : List Record) → (leads : LeadsTo run records self.now)
             → All (IsTrueReport leads.list) result.now }
@@ -79,9 +82,9 @@ impl<'a> World<'a> {
 
     /// The accesses that the program can make, by ticket.
     pub fn sites(&self) -> &Sites
-        ensures { result.now ≡ self.now.sites }
+        ensures { result.now ≡ arc_value self.now.sites }
     {
-        &self.sites
+        &*self.sites
     }
 
     /// The values of a task's registers, by number.
@@ -116,28 +119,25 @@ impl<'a> World<'a> {
     }
 
     /// The accesses that have ended, by task, and then in the order of their begins.
-    pub fn accesses(&self) -> Result<Vec<Stamped>, WorldError>
-        ensures all { (run : Run) (records : List Record) → (leads : LeadsTo run records self.now)
+    pub fn accesses(&self) -> Result<Vec<Stamped>, AllocError>
+        ensures { (run : Run) (records : List Record) → (leads : LeadsTo run records self.now)
             → IfOk result (λ all. AreAccesses leads.list all.items) }
-        ensures errors { IfErr result (λ error. error ≡ WorldError.OutOfMemory) }
     {
         accesses_of(self.alloc, self.logs.as_slice())
     }
 
     /// The armings that are over, by task, and then in the order of their removes.
-    pub fn arms(&self) -> Result<Vec<Arm>, WorldError>
-        ensures all { (run : Run) (records : List Record) → (leads : LeadsTo run records self.now)
+    pub fn arms(&self) -> Result<Vec<Arm>, AllocError>
+        ensures { (run : Run) (records : List Record) → (leads : LeadsTo run records self.now)
             → IfOk result (λ all. AreArms leads.list all.items) }
-        ensures errors { IfErr result (λ error. error ≡ WorldError.OutOfMemory) }
     {
         arms_of(self.alloc, self.logs.as_slice())
     }
 
     /// The takings that are over, by task, and then in the order of their tells.
-    pub fn takes(&self) -> Result<Vec<Take>, WorldError>
-        ensures all { (run : Run) (records : List Record) → (leads : LeadsTo run records self.now)
+    pub fn takes(&self) -> Result<Vec<Take>, AllocError>
+        ensures { (run : Run) (records : List Record) → (leads : LeadsTo run records self.now)
             → IfOk result (λ all. AreTakes leads.list all.items) }
-        ensures errors { IfErr result (λ error. error ≡ WorldError.OutOfMemory) }
     {
         takes_of(self.alloc, self.logs.as_slice())
     }
@@ -161,5 +161,55 @@ impl<'a> World<'a> {
             → result ≡ last_was (steps_told leads.list task) }
     {
         self.tasks[task].after()
+    }
+}
+
+impl<'a> Ran for World<'a> {
+    ghost use Rattle.litmus_step.specs.Steps.{LeadsTo, tasks_in as tasks_of_world};
+
+    ghost comes_of = { λ world run records. LeadsTo run records world };
+
+    ghost list_of = { λ world run records leads. leads.list };
+
+    ghost can = { λ world run records leads. leads.can };
+
+    ghost tasks_in = { λ world. tasks_of_world world };
+
+    ghost reports_in = { λ world. world.reports.items };
+
+    fn tasks(&self) -> usize {
+        World::tasks(self)
+    }
+
+    fn registers(&self, task: usize) -> &[u64] {
+        World::registers(self, task)
+    }
+
+    fn memory(&self) -> &[u64] {
+        World::memory(self)
+    }
+
+    fn reports(&self) -> &[Report] {
+        World::reports(self)
+    }
+
+    fn counters(&self) -> Counters {
+        World::counters(self)
+    }
+
+    fn unbalanced(&self) -> u64 {
+        World::unbalanced(self)
+    }
+
+    fn accesses(&self) -> Result<Vec<Stamped>, AllocError> {
+        World::accesses(self)
+    }
+
+    fn arms(&self) -> Result<Vec<Arm>, AllocError> {
+        World::arms(self)
+    }
+
+    fn takes(&self) -> Result<Vec<Take>, AllocError> {
+        World::takes(self)
     }
 }

@@ -8,8 +8,8 @@ ghost use Rattle.slot_table.specs.declared.records.Record.{Record};
 ghost use Rattle.step_schedule.specs.Order.{asked_by, in_rounds};
 ghost use Rattle.step_schedule.specs.Schedule.{entries_of, names_stranger};
 
-use crate::error::WorldError;
 use crate::world::{Stepped, World};
+use program_sites::RunError;
 use run_headline::laws::the_headline_holds;
 use step_bounds::laws::few_steps_are_made;
 use step_schedule::Schedule;
@@ -23,14 +23,14 @@ impl<'a> World<'a> {
     ///
     /// `BadSchedule`: it names a task that isn't there, and no step was made. `Stuck`: a wait of the
     /// task had as many vain tries as are allowed. The world stands where that was first so.
-    pub fn run(&mut self, schedule: &Schedule) -> Result<(), WorldError>
-        ensures bad_schedule { IsErrOf result WorldError.BadSchedule
+    pub fn run(&mut self, schedule: &Schedule) -> Result<(), RunError>
+        ensures bad_schedule { IsErrOf result RunError.BadSchedule
             ↔ IsTrue (names_stranger (tasks_in self.old) (entries_of schedule.now)) }
-        ensures unmoved { IsErrOf result WorldError.BadSchedule → self.new ≡ self.old }
-        ensures runs { result ≢ Err WorldError.BadSchedule → RunsOn self.old (entries_of schedule.now) self.new }
-        ensures stuck { (task : ℕ) → result ≡ Err (WorldError.Stuck task) → (task < tasks_in self.new) × IsStuckAt self.new task }
+        ensures unmoved { IsErrOf result RunError.BadSchedule → self.new ≡ self.old }
+        ensures runs { result ≢ Err RunError.BadSchedule → RunsOn self.old (entries_of schedule.now) self.new }
+        ensures stuck { (task : ℕ) → result ≡ Err (RunError.Stuck task) → (task < tasks_in self.new) × IsStuckAt self.new task }
         ensures over { OnOk result (AllHaveEnded self.new) }
-        ensures errors { IfErr result (λ error. (error ≡ WorldError.BadSchedule) ⊎ ((task : ℕ) × (error ≡ WorldError.Stuck task))) }
+        ensures errors { IfErr result (λ error. (error ≡ RunError.BadSchedule) ⊎ ((task : ℕ) × (error ≡ RunError.Stuck task))) }
         ensures tasks { tasks_in self.new ≡ tasks_in self.old }
         ensures sites { self.new.sites ≡ self.old.sites }
         ensures room { room_in self.new ≡ room_in self.old }
@@ -38,7 +38,7 @@ impl<'a> World<'a> {
     {
         the_headline_holds();
         if schedule.names_stranger(self.tasks.len() as u64) {
-            return Err(WorldError::BadSchedule);
+            return Err(RunError::BadSchedule);
         }
         self.nobody_is_stuck()?;
         self.entries(schedule)?;
@@ -46,21 +46,21 @@ impl<'a> World<'a> {
     }
 
     /// `Stuck`: some task is.
-    fn nobody_is_stuck(&self) -> Result<(), WorldError>
+    fn nobody_is_stuck(&self) -> Result<(), RunError>
         ensures free { OnOk result (NobodyIsStuck self.now) }
-        ensures stuck { IfErr result (λ error. (task : ℕ) × (error ≡ WorldError.Stuck task) × (task < tasks_in self.now)
+        ensures stuck { IfErr result (λ error. (task : ℕ) × (error ≡ RunError.Stuck task) × (task < tasks_in self.now)
             × IsStuckAt self.now task) }
     {
         for task in 0..self.tasks.len() {
             if self.tasks[task].stuck() {
-                return Err(WorldError::Stuck { task });
+                return Err(RunError::Stuck { task });
             }
         }
         Ok(())
     }
 
     /// The tasks make the steps that the schedule says.
-    fn entries(&mut self, schedule: &Schedule) -> Result<(), WorldError>
+    fn entries(&mut self, schedule: &Schedule) -> Result<(), RunError>
         requires named { names_stranger (tasks_in self.old) (entries_of schedule.now) ≡ false }
         requires nobody { NobodyIsStuck self.old }
         ensures asked { OnOk result (Asked self.old (asked_by (entries_of schedule.now)) self.new × NobodyIsStuck self.new) }
@@ -76,7 +76,7 @@ impl<'a> World<'a> {
     }
 
     /// A task makes so many steps, or those that it has left.
-    fn steps_of(&mut self, task: usize, count: u64) -> Result<(), WorldError>
+    fn steps_of(&mut self, task: usize, count: u64) -> Result<(), RunError>
         requires there { task < tasks_in self.old }
         requires nobody { NobodyIsStuck self.old }
         ensures asked { OnOk result (Asked self.old (replicate count task) self.new × NobodyIsStuck self.new) }
@@ -89,14 +89,14 @@ impl<'a> World<'a> {
             match self.step(task) {
                 Stepped::Moved => {}
                 Stepped::Ended => return Ok(()),
-                Stepped::Stuck => return Err(WorldError::Stuck { task }),
+                Stepped::Stuck => return Err(RunError::Stuck { task }),
             }
         }
         Ok(())
     }
 
     /// The tasks take turns, until all have ended, which they do long before so many rounds: each round makes a step.
-    fn rounds(&mut self) -> Result<(), WorldError>
+    fn rounds(&mut self) -> Result<(), RunError>
         requires { NobodyIsStuck self.old }
         ensures asked { OnOk result ((rounds : ℕ) × Asked self.old (in_rounds (tasks_in self.old) rounds) self.new) }
         ensures over { OnOk result (AllHaveEnded self.new) }
@@ -115,7 +115,7 @@ impl<'a> World<'a> {
     }
 
     /// Each task that has not ended makes one step, from task 0 on. Whether one goes on.
-    fn round(&mut self) -> Result<bool, WorldError>
+    fn round(&mut self) -> Result<bool, RunError>
         requires { NobodyIsStuck self.old }
         ensures asked { OnOk result (Asked self.old (range_with_len 0 (tasks_in self.old)) self.new × NobodyIsStuck self.new) }
         ensures ended { result ≡ Ok false → AllHaveEnded self.new }
@@ -130,7 +130,7 @@ impl<'a> World<'a> {
             match self.step(task) {
                 Stepped::Moved => goes_on = true,
                 Stepped::Ended => {}
-                Stepped::Stuck => return Err(WorldError::Stuck { task }),
+                Stepped::Stuck => return Err(RunError::Stuck { task }),
             }
         }
         Ok(goes_on)

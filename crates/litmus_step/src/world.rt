@@ -2,6 +2,7 @@
 
 ghost use Rattle.std.specs.Prelude.{◌≡◌, ◌≢◌, ◌<◌, ◌≤◌, ◌↔◌, ◌⊎◌, [], ℕ, List, Option, Some, IfErr, IfOk, IsErrOf, slice_get, slice_set};
 ghost use Rattle.std.specs.Prelude.{vec_capacity, vec_len};
+ghost use Rattle.std.specs.Arc.{arc_value};
 ghost use Rattle.litmus_syntax.specs.Limits.{KeepsLimits};
 ghost use Rattle.litmus_syntax.specs.Views.{program_of};
 ghost use Rattle.program_layout.specs.Places.{AreFit};
@@ -10,20 +11,23 @@ ghost use Rattle.step_bounds.specs.of_run_lists_Run.{Run};
 ghost use Rattle.slot_table.specs.declared.records.Record.{Record};
 ghost use Rattle.litmus_step.specs.Leads.{IsLedTo, MakesNextIn};
 ghost use Rattle.litmus_step.specs.Kept.{Added, IsNotedIn, rooms_of};
+ghost use Rattle.program_sites.specs.Prepared.{IsPrepared, IsReady, sites_in};
 ghost use Rattle.litmus_step.specs.Runs.{HasEnded, IsStuck, run_of};
-ghost use Rattle.litmus_step.specs.declared.error.WorldError.TheVariants.{BadPlace, BadSlots, OutOfMemory};
+ghost use Rattle.program_sites.specs.declared.error.RunError.TheVariants.{BadPlace, BadSlots};
+ghost use Rattle.program_sites.specs.Errors.{IsOfPreparing};
+ghost use Rattle.program_sites.specs.declared.settings.Settings.{Settings};
 ghost use Rattle.task_run.specs.declared.run.TaskRun.{TaskRun};
 
-use crate::error::WorldError;
 use crate::first::{WATCHES, first_board, first_logs, first_tasks};
 use crate::laws::{runs_begin, steps_are_kept, steps_lead_on};
-use crate::settings::Settings;
+use crate::logs::note;
 use access_types::{Report, Sites};
 use litmus_syntax::Program;
-use program_sites::sites_of;
+use program_sites::{Prepared, RunError, Settings};
 use run_headline::laws::the_headline_holds;
 use slot_table::{Board, PlainBoard, Step};
-use std::alloc::Global;
+use std::alloc::{AllocError, Global};
+use std::sync::Arc;
 use task_log::{Noted, TaskLog};
 use task_run::TaskRun;
 
@@ -46,26 +50,13 @@ pub struct World<'a> {
     pub(crate) tasks: Vec<TaskRun<'a>>,
     pub(crate) logs: Vec<TaskLog>,
     pub(crate) reports: Vec<Report>,
-    pub(crate) sites: Sites,
+    pub(crate) sites: Arc<Sites>,
     pub(crate) steps: u64,
     ghost led: { ∥ IsLedTo board tasks.items steps logs.items reports.items (vec_capacity reports) ∥₁ },
 }
 
-/// A report, if there is one, is kept where there is room for it.
-fn add(reports: &mut Vec<Report>, report: Option<Report>)
-    ensures added { Added report (vec_capacity reports.old) reports.old.items reports.new.items }
-    ensures room { vec_capacity reports.new ≡ vec_capacity reports.old }
-{
-    let Some(report) = report else {
-        return;
-    };
-    if reports.len() < reports.capacity() {
-        reports.push_reserved(report);
-    }
-}
-
-/// A step of a task is noted, and what is reported at it is kept.
-fn note(logs: &mut Vec<TaskLog>, reports: &mut Vec<Report>, task: usize, noted: &Noted)
+/// A step of a task is noted in its log, and what is reported at it is kept.
+fn note_in(logs: &mut Vec<TaskLog>, reports: &mut Vec<Report>, task: usize, noted: &Noted)
     requires { task < vec_len logs.old }
     ensures noted { (log : TaskLog) → slice_get logs.old.items task ≡ Some log
         → (after : TaskLog) × (report : Option Report) × IsNotedIn log noted.now after report
@@ -75,8 +66,7 @@ fn note(logs: &mut Vec<TaskLog>, reports: &mut Vec<Report>, task: usize, noted: 
     ensures logs { vec_capacity logs.new ≡ vec_capacity logs.old }
     ensures each { rooms_of logs.new.items ≡ rooms_of logs.old.items }
 {
-    let report = logs[task].note(noted);
-    add(reports, report);
+    note(&mut logs[task], reports, noted);
 }
 
 impl<'a> World<'a> {
@@ -90,22 +80,39 @@ impl<'a> World<'a> {
         alloc: Global,
         program: &'a Program,
         settings: &Settings,
-    ) -> Result<World<'a>, WorldError>
+    ) -> Result<World<'a>, RunError>
         requires { KeepsLimits (program_of program.now) }
-        ensures leads { IfOk result (λ world. LeadsTo (run_of program.now settings.now world.sites) [] world) }
+        ensures leads { IfOk result (λ world. LeadsTo (run_of program.now settings.now (arc_value world.sites)) [] world) }
         ensures bad_slots { IsErrOf result BadSlots → (settings.now.slots < 3 ⊎ 1024 < settings.now.slots) }
         ensures slots { IfOk result (λ _. (3 ≤ settings.now.slots) × (settings.now.slots ≤ 1024)) }
         ensures bad_place { IsErrOf result BadPlace ↔ (AreFit program.now.variables settings.now.places.items → ⊥) }
-        ensures errors { IfErr result (λ error. (error ≡ BadSlots) ⊎ ((error ≡ BadPlace) ⊎ (error ≡ OutOfMemory))) }
+        ensures errors { IfErr result IsOfPreparing }
+    {
+        let prepared = Prepared::new(alloc, program, settings)?;
+        let world = World::prepared(alloc, program, &prepared)?;
+        Ok(world)
+    }
+
+    /// A program that is made ready, before its first step. It takes all its room, and `step` and `run` take no memory.
+    pub fn prepared(
+        alloc: Global,
+        program: &'a Program,
+        prepared: &Prepared,
+    ) -> Result<World<'a>, AllocError>
+        requires limits { KeepsLimits (program_of program.now) }
+        requires ready { IsReady program.now prepared.now }
+        ensures leads { (settings : Settings) → IsPrepared program.now settings prepared.now
+            → IfOk result (λ world. LeadsTo (run_of program.now settings (arc_value world.sites)) [] world) }
+        ensures sites { IfOk result (λ world. arc_value world.sites ≡ sites_in prepared.now) }
     {
         runs_begin();
         steps_are_kept();
-        let board = first_board(alloc, program, settings)?;
-        let tasks = first_tasks(alloc, program, settings, &settings.rules())?;
+        let board = first_board(alloc, program, prepared)?;
+        let tasks = first_tasks(alloc, program, prepared)?;
         let count = program.tasks.as_slice().len();
         let logs = first_logs(alloc, count)?;
         let reports = Vec::with_capacity(alloc, count * WATCHES)?;
-        let sites = sites_of(alloc, program, settings.places.as_slice())?;
+        let sites = Arc::try_clone(&prepared.sites)?;
         Ok(World {
             alloc,
             board,
@@ -154,7 +161,7 @@ impl<'a> World<'a> {
         steps_are_kept();
         let begins = self.tasks[task].begins();
         let answer = self.board.step(step);
-        self.tasks[task].answer(answer);
+        self.tasks[task].answer(step, answer);
         let outcome = self.tasks[task].fell();
         self.steps = self.steps.saturating_add(1);
         let noted = Noted {
@@ -163,7 +170,7 @@ impl<'a> World<'a> {
             begins,
             outcome,
         };
-        note(&mut self.logs, &mut self.reports, task, &noted);
+        note_in(&mut self.logs, &mut self.reports, task, &noted);
     }
 
     /// What a task is now.
@@ -174,9 +181,9 @@ impl<'a> World<'a> {
         if self.tasks[task].stuck() {
             return Stepped::Stuck;
         }
-        match self.tasks[task].next() {
-            Some(_) => Stepped::Moved,
-            None => Stepped::Ended,
+        if self.tasks[task].is_over() {
+            return Stepped::Ended;
         }
+        Stepped::Moved
     }
 }

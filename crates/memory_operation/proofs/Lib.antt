@@ -1,6 +1,7 @@
 pub mod Tried
 pub mod WordLemmas
 pub mod EffectLemmas
+pub mod RefusalLemmas
 pub mod TurnLemmas
 pub mod LeadsLemmas
 pub mod LockLemmas

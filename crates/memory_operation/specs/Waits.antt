@@ -1,26 +1,14 @@
 -- How often a task has tried in vain, by its records.
-use Rattle.std.specs.Prelude.{◌+◌, ℕ, Bool, true, false, not, List, [], ◌∷◌, if◌then◌else◌}
+use Rattle.std.specs.Prelude.{◌≢◌, ◌+◌, ℕ, Bool, List, [], ◌∷◌, None, if◌then◌else◌}
+use Rattle.setup_access.specs.Waits.{is_vain}
 use Rattle.slot_table.specs.declared.records.Record.{Record}
 use Rattle.slot_table.specs.declared.step.Answer.{Answer}
-use Rattle.slot_table.specs.declared.step.Answer.TheVariants as answers
 use Rattle.slot_table.specs.declared.step.Step.{Step}
-use Rattle.slot_table.specs.declared.step.Step.TheVariants as steps
+use Rattle.slot_table.specs.declared.step.Step.TheVariants.{PairLoad}
 
--- an exchange that is refused answers the word that stands there
-abbrev pub is_word : Answer → Bool
-is_word (answers.Word word) = true
-is_word answer = false
-
--- a try of a lock that is refused answers so
-abbrev pub is_no : Answer → Bool
-is_no (answers.Flag accepted) = not accepted
-is_no answer = false
-
--- the step is an exchange of a cell, or a try of a lock, and was refused
+-- a step of an operation or of a wait for a lock was refused: a vain try, where no half of a pair is waited for
 abbrev pub is_refusal : Step → Answer → Bool
-is_refusal (steps.CellExchange cell seen new) answer = is_word answer
-is_refusal (steps.LockTry lock task) answer = is_no answer
-is_refusal step answer = false
+is_refusal = is_vain None
 
 abbrev pub is_refused : Record → Bool
 is_refused made = is_refusal made.step made.answer
@@ -34,3 +22,8 @@ vain_from tries (first ∷ later) = vain_from (if is_refused first then tries + 
 -- the same from the first record on
 abbrev pub vain_tries : List Record → ℕ
 vain_tries records = vain_from 0 records
+
+-- the records load no pair, as those of an operation and of a wait for a lock
+abbrev pub LoadNoPair : List Record → Type 0
+LoadNoPair [] = Unit {0}
+LoadNoPair (first ∷ later) = ((index : ℕ) → first.step ≢ PairLoad index) × LoadNoPair later

@@ -6,8 +6,10 @@ ghost use Rattle.memory_operation.specs.Effects.{did};
 ghost use Rattle.memory_operation.specs.Frames.{Framed};
 ghost use Rattle.memory_operation.specs.Locks.{TakesLock};
 ghost use Rattle.memory_operation.specs.Operations.{OperatesIn};
+ghost use Rattle.memory_operation.specs.Waits.{LoadNoPair, vain_tries};
 ghost use Rattle.memory_operation.specs.declared.effect.Effect.{Effect};
 ghost use Rattle.memory_operation.specs.declared.operation.Operation.{Operation};
+ghost use Rattle.setup_access.specs.Waits as checks;
 ghost use Rattle.setup_access.specs.declared.source.Source.{Source};
 ghost use Rattle.slot_table.specs.declared.records.Record.{Record};
 
@@ -26,4 +28,10 @@ pub fn effects_are_what_records_did()
 /// Law: the tries of a lock end where it is taken, whatever follows.
 pub fn tries_of_a_lock_are_framed()
     ensures { (task lock : ℕ) → Framed (λ records rest. TakesLock task lock records rest) }
+{}
+
+/// Law: where no pair is loaded, as in an operation and in a wait for a lock, as many refusals are counted as
+/// vain tries.
+pub fn refusals_are_vain_tries()
+    ensures { (records : List Record) → LoadNoPair records → vain_tries records ≡ checks.vain_tries records }
 {}

@@ -1,9 +1,19 @@
--- Why there are no accesses, by why there is no layout.
+-- Why a program can't be made ready.
 use Rattle.program_layout.specs.declared.layout.LayoutError.{LayoutError}
 use Rattle.program_layout.specs.declared.layout.LayoutError.TheVariants as layouts
-use Rattle.program_sites.specs.declared.sites.SitesError.{SitesError}
-use Rattle.program_sites.specs.declared.sites.SitesError.TheVariants.{BadPlace, OutOfMemory}
+use Rattle.program_sites.specs.declared.error.RunError.{RunError}
+use Rattle.program_sites.specs.declared.error.RunError.TheVariants.{BadPlace, BadSchedule, BadSlots, NoThread, OutOfMemory, Stuck}
 
-abbrev pub of_layout : LayoutError → SitesError
+-- by why there is no layout
+abbrev pub of_layout : LayoutError → RunError
 of_layout layouts.BadPlace = BadPlace
 of_layout layouts.OutOfMemory = OutOfMemory
+
+-- the settings don't suit the program, or memory is wanting: nothing of a run is said
+abbrev pub IsOfPreparing : RunError → Type 0
+IsOfPreparing BadSlots = Unit {0}
+IsOfPreparing BadPlace = Unit {0}
+IsOfPreparing OutOfMemory = Unit {0}
+IsOfPreparing (Stuck task) = ⊥
+IsOfPreparing BadSchedule = ⊥
+IsOfPreparing NoThread = ⊥

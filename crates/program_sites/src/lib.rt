@@ -1,8 +1,15 @@
-//! The accesses that a litmus program can make, by their tickets.
+//! What a litmus program comes to under the settings of its runs: the accesses that it can make, by their tickets, and what else all its
+//! runs go by.
 #![tactic(auto)]
 
+pub mod error;
 pub mod laws;
+pub mod prepared;
+pub mod settings;
 pub mod sites;
 
+pub use error::RunError;
 pub use laws::accesses_are_in_limits;
-pub use sites::{SitesError, sites_of};
+pub use prepared::Prepared;
+pub use settings::Settings;
+pub use sites::sites_of;

@@ -1,6 +1,6 @@
 //! All accesses that a program can make: at each site of a task one for each time that it can begin there.
 
-ghost use Rattle.std.specs.Prelude.{◌≡◌, ◌+◌, ◌^◌, ◌<◌, ◌≤◌, ◌↔◌, IfOk, IsErrOf, OnOk};
+ghost use Rattle.std.specs.Prelude.{◌≡◌, ◌+◌, ◌^◌, ◌<◌, ◌≤◌, ◌↔◌, ◌⊎◌, IfErr, IfOk, IsErrOf, OnOk};
 ghost use Rattle.access_types.specs.Access.{proper_mask};
 ghost use Rattle.litmus_meaning.specs.TextSites.{AllLoopsFit, block_by, bytes_among};
 ghost use Rattle.litmus_syntax.specs.Limits.{KeepsLimits};
@@ -9,45 +9,12 @@ ghost use Rattle.program_layout.specs.Places.{AreFit, places_of};
 ghost use Rattle.program_sites.specs.Added.{Adds, AllBelow, HaveAccesses, IsAt, IsProper, IsRepetition, first_ticket};
 ghost use Rattle.program_sites.specs.Sites.{AreSitesOf};
 
+use crate::error::RunError;
 use access_types::{Access, Bytes, Sites};
 use litmus_meaning::{Site, text_sites};
 use litmus_syntax::{Program, Task};
-use program_layout::{Layout, LayoutError, Place};
+use program_layout::{Layout, Place};
 use std::alloc::{AllocError, Global};
-use thiserror::Error;
-
-/// Why the accesses of a program can't be listed.
-#[derive(Clone, Copy, Debug, PartialEq, Eq, Error)]
-pub enum SitesError {
-    /// A place is no multiple of its variable's size or is above 2^62, its name is unknown, a lock's, or placed twice.
-    #[error("bad place")]
-    BadPlace,
-    #[error("out of memory")]
-    OutOfMemory,
-}
-
-impl From<AllocError> for SitesError {
-    ghost use Rattle.program_sites.specs.declared.sites.SitesError.TheVariants.{OutOfMemory};
-
-    ghost from_gives = { λ _ e. e ≡ OutOfMemory };
-
-    fn from(_: AllocError) -> SitesError {
-        SitesError::OutOfMemory
-    }
-}
-
-impl From<LayoutError> for SitesError {
-    ghost use Rattle.program_sites.specs.Errors.{of_layout};
-
-    ghost from_gives = { λ error e. e ≡ of_layout error };
-
-    fn from(error: LayoutError) -> SitesError {
-        match error {
-            LayoutError::BadPlace => SitesError::BadPlace,
-            LayoutError::OutOfMemory => SitesError::OutOfMemory,
-        }
-    }
-}
 
 /// Adds the accesses of a task at a site: one for each time that it can begin there.
 fn add_site(sites: &mut Sites, task: u32, number: u32, site: Site) -> Result<(), AllocError>
@@ -94,10 +61,11 @@ fn add_task(
 ///
 /// `BadPlace`: a place is no multiple of its variable's size or is above 2^62, its name is unknown, a lock's, or
 /// placed twice.
-pub fn sites_of(alloc: Global, program: &Program, places: &[Place]) -> Result<Sites, SitesError>
+pub fn sites_of(alloc: Global, program: &Program, places: &[Place]) -> Result<Sites, RunError>
     requires { KeepsLimits (program_of program.now) }
     ensures sites { IfOk result (AreSitesOf (program_of program.now) (places_of places.now)) }
-    ensures bad_place { IsErrOf result SitesError.BadPlace ↔ (AreFit program.now.variables places.now → ⊥) }
+    ensures bad_place { IsErrOf result RunError.BadPlace ↔ (AreFit program.now.variables places.now → ⊥) }
+    ensures errors { IfErr result (λ error. (error ≡ RunError.BadPlace) ⊎ (error ≡ RunError.OutOfMemory)) }
 {
     let layout = Layout::new(alloc, program.variables.as_slice(), places)?;
     let bytes = layout.all_bytes(alloc)?;

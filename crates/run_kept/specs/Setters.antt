@@ -1,8 +1,13 @@
 -- Whose watchpoint a report is of.
-use Rattle.std.specs.Prelude.{◌==◌, ℕ, Bool, List, filter}
+use Rattle.std.specs.Prelude.{◌≡◌, ◌==◌, ◌⊎◌, ℕ, Bool, List, filter, length}
 use Rattle.slot_table.specs.of_access_types_Ticket.{task_in}
 use Rattle.slot_table.specs.of_access_types_declared.report.Report.{Report}
 use Rattle.slot_table.specs.of_access_types_declared.report.Report.TheVariants.{Two, Unknown}
+use Rattle.slot_table.specs.declared.records.Record.{Record}
+use Rattle.run_kept.specs.Lists.{ByTask}
+use Rattle.run_lists.specs.Reports.{reports_of}
+use Rattle.run_lists.specs.Run.{Run}
+use Rattle.run_lists.specs.RunList.{RunList}
 
 -- the ticket of the access that set the watchpoint up
 abbrev pub setter_of : Report → ℕ
@@ -16,3 +21,11 @@ is_by task report = task_in (setter_of report) == task
 -- the reports of a task's watchpoints
 abbrev pub reports_by : ℕ → List Report → List Report
 reports_by task reports = filter (is_by task) reports
+
+-- the reports that the list gives, by the task whose watchpoint each is of
+abbrev pub AreReports : {run : Run} {records : List Record} → RunList run records → List Report → Type 0
+AreReports {run = run} list all = ByTask (λ task own. own ≡ reports_by task (reports_of list)) (length run.program.tasks) all
+
+-- those reports, in the order of their verdicts or by that task
+abbrev pub AreReportsOf : {run : Run} {records : List Record} → RunList run records → List Report → Type 0
+AreReportsOf list all = (all ≡ reports_of list) ⊎ AreReports list all

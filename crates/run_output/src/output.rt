@@ -1,14 +1,24 @@
 //! The whole output of a run.
 
-ghost use Rattle.std.specs.Prelude.{◌≡◌};
+ghost use Rattle.std.specs.Prelude.{◌≡◌, IfOk, List};
 ghost use Rattle.std.specs.List.{flat_map};
 ghost use Rattle.report_text.specs.ReportOf.{report_text};
 ghost use Rattle.report_text.specs.Sink.{Writes};
-ghost use Rattle.run_output.specs.Output.{output_text};
+ghost use Rattle.litmus_step.specs.Runs.{run_of};
+ghost use Rattle.litmus_syntax.specs.Limits.{KeepsLimits};
+ghost use Rattle.litmus_syntax.specs.Views.{program_of};
+ghost use Rattle.program_sites.specs.Prepared.{IsPrepared, sites_in};
+ghost use Rattle.program_sites.specs.declared.settings.Settings as terms;
+ghost use Rattle.run_output.specs.Output.{IsOutput, output_text};
+ghost use Rattle.task_log.specs.of_slot_table_declared.records.Record.{Record};
 
+use crate::finals::found_of;
 use crate::lines::{write_condition, write_counters};
 use access_types::{Report, Sites};
-use report_text::{Sink, WriteError, write_report};
+use litmus_step::{Prepared, Ran};
+use litmus_syntax::Program;
+use report_text::{MemorySink, Sink, WriteError, write_report};
+use std::alloc::{AllocError, Global};
 use task_log::Counters;
 
 /// What was found in a run.
@@ -47,4 +57,25 @@ pub fn write_output<K: Sink>(
     write_reports(reports, sites, sink)?;
     write_counters(&found.counters, found.unbalanced, sink)?;
     write_condition(u64::from(found.held), 1, sink)
+}
+
+/// The output of a run of a program that is made ready.
+pub fn output_of<R: Ran>(
+    alloc: Global,
+    program: &Program,
+    prepared: &Prepared,
+    ran: &R,
+) -> Result<Vec<u8>, AllocError>
+    requires { KeepsLimits (program_of program.now) }
+    ensures { (settings : terms.Settings) (records : List Record)
+        → (comes : R.comes_of ran.now (run_of program.now settings (sites_in prepared.now)) records) → IsPrepared program.now settings prepared.now
+        → IfOk result (λ output. IsOutput (R.list_of ran.now (run_of program.now settings (sites_in prepared.now)) records comes)
+        (R.reports_in ran.now) output.items) }
+{
+    let found = found_of(alloc, program, prepared, ran)?;
+    let mut sink = MemorySink::new(alloc);
+    match write_output(ran.reports(), prepared.sites(), &found, &mut sink) {
+        Ok(()) => Ok(sink.into_bytes()),
+        Err(_) => Err(AllocError),
+    }
 }

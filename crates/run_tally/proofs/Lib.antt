@@ -1,5 +1,3 @@
-mod CellValues
-pub mod FinalLemmas
 mod MadeLemmas
 mod NameLemmas
 mod TallyLemmas

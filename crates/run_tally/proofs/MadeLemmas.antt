@@ -1,23 +1,29 @@
 -- Runs that were made.
-use Rattle.std.proofs.Common.{◌≡◌, ◌<◌, ◌⊎◌, ◌++◌, ◌∷◌, ◌==◌, ◌∙◌, [], suc, All, List, OnOk, Option, None, Some, Bool, IfErr, IfOk, IfSome, Result, Ok, Err, Vec, ℕ, ap, ap₂, arith, drop, false, is_some, length, not, refl, subst, sym, true}
+use Rattle.std.proofs.Common.{◌≤◌, ◌&&◌, Bor, ◌≡◌, ◌<◌, ◌⊎◌, ◌++◌, ◌∷◌, ◌==◌, ◌∙◌, [], suc, All, List, OnOk, Option, None, Some, Bool, IfErr, IfOk, IfSome, Result, Ok, Err, Vec, ℕ, ap, ap₂, arith, drop, false, is_some, length, not, refl, subst, sym, true}
 use Rattle.std.proofs.lemmas.List.{length-append}
 use Rattle.std.specs.Global.{Global}
-use Rattle.std.specs.Option.{option_map}
+use Rattle.std.specs.Option.{option_copied, option_map}
 use Rattle.access_types.specs.Sites.{AccessMap}
 use Rattle.litmus_step.specs.Runs.{run_of}
-use Rattle.litmus_step.specs.declared.settings.Settings.{Settings}
+use Rattle.program_sites.specs.declared.settings.Settings.{Settings}
 use Rattle.litmus_syntax.specs.declared.program.Program.{Program}
-use Rattle.program_layout.specs.Places.{AreFit}
+use Rattle.program_sites.specs.of_program_layout_Places.{AreFit}
 use Rattle.run_tally.proofs.TallyLemmas.{some}
-use Rattle.run_tally.specs.Errors.{IsReadAs, IsRefused, Stops, StopsRun, is_counted}
-use Rattle.run_tally.specs.Output.{AreQuietBeforeLast, reports_in}
+use Rattle.litmus_parse.specs.Read.{IsReadAs}
+use Rattle.run_tally.specs.Errors.{IsRefused, Stops, StopsRun, is_counted}
+use Rattle.run_output.specs.Traces.{IsToBeAccepted, IsTraceOf}
+use Rattle.run_headline.specs.of_run_lists_Run as lists
+use Rattle.run_headline.specs.of_run_lists_RunList.{AllHaveEnded, RunList}
+use Rattle.runner.specs.Result.{IsOf, IsRunOnce}
+use Rattle.task_log.specs.of_slot_table_declared.records.Record.{Record}
+use Rattle.run_tally.specs.Output.{AreQuietBeforeLast, IsTraceOfLast, reports_in}
 use Rattle.run_tally.specs.Runs.{Comes, IsLast, OneRun, StuckRun}
-use Rattle.run_tally.specs.declared.error.RunsError.{RunsError}
-use Rattle.run_tally.specs.declared.error.RunsError.TheVariants.{Run, Text}
-use Rattle.runner.specs.Found.{IsInVain, IsThrough}
-use Rattle.runner.specs.Result.{IsRunOnce}
-use Rattle.runner.specs.declared.error.RunError.{RunError}
-use Rattle.runner.specs.declared.error.RunError.TheVariants.{BadPlace, BadSlots, NoThread, OutOfMemory, Stuck}
+use Rattle.run_output.specs.declared.error.EngineError.{EngineError}
+use Rattle.run_output.specs.declared.error.EngineError.TheVariants.{Run, SinkFailed, Text}
+use Rattle.program_sites.specs.Errors.{IsOfPreparing}
+use Rattle.runner.specs.Found.{IsInVain, IsOfThreads, IsThrough}
+use Rattle.program_sites.specs.declared.error.RunError.{RunError}
+use Rattle.program_sites.specs.declared.error.RunError.TheVariants.{BadPlace, BadSchedule, BadSlots, NoThread, OutOfMemory, Stuck}
 use Rattle.runner.specs.declared.result.RunResult.{RunResult}
 
 -- there is a last run where there are runs
@@ -73,19 +79,30 @@ pub map_ok : {X E : Type 0} {P Q : X → Type 0} (result : Result X E) → ((x :
 map_ok (Ok x) each p = each x p
 map_ok (Err e) each p = tt
 
--- why a run of a program has no end
-pub run_stops : {X : Type 0} (program : Program) (settings : Settings) (result : Result X RunError) (error : RunError) → result ≡ Err error
-    → (result ≡ Err BadSlots → (settings.slots < 3) ⊎ (1024 < settings.slots))
-    → (result ≡ Err BadPlace → AreFit program.variables settings.places.items → ⊥)
-    → ((task : ℕ) → result ≡ Err (Stuck task) → (sites : AccessMap) × IsInVain (run_of program settings sites) task
+-- why a run of a program that is made ready has no end
+run_stops : (program : Program) (settings : Settings) (error : RunError) → IsOfThreads error
+    → ((task : ℕ) → error ≡ Stuck task → (sites : AccessMap) × IsInVain (run_of program settings sites) task
     × ((below : ℕ) → below < task → IsThrough (run_of program settings sites) below))
     → StopsRun program settings error
-run_stops program settings result BadSlots is slots place stuck = slots is
-run_stops program settings result BadPlace is slots place stuck = place is
-run_stops program settings result OutOfMemory is slots place stuck = tt
-run_stops program settings result (Stuck task) is slots place stuck =
-    let it = stuck task is in record { sites = it.0; vain = it.1; smallest = it.2 }
-run_stops program settings result NoThread is slots place stuck = tt
+run_stops program settings BadSlots of stuck = absurd of
+run_stops program settings BadPlace of stuck = absurd of
+run_stops program settings OutOfMemory of stuck = tt
+run_stops program settings (Stuck task) of stuck =
+    let it = stuck task refl in record { sites = it.0; vain = it.1; smallest = it.2 }
+run_stops program settings BadSchedule of stuck = absurd of
+run_stops program settings NoThread of stuck = tt
+
+-- why a program can't be made ready
+pub preparing_stops : (counted : Bool) (program : Program) (settings : Settings) (error : RunError) → IsOfPreparing error
+    → (error ≡ BadSlots → (settings.slots < 3) ⊎ (1024 < settings.slots))
+    → (error ≡ BadPlace → AreFit program.variables settings.places.items → ⊥)
+    → Stops counted program settings (Run error)
+preparing_stops counted program settings BadSlots of slots place = (slots refl, refl)
+preparing_stops counted program settings BadPlace of slots place = (place refl, refl)
+preparing_stops counted program settings OutOfMemory of slots place = (tt, refl)
+preparing_stops counted program settings (Stuck task) of slots place = absurd of
+preparing_stops counted program settings BadSchedule of slots place = absurd of
+preparing_stops counted program settings NoThread of slots place = absurd of
 
 -- what holds of an error holds of what it is answered in
 pub err_holds : {X E : Type 0} (P : E → Type 0) (result : Result X E) (error : E) → result ≡ Err error → P error → IfErr result P
@@ -102,14 +119,13 @@ on_ok (Err e) f p = tt
 
 -- what comes of a run, by the clauses of its call
 pub comes : (program : Program) (settings : Settings) (outcome : Result RunResult RunError) → IfOk outcome (IsRunOnce program settings)
-    → (outcome ≡ Err BadSlots → (settings.slots < 3) ⊎ (1024 < settings.slots))
-    → (outcome ≡ Err BadPlace → AreFit program.variables settings.places.items → ⊥)
+    → IfErr outcome IsOfThreads
     → ((task : ℕ) → outcome ≡ Err (Stuck task) → (sites : AccessMap) × IsInVain (run_of program settings sites) task
     × ((below : ℕ) → below < task → IsThrough (run_of program settings sites) below))
     → Comes program settings outcome
-comes program settings (Ok result) once slots place stuck = record { once = once; stops = tt }
-comes program settings (Err error) once slots place stuck =
-    record { once = tt; stops = run_stops program settings (Err error) error refl slots place stuck }
+comes program settings (Ok result) once of stuck = record { once = once; stops = tt }
+comes program settings (Err error) once of stuck =
+    record { once = tt; stops = run_stops program settings error of (λ task is. stuck task (ap (λ (e : RunError). Err e) is)) }
 
 -- a stuck run names its task
 pub stuck_of : (program : Program) (settings : Settings) (error : RunError) → is_counted true error ≡ true → StopsRun program settings error
@@ -118,6 +134,7 @@ stuck_of program settings BadSlots is stops = absurd (let no : false ≡ true = 
 stuck_of program settings BadPlace is stops = absurd (let no : false ≡ true = is in cc)
 stuck_of program settings OutOfMemory is stops = absurd (let no : false ≡ true = is in cc)
 stuck_of program settings (Stuck task) is stops = record { task = task; stuck = stops }
+stuck_of program settings BadSchedule is stops = absurd (let no : false ≡ true = is in cc)
 stuck_of program settings NoThread is stops = absurd (let no : false ≡ true = is in cc)
 
 -- what is counted is a stuck run, and stuck runs are counted
@@ -126,6 +143,7 @@ counts counted BadSlots is = absurd (let no : false ≡ true = is in cc)
 counts counted BadPlace is = absurd (let no : false ≡ true = is in cc)
 counts counted OutOfMemory is = absurd (let no : false ≡ true = is in cc)
 counts counted (Stuck task) is = (is, refl)
+counts counted BadSchedule is = absurd (let no : false ≡ true = is in cc)
 counts counted NoThread is = absurd (let no : false ≡ true = is in cc)
 
 stays_uncounted : (counted : Bool) (error : RunError) → is_counted true error ≡ false → is_counted counted error ≡ false
@@ -133,19 +151,52 @@ stays_uncounted counted BadSlots is = refl
 stays_uncounted counted BadPlace is = refl
 stays_uncounted counted OutOfMemory is = refl
 stays_uncounted counted (Stuck task) is = absurd (let no : true ≡ false = is in cc)
+stays_uncounted counted BadSchedule is = refl
 stays_uncounted counted NoThread is = refl
 
 -- what stops runs where stuck ones are counted stops them anyhow
-pub stops_anyhow : {X : Type 0} (counted : Bool) (program : Program) (settings : Settings) (result : Result X RunsError)
+pub stops_anyhow : {X : Type 0} (counted : Bool) (program : Program) (settings : Settings) (result : Result X EngineError)
     → IfErr result (Stops true program settings) → IfErr result (Stops counted program settings)
 stops_anyhow counted program settings (Ok x) stops = tt
 stops_anyhow counted program settings (Err (Text error)) stops = stops
 stops_anyhow counted program settings (Err (Run error)) stops = (stops.0, stays_uncounted counted error stops.1)
+stops_anyhow counted program settings (Err SinkFailed) stops = stops
 
 -- where the runs of a program stop, its text has no output
-pub refused_of : {X : Type 0} (counted : Bool) (text : List ℕ) (program : Program) (settings : Settings) (result : Result X RunsError)
+pub refused_of : {X : Type 0} (counted : Bool) (text : List ℕ) (program : Program) (settings : Settings) (result : Result X EngineError)
     → IsReadAs text program
     → IfErr result (Stops counted program settings) → IfErr result (IsRefused counted text settings)
 refused_of counted text program settings (Ok x) read stops = tt
 refused_of counted text program settings (Err (Text error)) read stops = tt
 refused_of counted text program settings (Err (Run error)) read stops = (program, read, stops.0, stops.1)
+refused_of counted text program settings (Err SinkFailed) read stops = stops
+
+-- what is lent is there where it is
+pub lent_is_there : (lent : Option (Bor RunResult)) → is_some lent ≡ is_some (option_copied lent)
+lent_is_there None = refl
+lent_is_there (Some one) = refl
+
+-- the trace of the run that is lent is that of the last
+pub traces_last : {program : Program} {settings : Settings} (runs : List (OneRun program settings)) (lent : Option (Bor RunResult))
+    (traced : Bool) (trace : Option (Vec ℕ Global)) → IsLast runs (option_copied lent) → settings.slots ≤ 1024
+    → IfSome lent (λ one. (run : lists.Run) (records : List Record) → (comes : (list : RunList run records) × IsOf list one.now)
+    → IfSome trace (λ bytes. IsTraceOf settings comes.0 one.now.reports.items bytes.items))
+    → IfSome lent (λ one. (run : lists.Run) (records : List Record) → ((list : RunList run records) × IsOf list one.now)
+    → AllHaveEnded run records → run.rules.slots ≡ settings.slots → run.rules.layout ≡ settings.layout → settings.slots ≤ 1024
+    → IfSome trace (λ bytes. IsToBeAccepted bytes.items))
+    → is_some trace ≡ (traced && is_some lent) → IfSome trace (λ bytes. IsTraceOfLast runs bytes.items)
+traces_last runs lent traced None last few written accepted wanted = tt
+traces_last runs None true (Some bytes) last few written accepted wanted = absurd (let no : true ≡ false = wanted in cc)
+traces_last runs None false (Some bytes) last few written accepted wanted = absurd (let no : true ≡ false = wanted in cc)
+traces_last {program} {settings} runs (Some one) traced (Some bytes) last few written accepted wanted =
+    let once = last.1.once in
+    let run = run_of program settings once.sites in
+    let of : IsOf once.list one.now = subst (λ (result : RunResult). IsOf once.list result) last.3 once.is_of in
+    record {
+      before = last.0;
+      last = last.1;
+      runs_are = last.2;
+      trace_is = subst (λ (result : RunResult). IsTraceOf settings once.list result.reports.items bytes.items) (sym last.3)
+          (written run once.records (once.list, of));
+      accepted = accepted run once.records (once.list, of) of.ended refl refl few;
+    }

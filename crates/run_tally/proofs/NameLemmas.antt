@@ -8,11 +8,11 @@ use Rattle.access_types.specs.Ticket.{ticket_number}
 use Rattle.access_types.specs.declared.report.Report.{Report}
 use Rattle.access_types.specs.declared.report.Report.TheVariants.{Two, Unknown}
 use Rattle.litmus_step.proofs.FirstLemmas.{of_task}
-use Rattle.litmus_step.specs.Runs.{tasks_of}
-use Rattle.litmus_step.specs.declared.settings.Settings.{Settings}
+use Rattle.litmus_step.specs.Runs.{run_of, tasks_of}
+use Rattle.program_sites.specs.declared.settings.Settings.{Settings}
 use Rattle.litmus_syntax.specs.Views.{program_of}
 use Rattle.litmus_syntax.specs.declared.program.Program.{Program}
-use Rattle.program_layout.specs.Places.{places_of}
+use Rattle.program_sites.specs.of_program_layout_Places.{places_of}
 use Rattle.program_sites.specs.Sites.{AreSitesOf}
 use Rattle.report_text.specs.ReportOf.{NamesAccesses}
 use Rattle.run_headline.specs.Reported.{IsTrueReport}
@@ -57,8 +57,6 @@ pub reports_are_named : (program : Program) (settings : Settings) (map_of : Acce
     → AreSitesOf (program_of program) (places_of settings.places.items) map_of → IsRunOnce program settings result
     → All (NamesAccesses map_of) result.reports.items
 reports_are_named program settings map_of result are once =
-    let own : AreSitesOf once.run.program once.run.places map_of =
-    subst (λ (r : Run). AreSitesOf r.program r.places map_of) (sym once.is_run) are in
     by_task (NamesAccesses map_of) (reports_of once.list)
-    (all_names once.list map_of own (reports_of once.list) once.is_of.headline.reports)
-    (tasks_of once.run) result.reports.items once.is_of.reports
+    (all_names once.list map_of are (reports_of once.list) once.is_of.headline.reports)
+    (tasks_of (run_of program settings once.sites)) result.reports.items once.is_of.reports

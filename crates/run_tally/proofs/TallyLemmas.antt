@@ -7,50 +7,13 @@ use Rattle.std.proofs.lemmas.Bool.Decides.{eqb_tells}
 use Rattle.std.proofs.lemmas.List.{append-nil, length-map, map-append}
 use Rattle.std.proofs.lemmas.List.Sums.{fold-append, sum_by-append, sum_by-cons}
 use Rattle.std.proofs.lemmas.Grind.{flat_map-append}
-use Rattle.std.specs.Global.{Global}
 use Rattle.std.specs.List.{sum_by}
 use Rattle.access_types.specs.declared.report.Report.{Report}
-use Rattle.litmus_step.specs.Readers.{AreRegisters}
-use Rattle.litmus_step.specs.Runs.{tasks_of}
 use Rattle.report_text.specs.Groups.{Group, counted}
-use Rattle.run_tally.specs.Finals.{AreAllRegisters, AreRegistersFrom}
-use Rattle.run_headline.specs.of_run_lists_Run.{Run}
-use Rattle.run_headline.specs.of_run_lists_RunList.{RunList}
 use Rattle.litmus_step.specs.of_run_kept_Totals.{AddUp}
 use Rattle.run_tally.specs.Output.{AreSums}
-use Rattle.task_log.specs.of_slot_table_declared.records.Record.{Record}
 use Rattle.task_log.specs.Counters.{resting, together}
 use Rattle.task_log.specs.declared.counters.Counters.{Counters}
-
--- the registers of all tasks, one after the other
-registers_from : {run : Run} {records : List Record} (list : RunList run records) (from : ℕ) (all : List (Vec ℕ Global))
-    → ((at : ℕ) (values : Vec ℕ Global) → slice_get all at ≡ Some values → AreRegisters list (from + at) values.items)
-    → AreRegistersFrom list from (map (λ values. values.items) all)
-registers_from list from [] each = tt
-registers_from list from (values ∷ later) each = (
-  subst (λ (task : ℕ). AreRegisters list task values.items) (let same : from + 0 ≡ from = omega arith in same) (each 0 values refl),
-  registers_from list (suc from) later (λ at more is. subst (λ (task : ℕ). AreRegisters list task more.items)
-      (let same : from + suc at ≡ suc from + at = omega arith in same) (each (suc at) more is)),
-)
-
-pub all_registers : {run : Run} {records : List Record} (list : RunList run records) (all : List (Vec ℕ Global))
-    → length all ≡ tasks_of run
-    → ((task : ℕ) (values : Vec ℕ Global) → slice_get all task ≡ Some values → AreRegisters list task values.items)
-    → AreAllRegisters list (map (λ values. values.items) all)
-all_registers list all many each = record {
-  all = length-map all (λ values. values.items) ∙ many;
-  each = registers_from list 0 all (λ at values is. subst (λ (task : ℕ). AreRegisters list task values.items)
-      (let same : at ≡ 0 + at = omega arith in same) (each at values is));
-}
-
--- the registers of one task more
-pub taken_on : (all : List (Vec ℕ Global)) (n : ℕ) (one : List ℕ) → n < length all
-    → ((d : Vec ℕ Global) → one ≡ (slice_index_or all n d).items)
-    → take (suc n) (map (λ values. values.items) all) ≡ take n (map (λ values. values.items) all) ++ one ∷ []
-taken_on [] n one below is = absurd (omega (arith, below))
-taken_on (values ∷ later) zero one below is = ap (λ (items : List ℕ). items ∷ []) (sym (is values))
-taken_on (values ∷ later) (suc n) one below is =
-    ap (λ (rest : List (List ℕ)). values.items ∷ rest) (taken_on later n one (omega (arith, below)) is)
 
 -- one count more, where the sum rests at its last value
 pub rested : {X : Type 0} (f : X → ℕ) (all : List X) (one : X) (old new : ℕ) → old ≡ resting (sum_by f all) → new ≡ together old (f one)

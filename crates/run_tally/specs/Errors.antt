@@ -1,35 +1,16 @@
 -- Why runs have no output.
 use Rattle.std.specs.Prelude.{◌≡◌, ◌<◌, ◌⊎◌, ℕ, Bool, List, false}
 use Rattle.access_types.specs.Sites.{AccessMap}
-use Rattle.litmus_parse.specs.Grammar.{SpellsProgram}
+use Rattle.litmus_parse.specs.Read.{IsReadAs}
 use Rattle.litmus_step.specs.Runs.{run_of}
-use Rattle.litmus_step.specs.declared.settings.Settings.{Settings}
-use Rattle.litmus_syntax.specs.Limits.{KeepsLimits}
-use Rattle.litmus_syntax.specs.Views.{program_of}
+use Rattle.program_sites.specs.declared.settings.Settings.{Settings}
 use Rattle.litmus_syntax.specs.declared.program.Program.{Program}
-use Rattle.program_layout.specs.Places.{AreFit}
-use Rattle.program_layout.specs.declared.layout.LayoutError.{LayoutError}
-use Rattle.program_layout.specs.declared.layout.LayoutError.TheVariants as layouts
-use Rattle.program_sites.specs.declared.sites.SitesError.{SitesError}
-use Rattle.program_sites.specs.declared.sites.SitesError.TheVariants as sites
-use Rattle.run_tally.specs.declared.error.RunsError.{RunsError}
-use Rattle.run_tally.specs.declared.error.RunsError.TheVariants.{Run, Text}
+use Rattle.program_sites.specs.of_program_layout_Places.{AreFit}
+use Rattle.run_output.specs.declared.error.EngineError.{EngineError}
+use Rattle.run_output.specs.declared.error.EngineError.TheVariants.{Run, SinkFailed, Text}
 use Rattle.runner.specs.Found.{IsInVain, IsThrough}
-use Rattle.runner.specs.declared.error.RunError.{RunError}
-use Rattle.runner.specs.declared.error.RunError.TheVariants.{BadPlace, BadSlots, NoThread, OutOfMemory, Stuck}
-
-abbrev pub of_layout : LayoutError → RunsError
-of_layout layouts.BadPlace = Run BadPlace
-of_layout layouts.OutOfMemory = Run OutOfMemory
-
-abbrev pub of_sites : SitesError → RunsError
-of_sites sites.BadPlace = Run BadPlace
-of_sites sites.OutOfMemory = Run OutOfMemory
-
--- a text is read as a program: it spells it, and the program keeps the limits
-pub record IsReadAs (text : List ℕ) (program : Program) : Type 0 where
-  pub spelled : SpellsProgram text (program_of program)
-  pub limits : KeepsLimits (program_of program)
+use Rattle.program_sites.specs.declared.error.RunError.{RunError}
+use Rattle.program_sites.specs.declared.error.RunError.TheVariants.{BadPlace, BadSchedule, BadSlots, NoThread, OutOfMemory, Stuck}
 
 -- some steps of the task end in a wait with as many vain tries as are allowed, and each task below comes to the end of its text
 pub record GetsStuck (program : Program) (settings : Settings) (task : ℕ) : Type 0 where
@@ -44,6 +25,7 @@ StopsRun program settings BadSlots = (settings.slots < 3) ⊎ (1024 < settings.s
 StopsRun program settings BadPlace = ¬ AreFit program.variables settings.places.items
 StopsRun program settings OutOfMemory = Unit {0}
 StopsRun program settings (Stuck task) = GetsStuck program settings task
+StopsRun program settings BadSchedule = ⊥
 StopsRun program settings NoThread = Unit {0}
 
 -- whether a run without an end is only counted: a stuck one, where these are counted
@@ -52,15 +34,18 @@ is_counted counted BadSlots = false
 is_counted counted BadPlace = false
 is_counted counted OutOfMemory = false
 is_counted counted (Stuck task) = counted
+is_counted counted BadSchedule = false
 is_counted counted NoThread = false
 
 -- why the runs of a program stop
-abbrev pub Stops : (counted : Bool) → Program → Settings → RunsError → Type 0
+abbrev pub Stops : (counted : Bool) → Program → Settings → EngineError → Type 0
 Stops counted program settings (Text error) = ⊥
 Stops counted program settings (Run error) = StopsRun program settings error × (is_counted counted error ≡ false)
+Stops counted program settings SinkFailed = ⊥
 
 -- why a text has no output of its runs: it is not read as a program, or the program's runs stop
-abbrev pub IsRefused : (counted : Bool) → (text : List ℕ) → Settings → RunsError → Type 0
+abbrev pub IsRefused : (counted : Bool) → (text : List ℕ) → Settings → EngineError → Type 0
 IsRefused counted text settings (Text error) = Unit {0}
 IsRefused counted text settings (Run error) =
     (program : Program) × IsReadAs text program × StopsRun program settings error × (is_counted counted error ≡ false)
+IsRefused counted text settings SinkFailed = ⊥

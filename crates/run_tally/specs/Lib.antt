@@ -1,6 +1,5 @@
 pub mod Errors
 pub mod Runs
-pub mod Finals
 pub mod Output
 pub mod Tally
 pub mod Made

@@ -1,7 +1,7 @@
 -- What is kept of the runs that were made.
 use Rattle.std.specs.Prelude.{◌≡◌, ◌⊎◌, ◌+◌, ◌++◌, ◌∷◌, [], ℕ, Bool, List, false, length, true}
 use Rattle.access_types.specs.Sites.{AccessMap}
-use Rattle.litmus_step.specs.declared.settings.Settings.{Settings}
+use Rattle.program_sites.specs.declared.settings.Settings.{Settings}
 use Rattle.litmus_syntax.specs.declared.program.Program.{Program}
 use Rattle.run_tally.specs.Output.{AreAsMany, AreQuietBeforeLast}
 use Rattle.run_tally.specs.Runs.{IsLast, OneRun, StuckRun}

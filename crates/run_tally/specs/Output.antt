@@ -1,22 +1,18 @@
 -- What is written of runs.
 use Rattle.std.specs.Prelude.{◌≡◌, ◌≤◌, ◌<◌, ◌+◌, ◌++◌, ◌∷◌, [], ◌==◌, ◌&&◌, ℕ, Bool, List, Option, IfSome, count_by, false, is_some, length, map, not, true}
 use Rattle.std.specs.List.{flat_map, sum_by}
-use Rattle.access_types.specs.Arms.{Arm}
 use Rattle.access_types.specs.Sites.{AccessMap}
-use Rattle.access_types.specs.Stamped.{Stamped}
-use Rattle.access_types.specs.Takes.{Take}
 use Rattle.access_types.specs.declared.report.Report.{Report}
-use Rattle.litmus_step.specs.declared.settings.Settings.{Settings}
+use Rattle.program_sites.specs.declared.settings.Settings.{Settings}
 use Rattle.litmus_syntax.specs.Views.{program_of}
 use Rattle.litmus_syntax.specs.declared.program.Program.{Program}
-use Rattle.program_layout.specs.Places.{places_of}
+use Rattle.program_sites.specs.of_program_layout_Places.{places_of}
 use Rattle.program_sites.specs.Sites.{AreSitesOf}
 use Rattle.report_text.specs.Groups.{AreGroupsOf, Group, group_text}
 use Rattle.report_text.specs.ReportOf.{report_text}
-use Rattle.report_text.specs.TraceText.{written_trace}
-use Rattle.litmus_step.specs.of_run_kept_Lists.{AreAccesses, AreArms, AreTakes}
 use Rattle.run_output.specs.Lines.{condition_line, counters_line, stuck_line}
-use Rattle.run_tally.specs.Errors.{IsReadAs}
+use Rattle.litmus_parse.specs.Read.{IsReadAs}
+use Rattle.run_output.specs.Traces.{IsToBeAccepted, IsTraceOf}
 use Rattle.run_tally.specs.Runs.{OneRun, StuckRun}
 use Rattle.run_tally.specs.declared.times.Times.{Times}
 use Rattle.task_log.specs.Counters.{resting}
@@ -42,11 +38,11 @@ pub record AreSums (all : List Counters) (sums : Counters) : Type 0 where
 
 -- how many calls of all runs had nothing to end; the sum rests at the largest number of 64 bits
 abbrev pub unbalanced_in : {program : Program} {settings : Settings} → List (OneRun program settings) → ℕ
-unbalanced_in runs = resting (sum_by (λ one. one.result.unbalanced) runs)
+unbalanced_in runs = resting (sum_by (λ one. one.found.unbalanced) runs)
 
 -- in how many of the runs the condition held
 abbrev pub held_in : {program : Program} {settings : Settings} → List (OneRun program settings) → ℕ
-held_in runs = count_by (λ one. one.held) runs
+held_in runs = count_by (λ one. one.found.held) runs
 
 -- What is found of runs that ended: each distinct report with how often it was seen, the sums of the counters, and in how many of so many
 -- runs the condition held.
@@ -68,22 +64,17 @@ pub record IsOutput {program : Program} {settings : Settings} (counted : Bool) (
   pub groups : List Group
   pub groups_are : AreGroupsOf (map (report_text sites) (reports_in runs)) groups
   pub sums : Counters
-  pub sums_are : AreSums (map (λ one. one.counters) runs) sums
+  pub sums_are : AreSums (map (λ one. one.found.counters) runs) sums
   pub spelled : output ≡ found_text groups sums (unbalanced_in runs) (held_in runs) (length runs)
       ++ stuck_text counted stuck (length runs + stuck)
 
--- the trace of the last of the runs: of its accesses, armings, takings and reports
+-- the trace of the last of the runs, which `replay` accepts
 pub record IsTraceOfLast {program : Program} {settings : Settings} (runs : List (OneRun program settings)) (bytes : List ℕ) : Type 0 where
   pub before : List (OneRun program settings)
   pub last : OneRun program settings
   pub runs_are : runs ≡ before ++ last ∷ []
-  pub accesses : List Stamped
-  pub accesses_are : AreAccesses last.once.list accesses
-  pub arms : List Arm
-  pub arms_are : AreArms last.once.list arms
-  pub takes : List Take
-  pub takes_are : AreTakes last.once.list takes
-  pub spelled : bytes ≡ written_trace settings.slots settings.layout accesses arms takes last.result.reports.items
+  pub trace_is : IsTraceOf settings last.once.list last.result.reports.items bytes
+  pub accepted : IsToBeAccepted bytes
 
 -- no run but the last has a report
 abbrev pub AreQuietBeforeLast : {program : Program} {settings : Settings} → List (OneRun program settings) → Type 0

@@ -1,26 +1,23 @@
 -- What is seen of runs on threads.
 use Rattle.std.specs.Prelude.{◌≡◌, ◌++◌, ◌∷◌, [], ◌↔◌, ℕ, Bool, IfErr, IfOk, IsTrue, List, Option, None, Result, Some}
-use Rattle.litmus_step.specs.declared.settings.Settings.{Settings}
+use Rattle.program_sites.specs.declared.settings.Settings.{Settings}
 use Rattle.litmus_syntax.specs.declared.program.Program.{Program}
 use Rattle.run_tally.specs.Errors.{GetsStuck, StopsRun}
-use Rattle.run_tally.specs.Finals.{HoldsAtEnd}
 use Rattle.run_headline.specs.Headline.{Headline}
-use Rattle.litmus_step.specs.of_run_kept_Totals.{CountsList}
 use Rattle.runner.specs.Result.{IsRunOnce}
-use Rattle.runner.specs.declared.error.RunError.{RunError}
+use Rattle.program_sites.specs.declared.error.RunError.{RunError}
 use Rattle.runner.specs.declared.result.RunResult.{RunResult}
-use Rattle.task_log.specs.declared.counters.Counters.{Counters}
+use Rattle.run_output.specs.Output.{IsFoundOf}
+use Rattle.run_output.specs.declared.output.Found.{Found}
 
--- One run of the program on threads: its result, which the list of all its steps gives; how often each thing came of its checks; and
--- whether the condition of the program held at its end. Of the list the headline holds.
+-- One run of the program on threads: its result, which the list of all its steps gives, and what is found of it. Of the list the headline
+-- holds.
 pub record OneRun (program : Program) (settings : Settings) : Type 0 where
   pub result : RunResult
   pub once : IsRunOnce program settings result
   pub headline : Headline once.list
-  pub counters : Counters
-  pub counters_are : CountsList once.list counters
-  pub held : Bool
-  pub held_is : IsTrue held ↔ HoldsAtEnd once.list
+  pub found : Found
+  pub found_of : IsFoundOf once.list found
 
 -- one run that had no end: a task of the program gets stuck
 pub record StuckRun (program : Program) (settings : Settings) : Type 0 where

@@ -1,7 +1,7 @@
 -- What is kept of the runs so far.
 use Rattle.std.specs.Prelude.{◌≡◌, ◌==◌, [], List, fold, length, map, not}
 use Rattle.access_types.specs.Sites.{AccessMap}
-use Rattle.litmus_step.specs.declared.settings.Settings.{Settings}
+use Rattle.program_sites.specs.declared.settings.Settings.{Settings}
 use Rattle.litmus_syntax.specs.declared.program.Program.{Program}
 use Rattle.report_text.specs.Groups.{counted}
 use Rattle.report_text.specs.ReportOf.{report_text}
@@ -15,7 +15,7 @@ use Rattle.task_log.specs.Counters.{resting}
 pub record Tallies (program : Program) (settings : Settings) (sites : AccessMap) (runs : List (OneRun program settings)) (tally : Tally) :
     Type 0 where
   pub groups : tally.groups ≡ fold counted [] (map (report_text sites) (reports_in runs))
-  pub counters : AreSums (map (λ one. one.counters) runs) tally.counters
+  pub counters : AreSums (map (λ one. one.found.counters) runs) tally.counters
   pub unbalanced : tally.unbalanced ≡ unbalanced_in runs
   pub held : tally.held ≡ resting (held_in runs)
   pub raced : tally.raced ≡ not (length (reports_in runs) == 0)

@@ -2,8 +2,6 @@
 #![tactic(auto)]
 
 pub mod delay;
-pub mod error;
-pub mod finals;
 mod made;
 pub mod runs;
 mod starters;
@@ -11,7 +9,6 @@ pub mod tally;
 pub mod times;
 
 pub use delay::Delay;
-pub use error::RunsError;
-pub use finals::{finals_at, holds_at_end};
-pub use runs::{Outcome, run_text_often};
+pub use run_output::{EngineError, Written};
+pub use runs::run_text_often;
 pub use times::{Progress, Times};

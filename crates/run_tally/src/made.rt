@@ -2,12 +2,14 @@
 
 ghost use Rattle.std.specs.Prelude.{◌≡◌, ◌≤◌, ◌<◌, ◌+◌, ◌-◌, ◌^◌, ◌++◌, ◌∷◌, [], All, List, IfErr, IfOk, OnOk, length, true, vec_len};
 ghost use Rattle.access_types.specs.Sites.{AccessMap};
-ghost use Rattle.litmus_step.specs.declared.settings.Settings as terms;
+ghost use Rattle.program_sites.specs.Prepared.{IsPrepared, sites_in};
+ghost use Rattle.program_sites.specs.declared.settings.Settings as terms;
 ghost use Rattle.litmus_syntax.specs.Limits.{KeepsLimits};
 ghost use Rattle.litmus_syntax.specs.Views.{program_of};
 ghost use Rattle.litmus_syntax.specs.declared.program.Program as tree;
-ghost use Rattle.program_layout.specs.Places.{places_of};
+ghost use Rattle.program_sites.specs.of_program_layout_Places.{places_of};
 ghost use Rattle.program_sites.specs.Sites.{AreSitesOf};
+ghost use Rattle.std.specs.Option.{option_copied};
 ghost use Rattle.report_text.specs.Sink.{Writes};
 ghost use Rattle.run_tally.specs.Errors as spec;
 ghost use Rattle.run_tally.specs.Errors.{Stops};
@@ -17,17 +19,15 @@ ghost use Rattle.run_tally.specs.Runs.{Comes, OneRun, StuckRun};
 ghost use Rattle.runner.specs.Result.{IsRunOnce};
 
 use crate::delay::Delay;
-use crate::error::RunsError;
 use crate::starters::Starters;
 use crate::tally::Tally;
 use crate::times::{Progress, Times};
-use access_types::Sites;
 use litmus_parse::Program;
-use litmus_step::Settings;
+use litmus_step::{Prepared, Settings};
 use report_text::laws::groups_are_of_their_texts;
 use report_text::{MemorySink, Sink, WriteError};
-use run_output::write_stuck;
-use runner::{RunError, RunResult, run_from};
+use run_output::{EngineError, write_stuck};
+use runner::{RunError, RunResult, run_prepared};
 use std::alloc::{AllocError, Global};
 use std::collections::VecDeque;
 use std::sync::Wait;
@@ -49,17 +49,21 @@ fn one_run<R: Threads + Wait + Sync>(
     alloc: Global,
     program: &Program,
     settings: &Settings,
+    prepared: &Prepared,
     delay: u64,
     starters: Starters,
     number: u64,
 ) -> Result<RunResult, RunError>
-    requires { KeepsLimits (program_of program.now) }
+    requires limits { KeepsLimits (program_of program.now) }
+    requires ready { IsPrepared program.now settings.now prepared.now }
     ensures { Comes program.now settings.now result }
 {
     let tasks = program.tasks.as_slice().len() as u64;
     let first = starters.first(number, tasks);
     let delay = Delay::new(delay, tasks, first);
-    run_from(rt, alloc, program, settings, first, &delay, &delay)
+    run_prepared(
+        rt, alloc, program, settings, prepared, first, &delay, &delay,
+    )
 }
 
 /// What comes of so many runs, side by side, from the run of this number on.
@@ -68,21 +72,26 @@ fn side_by_side<R: Threads + Wait + Sync>(
     alloc: Global,
     program: &Program,
     settings: &Settings,
+    prepared: &Prepared,
     delay: u64,
     starters: Starters,
     number: u64,
     many: usize,
 ) -> Result<Vec<Result<RunResult, RunError>>, AllocError>
-    requires { KeepsLimits (program_of program.now) }
+    requires limits { KeepsLimits (program_of program.now) }
+    requires ready { IsPrepared program.now settings.now prepared.now }
     ensures each { IfOk result (λ all. All (Comes program.now settings.now) all.items) }
     ensures many { IfOk result (λ all. vec_len all ≡ many) }
 {
     let run = move |at: usize| -> Result<RunResult, RunError>
-        requires { KeepsLimits (program_of program.now) }
+        requires limits { KeepsLimits (program_of program.now) }
+        requires ready { IsPrepared program.now settings.now prepared.now }
         ensures { Comes program.entry.now settings.entry.now result }
     {
         let number = number.wrapping_add(at as u64);
-        one_run(rt, alloc, program, settings, delay, starters, number)
+        one_run(
+            rt, alloc, program, settings, prepared, delay, starters, number,
+        )
     };
     thread::map_indices(rt, alloc, many, &run)
 }
@@ -94,6 +103,7 @@ fn next_run<R: Threads + Wait + Sync>(
     alloc: Global,
     program: &Program,
     settings: &Settings,
+    prepared: &Prepared,
     delay: u64,
     starters: Starters,
     number: u64,
@@ -101,6 +111,7 @@ fn next_run<R: Threads + Wait + Sync>(
     ready: &mut VecDeque<Result<RunResult, RunError>>,
 ) -> Result<Result<RunResult, RunError>, AllocError>
     requires limits { KeepsLimits (program_of program.now) }
+    requires prepared { IsPrepared program.now settings.now prepared.now }
     requires many { 1 ≤ many }
     requires ready { All (Comes program.now settings.now) ready.old.items }
     ensures next { IfOk result (Comes program.now settings.now) }
@@ -108,7 +119,7 @@ fn next_run<R: Threads + Wait + Sync>(
 {
     if ready.is_empty() {
         *ready = VecDeque::from(side_by_side(
-            rt, alloc, program, settings, delay, starters, number, many,
+            rt, alloc, program, settings, prepared, delay, starters, number, many,
         )?);
     }
     let Some(outcome) = ready.pop_front() else {
@@ -123,9 +134,11 @@ fn is_counted(counted: bool, error: RunError) -> bool
 {
     match error {
         RunError::Stuck { .. } => counted,
-        RunError::BadSlots | RunError::BadPlace | RunError::OutOfMemory | RunError::NoThread => {
-            false
-        }
+        RunError::BadSlots
+        | RunError::BadPlace
+        | RunError::OutOfMemory
+        | RunError::BadSchedule
+        | RunError::NoThread => false,
     }
 }
 
@@ -150,10 +163,10 @@ impl Made {
     }
 
     /// What came of the last run that ended, if one did.
-    pub(crate) fn last(&self) -> &Option<RunResult>
-        ensures { result.now ≡ self.now.last }
+    pub(crate) fn last(&self) -> Option<&RunResult>
+        ensures { option_copied result ≡ self.now.last }
     {
-        &self.last
+        self.last.as_ref()
     }
 
     /// Adds a run that ended.
@@ -162,19 +175,19 @@ impl Made {
         alloc: Global,
         program: &Program,
         settings: &Settings,
-        sites: &Sites,
+        prepared: &Prepared,
         ended: RunResult,
-    ) -> Result<(), RunsError>
+    ) -> Result<(), EngineError>
         requires limits { KeepsLimits (program_of program.now) }
-        requires sites { AreSitesOf (program_of program.now) (places_of settings.now.places.items) sites.now }
+        requires ready { IsPrepared program.now settings.now prepared.now }
         requires once { IsRunOnce program.now settings.now ended }
         requires few { self.old.ended < 2 ^ 64 - 1 }
         ensures made { (runs : List (OneRun program.now settings.now)) (stuck : List (StuckRun program.now settings.now))
-            → AreMade program.now settings.now sites.now runs stuck self.old
-            → OnOk result ((one : OneRun program.now settings.now) × AreMade program.now settings.now sites.now (runs ++ one ∷ []) stuck self.new) }
+            → AreMade program.now settings.now (sites_in prepared.now) runs stuck self.old
+            → OnOk result ((one : OneRun program.now settings.now) × AreMade program.now settings.now (sites_in prepared.now) (runs ++ one ∷ []) stuck self.new) }
         ensures stops { IfErr result (Stops true program.now settings.now) }
     {
-        self.tally.add(alloc, program, settings, sites, &ended)?;
+        self.tally.add(alloc, program, prepared, &ended)?;
         self.last = Some(ended);
         self.ended += 1;
         Ok(())
@@ -186,24 +199,24 @@ impl Made {
         alloc: Global,
         program: &Program,
         settings: &Settings,
-        sites: &Sites,
+        prepared: &Prepared,
         counted: bool,
         outcome: Result<RunResult, RunError>,
-    ) -> Result<(), RunsError>
+    ) -> Result<(), EngineError>
         requires limits { KeepsLimits (program_of program.now) }
-        requires sites { AreSitesOf (program_of program.now) (places_of settings.now.places.items) sites.now }
+        requires ready { IsPrepared program.now settings.now prepared.now }
         requires comes { Comes program.now settings.now outcome }
         requires few { (self.old.ended < 2 ^ 64 - 1) × (self.old.stuck < 2 ^ 64 - 1) }
         ensures made { (runs : List (OneRun program.now settings.now)) (stuck : List (StuckRun program.now settings.now))
-            → AreMade program.now settings.now sites.now runs stuck self.old
-            → OnOk result (IsOneMore program.now settings.now sites.now counted runs stuck self.new) }
+            → AreMade program.now settings.now (sites_in prepared.now) runs stuck self.old
+            → OnOk result (IsOneMore program.now settings.now (sites_in prepared.now) counted runs stuck self.new) }
         ensures stops { IfErr result (Stops counted program.now settings.now) }
     {
         match outcome {
-            Ok(ended) => self.add_ended(alloc, program, settings, sites, ended),
+            Ok(ended) => self.add_ended(alloc, program, settings, prepared, ended),
             Err(error) => {
                 if !is_counted(counted, error) {
-                    return Err(RunsError::Run(error));
+                    return Err(EngineError::Run(error));
                 }
                 self.stuck += 1;
                 Ok(())
@@ -247,18 +260,18 @@ pub(crate) fn made_of<R: Threads + Wait + Sync, P: Progress>(
     alloc: Global,
     program: &Program,
     settings: &Settings,
-    sites: &Sites,
+    prepared: &Prepared,
     times: Times,
     progress: &P,
-) -> Result<Made, RunsError>
+) -> Result<Made, EngineError>
     requires limits { KeepsLimits (program_of program.now) }
-    requires sites { AreSitesOf (program_of program.now) (places_of settings.now.places.items) sites.now }
+    requires ready { IsPrepared program.now settings.now prepared.now }
     requires jobs { 1 ≤ times.jobs }
-    ensures made { IfOk result (AreAllMade program.now settings.now sites.now times) }
+    ensures made { IfOk result (AreAllMade program.now settings.now (sites_in prepared.now) times) }
     ensures few { IfOk result (λ made. made.ended + made.stuck < 2 ^ 64) }
     ensures stops { IfErr result (Stops times.keep_going program.now settings.now) }
 {
-    let starters = Starters::new(sites, settings.plain_writes_atomic);
+    let starters = Starters::new(prepared.sites(), settings.plain_writes_atomic);
     let mut made = Made::new(alloc);
     let mut ready = VecDeque::new(alloc);
     for run in 0..times.runs {
@@ -271,13 +284,21 @@ pub(crate) fn made_of<R: Threads + Wait + Sync, P: Progress>(
             alloc,
             program,
             settings,
+            prepared,
             times.delay,
             starters,
             run,
             many,
             &mut ready,
         )?;
-        made.add(alloc, program, settings, sites, times.keep_going, outcome)?;
+        made.add(
+            alloc,
+            program,
+            settings,
+            prepared,
+            times.keep_going,
+            outcome,
+        )?;
         progress.ran(run + 1, times.runs);
     }
     Ok(made)

@@ -1,29 +1,26 @@
 //! What is found of runs, taken together.
 
-ghost use Rattle.std.specs.Prelude.{◌≡◌, ◌++◌, ◌∷◌, ◌↔◌, [], All, List, IfErr, IfOk, IsTrue, OnOk, fold, map, true};
+ghost use Rattle.std.specs.Prelude.{◌≡◌, ◌++◌, ◌∷◌, ◌↔◌, [], All, List, IfOk, IsTrue, OnOk, fold, map};
 ghost use Rattle.access_types.specs.Sites.{AccessMap};
-ghost use Rattle.litmus_step.specs.declared.settings.Settings as terms;
+ghost use Rattle.program_sites.specs.Prepared.{IsPrepared, sites_in};
+ghost use Rattle.program_sites.specs.declared.settings.Settings as terms;
 ghost use Rattle.litmus_syntax.specs.Limits.{KeepsLimits};
 ghost use Rattle.litmus_syntax.specs.Views.{program_of};
 ghost use Rattle.litmus_syntax.specs.declared.program.Program as tree;
 ghost use Rattle.report_text.specs.Groups.{counted};
 ghost use Rattle.report_text.specs.ReportOf.{NamesAccesses, report_text};
 ghost use Rattle.report_text.specs.Sink.{Writes};
-ghost use Rattle.run_tally.specs.Finals.{HoldsAtEnd};
-ghost use Rattle.run_tally.specs.Errors.{Stops};
 ghost use Rattle.run_tally.specs.Output.{found_text};
 ghost use Rattle.run_tally.specs.Runs.{OneRun};
 ghost use Rattle.run_tally.specs.Tally.{Tallies};
 ghost use Rattle.runner.specs.Result.{IsRunOnce};
 
-use crate::error::RunsError;
-use crate::finals::holds_at_end;
 use access_types::{Report, Sites};
 use litmus_parse::Program;
-use litmus_step::Settings;
+use litmus_step::Prepared;
 use report_text::{Groups, Sink, WriteError};
 use run_headline::laws::the_headline_holds;
-use run_output::{write_condition, write_counters};
+use run_output::{found_of, write_condition, write_counters};
 use runner::RunResult;
 use std::alloc::{AllocError, Global};
 use task_log::Counters;
@@ -47,32 +44,6 @@ fn count_reports(groups: &mut Groups, reports: &[Report], sites: &Sites) -> Resu
         groups.add(report, sites)?;
     }
     Ok(())
-}
-
-/// The registers of all tasks at the end of a run.
-fn registers_of(alloc: Global, ended: &RunResult) -> Result<Vec<Vec<u64>>, AllocError>
-    ensures { IfOk result (λ all. map (λ values. values.items) all.items ≡ map (λ values. values.items) ended.now.registers.items) }
-{
-    let mut registers = Vec::new(alloc);
-    for task in 0..ended.tasks() {
-        registers.push(ended.registers(task).to_vec(alloc)?)?;
-    }
-    Ok(registers)
-}
-
-/// Whether the condition of the program held at the end of a run.
-fn has_held(
-    alloc: Global,
-    program: &Program,
-    settings: &Settings,
-    ended: &RunResult,
-) -> Result<bool, RunsError>
-    requires { KeepsLimits (program_of program.now) }
-    ensures held { (once : IsRunOnce program.now settings.now ended.now) → IfOk result (λ held. IsTrue held ↔ HoldsAtEnd once.list) }
-    ensures stops { IfErr result (Stops true program.now settings.now) }
-{
-    let registers = registers_of(alloc, ended)?;
-    Ok(holds_at_end(alloc, program, settings, registers, ended.memory())?)
 }
 
 impl Tally {
@@ -101,25 +72,24 @@ impl Tally {
         &mut self,
         alloc: Global,
         program: &Program,
-        settings: &Settings,
-        sites: &Sites,
+        prepared: &Prepared,
         ended: &RunResult,
-    ) -> Result<(), RunsError>
+    ) -> Result<(), AllocError>
         requires limits { KeepsLimits (program_of program.now) }
-        requires names { All (NamesAccesses sites.now) ended.now.reports.items }
-        ensures tallies { (runs : List (OneRun program.now settings.now)) → Tallies program.now settings.now sites.now runs self.old
-            → IsRunOnce program.now settings.now ended.now
-            → OnOk result ((one : OneRun program.now settings.now) × (one.result ≡ ended.now)
-            × Tallies program.now settings.now sites.now (runs ++ one ∷ []) self.new) }
-        ensures stops { IfErr result (Stops true program.now settings.now) }
+        requires names { All (NamesAccesses (sites_in prepared.now)) ended.now.reports.items }
+        ensures { (settings : terms.Settings) (runs : List (OneRun program.now settings))
+            → Tallies program.now settings (sites_in prepared.now) runs self.old → IsPrepared program.now settings prepared.now
+            → IsRunOnce program.now settings ended.now
+            → OnOk result ((one : OneRun program.now settings) × (one.result ≡ ended.now)
+            × Tallies program.now settings (sites_in prepared.now) (runs ++ one ∷ []) self.new) }
     {
         the_headline_holds();
-        let held = has_held(alloc, program, settings, ended)?;
-        count_reports(&mut self.groups, ended.reports(), sites)?;
+        let found = found_of(alloc, program, prepared, ended)?;
+        count_reports(&mut self.groups, ended.reports(), prepared.sites())?;
         self.raced = self.raced || !ended.reports().is_empty();
-        self.counters.add(&ended.counters());
-        self.unbalanced = self.unbalanced.saturating_add(ended.unbalanced());
-        self.held = self.held.saturating_add(u64::from(held));
+        self.counters.add(&found.counters);
+        self.unbalanced = self.unbalanced.saturating_add(found.unbalanced);
+        self.held = self.held.saturating_add(u64::from(found.held));
         Ok(())
     }
 

@@ -7,8 +7,8 @@ use Rattle.litmus_syntax.specs.Tree.{Block}
 use Rattle.run_lists.specs.Run.{Run, task_of, task_setting}
 use Rattle.runner.specs.Found.{AreFound, IsFound, IsInVain, IsThrough}
 use Rattle.runner.specs.Starts.{AreOutcomes}
-use Rattle.runner.specs.declared.error.RunError.{RunError}
-use Rattle.runner.specs.declared.error.RunError.TheVariants.{OutOfMemory, Stuck}
+use Rattle.program_sites.specs.declared.error.RunError.{RunError}
+use Rattle.program_sites.specs.declared.error.RunError.TheVariants.{OutOfMemory, Stuck}
 use Rattle.runner.specs.declared.seated.Found.{Found}
 use Rattle.shared_table.specs.Ended.{HasUnfinished, IsMissing}
 use Rattle.shared_table.specs.Given.{Given}

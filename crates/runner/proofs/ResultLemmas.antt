@@ -1,7 +1,7 @@
 -- The one list of all seats is a run list, and what was found of each task is what it says.
 use Rattle.std.proofs.Common.{◌≡◌, ◌<◌, ◌≤◌, ◌++◌, ◌∙◌, ◌∷◌, [], ℕ, zero, suc, List, Some, All, ap, append_assoc, arith, flat_map, get_or, inl, inr, length, map, refl, reverse, slice_get, subst, sym, take}
 use Rattle.std.proofs.lemmas.List.{append-nil, length-map, reverse-reverse}
-use Rattle.std.proofs.lemmas.List.Elements.{All-append, All-contains, All-filter}
+use Rattle.std.proofs.lemmas.List.Elements.{All-contains}
 use Rattle.std.proofs.lemmas.Option.{get_or_from_slice_get, slice_get_cases, slice_get_within}
 use Rattle.access_types.specs.declared.report.Report.{Report}
 use Rattle.litmus_step.specs.Kept.{AreLogs, accesses_kept, watches_kept}
@@ -9,7 +9,7 @@ use Rattle.litmus_step.specs.Readers.{AreRegisters}
 use Rattle.litmus_step.specs.Runs.{CanBeMade, tasks_of}
 use Rattle.litmus_syntax.specs.Tree.{Block, Task}
 use Rattle.run_headline.specs.Headline.{Headline}
-use Rattle.run_kept.specs.Setters.{is_by, reports_by}
+use Rattle.run_kept.specs.Setters.{AreReports, reports_by}
 use Rattle.run_lists.specs.Reports.{reports_of}
 use Rattle.run_lists.specs.Run.{Run, first_words, idle, task_of, task_setting}
 use Rattle.run_lists.specs.RunList.{AllHaveEnded, InWrittenOrder, RunList}
@@ -17,7 +17,7 @@ use Rattle.run_kept.specs.Lists.{ByTask}
 use Rattle.run_kept.specs.Noted.{AreNoted, Notes}
 use Rattle.run_kept.specs.Totals.{IsUnbalanced, unbalanced_below}
 use Rattle.runner.specs.Found.{AreFound, IsFound, calls_below, calls_of}
-use Rattle.runner.specs.Result.{AreReports, IsOf}
+use Rattle.runner.specs.Result.{IsOf}
 use Rattle.runner.specs.declared.result.RunResult.{RunResult}
 use Rattle.runner.specs.declared.seated.Found.{Found}
 use Rattle.shared_table.specs.Ended.{Ended, HasUnfinished, IsListOf, IsMissing}
@@ -266,15 +266,6 @@ is_of own holds run opened found result records can are first seats tasks words 
         memory = is.cells ∙ ap (λ (w : Words). (words_after w records).cells) words;
       },
     )
-
--- what is so of all reports of the list is so of those that stand by task
-pub all_reported : {run : Run} {records : List Record} (list : RunList run records) (P : Report → Type 0) (tasks : ℕ) (all : List Report)
-    → ByTask (λ task own. own ≡ reports_by task (reports_of list)) tasks all → All P (reports_of list) → All P all
-all_reported list P zero all none every = subst (λ (rs : List Report). All P rs) (sym none) (λ k d within. absurd (omega (arith, within)))
-all_reported list P (suc tasks) all are every =
-    subst (λ (rs : List Report). All P rs) (sym are.2)
-    (All-append P are.0 are.1 (all_reported list P tasks are.0 are.3 every)
-    (subst (λ (rs : List Report). All P rs) (sym are.4) (All-filter (is_by tasks) P (reports_of list) every)))
 
 -- what a task does in the written order of its whole text leaves no check unfinished
 abbrev pub FinishesAtTheEnd : Type 0

@@ -7,7 +7,7 @@ use Rattle.std.proofs.lemmas.Option.{get_or_from_slice_get, same_Some, slice_get
 use Rattle.litmus_step.specs.Runs.{tasks_of}
 use Rattle.run_lists.specs.Run.{Run}
 use Rattle.runner.specs.Starts.{AreOutcomes, AreSomeStarts, AreStarts, ComeOf, IsOutcome, IsStart}
-use Rattle.runner.specs.declared.error.RunError.{RunError}
+use Rattle.program_sites.specs.declared.error.RunError.{RunError}
 use Rattle.runner.specs.declared.first.TaskStart.{TaskStart}
 use Rattle.runner.specs.declared.seated.Found.{Found}
 use Rattle.shared_table.specs.Seats.{Opened}

@@ -5,6 +5,8 @@ use Rattle.litmus_step.specs.Runs.{tasks_of}
 use Rattle.run_lists.specs.Run.{Run, task_of, task_setting}
 use Rattle.run_lists.specs.RunList.{InWrittenOrder}
 use Rattle.run_kept.specs.Noted.{AreNoted}
+use Rattle.program_sites.specs.declared.error.RunError.{RunError}
+use Rattle.program_sites.specs.declared.error.RunError.TheVariants.{BadPlace, BadSchedule, BadSlots, NoThread, OutOfMemory, Stuck}
 use Rattle.runner.specs.declared.seated.Found.{Found}
 use Rattle.shared_table.specs.Seats.{Opened}
 use Rattle.slot_table.specs.declared.records.Record.{Record}
@@ -57,3 +59,12 @@ calls_of (Some found) = found.unbalanced
 abbrev pub calls_below : List Found → ℕ → ℕ
 calls_below found zero = 0
 calls_below found (suc n) = together (calls_below found n) (calls_of (slice_get found n))
+
+-- why threads make nothing of a program that is made ready: a task is stuck, or the machine has no memory or no thread
+abbrev pub IsOfThreads : RunError → Type 0
+IsOfThreads BadSlots = ⊥
+IsOfThreads BadPlace = ⊥
+IsOfThreads OutOfMemory = Unit {0}
+IsOfThreads (Stuck task) = Unit {0}
+IsOfThreads BadSchedule = ⊥
+IsOfThreads NoThread = Unit {0}

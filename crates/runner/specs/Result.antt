@@ -1,26 +1,21 @@
 -- What came of a run on threads, by the one list of all steps.
 use Rattle.std.specs.Prelude.{◌≡◌, ℕ, List, Some, length, slice_get}
+use Rattle.access_types.specs.Sites.{AccessMap}
 use Rattle.access_types.specs.declared.report.Report.{Report}
 use Rattle.litmus_step.specs.Kept.{AreLogs}
 use Rattle.litmus_step.specs.Readers.{AreRegisters}
 use Rattle.litmus_step.specs.Runs.{CanBeMade, run_of, tasks_of}
-use Rattle.litmus_step.specs.declared.settings.Settings.{Settings}
+use Rattle.program_sites.specs.declared.settings.Settings.{Settings}
 use Rattle.litmus_syntax.specs.declared.program.Program.{Program}
 use Rattle.run_headline.specs.Headline.{Headline}
-use Rattle.run_kept.specs.Setters.{reports_by}
-use Rattle.run_lists.specs.Reports.{reports_of}
+use Rattle.run_kept.specs.Setters.{AreReports}
 use Rattle.run_lists.specs.Run.{Run, first_words}
 use Rattle.run_lists.specs.RunList.{AllHaveEnded, RunList}
-use Rattle.run_kept.specs.Lists.{ByTask}
 use Rattle.run_kept.specs.Totals.{IsUnbalanced}
 use Rattle.runner.specs.declared.result.RunResult.{RunResult}
 use Rattle.shared_table.specs.Ended.{IsListOf}
 use Rattle.slot_table.specs.Records.{words_after}
 use Rattle.slot_table.specs.declared.records.Record.{Record}
-
--- the reports that the list gives, by the task whose watchpoint each is of
-abbrev pub AreReports : {run : Run} {records : List Record} → RunList run records → List Report → Type 0
-AreReports {run = run} list all = ByTask (λ task own. own ≡ reports_by task (reports_of list)) (tasks_of run) all
 
 -- What came of a run is what the list of all its steps gives, of which the gathered seats know. The headline holds of the list.
 pub record IsOf {run : Run} {records : List Record} (list : RunList run records) (result : RunResult) : Type 0 where
@@ -37,8 +32,7 @@ pub record IsOf {run : Run} {records : List Record} (list : RunList run records)
 
 -- Some list of steps of the program under these settings is the one.
 pub record IsRunOnce (program : Program) (settings : Settings) (result : RunResult) : Type 0 where
-  pub run : Run
-  pub is_run : run ≡ run_of program settings run.sites
+  pub sites : AccessMap
   pub records : List Record
-  pub list : RunList run records
+  pub list : RunList (run_of program settings sites) records
   pub is_of : IsOf list result

@@ -3,8 +3,8 @@ use Rattle.std.specs.Prelude.{◌≡◌, ◌≤◌, ◌<◌, ◌⊎◌, [], ℕ,
 use Rattle.litmus_step.specs.Kept.{accesses_kept, watches_kept}
 use Rattle.run_lists.specs.Run.{Run}
 use Rattle.runner.specs.Found.{IsFound, IsInVain}
-use Rattle.runner.specs.declared.error.RunError.{RunError}
-use Rattle.runner.specs.declared.error.RunError.TheVariants.{OutOfMemory, Stuck}
+use Rattle.program_sites.specs.declared.error.RunError.{RunError}
+use Rattle.program_sites.specs.declared.error.RunError.TheVariants.{OutOfMemory, Stuck}
 use Rattle.runner.specs.declared.first.TaskStart.{TaskStart}
 use Rattle.runner.specs.declared.seated.Found.{Found}
 use Rattle.shared_table.specs.Seats.{Opened}

@@ -1,88 +1,56 @@
 //! The words and the tasks of a run before its first step.
 
-ghost use Rattle.std.specs.Prelude.{◌≡◌, ◌≤◌, ◌<◌, ◌↔◌, ◌⊎◌, [], ℕ, IfErr, IfOk, IsErrOf, vec_len};
+ghost use Rattle.std.specs.Prelude.{◌≡◌, ◌≤◌, ◌<◌, [], ℕ, IfOk};
 ghost use Rattle.access_types.specs.Sites.{AccessMap};
-ghost use Rattle.litmus_step.specs.Leads.{LeadsTask};
+ghost use Rattle.program_sites.specs.Prepared.{IsPrepared, IsReady};
 ghost use Rattle.litmus_step.specs.Runs.{run_of, tasks_of};
+ghost use Rattle.program_sites.specs.declared.settings.Settings.{Settings};
 ghost use Rattle.litmus_syntax.specs.Limits.{KeepsLimits};
 ghost use Rattle.litmus_syntax.specs.Views.{program_of};
-ghost use Rattle.program_layout.specs.Places.{AreFit};
 ghost use Rattle.run_lists.specs.Run as lists;
 ghost use Rattle.runner.specs.Starts.{AreStarts, IsOutcome, IsStart};
 ghost use Rattle.runner.specs.Terms.{AreTerms, run_by};
-ghost use Rattle.runner.specs.declared.error.RunError.TheVariants.{BadPlace, BadSlots, OutOfMemory};
 ghost use Rattle.shared_table.specs.Given.{first_words};
 ghost use Rattle.shared_table.specs.Seats.{Opened, new_seats};
 
-use crate::error::RunError;
 use crate::hooks::{Gate, Stall};
 use crate::seated::{Found, SeatedTask};
 use crate::terms::Terms;
 use access_types::Report;
-use litmus_step::Settings;
-use litmus_step::first::{ACCESSES, WATCHES};
+use litmus_step::first::{ACCESSES, WATCHES, first_task};
+use litmus_step::{Prepared, RunError};
 use litmus_syntax::Program;
-use program_layout::Layout;
-use program_sites::sites_of;
 use shared_table::{SharedTable, TaskSeat};
-use slot_table::Shape;
+use slot_table::{BoardError, Shape};
 use std::alloc::{AllocError, Global};
 use std::sync::Wait;
 use task_log::TaskLog;
-use task_run::TaskRun;
 
-/// The shared words of a program before its first step, and a seat for each task.
+/// The shared words of a program that is made ready before its first step, and a seat for each task.
 pub(crate) fn first_table(
     alloc: Global,
     program: &Program,
-    settings: &Settings,
-) -> Result<(SharedTable, Vec<TaskSeat>), RunError>
-    requires { KeepsLimits (program_of program.now) }
-    ensures words { IfOk result (λ made. (sites : AccessMap) → first_words made.0.given ≡ lists.first_words (run_of program.now settings.now sites)) }
-    ensures tasks { IfOk result (λ made. (sites : AccessMap) → made.0.given.tasks ≡ tasks_of (run_of program.now settings.now sites)) }
+    prepared: &Prepared,
+) -> Result<(SharedTable, Vec<TaskSeat>), AllocError>
+    requires limits { KeepsLimits (program_of program.now) }
+    requires ready { IsReady program.now prepared.now }
+    ensures words { (settings : Settings) (sites : AccessMap) → IsPrepared program.now settings prepared.now
+        → IfOk result (λ made. first_words made.0.given ≡ lists.first_words (run_of program.now settings sites)) }
+    ensures tasks { (settings : Settings) (sites : AccessMap)
+        → IfOk result (λ made. made.0.given.tasks ≡ tasks_of (run_of program.now settings sites)) }
     ensures seats { IfOk result (λ made. made.1.items ≡ new_seats made.0 made.0.given.tasks) }
-    ensures slots { IfOk result (λ _. (3 ≤ settings.now.slots) × (settings.now.slots ≤ 1024)) }
-    ensures fit { IfOk result (λ _. AreFit program.now.variables settings.now.places.items) }
-    ensures bad_slots { IsErrOf result BadSlots → (settings.now.slots < 3 ⊎ 1024 < settings.now.slots) }
-    ensures bad_place { IsErrOf result BadPlace ↔ (AreFit program.now.variables settings.now.places.items → ⊥) }
-    ensures errors { IfErr result (λ error. (error ≡ BadSlots) ⊎ ((error ≡ BadPlace) ⊎ (error ≡ OutOfMemory))) }
 {
-    let layout = Layout::new(
-        alloc,
-        program.variables.as_slice(),
-        settings.places.as_slice(),
-    )?;
-    let cells = layout.cells_at_first(alloc)?;
     let shape = Shape {
-        slots: settings.slots,
+        slots: prepared.rules.slots,
         tasks: program.tasks.as_slice().len() as u32,
-        locks: layout.locks(),
-        cells: cells.as_slice(),
+        locks: prepared.locks,
+        cells: prepared.words.as_slice(),
     };
-    Ok(SharedTable::new(alloc, shape)?)
-}
-
-/// A task of a program before its first step.
-fn first_task<'t>(alloc: Global, terms: Terms<'t>, number: u32) -> Result<TaskRun<'t>, RunError>
-    requires terms { AreTerms terms }
-    requires there { number < tasks_of (run_by terms) }
-    ensures led { IfOk result (λ machine. LeadsTask (run_by terms.entry) number [] machine) }
-    ensures errors { IfErr result (λ error. error ≡ OutOfMemory) }
-{
-    let places = terms.settings.places.as_slice();
-    let layout = Layout::new(alloc, terms.program.variables.as_slice(), places)?;
-    let cells = layout.cells(alloc)?;
-    let sites = sites_of(alloc, terms.program, places)?;
-    Ok(TaskRun::new(
-        alloc,
-        terms.program,
-        number,
-        &terms.program.tasks.as_slice()[number as usize],
-        &terms.settings.rules(),
-        places,
-        cells.as_slice(),
-        sites,
-    )?)
+    match SharedTable::new(alloc, shape) {
+        Ok(made) => Ok(made),
+        Err(BoardError::OutOfMemory) => Err(AllocError),
+        Err(BoardError::BadSlots) => unreachable!(),
+    }
 }
 
 /// A task before its first step: its seat before the shared words, and room for what is kept of its steps.
@@ -123,7 +91,7 @@ impl TaskStart {
         requires there { self.number < tasks_of (run_by terms) }
         ensures { IsOutcome (run_by terms.entry) terms.entry.table.now self.number result }
     {
-        let run = first_task(alloc, terms, self.number)?;
+        let run = first_task(alloc, terms.program, terms.prepared, self.number)?;
         let TaskStart {
             number,
             seat,

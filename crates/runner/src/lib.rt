@@ -1,7 +1,6 @@
 //! A program on real threads, one a task, over the shared words and without a lock.
 #![tactic(auto)]
 
-pub mod error;
 mod first;
 pub mod hooks;
 pub mod laws;
@@ -11,7 +10,7 @@ mod seated;
 mod terms;
 mod threads;
 
-pub use error::RunError;
 pub use hooks::{Gate, NoStall, Open, Point, Stall};
+pub use litmus_step::RunError;
 pub use result::RunResult;
-pub use run::{run_from, run_once};
+pub use run::{run_once, run_prepared};

@@ -1,6 +1,6 @@
 //! What came of a run on threads.
 
-ghost use Rattle.std.specs.Prelude.{◌≡◌, ◌<◌, All, IfErr, IfOk, List, length, slice_index_or};
+ghost use Rattle.std.specs.Prelude.{◌≡◌, ◌<◌, All, IfOk, List, length, slice_index_or};
 ghost use Rattle.accepted_traces.specs.Parts.{ReportFits};
 ghost use Rattle.run_lists.specs.Run.{Run};
 ghost use Rattle.run_lists.specs.RunList.{RunList};
@@ -9,12 +9,12 @@ ghost use Rattle.run_kept.specs.Totals.{CountsList};
 ghost use Rattle.runner.specs.Result.{IsOf};
 ghost use Rattle.slot_table.specs.declared.records.Record.{Record};
 
-use crate::error::RunError;
 use crate::laws::reports_are_of_ended_accesses;
 use access_types::{Arm, Report, Stamped, Take};
+use litmus_step::Ran;
 use litmus_step::logs::{accesses_of, arms_of, counters_of, takes_of};
 use shared_table::Gathered;
-use std::alloc::Global;
+use std::alloc::{AllocError, Global};
 use task_log::{Counters, TaskLog};
 
 /// What came of a run on threads: what was kept of the steps of its tasks, and the words at its end.
@@ -51,33 +51,30 @@ impl RunResult {
     }
 
     /// The accesses, by task, and then in the order of their begins. The reports are of these.
-    pub fn accesses(&self) -> Result<Vec<Stamped>, RunError>
+    pub fn accesses(&self) -> Result<Vec<Stamped>, AllocError>
         ensures all { (run : Run) (records : List Record) → (list : RunList run records) → IsOf list self.now
             → IfOk result (λ all. AreAccesses list all.items) }
         ensures races { (run : Run) (records : List Record) → (list : RunList run records) → IsOf list self.now
             → IfOk result (λ all. All (ReportFits all.items) self.now.reports.items) }
-        ensures errors { IfErr result (λ error. error ≡ RunError.OutOfMemory) }
     {
         reports_are_of_ended_accesses();
-        Ok(accesses_of(self.alloc, self.logs.as_slice())?)
+        accesses_of(self.alloc, self.logs.as_slice())
     }
 
     /// The armings, by task, and then in the order of their removes.
-    pub fn arms(&self) -> Result<Vec<Arm>, RunError>
-        ensures all { (run : Run) (records : List Record) → (list : RunList run records) → IsOf list self.now
+    pub fn arms(&self) -> Result<Vec<Arm>, AllocError>
+        ensures { (run : Run) (records : List Record) → (list : RunList run records) → IsOf list self.now
             → IfOk result (λ all. AreArms list all.items) }
-        ensures errors { IfErr result (λ error. error ≡ RunError.OutOfMemory) }
     {
-        Ok(arms_of(self.alloc, self.logs.as_slice())?)
+        arms_of(self.alloc, self.logs.as_slice())
     }
 
     /// The takings, by task, and then in the order of their tells.
-    pub fn takes(&self) -> Result<Vec<Take>, RunError>
-        ensures all { (run : Run) (records : List Record) → (list : RunList run records) → IsOf list self.now
+    pub fn takes(&self) -> Result<Vec<Take>, AllocError>
+        ensures { (run : Run) (records : List Record) → (list : RunList run records) → IsOf list self.now
             → IfOk result (λ all. AreTakes list all.items) }
-        ensures errors { IfErr result (λ error. error ≡ RunError.OutOfMemory) }
     {
-        Ok(takes_of(self.alloc, self.logs.as_slice())?)
+        takes_of(self.alloc, self.logs.as_slice())
     }
 
     /// How many tasks there were.
@@ -100,5 +97,53 @@ impl RunResult {
         ensures { result.now ≡ self.now.gathered.cells }
     {
         self.gathered.cells()
+    }
+}
+
+impl Ran for RunResult {
+    ghost comes_of = { λ result run records. (list : RunList run records) × IsOf list result };
+
+    ghost list_of = { λ result run records is. is.0 };
+
+    ghost can = { λ result run records is. is.1.can };
+
+    ghost tasks_in = { λ result. length result.registers.items };
+
+    ghost reports_in = { λ result. result.reports.items };
+
+    fn tasks(&self) -> usize {
+        RunResult::tasks(self)
+    }
+
+    fn registers(&self, task: usize) -> &[u64] {
+        RunResult::registers(self, task)
+    }
+
+    fn memory(&self) -> &[u64] {
+        RunResult::memory(self)
+    }
+
+    fn reports(&self) -> &[Report] {
+        RunResult::reports(self)
+    }
+
+    fn counters(&self) -> Counters {
+        RunResult::counters(self)
+    }
+
+    fn unbalanced(&self) -> u64 {
+        RunResult::unbalanced(self)
+    }
+
+    fn accesses(&self) -> Result<Vec<Stamped>, AllocError> {
+        RunResult::accesses(self)
+    }
+
+    fn arms(&self) -> Result<Vec<Arm>, AllocError> {
+        RunResult::arms(self)
+    }
+
+    fn takes(&self) -> Result<Vec<Take>, AllocError> {
+        RunResult::takes(self)
     }
 }

@@ -3,19 +3,19 @@
 ghost use Rattle.std.specs.Prelude.{◌≡◌, ◌<◌, ◌⊎◌, ℕ, IfErr, IfOk, IsErrOf, length, map};
 ghost use Rattle.std.specs.List.{flat_map};
 ghost use Rattle.access_types.specs.Sites.{AccessMap};
+ghost use Rattle.program_sites.specs.Prepared.{IsPrepared};
 ghost use Rattle.litmus_step.specs.Runs.{run_of, tasks_of};
 ghost use Rattle.litmus_syntax.specs.Limits.{KeepsLimits};
 ghost use Rattle.litmus_syntax.specs.Views.{program_of};
-ghost use Rattle.program_layout.specs.Places.{AreFit};
+ghost use Rattle.program_sites.specs.of_program_layout_Places.{AreFit};
 ghost use Rattle.run_lists.specs.Run.{Run};
-ghost use Rattle.runner.specs.Found.{AreFound, IsInVain, IsThrough, calls_below};
+ghost use Rattle.runner.specs.Found.{AreFound, IsInVain, IsOfThreads, IsThrough, calls_below};
 ghost use Rattle.runner.specs.Result.{IsRunOnce};
 ghost use Rattle.runner.specs.Starts.{AreOutcomes};
 ghost use Rattle.runner.specs.Terms.{AreTerms, run_by};
-ghost use Rattle.runner.specs.declared.error.RunError.TheVariants.{BadPlace, BadSlots, OutOfMemory, Stuck};
+ghost use Rattle.program_sites.specs.declared.error.RunError.TheVariants.{BadPlace, BadSchedule, BadSlots, OutOfMemory, Stuck};
 ghost use Rattle.shared_table.specs.Seats.{Opened, new_seats};
 
-use crate::error::RunError;
 use crate::first::{first_starts, first_table};
 use crate::hooks::{Gate, Stall};
 use crate::result::RunResult;
@@ -23,10 +23,9 @@ use crate::seated::Found;
 use crate::terms::Terms;
 use crate::threads::on_threads_from;
 use access_types::Report;
-use litmus_step::Settings;
 use litmus_step::laws::runs_begin;
+use litmus_step::{Prepared, RunError, Settings};
 use litmus_syntax::Program;
-use program_sites::sites_of;
 use run_headline::laws::the_headline_holds;
 use run_kept::reports::a_task_reports_its_own;
 use shared_table::TaskSeat;
@@ -74,8 +73,7 @@ fn steps_on<'t, R: Threads + Wait + Sync, S: Stall, G: Gate>(
     ensures found { IfOk result (λ found. AreFound (run_by terms.entry) terms.entry.table.now found.items) }
     ensures stuck { (task : ℕ) → IsErrOf result (Stuck task) → IsInVain (run_by terms.entry) task }
     ensures smallest { (task : ℕ) → IsErrOf result (Stuck task) → (below : ℕ) → below < task → IsThrough (run_by terms.entry) below }
-    ensures bad_slots { ¬ (IsErrOf result BadSlots) }
-    ensures bad_place { ¬ (IsErrOf result BadPlace) }
+    ensures errors { IfErr result IsOfThreads }
 {
     let starts = first_starts(alloc, seats)?;
     let outcomes = on_threads_from(rt, alloc, terms, starts, first, stall, gate)?;
@@ -150,27 +148,30 @@ pub fn run_once<R: Threads + Wait + Sync, S: Stall, G: Gate>(
     ensures once { IfOk result (IsRunOnce program.now settings.now) }
     ensures bad_slots { IsErrOf result BadSlots → (settings.now.slots < 3 ⊎ 1024 < settings.now.slots) }
     ensures bad_place { IsErrOf result BadPlace → AreFit program.now.variables settings.now.places.items → ⊥ }
+    ensures no_schedule { ¬ (IsErrOf result BadSchedule) }
     ensures stuck { (task : ℕ) → IsErrOf result (Stuck task) → (sites : AccessMap) × IsInVain (run_of program.now settings.now sites) task
         × ((below : ℕ) → below < task → IsThrough (run_of program.now settings.now sites) below) }
 {
-    run_from(rt, alloc, program, settings, 0, stall, gate)
+    let prepared = Prepared::new(alloc, program, settings)?;
+    run_prepared(rt, alloc, program, settings, &prepared, 0, stall, gate)
 }
 
-/// Runs a program once, as [`run_once`] does. The thread of the first of these tasks starts first, then those of the tasks above, then
-/// those below: who starts first is often over before the last begins, so where a program is run often, each task is to be first in turn.
-pub fn run_from<R: Threads + Wait + Sync, S: Stall, G: Gate>(
+/// Runs a program that is made ready under these settings once, as [`run_once`] does. The thread of the first of these tasks starts first,
+/// then those of the tasks above, then those below: who starts first is often over before the last begins.
+pub fn run_prepared<R: Threads + Wait + Sync, S: Stall, G: Gate>(
     rt: &R,
     alloc: Global,
     program: &Program,
     settings: &Settings,
+    prepared: &Prepared,
     first: usize,
     stall: &S,
     gate: &G,
 ) -> Result<RunResult, RunError>
     requires limits { KeepsLimits (program_of program.now) }
+    requires ready { IsPrepared program.now settings.now prepared.now }
     ensures once { IfOk result (IsRunOnce program.now settings.now) }
-    ensures bad_slots { IsErrOf result BadSlots → (settings.now.slots < 3 ⊎ 1024 < settings.now.slots) }
-    ensures bad_place { IsErrOf result BadPlace → AreFit program.now.variables settings.now.places.items → ⊥ }
+    ensures errors { IfErr result IsOfThreads }
     ensures stuck { (task : ℕ) → IsErrOf result (Stuck task) → (sites : AccessMap) × IsInVain (run_of program.now settings.now sites) task
         × ((below : ℕ) → below < task → IsThrough (run_of program.now settings.now sites) below) }
 {
@@ -178,13 +179,11 @@ pub fn run_from<R: Threads + Wait + Sync, S: Stall, G: Gate>(
     the_written_order_keeps_the_discipline();
     a_task_reports_its_own();
     the_headline_holds();
-    let _ = settings.rules();
-    let sites = sites_of(alloc, program, settings.places.as_slice())?;
-    let (table, seats) = first_table(alloc, program, settings)?;
+    let (table, seats) = first_table(alloc, program, prepared)?;
     let terms = Terms {
         program,
         settings,
-        sites: &sites,
+        prepared,
         table: &table,
     };
     let found = steps_on(rt, alloc, terms, seats, first, stall, gate)?;

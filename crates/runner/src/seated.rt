@@ -1,19 +1,19 @@
 //! A task at its seat, and its steps on the shared words.
 
-ghost use Rattle.std.specs.Prelude.{◌≡◌, ◌⊎◌, ◌<◌, ℕ, IfErr, IfOk, IsErrOf, List, Option, vec_capacity};
-ghost use Rattle.litmus_step.specs.Kept.{Added, IsNotedIn};
+ghost use Rattle.std.specs.Prelude.{◌≡◌, ◌⊎◌, ◌<◌, ℕ, IfErr, IfOk, IsErrOf};
 ghost use Rattle.runner.specs.Found.{IsFound, IsInVain};
 ghost use Rattle.runner.specs.Machine.{MakesNoMore};
 ghost use Rattle.runner.specs.Seated.{IsSeated};
 ghost use Rattle.runner.specs.Terms.{AreTerms, run_by};
-ghost use Rattle.runner.specs.declared.error.RunError.TheVariants.{OutOfMemory, Stuck};
+ghost use Rattle.program_sites.specs.declared.error.RunError.TheVariants.{OutOfMemory, Stuck};
 ghost use Rattle.runner.specs.declared.terms.Terms.{Terms};
 
-use crate::error::RunError;
 use crate::hooks::{Gate, Stall, comes_to, has_passed, waits};
 use crate::laws::seats_lead_on;
 use crate::terms::Terms;
 use access_types::Report;
+use litmus_step::RunError;
+use litmus_step::logs::note;
 use run_kept::bounds::few_watches_are_over;
 use run_kept::standing::machines_stand_where_the_records_tell;
 use shared_table::TaskSeat;
@@ -42,29 +42,6 @@ pub(crate) struct Found {
     pub(crate) reports: Vec<Report>,
     pub(crate) registers: Vec<u64>,
     pub(crate) unbalanced: u64,
-}
-
-/// A report, if there is one, is kept where there is room for it.
-fn add(reports: &mut Vec<Report>, report: Option<Report>)
-    ensures added { Added report (vec_capacity reports.old) reports.old.items reports.new.items }
-    ensures room { vec_capacity reports.new ≡ vec_capacity reports.old }
-{
-    let Some(report) = report else {
-        return;
-    };
-    if reports.len() < reports.capacity() {
-        reports.push_reserved(report);
-    }
-}
-
-/// A step of a task is noted, and what is reported at it is kept.
-fn note(log: &mut TaskLog, reports: &mut Vec<Report>, noted: &Noted)
-    ensures noted { (report : Option Report) × IsNotedIn log.old noted.now log.new report
-        × Added report (vec_capacity reports.old) reports.old.items reports.new.items }
-    ensures room { vec_capacity reports.new ≡ vec_capacity reports.old }
-{
-    let report = log.note(noted);
-    add(reports, report);
 }
 
 impl<'t> SeatedTask<'t> {
@@ -119,7 +96,7 @@ impl<'t> SeatedTask<'t> {
             comes_to(stall, gate, task, run.before());
             let begins = run.begins();
             let answer = board.step(step);
-            run.answer(answer);
+            run.answer(step, answer);
             let noted = Noted {
                 step,
                 answer,

@@ -2,18 +2,17 @@
 
 ghost use Rattle.std.specs.Prelude.{◌≡◌, ◌<◌, IfErr, IfOk, ◌⊎◌};
 ghost use Rattle.std.specs.Thread.{IsSync};
+ghost use Rattle.program_sites.specs.Prepared.{sites_in};
 ghost use Rattle.litmus_step.specs.Runs.{run_of, tasks_of};
 ghost use Rattle.runner.specs.Starts.{AreOutcomes, AreSomeStarts, AreStarts, ComeOf, IsOutcome, IsStart};
 ghost use Rattle.runner.specs.Terms.{AreGiven, AreTerms, run_by};
-ghost use Rattle.runner.specs.declared.error.RunError.TheVariants.{NoThread, OutOfMemory};
+ghost use Rattle.program_sites.specs.declared.error.RunError.TheVariants.{NoThread, OutOfMemory};
 
-use crate::error::RunError;
 use crate::first::TaskStart;
 use crate::hooks::{Gate, Stall};
 use crate::seated::Found;
 use crate::terms::Terms;
-use access_types::Sites;
-use litmus_step::Settings;
+use litmus_step::{Prepared, RunError, Settings};
 use litmus_syntax::Program;
 use shared_table::SharedTable;
 use std::alloc::Global;
@@ -77,7 +76,7 @@ fn on_threads<'t, R: Threads + Wait + Sync, S: Stall, G: Gate>(
     let Terms {
         program,
         settings,
-        sites,
+        prepared,
         table,
     } = terms;
     thread::scope(
@@ -85,9 +84,9 @@ fn on_threads<'t, R: Threads + Wait + Sync, S: Stall, G: Gate>(
         rt,
         move |scope| -> Result<Vec<Result<Found, RunError>>, RunError>
             requires sync { IsSync R.row × IsSync S.row × IsSync G.row }
-            requires terms { AreGiven program.now settings.now sites.now table.now }
+            requires terms { AreGiven program.now settings.now prepared.now table.now }
             requires starts { AreSomeStarts table.now starts.items }
-            ensures outcomes { IfOk result (λ all. ComeOf (run_of program.entry.now settings.entry.now sites.entry.now) table.entry.now
+            ensures outcomes { IfOk result (λ all. ComeOf (run_of program.entry.now settings.entry.now (sites_in prepared.entry.now)) table.entry.now
                 starts.items all.items) }
             ensures errors { IfErr result (λ error. (error ≡ NoThread) ⊎ (error ≡ OutOfMemory)) }
         {
@@ -96,7 +95,7 @@ fn on_threads<'t, R: Threads + Wait + Sync, S: Stall, G: Gate>(
                 let terms = Terms {
                     program,
                     settings,
-                    sites,
+                    prepared,
                     table,
                 };
                 let promise = OfTask {
@@ -104,15 +103,15 @@ fn on_threads<'t, R: Threads + Wait + Sync, S: Stall, G: Gate>(
                     task: start.number,
                 };
                 let steps = move || -> Result<Found, RunError>
-                    requires terms { AreGiven program.now settings.now sites.now table.now }
+                    requires terms { AreGiven program.now settings.now prepared.now table.now }
                     requires start { IsStart table.now start.number start }
-                    requires there { start.number < tasks_of (run_of program.now settings.now sites.now) }
-                    ensures { IsOutcome (run_of program.entry.now settings.entry.now sites.entry.now) table.entry.now start.number result }
+                    requires there { start.number < tasks_of (run_of program.now settings.now (sites_in prepared.now)) }
+                    ensures { IsOutcome (run_of program.entry.now settings.entry.now (sites_in prepared.entry.now)) table.entry.now start.number result }
                 {
                     let terms = Terms {
                         program,
                         settings,
-                        sites,
+                        prepared,
                         table,
                     };
                     start.found(rt, alloc, terms, stall, gate)

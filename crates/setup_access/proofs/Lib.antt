@@ -7,6 +7,7 @@ pub mod SetupLemmas
 pub mod PassLemmas
 pub mod StageLemmas
 pub mod WaitLemmas
+pub mod VainLemmas
 pub mod LeadsLemmas
 pub mod NextLemmas
 pub mod LawLemmas

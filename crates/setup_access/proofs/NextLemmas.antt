@@ -124,7 +124,7 @@ only_step s scopes doing asked records checker step leads is = λ later passes d
     let left = (leads.left later passes).0 does in stage_goes s scopes checker.stage leads.now later left.0 step left.1 is
 
 -- at rest the records are complete
-complete_at_rest : (s : Setting) (scopes : List Begun) (doing : Doing) (asked : ℕ) (records : List Record) (checker : Checker)
+pub complete_at_rest : (s : Setting) (scopes : List Begun) (doing : Doing) (asked : ℕ) (records : List Record) (checker : Checker)
     → Leads s scopes doing asked records checker → checker.stage ≡ stages.Rest → IsComplete s scopes doing asked records checker
 complete_at_rest s scopes doing asked records checker leads rests =
     let none : Passes = record { outcomes = []; asked = leads.now } in

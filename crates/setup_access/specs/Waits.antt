@@ -1,11 +1,58 @@
-use Rattle.std.specs.Prelude.{◌+◌, ◌≤◌, ℕ, zero, suc, List, [], ◌∷◌, Option, None, Some, IsSomeAnd, true, false}
+-- What a vain try is, how many of them a task has made, and when it waits too long.
+use Rattle.std.specs.Prelude.{◌+◌, ◌≤◌, ℕ, zero, suc, Bool, List, [], ◌∷◌, Option, None, Some, IsSomeAnd, true, false, not, if◌then◌else◌}
 use Rattle.slot.specs.Pair.{Halves}
 use Rattle.slot_table.specs.declared.records.Record.{Record}
 use Rattle.slot_table.specs.declared.step.Answer.{Answer}
 use Rattle.slot_table.specs.declared.step.Answer.TheVariants as answers
 use Rattle.slot_table.specs.declared.step.Step.{Step}
-use Rattle.slot_table.specs.declared.step.Step.TheVariants.{Consume, PairLoad, TryConsume}
+use Rattle.slot_table.specs.declared.step.Step.TheVariants.{CellExchange, Consume, LockTry, PairLoad, TryConsume}
 use Rattle.setup_access.specs.Found.{finder_half, setter_half}
+
+-- an exchange that is refused answers the word that stands there
+abbrev pub is_word : Answer → Bool
+is_word (answers.Word word) = true
+is_word answer = false
+
+-- a try of a lock that is refused answers so
+abbrev pub is_no : Answer → Bool
+is_no (answers.Flag accepted) = not accepted
+is_no answer = false
+
+-- nobody stands in a half that is 0
+abbrev pub is_empty : ℕ → Bool
+is_empty zero = true
+is_empty (suc _) = false
+
+-- a load of a pair doesn't hear the half that is waited for, if one is
+abbrev pub is_unheard : Option (Halves → ℕ) → Answer → Bool
+is_unheard None answer = false
+is_unheard (Some half) (answers.Halves setter finder) = is_empty (half (record { setter = setter; finder = finder }))
+is_unheard (Some half) answer = false
+
+-- A vain try, of a task that waits for this half of a pair or for none: an exchange of a cell that was refused, a try of a lock that was refused, or a load of a pair whose half was empty.
+-- All that is said of vain tries, here and in the crates above, is said by this.
+abbrev pub is_vain : Option (Halves → ℕ) → Step → Answer → Bool
+is_vain half (CellExchange cell seen new) answer = is_word answer
+is_vain half (LockTry lock task) answer = is_no answer
+is_vain half (PairLoad index) answer = is_unheard half answer
+is_vain half step answer = false
+
+-- the half that a task waits for after a step: who tries to take a watchpoint may have to hear its setter, who consumes its own its finder
+abbrev pub awaited : Option (Halves → ℕ) → Step → Option (Halves → ℕ)
+awaited half (TryConsume index word) = Some setter_half
+awaited half (Consume index) = Some finder_half
+awaited half (PairLoad index) = half
+awaited half step = None
+
+-- how many vain tries a task has made at the end of these records, after so many before them, where it waits for this half
+abbrev pub vain_from : Option (Halves → ℕ) → ℕ → List Record → ℕ
+vain_from half tries [] = tries
+vain_from half tries (first ∷ later) =
+    vain_from (awaited half first.step) (if is_vain half first.step first.answer then tries + 1 else 0) later
+
+-- the same from its first record on
+abbrev pub vain_tries : List Record → ℕ
+vain_tries records = vain_from None 0 records
 
 -- a wait for a half of a pair: whose half, and how many loads of the pair found it empty
 pub record Wait : Type 0 where

@@ -14,7 +14,6 @@ pub struct Begun {
 }
 
 impl Begun {
-    /// An access that begins.
     pub(crate) fn new(access: Access, marked: bool, silenced: bool) -> Begun
         requires { 0 < access.size }
         ensures access { result.access ≡ access }
@@ -28,7 +27,6 @@ impl Begun {
         }
     }
 
-    /// The same access.
     pub(crate) fn same(&self) -> Begun
         ensures { result ≡ self.now }
     {

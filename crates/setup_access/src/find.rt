@@ -16,8 +16,8 @@ use access_types::Access;
 use slot_table::{Answer, Step, page_slot};
 use watch_word::{Layout, decode_in, matches_in};
 
-/// A look-up under way: the index that it reads next. It begins at the page slot, since most accesses stay
-/// within their page.
+/// A look-up under way: the index that it reads next. A watchpoint is one word, so a load has all of it; that it
+/// may be gone by now is left to the try to take it.
 #[derive(Clone, Copy, Debug, PartialEq, Eq)]
 pub struct Find {
     place: Place,
@@ -41,7 +41,6 @@ impl Find {
         }
     }
 
-    /// The index that it reads next.
     fn index(self, setting: &Setting, access: &Access) -> usize
         ensures { (sites : AccessMap) → result ≡ look_index self.place (slot_of (setting_with setting.now sites) access.now) }
     {
@@ -49,7 +48,6 @@ impl Find {
             .of_look_up(page_slot(access.addr(), setting.rules.slots))
     }
 
-    /// The step that it makes next.
     pub(crate) fn next(self, setting: &Setting, access: &Access) -> Step
         ensures { (sites : AccessMap) → result ≡ find_step (setting_with setting.now sites) access.now self }
     {
@@ -74,7 +72,7 @@ impl Find {
 }
 
 /// Whether the access hits the watchpoint of a word. Two reads never conflict, so one of the two has to be a
-/// write; the ranges are compared as far as words have their addresses.
+/// write. The ranges are compared as far as words have their addresses: the setter drops a match too many.
 fn hits(layout: Layout, access: &Access, word: u64) -> bool
     requires { 0 < access.now.size }
     ensures { IsTrue result ↔ Hits layout access.now word }

@@ -1,15 +1,19 @@
-//! `found_watchpoint`: a watchpoint of another task matches the access.
+//! `kcsan_found_watchpoint`: a watchpoint of another task matches the access.
 
-ghost use Rattle.std.specs.Prelude.{◌≡◌, ◌+◌, ◌-◌, ◌^◌, ◌<◌, ◌↔◌, ◌∷◌, List, if◌then◌else◌, min};
+ghost use Rattle.std.specs.Prelude.{◌≡◌, ◌+◌, ◌-◌, ◌^◌, ◌<◌, ◌≤◌, ◌↔◌, ◌∷◌, ℕ, List, None, Some, if◌then◌else◌, min};
 ghost use Rattle.slot_table.specs.Answer.{Answers};
 ghost use Rattle.slot_table.specs.declared.records.Record.{Record};
-ghost use Rattle.setup_access.specs.FallsAt.{TakingFalls};
+ghost use Rattle.setup_access.specs.Due.{given_now, to_due};
+ghost use Rattle.setup_access.specs.FallsAt.{FallsAt, GivesAt, TakingFalls};
 ghost use Rattle.setup_access.specs.Parts.{FoundLeft, TakingLeft, found_step, made};
+ghost use Rattle.setup_access.specs.PassLeft.{Given, GoesOnGiven, PassLeft, TurnLeft};
 ghost use Rattle.setup_access.specs.Setting as spec;
-ghost use Rattle.setup_access.specs.Waiting.{Counts, found_wait, taking_wait};
+ghost use Rattle.setup_access.specs.Waiting.{Counts, found_wait, taking_wait, to_wait};
 ghost use Rattle.setup_access.specs.declared.outcome.Outcome.{Outcome};
 
+use crate::begun::Begun;
 use crate::outcome::{Outcome, Watchpoint};
+use crate::pass::{Pass, To, Turn};
 use access_types::{Access, ticket};
 use slot::Pair;
 use slot_table::{Answer, Step};
@@ -17,11 +21,12 @@ use slot_table::{Answer, Step};
 /// An access that takes a watchpoint.
 #[derive(Clone, Copy, Debug, PartialEq, Eq)]
 pub enum Found {
-    /// Take it, if it is still the word that was read: only so does one access alone take it.
+    /// Take it, if it is still the word that was read: so one access alone takes it, and none once its watch is over.
     TryConsume(Watchpoint),
-    /// It is taken: wait until its setter has named itself, which it does after its insertion.
+    /// It is taken: wait until its setter has named itself, which it does after its insertion, so that both
+    /// sides have one pair.
     HearSetter { index: usize, tries: u64 },
-    /// Tell this setter who took it.
+    /// Tell this setter who took it. It comes after the taking, since only who took it may write here.
     Tell { index: usize, setter: u32 },
 }
 
@@ -32,8 +37,22 @@ pub enum Taking {
     Over(Outcome),
 }
 
+/// `kcsan_found_watchpoint`. An access with a mask takes nothing: which of its bits change only its own watch
+/// could tell, and the setter knows of no mask.
+pub(crate) fn found_watchpoint(begun: &Begun, found: Watchpoint) -> Turn
+    ensures fits { given_now result.outcome + to_due result.to ≤ 1 }
+    ensures waits { to_wait result.to ≡ None }
+    ensures falls { (s : spec.Setting) (last : Record) → FallsAt s begun.now.access Outcome.Nothing last → GivesAt s begun.now.access result.outcome last }
+    ensures left { (s : spec.Setting) (asked : ℕ) (given : Given) (later rest : List Record) →
+        GoesOnGiven s begun.now asked (Some found) later given rest ↔ TurnLeft s begun.now result asked later given rest }
+{
+    if begun.access.mask().is_some() {
+        return Turn::over(Outcome::Nothing, To::Settled);
+    }
+    Turn::going(Pass::Found(Found::TryConsume(found)))
+}
+
 impl Found {
-    /// The step that it makes next.
     pub(crate) fn next(self, access: &Access) -> Step
         ensures { result ≡ found_step access.now self }
     {
@@ -44,7 +63,6 @@ impl Found {
         }
     }
 
-    /// Takes the answer.
     pub(crate) fn answer(self, access: &Access, answer: Answer) -> Taking
         requires { Answers (found_step access.now self) answer }
         ensures waits { Counts (found_wait self) (found_step access.now self) answer (taking_wait result) }
@@ -65,7 +83,7 @@ impl Found {
     }
 }
 
-/// The watchpoint was tried. Refused, another access was first, or its setter was done.
+/// It was tried. Refused, another access was first, or the watch was over: neither is this one's to tell.
 fn tried(found: Watchpoint, taken: bool) -> Taking
     ensures { result ≡ (if taken then Taking.Going (Found.HearSetter found.index 0) else Taking.Over Outcome.Lost) }
 {
@@ -78,7 +96,6 @@ fn tried(found: Watchpoint, taken: bool) -> Taking
     })
 }
 
-/// The setter's half of the pair was read.
 fn heard_setter(index: usize, tries: u64, setter: u32) -> Taking
     ensures vain { setter ≡ 0 → result ≡ Taking.Going (Found.HearSetter index (min (tries + 1) (2 ^ 64 - 1))) }
     ensures stands { 0 < setter → result ≡ Taking.Going (Found.Tell index setter) }
@@ -90,6 +107,22 @@ fn heard_setter(index: usize, tries: u64, setter: u32) -> Taking
         });
     }
     Taking::Going(Found::Tell { index, setter })
+}
+
+/// Where its step leads the check. A finder that has told goes on at once: the setter knows whether the bytes
+/// changed, and reports.
+pub(crate) fn took(found: Found, begun: &Begun, answer: Answer) -> Turn
+    requires { Answers (found_step begun.now.access found) answer }
+    ensures fits { given_now result.outcome + to_due result.to ≤ 1 }
+    ensures waits { Counts (found_wait found) (found_step begun.now.access found) answer (to_wait result.to) }
+    ensures falls { (s : spec.Setting) → GivesAt s begun.now.access result.outcome (made s.task (found_step begun.now.access found) answer) }
+    ensures left { (s : spec.Setting) (asked : ℕ) (given : Given) (later rest : List Record) →
+        PassLeft s begun.now (Pass.Found found) asked (made s.task (found_step begun.now.access found) answer ∷ later) given rest ↔ TurnLeft s begun.now result asked later given rest }
+{
+    match found.answer(&begun.access, answer) {
+        Taking::Going(found) => Turn::going(Pass::Found(found)),
+        Taking::Over(outcome) => Turn::over(outcome, To::Settled),
+    }
 }
 
 /// The pair with these halves.

@@ -1,6 +1,6 @@
 //! What is true of every check.
 
-ghost use Rattle.std.specs.Prelude.{◌≡◌, ◌++◌, [], ℕ, Bool, List, Option, reverse};
+ghost use Rattle.std.specs.Prelude.{◌≡◌, ◌++◌, [], ℕ, Bool, IfSome, List, Option, reverse};
 ghost use Rattle.access_types.specs.Access as access;
 ghost use Rattle.slot.specs.Pair.{Halves};
 ghost use Rattle.slot_table.specs.Discipline.{Discipline, IsFinished};
@@ -17,6 +17,7 @@ ghost use Rattle.setup_access.specs.Shown.{context_of};
 ghost use Rattle.task_context.specs.Context.{Context};
 ghost use Rattle.setup_access.specs.Setting.{Setting};
 ghost use Rattle.setup_access.specs.Verdicts.{HitOutcome, SharesByte};
+ghost use Rattle.setup_access.specs.Waits.{vain_tries, wait_after};
 ghost use Rattle.setup_access.specs.declared.begun.Begun.{Begun};
 
 use crate::checker::Checker;
@@ -56,6 +57,11 @@ pub fn checks_keep_the_discipline()
     words_are_above_one();
     tickets_read_back();
 }
+
+/// Law: a wait counts the vain tries that its records end with.
+pub fn waits_count_vain_tries()
+    ensures { (records : List Record) → IfSome (wait_after records) (λ wait. wait.tries ≡ vain_tries records) }
+{}
 
 /// Law: the calls of a task's context change nothing of what its checker does, or has in force.
 pub fn context_is_apart()

@@ -1,6 +1,11 @@
 //! What KCSAN does at one access, from its begin to the point where memory is touched: it looks for a
 //! watchpoint and takes it, or sets one up and watches. The machine says the next step and takes its
 //! answer. It knows no board, no program and no thread.
+//!
+//! Of kernel/kcsan/core.c, in this order: `check_access` is in `pass`, `find_watchpoint` in `find`,
+//! `kcsan_found_watchpoint` in `found`, `kcsan_setup_watchpoint` in `setup`, `kcsan_check_scoped_accesses` in
+//! `stage`. All that tasks share of a watchpoint is one word and the pair beside it, and a step is one operation
+//! on one of the two: so no step needs a lock, and whatever comes between two steps finds nothing half done.
 #![tactic(auto)]
 
 pub mod begun;
@@ -18,7 +23,6 @@ pub mod setup;
 pub mod source;
 pub mod stage;
 pub mod values;
-pub mod verdict;
 
 pub use begun::Begun;
 pub use checker::{Checker, CheckerError};

@@ -28,7 +28,6 @@ impl Model for Outcomes {
 }
 
 impl Outcomes {
-    /// None yet.
     pub(crate) fn new() -> Outcomes
         ensures { result ≡ [] }
     {
@@ -38,7 +37,6 @@ impl Outcomes {
         }
     }
 
-    /// One more, if there is one.
     pub(crate) fn extend(&mut self, outcome: Option<Outcome>)
         requires { length self.old + given_now outcome ≤ 9 }
         ensures { self.new ≡ extended self.old outcome }
@@ -49,7 +47,6 @@ impl Outcomes {
         }
     }
 
-    /// All of them.
     pub(crate) fn as_slice(&self) -> &[Outcome]
         ensures { result.now ≡ self.now }
     {

@@ -1,28 +1,26 @@
-//! An access is checked once: it looks for a watchpoint, takes what it found or sets one up.
+//! `check_access`: an access is checked once. It looks for a watchpoint, and takes what it found or sets one up.
 
 ghost use Rattle.std.specs.Prelude.{◌≡◌, ◌+◌, ◌≤◌, ◌↔◌, ◌∷◌, ℕ, List, None, Some, IsTrue, true, false};
 ghost use Rattle.slot_table.specs.Answer.{Answers};
 ghost use Rattle.slot_table.specs.declared.records.Record.{Record};
 ghost use Rattle.setup_access.specs.Due.{given_now, pass_due, to_due};
-ghost use Rattle.setup_access.specs.FallsAt.{FallsAt, GivesAt};
+ghost use Rattle.setup_access.specs.FallsAt.{GivesAt};
 ghost use Rattle.setup_access.specs.Kept.{setting_with};
-ghost use Rattle.setup_access.specs.Parts.{found_step, made, setup_step};
-ghost use Rattle.setup_access.specs.PassLeft.{Given, GoesOnGiven, PassLeft, Samples, TurnLeft, pass_step};
+ghost use Rattle.setup_access.specs.Parts.{made};
+ghost use Rattle.setup_access.specs.PassLeft.{Given, PassLeft, Samples, TurnLeft, pass_step};
 ghost use Rattle.setup_access.specs.Setting as spec;
-ghost use Rattle.setup_access.specs.Waiting.{Counts, found_wait, pass_wait, setup_wait, to_wait, tries_of};
+ghost use Rattle.setup_access.specs.Waiting.{Counts, pass_wait, to_wait, tries_of};
 ghost use Rattle.access_types.specs.Sites.{AccessMap};
 
 use crate::begun::Begun;
 use crate::find::{Find, Sought};
-use crate::found::{Found, Taking};
-use crate::outcome::{Outcome, Watchpoint};
-use crate::place::Place;
+use crate::found::{Found, found_watchpoint, took};
+use crate::outcome::Outcome;
 use crate::setting::Setting;
-use crate::setup::{Setup, Watching};
+use crate::setup::{Setup, setup_watchpoint, watched};
 use access_types::Sites;
 use skip_sampler::Sampler;
 use slot_table::{Answer, Step};
-use watch_word::encode_in;
 
 /// A check of an access under way.
 #[derive(Clone, Copy, Debug, PartialEq, Eq)]
@@ -30,7 +28,7 @@ pub enum Pass {
     Find(Find),
     Found(Found),
     Setup(Setup),
-    /// The verdict fell: empty the pair, so that the next setter finds nobody named.
+    /// The verdict fell: empty the pair.
     Clear { index: usize },
     /// Give the index back.
     Remove { index: usize },
@@ -53,8 +51,53 @@ pub struct Turn {
     pub(crate) to: To,
 }
 
+/// `check_access`. Each access looks, since that is three loads; few are watched, since that is a stall. One that
+/// found a watchpoint sets none up: its race is that watch's to report, and to watch it too would only stall again.
+fn check_access(
+    find: Find,
+    setting: &Setting,
+    sites: &Sites,
+    sampler: &mut Sampler,
+    begun: &Begun,
+    answer: Answer,
+) -> Turn
+    requires { Answers (pass_step (setting_with setting.now sites.now) begun.now (Pass.Find find)) answer }
+    ensures fits { given_now result.outcome + to_due result.to ≤ 1 }
+    ensures waits { to_wait result.to ≡ None }
+    ensures falls { let s = setting_with setting.now sites.now in GivesAt s begun.now.access result.outcome (made s.task (pass_step s begun.now (Pass.Find find)) answer) }
+    ensures left { (asked : ℕ) → let s = setting_with setting.now sites.now in Samples s asked sampler.old → (asked_now : ℕ) × Samples s asked_now sampler.new
+        × ((given : Given) (later rest : List Record) →
+        PassLeft s begun.now (Pass.Find find) asked (made s.task (pass_step s begun.now (Pass.Find find)) answer ∷ later) given rest ↔ TurnLeft s begun.now result asked_now later given rest) }
+{
+    let Answer::Word(word) = answer else {
+        unreachable!()
+    };
+    match find.answer(setting, &begun.access, word) {
+        Sought::Going(find) => Turn::going(Pass::Find(find)),
+        Sought::Found(found) => found_watchpoint(begun, found),
+        Sought::Missed => {
+            if !should_watch(setting, sites, sampler, begun) {
+                return Turn::over(Outcome::Nothing, To::Unsettled);
+            }
+            setup_watchpoint(setting, begun)
+        }
+    }
+}
+
+/// Whether the access is to be watched. That it counts as marked comes first, so that marked accesses, which
+/// set nothing up, don't count as skipped.
+fn should_watch(setting: &Setting, sites: &Sites, sampler: &mut Sampler, begun: &Begun) -> bool
+    ensures marked { begun.now.marked ≡ true → result ≡ false }
+    ensures kept { begun.now.marked ≡ true → sampler.new ≡ sampler.old }
+    ensures watched { (asked : ℕ) → begun.now.marked ≡ false → Samples (setting_with setting.now sites.now) asked sampler.old
+        → (IsTrue result ↔ spec.IsWatched (setting_with setting.now sites.now) asked) }
+    ensures asked { (asked : ℕ) → begun.now.marked ≡ false → Samples (setting_with setting.now sites.now) asked sampler.old
+        → Samples (setting_with setting.now sites.now) (asked + 1) sampler.new }
+{
+    !begun.marked && sampler.should_watch()
+}
+
 impl Pass {
-    /// The step that it makes next.
     pub(crate) fn next(self, setting: &Setting, begun: &Begun) -> Step
         ensures { (sites : AccessMap) → result ≡ pass_step (setting_with setting.now sites) begun.now self }
     {
@@ -67,7 +110,6 @@ impl Pass {
         }
     }
 
-    /// Takes the answer.
     pub(crate) fn answer(
         self,
         setting: &Setting,
@@ -85,7 +127,7 @@ impl Pass {
             PassLeft s begun.now self asked (made s.task (pass_step s begun.now self) answer ∷ later) given rest ↔ TurnLeft s begun.now result asked_now later given rest) }
     {
         match self {
-            Pass::Find(find) => looked(find, setting, sites, sampler, begun, answer),
+            Pass::Find(find) => check_access(find, setting, sites, sampler, begun, answer),
             Pass::Found(found) => took(found, begun, answer),
             Pass::Setup(setup) => watched(setup, setting, sites, begun, answer),
             Pass::Clear { index } => Turn::going(Pass::Remove { index }),
@@ -109,8 +151,7 @@ impl Pass {
 }
 
 impl Turn {
-    /// The check goes on.
-    fn going(pass: Pass) -> Turn
+    pub(crate) fn going(pass: Pass) -> Turn
         ensures { result ≡ record { outcome = None; to = To.Going pass } }
     {
         Turn {
@@ -119,8 +160,7 @@ impl Turn {
         }
     }
 
-    /// The check has its outcome.
-    fn over(outcome: Outcome, to: To) -> Turn
+    pub(crate) fn over(outcome: Outcome, to: To) -> Turn
         ensures { result ≡ record { outcome = Some outcome; to = to } }
     {
         Turn {
@@ -128,112 +168,4 @@ impl Turn {
             to,
         }
     }
-}
-
-/// A look-up has read a word.
-fn looked(
-    find: Find,
-    setting: &Setting,
-    sites: &Sites,
-    sampler: &mut Sampler,
-    begun: &Begun,
-    answer: Answer,
-) -> Turn
-    requires { Answers (pass_step (setting_with setting.now sites.now) begun.now (Pass.Find find)) answer }
-    ensures fits { given_now result.outcome + to_due result.to ≤ 1 }
-    ensures waits { to_wait result.to ≡ None }
-    ensures falls { let s = setting_with setting.now sites.now in GivesAt s begun.now.access result.outcome (made s.task (pass_step s begun.now (Pass.Find find)) answer) }
-    ensures left { (asked : ℕ) → let s = setting_with setting.now sites.now in Samples s asked sampler.old → (asked_now : ℕ) × Samples s asked_now sampler.new
-        × ((given : Given) (later rest : List Record) →
-        PassLeft s begun.now (Pass.Find find) asked (made s.task (pass_step s begun.now (Pass.Find find)) answer ∷ later) given rest ↔ TurnLeft s begun.now result asked_now later given rest) }
-{
-    let Answer::Word(word) = answer else {
-        unreachable!()
-    };
-    match find.answer(setting, &begun.access, word) {
-        Sought::Going(find) => Turn::going(Pass::Find(find)),
-        Sought::Found(found) => found_watchpoint(begun, found),
-        Sought::Missed => setup_watchpoint(setting, sites, sampler, begun),
-    }
-}
-
-/// An access that takes a watchpoint has made a step.
-fn took(found: Found, begun: &Begun, answer: Answer) -> Turn
-    requires { Answers (found_step begun.now.access found) answer }
-    ensures fits { given_now result.outcome + to_due result.to ≤ 1 }
-    ensures waits { Counts (found_wait found) (found_step begun.now.access found) answer (to_wait result.to) }
-    ensures falls { (s : spec.Setting) → GivesAt s begun.now.access result.outcome (made s.task (found_step begun.now.access found) answer) }
-    ensures left { (s : spec.Setting) (asked : ℕ) (given : Given) (later rest : List Record) →
-        PassLeft s begun.now (Pass.Found found) asked (made s.task (found_step begun.now.access found) answer ∷ later) given rest ↔ TurnLeft s begun.now result asked later given rest }
-{
-    match found.answer(&begun.access, answer) {
-        Taking::Going(found) => Turn::going(Pass::Found(found)),
-        Taking::Over(outcome) => Turn::over(outcome, To::Settled),
-    }
-}
-
-/// An access that sets a watchpoint up has made a step.
-fn watched(setup: Setup, setting: &Setting, sites: &Sites, begun: &Begun, answer: Answer) -> Turn
-    requires { Answers (setup_step (setting_with setting.now sites.now) begun.now.access setup) answer }
-    ensures fits { given_now result.outcome + to_due result.to ≤ 1 }
-    ensures waits { Counts (setup_wait setup) (setup_step (setting_with setting.now sites.now) begun.now.access setup) answer (to_wait result.to) }
-    ensures falls { let s = setting_with setting.now sites.now in GivesAt s begun.now.access result.outcome (made s.task (setup_step s begun.now.access setup) answer) }
-    ensures left { (asked : ℕ) (given : Given) (later rest : List Record) → let s = setting_with setting.now sites.now in
-        PassLeft s begun.now (Pass.Setup setup) asked (made s.task (setup_step s begun.now.access setup) answer ∷ later) given rest ↔ TurnLeft s begun.now result asked later given rest }
-{
-    match setup.answer(setting, sites, &begun.access, answer) {
-        Watching::Going(setup) => Turn::going(Pass::Setup(setup)),
-        Watching::Full => Turn::over(Outcome::Capacity, To::Unsettled),
-        Watching::Judged { index, outcome } => {
-            Turn::over(outcome, To::Going(Pass::Clear { index }))
-        }
-    }
-}
-
-/// A watchpoint matches. An access with a mask takes nothing: which of its bits change only its own watch
-/// could tell.
-fn found_watchpoint(begun: &Begun, found: Watchpoint) -> Turn
-    ensures fits { given_now result.outcome + to_due result.to ≤ 1 }
-    ensures waits { to_wait result.to ≡ None }
-    ensures falls { (s : spec.Setting) (last : Record) → FallsAt s begun.now.access Outcome.Nothing last → GivesAt s begun.now.access result.outcome last }
-    ensures left { (s : spec.Setting) (asked : ℕ) (given : Given) (later rest : List Record) →
-        GoesOnGiven s begun.now asked (Some found) later given rest ↔ TurnLeft s begun.now result asked later given rest }
-{
-    if begun.access.mask().is_some() {
-        return Turn::over(Outcome::Nothing, To::Settled);
-    }
-    Turn::going(Pass::Found(Found::TryConsume(found)))
-}
-
-/// No watchpoint matches: one is set up, if the access is to be watched and a word can stand for it.
-fn setup_watchpoint(setting: &Setting, sites: &Sites, sampler: &mut Sampler, begun: &Begun) -> Turn
-    ensures fits { given_now result.outcome + to_due result.to ≤ 1 }
-    ensures waits { to_wait result.to ≡ None }
-    ensures falls { (s : spec.Setting) (last : Record) → FallsAt s begun.now.access Outcome.Nothing last → GivesAt s begun.now.access result.outcome last }
-    ensures left { (asked : ℕ) → let s = setting_with setting.now sites.now in Samples s asked sampler.old → (asked_now : ℕ) × Samples s asked_now sampler.new
-        × ((given : Given) (later rest : List Record) → GoesOnGiven s begun.now asked None later given rest ↔ TurnLeft s begun.now result asked_now later given rest) }
-{
-    if !should_watch(setting, sites, sampler, begun) {
-        return Turn::over(Outcome::Nothing, To::Unsettled);
-    }
-    match encode_in(setting.rules.layout, &begun.access) {
-        Some(word) => Turn::going(Pass::Setup(Setup::Insert {
-            place: Place::First,
-            word,
-        })),
-        None => Turn::over(Outcome::Unencodable, To::Unsettled),
-    }
-}
-
-/// Whether the access is to be watched. That it counts as marked comes first, so that marked accesses don't
-/// count as skipped.
-fn should_watch(setting: &Setting, sites: &Sites, sampler: &mut Sampler, begun: &Begun) -> bool
-    ensures marked { begun.now.marked ≡ true → result ≡ false }
-    ensures kept { begun.now.marked ≡ true → sampler.new ≡ sampler.old }
-    ensures watched { (asked : ℕ) → begun.now.marked ≡ false → Samples (setting_with setting.now sites.now) asked sampler.old
-        → (IsTrue result ↔ spec.IsWatched (setting_with setting.now sites.now) asked) }
-    ensures asked { (asked : ℕ) → begun.now.marked ≡ false → Samples (setting_with setting.now sites.now) asked sampler.old
-        → Samples (setting_with setting.now sites.now) (asked + 1) sampler.new }
-{
-    !begun.marked && sampler.should_watch()
 }

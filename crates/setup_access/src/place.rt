@@ -41,7 +41,6 @@ impl Place {
         }
     }
 
-    /// The one after it.
     pub(crate) fn after(self) -> Option<Place>
         ensures { result ≡ place_after self }
     {

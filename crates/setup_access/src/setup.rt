@@ -1,59 +1,66 @@
-//! `setup_watchpoint`: no watchpoint matches the access, and it is watched itself.
+//! `kcsan_setup_watchpoint`: no watchpoint matches the access, and it is watched itself.
 
-ghost use Rattle.std.specs.Prelude.{◌≡◌, ◌≤◌, ◌<◌, ◌↔◌, ◌∷◌, ℕ, List, Option, true, false};
+ghost use Rattle.std.specs.Prelude.{◌≡◌, ◌+◌, ◌≤◌, ◌<◌, ◌↔◌, ◌∷◌, ℕ, IsTrue, List, None, Option, true, false};
 ghost use Rattle.access_types.specs.Sites.{AccessMap};
 ghost use Rattle.slot_table.specs.Answer.{Answers};
 ghost use Rattle.slot_table.specs.declared.records.Record.{Record};
-ghost use Rattle.setup_access.specs.FallsAt.{WatchingFalls};
+ghost use Rattle.setup_access.specs.Due.{given_now, to_due};
+ghost use Rattle.setup_access.specs.FallsAt.{FallsAt, GivesAt, WatchingFalls};
 ghost use Rattle.setup_access.specs.Kept.{setting_with};
 ghost use Rattle.setup_access.specs.Parts.{SetupLeft, WatchingLeft, after_name, after_refusal, made, place_after, setup_step, try_index};
-ghost use Rattle.setup_access.specs.Setting.{slot_of};
+ghost use Rattle.setup_access.specs.PassLeft.{Given, GoesOnGiven, PassLeft, TurnLeft};
+ghost use Rattle.setup_access.specs.Setting as spec;
 ghost use Rattle.setup_access.specs.Setup.{Judged};
-ghost use Rattle.setup_access.specs.Waiting.{Counts, setup_wait, watching_wait};
+ghost use Rattle.setup_access.specs.Waiting.{Counts, setup_wait, to_wait, watching_wait};
 ghost use Rattle.setup_access.specs.Values as values;
-ghost use Rattle.setup_access.specs.Verdicts.{UntouchedOutcome};
+ghost use Rattle.setup_access.specs.Verdicts.{HitOutcome, SharesByte, UntouchedOutcome, seen_values};
 ghost use Rattle.setup_access.specs.declared.outcome.Outcome.{Outcome};
 
+use crate::begun::Begun;
 use crate::found::pair_of;
 use crate::outcome::Outcome;
+use crate::pass::{Pass, To, Turn};
 use crate::place::Place;
 use crate::setting::Setting;
 use crate::source::Source;
 use crate::values::{source_of, value_in};
-use crate::verdict::{hit, untouched};
-use access_types::{Access, Sites, ticket};
+use access_types::{Access, Sites, ValueChange, overlaps, ticket};
+use slot::Pair;
 use slot_table::{Answer, Step, page_slot};
+use value_filter::{Change, Reason, Verdict, change, judge};
+use watch_word::encode_in;
 
 /// An access that sets a watchpoint up and watches it.
 #[derive(Clone, Copy, Debug, PartialEq, Eq)]
 pub enum Setup {
-    /// Try to insert the word. The first try is one behind the page slot, so that the look-ups of accesses
-    /// to a neighbouring page meet it early too.
+    /// Try to insert the word.
     Insert {
         place: Place,
         word: u64,
     },
-    /// It stands: name the setter, for whoever takes it.
+    /// It stands: name the setter, for whoever takes it. Only now is the index its own.
     Name {
         index: usize,
     },
-    /// Load the bytes before the stall.
+    /// Load the bytes, now that the word stands: whoever changes them from here on met it, or came too early and
+    /// is seen by the change. A plain load does, since all that is asked is whether two values differ.
     LoadOld {
         index: usize,
         source: Source,
     },
-    /// Load the bytes after the stall.
+    /// Load them again. The stall stands between the two loads: it is the time in which others come.
     LoadNew {
         index: usize,
         source: Source,
         old: u64,
     },
-    /// End the watch. It comes before the verdict, so that nobody takes the watchpoint after it.
+    /// End the watch. It comes before the verdict, so that nobody takes the watchpoint after it, and is one
+    /// exchange, so that a finder was in time or is too late, and nothing else.
     Consume {
         index: usize,
         values: Option<(u64, u64)>,
     },
-    /// It was taken: wait until the finder has told who it is.
+    /// It was taken: wait until the finder has told who it is, since a report of a taken watch names both sides.
     HearFinder {
         index: usize,
         values: Option<(u64, u64)>,
@@ -65,14 +72,31 @@ pub enum Setup {
 #[derive(Clone, Copy, Debug, PartialEq, Eq)]
 pub enum Watching {
     Going(Setup),
-    /// No index was free.
+    /// No index was free. None is waited for: that would hold the task for the stall of another.
     Full,
     /// The verdict on the watch at this index.
     Judged { index: usize, outcome: Outcome },
 }
 
+/// `kcsan_setup_watchpoint`. The access is watched if a word can stand for it: one that says less of it would be
+/// met by the wrong ones.
+pub(crate) fn setup_watchpoint(setting: &Setting, begun: &Begun) -> Turn
+    ensures fits { given_now result.outcome + to_due result.to ≤ 1 }
+    ensures waits { to_wait result.to ≡ None }
+    ensures falls { (s : spec.Setting) (last : Record) → FallsAt s begun.now.access Outcome.Nothing last → GivesAt s begun.now.access result.outcome last }
+    ensures left { (sites : AccessMap) (asked : ℕ) (given : Given) (later rest : List Record) → let s = setting_with setting.now sites in
+        begun.now.marked ≡ false → spec.IsWatched s asked → (GoesOnGiven s begun.now asked None later given rest ↔ TurnLeft s begun.now result (asked + 1) later given rest) }
+{
+    match encode_in(setting.rules.layout, &begun.access) {
+        Some(word) => Turn::going(Pass::Setup(Setup::Insert {
+            place: Place::First,
+            word,
+        })),
+        None => Turn::over(Outcome::Unencodable, To::Unsettled),
+    }
+}
+
 impl Setup {
-    /// The step that it makes next.
     pub(crate) fn next(self, setting: &Setting, access: &Access) -> Step
         ensures { (sites : AccessMap) → result ≡ setup_step (setting_with setting.now sites) access.now self }
     {
@@ -87,7 +111,6 @@ impl Setup {
         }
     }
 
-    /// Takes the answer.
     pub(crate) fn answer(
         self,
         setting: &Setting,
@@ -144,16 +167,15 @@ impl Setup {
     }
 }
 
-/// The index that an insertion tries.
 fn index_of(place: Place, setting: &Setting, access: &Access) -> usize
-    ensures { (sites : AccessMap) → result ≡ try_index place (slot_of (setting_with setting.now sites) access.now) }
+    ensures { (sites : AccessMap) → result ≡ try_index place (spec.slot_of (setting_with setting.now sites) access.now) }
 {
     place.of_insertion(page_slot(access.addr(), setting.rules.slots))
 }
 
 /// An index was tried. Refused, the next one is.
 fn inserted(setting: &Setting, access: &Access, place: Place, word: u64, accepted: bool) -> Watching
-    ensures accepted { (sites : AccessMap) → accepted ≡ true → result ≡ Watching.Going (Setup.Name (try_index place (slot_of (setting_with setting.now sites) access.now))) }
+    ensures accepted { (sites : AccessMap) → accepted ≡ true → result ≡ Watching.Going (Setup.Name (try_index place (spec.slot_of (setting_with setting.now sites) access.now))) }
     ensures refused { accepted ≡ false → result ≡ after_refusal word (place_after place) }
 {
     if accepted {
@@ -166,7 +188,7 @@ fn inserted(setting: &Setting, access: &Access, place: Place, word: u64, accepte
     }
 }
 
-/// The setter has named itself. It loads its value, if it has one.
+/// The setter has named itself. It loads its value, if it has one; else only who takes the word tells of a race.
 fn named(setting: &Setting, access: &Access, index: usize) -> Watching
     requires { 0 < access.now.size }
     ensures { (sites : AccessMap) → result ≡ Watching.Going (after_name index (values.source_of (setting_with setting.now sites) access.now)) }
@@ -200,4 +222,91 @@ fn consumed(
         values,
         tries: 0,
     })
+}
+
+/// Where its step leads the check. After the verdict the pair is emptied, while the index is still its own, so
+/// that the next setter there finds nobody named. The word goes last: from then on the index is another's.
+pub(crate) fn watched(
+    setup: Setup,
+    setting: &Setting,
+    sites: &Sites,
+    begun: &Begun,
+    answer: Answer,
+) -> Turn
+    requires { Answers (setup_step (setting_with setting.now sites.now) begun.now.access setup) answer }
+    ensures fits { given_now result.outcome + to_due result.to ≤ 1 }
+    ensures waits { Counts (setup_wait setup) (setup_step (setting_with setting.now sites.now) begun.now.access setup) answer (to_wait result.to) }
+    ensures falls { let s = setting_with setting.now sites.now in GivesAt s begun.now.access result.outcome (made s.task (setup_step s begun.now.access setup) answer) }
+    ensures left { (asked : ℕ) (given : Given) (later rest : List Record) → let s = setting_with setting.now sites.now in
+        PassLeft s begun.now (Pass.Setup setup) asked (made s.task (setup_step s begun.now.access setup) answer ∷ later) given rest ↔ TurnLeft s begun.now result asked later given rest }
+{
+    match setup.answer(setting, sites, &begun.access, answer) {
+        Watching::Going(setup) => Turn::going(Pass::Setup(setup)),
+        Watching::Full => Turn::over(Outcome::Capacity, To::Unsettled),
+        Watching::Judged { index, outcome } => {
+            Turn::over(outcome, To::Going(Pass::Clear { index }))
+        }
+    }
+}
+
+/// Nobody hit the watchpoint. A change that was seen has an unknown origin: whoever made it had looked too early,
+/// or looks nothing up.
+fn untouched(setting: &Setting, access: &Access, values: Option<(u64, u64)>) -> Outcome
+    ensures { (sites : AccessMap) → UntouchedOutcome (setting_with setting.now sites) access.now values result }
+{
+    let change = change(access, values);
+    let verdict = judge(change, access, false, setting.rules.value_change_only);
+    match verdict {
+        Verdict::Report => match values {
+            Some((old, new)) => Outcome::Unknown { old, new },
+            None => unreachable!(),
+        },
+        Verdict::Drop(_) => unreachable!(),
+        Verdict::Quiet => Outcome::Quiet,
+    }
+}
+
+/// An access hit the watchpoint, by the ticket that was heard. If the two share no byte, only their words
+/// met, and that is no race: so it comes before all other verdicts.
+fn hit(
+    setting: &Setting,
+    sites: &Sites,
+    access: &Access,
+    values: Option<(u64, u64)>,
+    pair: Pair,
+) -> Outcome
+    ensures { HitOutcome (setting_with setting.now sites.now) access.now values pair result }
+{
+    if !shares_byte(sites, access, pair.halves().1) {
+        return Outcome::Dropped(Reason::Encoding);
+    }
+    let change = change(access, values);
+    match judge(change, access, true, setting.rules.value_change_only) {
+        Verdict::Drop(reason) => Outcome::Dropped(reason),
+        Verdict::Report => Outcome::Report {
+            pair,
+            seen: seen(change, values),
+        },
+        Verdict::Quiet => unreachable!(),
+    }
+}
+
+/// Whether the ticket names an access that shares a byte with the setter's. The true ranges are compared,
+/// and not what words have of them.
+fn shares_byte(sites: &Sites, access: &Access, ticket: u32) -> bool
+    ensures { IsTrue result ↔ SharesByte sites.now access.now ticket }
+{
+    match sites.get(ticket) {
+        Some(finder) => overlaps(access, finder),
+        None => false,
+    }
+}
+
+fn seen(change: Change, values: Option<(u64, u64)>) -> Option<ValueChange>
+    ensures { result ≡ seen_values change values }
+{
+    match (change, values) {
+        (Change::Seen, Some((old, new))) => Some(ValueChange { old, new }),
+        _ => None,
+    }
 }

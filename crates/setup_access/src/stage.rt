@@ -1,4 +1,4 @@
-//! What a checker does next, and what follows on the check of one access.
+//! What a checker does next: the check of an access, and what follows on it.
 
 ghost use Rattle.std.specs.Prelude.{◌≡◌, ◌+◌, ◌-◌, ◌≤◌, ◌↔◌, ℕ, List, [], None, drop, length};
 ghost use Rattle.slot_table.specs.declared.records.Record.{Record};
@@ -47,7 +47,7 @@ pub enum Stage {
 }
 
 /// The check of an access from its look-up on: it has made no step yet.
-pub(crate) fn check_access(role: Role, begun: Begun) -> Stage
+fn check_of(role: Role, begun: Begun) -> Stage
     ensures { result ≡ Stage.Check role begun (Pass.Find (record { place = Place.First })) }
 {
     Stage::Check {
@@ -57,8 +57,8 @@ pub(crate) fn check_access(role: Role, begun: Begun) -> Stage
     }
 }
 
-/// The stamp of an access's begin is drawn. A silenced access takes and sets up nothing, but it counts as
-/// skipped.
+/// The stamp of an access's begin is drawn. A silenced access takes and sets up nothing, so no report names it.
+/// But it counts as skipped: which accesses of a task are watched doesn't hang on what is silenced.
 pub(crate) fn began(setting: &Setting, sites: &Sites, sampler: &mut Sampler, begun: Begun) -> Stage
     ensures fits { stage_due result ≤ 9 }
     ensures waits { stage_wait result ≡ None }
@@ -66,7 +66,7 @@ pub(crate) fn began(setting: &Setting, sites: &Sites, sampler: &mut Sampler, beg
         × ((records : List Record) (passes : Passes) → ChecksBegun s scopes begun asked records passes [] ↔ StageLeft s scopes result asked_now records passes) }
 {
     if !begun.silenced {
-        return check_access(Role::Access, begun);
+        return check_of(Role::Access, begun);
     }
     if begun.marked {
         return Stage::Rest;
@@ -75,7 +75,8 @@ pub(crate) fn began(setting: &Setting, sites: &Sites, sampler: &mut Sampler, beg
     Stage::Rest
 }
 
-/// A scope ends: its assertion is checked a last time, unless it or its task by now is silenced.
+/// A scope ends: its assertion is checked a last time, unless it or its task by now is silenced. What breaks it
+/// after its task's last access within the scope meets this check alone.
 pub(crate) fn closing(begun: Begun, silenced: bool) -> Stage
     ensures fits { stage_due result ≤ 9 }
     ensures waits { stage_wait result ≡ None }
@@ -85,10 +86,9 @@ pub(crate) fn closing(begun: Begun, silenced: bool) -> Stage
     if begun.silenced || silenced {
         return Stage::End;
     }
-    check_access(Role::Closing, begun)
+    check_of(Role::Closing, begun)
 }
 
-/// Where a check of an access leads.
 pub(crate) fn after_turn(to: To, role: Role, begun: Begun, scopes: &[Begun]) -> Stage
     requires { length scopes.now ≤ 8 }
     ensures fits { stage_due result ≤ to_due to + role_due role }
@@ -103,8 +103,9 @@ pub(crate) fn after_turn(to: To, role: Role, begun: Begun, scopes: &[Begun]) -> 
     }
 }
 
-/// What follows on a check of an access that is over. Only an access that neither found a watchpoint nor set
-/// one up has the scoped assertions checked; these are checked one after the other, whatever each finds.
+/// What follows on a check of an access that is over. One that found a watchpoint or stalled for its own has
+/// done enough here. After another, also where no index was free or no word stands for it, the scoped
+/// assertions have their turn: one after the other, whatever each finds, since each claims bytes of its own.
 fn after_check(role: Role, is_settled: bool, scopes: &[Begun]) -> Stage
     requires { length scopes.now ≤ 8 }
     ensures fits { stage_due result ≤ role_due role }
@@ -113,20 +114,15 @@ fn after_check(role: Role, is_settled: bool, scopes: &[Begun]) -> Stage
         RoleLeft s scopes.now role is_settled asked records passes ↔ StageLeft s scopes.now result asked records passes }
 {
     match role {
-        Role::Access => {
-            if is_settled {
-                Stage::Rest
-            } else {
-                scope_from(scopes, 0)
-            }
-        }
-        Role::Scope(number) => scope_from(scopes, number.saturating_add(1)),
+        Role::Access if is_settled => Stage::Rest,
+        Role::Access => check_scoped_accesses(scopes, 0),
+        Role::Scope(number) => check_scoped_accesses(scopes, number.saturating_add(1)),
         Role::Closing => Stage::End,
     }
 }
 
-/// The check of the first scoped assertion, from a number on, that isn't silenced.
-fn scope_from(scopes: &[Begun], from: usize) -> Stage
+/// `kcsan_check_scoped_accesses`, from a number on: the first that isn't silenced is checked.
+fn check_scoped_accesses(scopes: &[Begun], from: usize) -> Stage
     requires { length scopes.now ≤ 8 }
     ensures fits { stage_due result ≤ 8 - from }
     ensures waits { stage_wait result ≡ None }
@@ -136,7 +132,7 @@ fn scope_from(scopes: &[Begun], from: usize) -> Stage
     for number in from..scopes.len() {
         let begun = scopes[number];
         if !begun.silenced {
-            return check_access(Role::Scope(number), begun);
+            return check_of(Role::Scope(number), begun);
         }
     }
     Stage::Rest

@@ -22,6 +22,7 @@ pub mod PairLemmas
 pub mod LongLemmas
 pub mod NextLemmas
 pub mod StuckLemmas
+pub mod GoingLemmas
 pub mod ReadLemmas
 pub mod TellLemmas
 pub mod FellLemmas

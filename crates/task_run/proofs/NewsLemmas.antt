@@ -1,5 +1,6 @@
 -- The outcome that falls at one record more of a part, in each part with checks.
 use Rattle.std.proofs.Common.{◌≡◌, ◌∙◌, ◌++◌, ℕ, Bool, List, [], ◌∷◌, Option, ap, append_assoc, length, slice_get, subst, sym}
+use Rattle.std.specs.Arc.{arc_value}
 use Rattle.access_run.proofs.CheckFronts.{check, close, framed_checks}
 use Rattle.access_run.specs.Access.{MakesAccess}
 use Rattle.access_run.specs.Leads.{AccessLeads}
@@ -59,7 +60,7 @@ module _ (s : Setting) (registers : ℕ) (body : Block) (records : List Record) 
 
   pub making_fell : (run next_run : AccessRun) (kept : Then) → old.stage ≡ stages.Making run kept
       → ((scopes : List Begun) (begun : Begun) (asked : ℕ) (operation : Option Operation) (so_far : List Record)
-      → (checks_of s).sites ≡ old.machine.sites → AccessLeads (checks_of s) scopes begun asked operation so_far run old.machine.checker
+      → (checks_of s).sites ≡ arc_value old.machine.sites → AccessLeads (checks_of s) scopes begun asked operation so_far run old.machine.checker
       → AccessLeads (checks_of s) scopes begun asked operation (so_far ++ made ∷ []) next_run machine.checker)
       → FallsInPart s leads.part before all later fell
   making_fell run next_run kept is leads_on =
@@ -90,7 +91,7 @@ module _ (s : Setting) (registers : ℕ) (body : Block) (records : List Record) 
       (subst (λ (r : List Record). MakesAccess (checks_of s) before.scopes is_in.2 before.asked part.1 r own.passes effect rest) (sym one_more) whole)))
 
   pub opening_fell : old.stage ≡ stages.Opening
-      → ((scopes : List Begun) (what : Doing) (asked : ℕ) (so_far : List Record) → (checks_of s).sites ≡ old.machine.sites
+      → ((scopes : List Begun) (what : Doing) (asked : ℕ) (so_far : List Record) → (checks_of s).sites ≡ arc_value old.machine.sites
       → checks.Leads (checks_of s) scopes what asked so_far old.machine.checker
       → checks.Leads (checks_of s) scopes what asked (so_far ++ made ∷ []) machine.checker)
       → FallsInPart s leads.part before all later fell
@@ -123,7 +124,7 @@ module _ (s : Setting) (registers : ℕ) (body : Block) (records : List Record) 
           leads.mine made machine.checker now none later passes inside whole
 
   pub closing_fell : old.stage ≡ stages.Closing
-      → ((scopes : List Begun) (what : Doing) (asked : ℕ) (so_far : List Record) → (checks_of s).sites ≡ old.machine.sites
+      → ((scopes : List Begun) (what : Doing) (asked : ℕ) (so_far : List Record) → (checks_of s).sites ≡ arc_value old.machine.sites
       → checks.Leads (checks_of s) scopes what asked so_far old.machine.checker
       → checks.Leads (checks_of s) scopes what asked (so_far ++ made ∷ []) machine.checker)
       → FallsInPart s leads.part before all later fell

@@ -1,5 +1,6 @@
 -- One record more leads a task's machine on, in each of its stages.
 use Rattle.std.proofs.Common.{◌≡◌, ◌↔◌, ◌∙◌, ◌+◌, ◌-◌, ◌++◌, ◌<◌, ℕ, Bool, true, false, IsSomeAnd, List, [], ◌∷◌, None, Option, Some, ap, arith, drop, length, refl, slice_get, subst, sym, unwrap_or}
+use Rattle.std.specs.Arc.{arc_value}
 use Rattle.std.proofs.lemmas.List.{length-append}
 use Rattle.std.proofs.lemmas.Option.{slice_get_within}
 use Rattle.access_run.specs.Leads.{AccessIsComplete, AccessIsDone, AccessLeads}
@@ -145,7 +146,7 @@ module _ (s : Setting) (registers : ℕ) (body : Block) (records : List Record) 
   module _ (run next_run : AccessRun) (kept : Then) (machine : Machine) (is : old.stage ≡ stages.Making run kept) (other : OtherChecker old.machine machine)
       (context : context_of machine.checker ≡ context_of old.machine.checker)
       (leads_on : (scopes : List Begun) (begun : Begun) (asked : ℕ) (operation : Option Operation) (so_far : List Record)
-      → (checks_of s).sites ≡ old.machine.sites → AccessLeads (checks_of s) scopes begun asked operation so_far run old.machine.checker
+      → (checks_of s).sites ≡ arc_value old.machine.sites → AccessLeads (checks_of s) scopes begun asked operation so_far run old.machine.checker
       → AccessLeads (checks_of s) scopes begun asked operation (so_far ++ made ∷ []) next_run machine.checker) where
     making : (a : access.Access) × (operation : Option Operation) × (leads.part ≡ makes a operation (follow_of kept))
     making = in_making s (leads.now []) leads.mine old.machine old.stage leads.part (leads.agrees []).is_in run kept is
@@ -259,7 +260,7 @@ module _ (s : Setting) (registers : ℕ) (body : Block) (records : List Record) 
 
   module _ (machine : Machine) (is : old.stage ≡ stages.Opening) (other : OtherChecker old.machine machine)
       (context : context_of machine.checker ≡ context_of old.machine.checker)
-      (leads_on : (scopes : List Begun) (what : Doing) (asked : ℕ) (so_far : List Record) → (checks_of s).sites ≡ old.machine.sites
+      (leads_on : (scopes : List Begun) (what : Doing) (asked : ℕ) (so_far : List Record) → (checks_of s).sites ≡ arc_value old.machine.sites
       → checks.Leads (checks_of s) scopes what asked so_far old.machine.checker
       → checks.Leads (checks_of s) scopes what asked (so_far ++ made ∷ []) machine.checker) where
     opening : (a : access.Access) × (leads.part ≡ opens a)
@@ -350,7 +351,7 @@ module _ (s : Setting) (registers : ℕ) (body : Block) (records : List Record) 
 
   module _ (machine : Machine) (is : old.stage ≡ stages.Closing) (other : OtherChecker old.machine machine)
       (context : context_of machine.checker ≡ context_of old.machine.checker)
-      (leads_on : (scopes : List Begun) (what : Doing) (asked : ℕ) (so_far : List Record) → (checks_of s).sites ≡ old.machine.sites
+      (leads_on : (scopes : List Begun) (what : Doing) (asked : ℕ) (so_far : List Record) → (checks_of s).sites ≡ arc_value old.machine.sites
       → checks.Leads (checks_of s) scopes what asked so_far old.machine.checker
       → checks.Leads (checks_of s) scopes what asked (so_far ++ made ∷ []) machine.checker) where
     closing : leads.part ≡ closes

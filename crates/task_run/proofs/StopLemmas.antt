@@ -1,6 +1,6 @@
 -- What has no room has the task pass a limit, or doesn't follow in the text.
 use native.Mathlib.Omega.{arith}
-use Rattle.std.proofs.Common.{◌≡◌, ◌∙◌, ◌+◌, ◌-◌, ◌^◌, ◌++◌, ◌<◌, ◌≤◌, ℕ, zero, suc, Bool, true, false, Err, List, [], ◌∷◌, IsSomeAnd, IsTrue, Ok, OnErr, Result, None, Option, Some, ap, append_assoc, count_by, if◌then◌else◌, length, refl, replicate, slice_get, subst, sym}
+use Rattle.std.proofs.Common.{◌≡◌, ◌∙◌, ◌+◌, ◌^◌, ◌++◌, ◌<◌, ◌≤◌, ℕ, zero, suc, Bool, true, false, Err, List, [], ◌∷◌, IsSomeAnd, IsTrue, Ok, OnErr, Result, None, Option, Some, ap, append_assoc, count_by, if◌then◌else◌, length, refl, replicate, slice_get, subst, sym}
 use Rattle.std.proofs.lemmas.List.{append-nil, length-append, map-append, replicate-append-replicate}
 use Rattle.std.proofs.lemmas.List.Sums.{sum_by-append, sum_by-cons}
 use Rattle.access_types.specs.Access as access
@@ -44,7 +44,7 @@ use Rattle.task_run.specs.Stops.{CanBegin, Stops}
 use Rattle.task_run.specs.declared.machine.Machine.{Machine}
 use Rattle.text_bounds.proofs.Scopes.{one_more}
 use Rattle.text_bounds.specs.Passes.{PassesALimit, disables, nest_opens, scopes}
-use Rattle.text_bounds.specs.Scopes.{in_force, is_scoped}
+use Rattle.text_bounds.specs.Scopes.{is_scoped}
 use Rattle.task_run.proofs.GrowLemmas.{GoesOn, begins_on, choice_grows, makes_grow, opens_grow, walk_grows}
 use Rattle.text_walk.specs.Left.{DueLeft}
 use Rattle.text_walk.specs.declared.due.Due.TheVariants as dues

@@ -81,7 +81,7 @@ one_run one other first second is = cc
 one_source : (one other : Source) → Some one ≡ Some other → one ≡ other
 one_source one other is = cc
 
-lock_going : (task lock : ℕ) (mine : List Record) (wait : LockWait) → LockLeads task lock mine wait → ¬ TakesLock task lock mine [] → wait.is_taken ≡ false
+pub lock_going : (task lock : ℕ) (mine : List Record) (wait : LockWait) → LockLeads task lock mine wait → ¬ TakesLock task lock mine [] → wait.is_taken ≡ false
 lock_going task lock mine wait leads none = by_taken wait.is_taken refl
   where
     by_taken : (taken : Bool) → wait.is_taken ≡ taken → taken ≡ false
@@ -270,7 +270,7 @@ pub stuck_by_records : (s : Setting) (registers : ℕ) (body : Block) (records :
 stuck_by_records s registers body records run leads written stuck = stuck_waits s registers body records run leads written stuck
 
 -- the same step both times
-one_next : (task : ℕ) (one other : Step) (records : List Record) → operations.GoesOn task one records → operations.GoesOn task other records → one ≡ other
+pub one_next : (task : ℕ) (one other : Step) (records : List Record) → operations.GoesOn task one records → operations.GoesOn task other records → one ≡ other
 one_next task one other [] h k = absurd h
 one_next task one other (first ∷ later) h k = sym h.1 ∙ k.1
 

@@ -1,4 +1,3 @@
-pub mod Errors
 pub mod Part
 pub mod Plans
 pub mod Stands
@@ -9,6 +8,7 @@ pub mod Follows
 pub mod Due
 pub mod Says
 pub mod Leads
+pub mod First
 pub mod Fell
 pub mod Points
 pub use Rattle.text_walk.specs.Left as of_text_walk_Left

@@ -1,5 +1,6 @@
 -- A task's machine between two parts of its text.
 use Rattle.std.specs.Prelude.{◌≡◌, ◌↔◌, List, [], ◌∷◌, Option, length}
+use Rattle.std.specs.Arc.{arc_value}
 use Rattle.access_types.specs.declared.history.Happening.TheVariants as happenings
 use Rattle.access_types.specs.declared.history.Mark.{Mark}
 use Rattle.program_layout.specs.Lays.{Lays}
@@ -18,8 +19,8 @@ pub record IsOf (s : Setting) (machine : Machine) : Type 0 where
   pub task : machine.task ≡ s.text.task
   pub rules : machine.rules ≡ s.rules
   pub variables : machine.variables.now ≡ s.text.variables
-  pub layout : Lays s.text.places s.text.variables machine.layout
-  pub sites : machine.sites ≡ s.sites
+  pub layout : Lays s.text.places s.text.variables (arc_value machine.layout)
+  pub sites : arc_value machine.sites ≡ s.sites
 
 -- what it keeps, its context and its number of scoped assertions in force are those of where the task
 -- stands

@@ -1,6 +1,7 @@
 //! How what is due in a task's text begins.
 
 ghost use Rattle.std.specs.Prelude.{◌≡◌, ◌≢◌, ◌↔◌, ◌<◌, ◌≤◌, ℕ, List, IfOk, IsTrue, None, OnErr, true};
+ghost use Rattle.std.specs.Arc.{arc_value};
 ghost use Rattle.access_types.specs.Access.{IsInLimits};
 ghost use Rattle.litmus_syntax.specs.Tree as tree;
 ghost use Rattle.litmus_syntax.specs.Views.{assignment_of, expression_of, load_of, pure_of, statement_of};
@@ -95,12 +96,12 @@ impl<'a> Machine<'a> {
 
     /// What the accesses of statements are planned by.
     fn planner(&self) -> Planner<'_>
-        ensures layout { result.layout.now ≡ self.now.layout }
+        ensures layout { result.layout.now ≡ arc_value self.now.layout }
         ensures registers { (variables : ℕ) (before : Standing) → Keeps variables before self.now.progress
             → result.registers.now ≡ before.progress.registers }
     {
         Planner {
-            layout: &self.layout,
+            layout: &*self.layout,
             registers: self.progress.registers(),
         }
     }

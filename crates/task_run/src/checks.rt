@@ -1,6 +1,7 @@
 //! What a task's accesses and its checks of scoped assertions do with an answer.
 
 ghost use Rattle.std.specs.Prelude.{◌≡◌, ◌+◌, ◌-◌, ◌<◌, ◌↔◌, ◌++◌, ◌∷◌, [], ℕ, List, IsTrue, None, Option, Some, length, slice_get};
+ghost use Rattle.std.specs.Arc.{arc_value};
 ghost use Rattle.access_run.specs.Leads.{AccessLeads, AccessSays};
 ghost use Rattle.memory_operation.specs.declared.operation.Operation.{Operation};
 ghost use Rattle.setup_access.specs.Checker.{Doing};
@@ -16,22 +17,8 @@ ghost use Rattle.slot_table.specs.declared.step.Step.{Step};
 
 use crate::machine::Machine;
 use access_run::AccessRun;
-use setup_access::{Checker, Outcome};
+use setup_access::Outcome;
 use slot_table::Answer;
-
-/// The check that is under way is over: no step follows, and it isn't stuck.
-fn is_over(checker: &Checker) -> bool
-    ensures done { (s : settings.Setting) (scopes : List Begun) (doing : Doing) (asked : ℕ) (records : List Record)
-        → checks.Leads s scopes doing asked records checker.now → (IsTrue result ↔ checks.IsDone s scopes doing asked records) }
-    ensures complete { (s : settings.Setting) (scopes : List Begun) (doing : Doing) (asked : ℕ) (records : List Record)
-        → checks.Leads s scopes doing asked records checker.now → checks.IsDone s scopes doing asked records
-        → checks.IsComplete s scopes doing asked records checker.now }
-{
-    match checker.next() {
-        Some(_) => false,
-        None => !checker.stuck(),
-    }
-}
 
 /// What came of the answer of a check.
 #[derive(Clone, Copy)]
@@ -60,7 +47,7 @@ impl<'a> Machine<'a> {
         requires { (step : Step) × AccessSays run self.old.checker step × Answers step answer }
         ensures leads { (s : settings.Setting) (scopes : List Begun) (begun : Begun) (asked : ℕ) (operation : Option Operation)
             (records : List Record) (step : Step)
-            → s.sites ≡ self.old.sites → AccessLeads s scopes begun asked operation records run self.old.checker
+            → s.sites ≡ arc_value self.old.sites → AccessLeads s scopes begun asked operation records run self.old.checker
             → AccessSays run self.old.checker step
             → AccessLeads s scopes begun asked operation (records ++ made s.task step answer ∷ []) result self.new.checker }
         ensures context { context_of self.new.checker ≡ context_of self.old.checker }
@@ -68,7 +55,7 @@ impl<'a> Machine<'a> {
         ensures begun { self.new.begins ≡ None }
     {
         let mut run = run;
-        run.answer(&mut self.checker, answer, &self.sites);
+        run.answer(&mut self.checker, answer, &*self.sites);
         self.begins = None;
         run
     }
@@ -77,7 +64,7 @@ impl<'a> Machine<'a> {
     pub(crate) fn answers_check(&mut self, answer: Answer) -> Came
         requires { (step : Step) × checks.Says self.old.checker step × Answers step answer }
         ensures leads { (s : settings.Setting) (scopes : List Begun) (doing : Doing) (asked : ℕ) (records : List Record) (step : Step)
-            → s.sites ≡ self.old.sites → checks.Leads s scopes doing asked records self.old.checker → checks.Says self.old.checker step
+            → s.sites ≡ arc_value self.old.sites → checks.Leads s scopes doing asked records self.old.checker → checks.Says self.old.checker step
             → checks.Leads s scopes doing asked (records ++ made s.task step answer ∷ []) self.new.checker }
         ensures over { (s : settings.Setting) (scopes : List Begun) (doing : Doing) (asked : ℕ) (records : List Record)
             → checks.Leads s scopes doing asked records self.new.checker
@@ -91,10 +78,10 @@ impl<'a> Machine<'a> {
         ensures begun { self.new.begins ≡ None }
     {
         let came = self.came();
-        self.checker.answer(answer, &self.sites);
+        self.checker.answer(answer, &*self.sites);
         self.begins = None;
         Came {
-            over: is_over(&self.checker),
+            over: self.checker.is_over(),
             fell: self.came_after(came),
         }
     }

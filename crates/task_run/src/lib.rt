@@ -14,4 +14,4 @@ mod stage;
 
 pub use laws::{no_task_stops, one_step_is_next, too_long_a_wait_is_told_by_the_records};
 pub use points::{After, Before};
-pub use run::{TaskRun, TaskRunError};
+pub use run::TaskRun;

@@ -4,6 +4,7 @@ use access_types::Sites;
 use litmus_syntax::Variable;
 use program_layout::Layout;
 use setup_access::{Begun, Checker, Rules};
+use std::sync::Arc;
 use task_plan::Progress;
 use text_walk::Walk;
 
@@ -13,9 +14,10 @@ pub(crate) struct Machine<'a> {
     pub(crate) task: u32,
     pub(crate) rules: Rules,
     pub(crate) variables: &'a [Variable],
-    pub(crate) layout: Layout,
+    /// Where the variables of the whole program stand.
+    pub(crate) layout: Arc<Layout>,
     /// The accesses of the whole program, by ticket.
-    pub(crate) sites: Sites,
+    pub(crate) sites: Arc<Sites>,
     pub(crate) walk: Walk<'a>,
     pub(crate) progress: Progress,
     /// So many scoped assertions are in force.

@@ -1,22 +1,22 @@
 //! A task of a program, under way.
 
 ghost use Rattle.std.specs.Prelude.{◌≡◌, ◌↔◌, ◌++◌, ◌^◌, ◌<◌, ◌≤◌, ◌⊎◌, ◌∷◌, [], ℕ, List};
-ghost use Rattle.std.specs.Prelude.{IfOk, IfSome, IsErrOf, IsNone, IsTrue, None, Option, Some, length, reverse, slice_get};
+ghost use Rattle.std.specs.Prelude.{IfErr, IfOk, IfSome, IsErrOf, IsNone, IsTrue, None, Option, Some, length, reverse, slice_get};
+ghost use Rattle.access_types.specs.Sites.{AccessMap};
 
 use crate::machine::Machine;
 use crate::points::{After, Before, Latest, News};
 use crate::stage::Stage;
 use access_run::AccessRun;
-use access_types::Sites;
-use litmus_syntax::{Program, Task};
+use litmus_syntax::Program;
 use memory_operation::LockWait;
-use program_layout::{Layout, LayoutError, Place};
-use setup_access::{Begun, Checker, CheckerError, Outcome, Rules};
+use program_sites::{Prepared, RunError, Settings};
+use setup_access::{Begun, Outcome};
 use slot_table::{Answer, Step};
 use std::alloc::{AllocError, Global};
+use std::sync::Arc;
 use task_plan::{Progress, Then};
 use text_walk::Walk;
-use thiserror::Error;
 
 /// A task of a program, from its first statement to its last: the step that it makes next, and what it
 /// goes on with after the answer. It makes no step itself, so it runs over any words.
@@ -28,62 +28,17 @@ pub struct TaskRun<'a> {
     pub(crate) news: News,
 }
 
-/// Why there is no task.
-#[derive(Clone, Copy, Debug, PartialEq, Eq, Error)]
-pub enum TaskRunError {
-    /// There are fewer than 3 page slots, or more than 1,024.
-    #[error("there are 3 to 1024 slots")]
-    BadSlots,
-    /// A place is no multiple of its variable's size or is above 2^62, its name is unknown, a lock's,
-    /// or placed twice.
-    #[error("bad place")]
-    BadPlace,
-    #[error("out of memory")]
-    OutOfMemory,
-}
-
-impl From<AllocError> for TaskRunError {
-    ghost use Rattle.task_run.specs.declared.run.TaskRunError.TheVariants.{OutOfMemory};
-
-    ghost from_gives = { λ _ e. e ≡ OutOfMemory };
-
-    fn from(_: AllocError) -> TaskRunError {
-        TaskRunError::OutOfMemory
-    }
-}
-
-impl From<LayoutError> for TaskRunError {
-    ghost use Rattle.task_run.specs.Errors.{of_layout};
-
-    ghost from_gives = { λ error e. e ≡ of_layout error };
-
-    fn from(error: LayoutError) -> TaskRunError {
-        match error {
-            LayoutError::BadPlace => TaskRunError::BadPlace,
-            LayoutError::OutOfMemory => TaskRunError::OutOfMemory,
-        }
-    }
-}
-
-impl From<CheckerError> for TaskRunError {
-    ghost use Rattle.task_run.specs.Errors.{of_checker};
-
-    ghost from_gives = { λ error e. e ≡ of_checker error };
-
-    fn from(error: CheckerError) -> TaskRunError {
-        match error {
-            CheckerError::BadSlots => TaskRunError::BadSlots,
-            CheckerError::OutOfMemory => TaskRunError::OutOfMemory,
-        }
-    }
-}
-
 impl<'a> TaskRun<'a> {
-    ghost use Rattle.litmus_meaning.specs.Layout.{cells_of};
     ghost use Rattle.litmus_syntax.specs.Limits.{BlockScopes, KeepsLimits, block_rises};
     ghost use Rattle.litmus_syntax.specs.Tree.{Block};
     ghost use Rattle.litmus_syntax.specs.Views.{block_of, program_of};
     ghost use Rattle.program_layout.specs.Places.{AreFit, places_of};
+    ghost use Rattle.litmus_syntax.specs.declared.program.Task.{Task};
+    ghost use Rattle.program_sites.specs.Errors.{IsOfPreparing};
+    ghost use Rattle.program_sites.specs.Prepared.{IsPrepared, IsReady, sites_in};
+    ghost use Rattle.program_sites.specs.Sites.{AreSitesOf};
+    ghost use Rattle.program_sites.specs.declared.settings.Settings.{Settings};
+    ghost use Rattle.task_run.specs.First.{setting_of};
     ghost use Rattle.memory_operation.specs.LockLeads.{LockSays};
     ghost use Rattle.setup_access.specs.Leads as checks;
     ghost use Rattle.slot_table.specs.Answer.{Answers};
@@ -101,53 +56,74 @@ impl<'a> TaskRun<'a> {
     ghost use Rattle.text_walk.specs.of_written_order_Waits.{OnlyStep, WithinTurns};
     ghost use Rattle.setup_access.specs.Parts.{made};
     ghost use Rattle.slot_table.specs.declared.step.Answer.{Answer};
-    ghost use Rattle.task_run.specs.declared.run.TaskRunError.TheVariants.{BadPlace, BadSlots};
+    ghost use Rattle.program_sites.specs.declared.error.RunError.TheVariants.{BadPlace, BadSlots};
     ghost use Rattle.task_run.specs.declared.stage.Stage.TheVariants.{Closing, Locking, Making, Opening, Unlocking};
     ghost use Rattle.text_walk.specs.of_written_order_Standing.{Setting};
     ghost use Rattle.text_walk.specs.of_written_order_Waits as waits;
     ghost use Rattle.text_walk.specs.of_written_order_WrittenOrder.{SpellsAll, WrittenOrder};
 
-    /// A task that has made no step yet. `cells` are the addresses of the cells of memory, and `sites`
-    /// the accesses of the whole program. It takes all its room, and no call after it takes memory.
+    /// The task of this number before its first step. It takes all its room, and no call after it takes memory.
     ///
     /// `BadSlots`: there are fewer than 3 page slots, or more than 1,024. `BadPlace`: a place is no
     /// multiple of its variable's size or is above 2^62, its name is unknown, a lock's, or placed twice.
     pub fn new(
         alloc: Global,
         program: &'a Program,
+        settings: &Settings,
         number: u32,
-        task: &'a Task,
-        rules: &Rules,
-        places: &[Place],
-        cells: &[u64],
-        sites: Sites,
-    ) -> Result<TaskRun<'a>, TaskRunError>
+    ) -> Result<TaskRun<'a>, RunError>
         requires limits { KeepsLimits (program_of program.now) }
-        requires task { slice_get program.now.tasks number ≡ Some task.now }
-        requires cells { cells.now ≡ cells_of (places_of places.now) program.now.variables }
-        ensures leads { IfOk result (λ run. Leads (record {
-          text = record { task = number; variables = program.now.variables; places = places_of places.now };
-          rules = rules.now;
-          sites = sites;
-        }) (length task.now.registers) (block_of task.now.body.items) [] run) }
+        requires there { number < length program.now.tasks }
+        ensures leads { IfOk result (λ run. (sites : AccessMap)
+            × AreSitesOf (program_of program.now) (places_of settings.now.places.items) sites
+            × ((task : Task) → slice_get program.now.tasks number ≡ Some task
+            → Leads (setting_of program.now settings.now sites number) (length task.registers) (block_of task.body.items) [] run)) }
         ensures fell { IfOk result (λ run. fell_of run ≡ None) }
         ensures points { IfOk result (λ run. HasMade [] run) }
-        ensures bad_slots { IsErrOf result BadSlots → (rules.now.slots < 3 ⊎ 1024 < rules.now.slots) }
-        ensures slots { IfOk result (λ run. (3 ≤ rules.now.slots) × (rules.now.slots ≤ 1024)) }
-        ensures bad_place { IsErrOf result BadPlace ↔ (AreFit program.now.variables places.now → ⊥) }
+        ensures bad_slots { IsErrOf result BadSlots → (settings.now.slots < 3 ⊎ 1024 < settings.now.slots) }
+        ensures bad_place { IsErrOf result BadPlace ↔ (AreFit program.now.variables settings.now.places.items → ⊥) }
+        ensures errors { IfErr result IsOfPreparing }
+    {
+        let prepared = Prepared::new(alloc, program, settings)?;
+        let run = TaskRun::prepared(alloc, program, &prepared, number)?;
+        Ok(run)
+    }
+
+    /// The task of this number before its first step, of a program that is made ready. It takes all its room, and no call after it takes
+    /// memory.
+    pub fn prepared(
+        alloc: Global,
+        program: &'a Program,
+        prepared: &Prepared,
+        number: u32,
+    ) -> Result<TaskRun<'a>, AllocError>
+        requires limits { KeepsLimits (program_of program.now) }
+        requires ready { IsReady program.now prepared.now }
+        requires there { number < length program.now.tasks }
+        ensures leads { (settings : Settings) (task : Task) → IsPrepared program.now settings prepared.now
+            → slice_get program.now.tasks number ≡ Some task → IfOk result (λ run.
+            Leads (setting_of program.now settings (sites_in prepared.now) number) (length task.registers) (block_of task.body.items) [] run) }
+        ensures fell { IfOk result (λ run. fell_of run ≡ None) }
+        ensures points { IfOk result (λ run. HasMade [] run) }
     {
         let variables = program.variables.as_slice();
+        let task = &program.tasks.as_slice()[number as usize];
         let registers = task.registers.as_slice().len();
+        let layout = Arc::try_clone(&prepared.layout)?;
+        let sites = Arc::try_clone(&prepared.sites)?;
+        let walk = Walk::new(alloc, task.body.as_slice())?;
+        let progress = Progress::new(alloc, registers, variables.len())?;
+        let checker = prepared.checker(alloc, number)?;
         let mut machine = Machine {
             task: number,
-            rules: *rules,
+            rules: prepared.rules,
             variables,
-            layout: Layout::new(alloc, variables, places)?,
+            layout,
             sites,
-            walk: Walk::new(alloc, task.body.as_slice())?,
-            progress: Progress::new(alloc, registers, variables.len())?,
+            walk,
+            progress,
             in_force: 0,
-            checker: Checker::new(alloc, number, rules, cells)?,
+            checker,
             begins: None,
         };
         let stage = machine.advance();
@@ -196,7 +172,7 @@ impl<'a> TaskRun<'a> {
         }
     }
 
-    /// A wait of the task had as many vain tries as the rules allow.
+    /// A wait of the task had as many vain tries as the rules allow. Its own count tells, so no step is worked out.
     pub fn stuck(&self) -> bool
         ensures stage { (s : Setting) (registers : ℕ) (body : Block) (records : List Record)
             → (leads : Leads s registers body records self.now)
@@ -208,8 +184,20 @@ impl<'a> TaskRun<'a> {
         match self.stage {
             Stage::Over => false,
             Stage::Stopped => false,
-            _ => self.next().is_none(),
+            Stage::Making(run, _) => run.stuck(&self.machine.checker),
+            Stage::Opening => self.machine.checker.stuck(),
+            Stage::Closing => self.machine.checker.stuck(),
+            Stage::Locking(wait, _) => wait.stuck(self.machine.rules.turns),
+            Stage::Unlocking(_) => false,
         }
+    }
+
+    /// The task has made the steps of its whole text. Its stage tells, so no step is worked out.
+    pub fn is_over(&self) -> bool
+        ensures { (s : Setting) (registers : ℕ) (body : Block) (records : List Record) → Leads s registers body records self.now
+            → BlockScopes 0 body → block_rises body ≤ 2 ^ 32 → (IsTrue result ↔ SpellsAll s registers body records) }
+    {
+        matches!(self.stage, Stage::Over)
     }
 
     /// The access that begins with the next step, if one does, with what is decided of it.
@@ -228,18 +216,19 @@ impl<'a> TaskRun<'a> {
         }
     }
 
-    /// Takes the answer of the step.
-    pub fn answer(&mut self, answer: Answer)
-        requires { (step : Step) × Says self.old step × Answers step answer }
+    /// Takes the answer of its step, which the caller has of `next`: so it isn't worked out again.
+    pub fn answer(&mut self, step: Step, answer: Answer)
+        requires says { Says self.old step }
+        requires answers { Answers step answer }
         ensures leads { LeadsOn self.old self.new answer }
         ensures fell { FellAt self.old (fell_of self.new) answer }
         ensures points { (s : Setting) (registers : ℕ) (body : Block) (records : List Record)
             → (leads : Leads s registers body records self.old)
-            → (step : Step) (begins : Option Begun) (steps : List Stepped) → Says self.old step → (¬ IsStuck leads)
+            → (begins : Option Begun) (steps : List Stepped)
             → BeginsNext s leads.part (stands_at leads []) leads.mine begins → HasMade steps self.old
             → HasMade (record { step = step; begins = is_some begins } ∷ steps) self.new }
     {
-        let latest = self.latest();
+        let latest = self.latest(step);
         match self.stage {
             Stage::Over | Stage::Stopped => unreachable!(),
             Stage::Making(run, after) => {
@@ -292,17 +281,14 @@ impl<'a> TaskRun<'a> {
         self.news.latest.after()
     }
 
-    /// What is to be kept of the last steps once the next is made.
-    fn latest(&self) -> Latest
+    /// What is to be kept of the last steps once this one is made, which is the next.
+    fn latest(&self, step: Step) -> Latest
         ensures { (s : Setting) (registers : ℕ) (body : Block) (records : List Record) → (leads : Leads s registers body records self.now)
-            → (step : Step) (begins : Option Begun) (steps : List Stepped) → Says self.now step → (¬ IsStuck leads)
+            → (begins : Option Begun) (steps : List Stepped)
             → BeginsNext s leads.part (stands_at leads []) leads.mine begins → HasMade steps self.now
             → result ≡ kept_by (record { step = step; begins = is_some begins } ∷ steps) }
     {
-        match self.next() {
-            Some(step) => self.news.latest.and(step, self.begins().is_some()),
-            None => Latest::Other,
-        }
+        self.news.latest.and(step, self.begins().is_some())
     }
 
     /// An access takes the answer, and what fell is told. Once it is over, what follows on it is done.

@@ -8,7 +8,7 @@ use access_types::{Access, Claim, Kind, Operation, Sites};
 use litmus_parse::{ParseError, Program, parse};
 use litmus_syntax::Name;
 use program_layout::Place;
-use program_sites::{SitesError, sites_of};
+use program_sites::{RunError, sites_of};
 use std::alloc::{AllocError, Global};
 use std::process::Abort;
 use std::test::Fail;
@@ -138,7 +138,7 @@ fn bad_places_are_refused(rt: HostRuntime) -> Result<(), Fail> {
         assert!(rt;
             matches!(
                 sites_of(rt.alloc(), &program, &places),
-                Err(SitesError::BadPlace)
+                Err(RunError::BadPlace)
             ),
             "{letter} {addr}"
         );
@@ -150,7 +150,7 @@ fn bad_places_are_refused(rt: HostRuntime) -> Result<(), Fail> {
     assert!(rt;
         matches!(
             sites_of(rt.alloc(), &program, &twice),
-            Err(SitesError::BadPlace)
+            Err(RunError::BadPlace)
         )
     );
     Ok(())
@@ -166,8 +166,8 @@ fn a_refused_growth_is_want_of_memory(rt: HostRuntime) -> Result<(), Fail> {
     };
     let sites = match sites_of(rt.alloc(), &program, &[]) {
         Ok(sites) => sites,
-        Err(SitesError::OutOfMemory) => sites_of(rt.alloc(), &program, &[])?,
-        Err(SitesError::BadPlace) => return Err(SitesError::BadPlace.into()),
+        Err(RunError::OutOfMemory) => sites_of(rt.alloc(), &program, &[])?,
+        Err(error) => return Err(error.into()),
     };
     expect_accesses(
         &rt,

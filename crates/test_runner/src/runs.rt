@@ -5,9 +5,9 @@ ghost use Rattle.litmus_parse.specs.of_litmus_syntax_Limits.{KeepsLimits};
 ghost use Rattle.litmus_parse.specs.of_litmus_syntax_Views.{program_of};
 
 use litmus_parse::{ParseError, Program, parse};
-use litmus_step::Settings;
-use run_tally::{Delay, Outcome, Progress, RunsError, Times, run_text_often};
-use runner::{Gate, NoStall, Open, Point, RunError, RunResult, Stall, run_from, run_once};
+use litmus_step::{Prepared, Settings};
+use run_tally::{Delay, EngineError, Progress, Times, Written, run_text_often};
+use runner::{Gate, NoStall, Open, Point, RunError, RunResult, Stall, run_once, run_prepared};
 use std::alloc::{AllocError, Global};
 use std::sync::Wait;
 use std::sync::atomic::{AtomicU64, Ordering};
@@ -319,8 +319,11 @@ fn any_task_may_start_first(rt: HostRuntime) -> Result<(), Fail> {
     )?;
     let program = parsed(alloc, text.as_str())?;
     let settings = settings(alloc, false, 1_000_000_000);
+    let prepared = Prepared::new(alloc, &program, &settings)?;
     for first in 0..18 {
-        let ran = run_from(&rt, alloc, &program, &settings, first, &NoStall, &Open)?;
+        let ran = run_prepared(
+            &rt, alloc, &program, &settings, &prepared, first, &NoStall, &Open,
+        )?;
         for task in 0..16 {
             assert_eq!(rt; register(&ran, task), Some(7));
         }
@@ -334,7 +337,7 @@ fn raced<R: Threads + Wait + Sync>(
     rt: &R,
     alloc: Global,
     times: Times,
-) -> Result<Outcome, RunsError>
+) -> Result<Written, EngineError>
     requires { 1 ≤ times.jobs }
 {
     let settings = settings(alloc, false, 1_000_000);

@@ -3,16 +3,15 @@
 #![tactic(auto)]
 
 ghost use Rattle.std.specs.Prelude.{IfOk};
-ghost use Rattle.program_layout.specs.of_litmus_syntax_Limits.{KeepsLimits};
-ghost use Rattle.program_layout.specs.of_litmus_syntax_Views.{program_of};
+ghost use Rattle.litmus_parse.specs.of_litmus_syntax_Limits.{KeepsLimits};
+ghost use Rattle.litmus_parse.specs.of_litmus_syntax_Views.{program_of};
 
 use litmus_parse::{ParseError, Program, parse};
-use program_layout::{Layout, LayoutError};
-use program_sites::{SitesError, sites_of};
-use setup_access::Rules;
-use std::alloc::{AllocError, Global};
+use program_sites::{RunError, Settings};
+use std::alloc::Global;
 use std::process::ExitCode;
-use task_run::{TaskRun, TaskRunError};
+use task_run::TaskRun;
+use watch_word::Layout;
 
 /// The status where the task's own room is refused.
 const OUT_OF_MEMORY: u8 = 71;
@@ -28,22 +27,11 @@ const TEXT: &str =
     "C t\n{}\nP0(int *x, spinlock_t *l) { int r0; int i; ASSERT_EXCLUSIVE_WRITER_SCOPED(*x); \
     for (i = 0; i < 3; i++) { spin_lock(l); if (*x) { r0 = READ_ONCE(*x); } spin_unlock(l); } }\nexists (0:r0=1)\n";
 
-const RULES: Rules = Rules {
-    slots: 64,
-    skip: 0,
-    randomize: false,
-    seed: 1,
-    value_change_only: true,
-    plain_writes_atomic: true,
-    layout: watch_word::Layout::W64,
-    turns: 1000,
-};
-
 /// Where it ended.
 #[derive(Clone, Copy, Debug)]
 enum End {
     Before,
-    Task(TaskRunError),
+    Task(RunError),
 }
 
 impl From<ParseError> for End {
@@ -52,26 +40,8 @@ impl From<ParseError> for End {
     }
 }
 
-impl From<LayoutError> for End {
-    fn from(_: LayoutError) -> End {
-        End::Before
-    }
-}
-
-impl From<SitesError> for End {
-    fn from(_: SitesError) -> End {
-        End::Before
-    }
-}
-
-impl From<AllocError> for End {
-    fn from(_: AllocError) -> End {
-        End::Before
-    }
-}
-
-impl From<TaskRunError> for End {
-    fn from(error: TaskRunError) -> End {
+impl From<RunError> for End {
+    fn from(error: RunError) -> End {
         End::Task(error)
     }
 }
@@ -83,39 +53,42 @@ fn parsed(alloc: Global) -> Result<Program, ParseError>
     parse(alloc, TEXT.as_bytes())
 }
 
+/// Each access is watched that may be.
+fn settings(alloc: Global) -> Settings {
+    Settings {
+        slots: 64,
+        skip: 0,
+        randomize: false,
+        seed: 1,
+        value_change_only: true,
+        plain_writes_atomic: true,
+        layout: Layout::W64,
+        turns: 1000,
+        places: Vec::new(alloc),
+    }
+}
+
 /// Whether the task has a first step.
-fn has_step(alloc: Global, program: &Program) -> Result<bool, End>
+fn has_step(alloc: Global, program: &Program) -> Result<bool, RunError>
     requires { KeepsLimits (program_of program.now) }
 {
-    let layout = Layout::new(alloc, program.variables.as_slice(), &[])?;
-    let cells = layout.cells(alloc)?;
-    let sites = sites_of(alloc, program, &[])?;
-    let Some(task) = program.tasks.as_slice().get(0) else {
+    if program.tasks.as_slice().is_empty() {
         return Ok(false);
-    };
-    let run = TaskRun::new(
-        alloc,
-        program,
-        0,
-        task,
-        &RULES,
-        &[],
-        cells.as_slice(),
-        sites,
-    )?;
+    }
+    let run = TaskRun::new(alloc, program, &settings(alloc), 0)?;
     Ok(run.next().is_some())
 }
 
 /// Reads the text, and makes its task.
 fn made(alloc: Global) -> Result<bool, End> {
     let program = parsed(alloc)?;
-    has_step(alloc, &program)
+    Ok(has_step(alloc, &program)?)
 }
 
 fn main(rt: HostRuntime) -> ExitCode {
     match made(rt.alloc()) {
         Ok(true) => ExitCode::SUCCESS,
-        Err(End::Task(TaskRunError::OutOfMemory)) => ExitCode::from(OUT_OF_MEMORY),
+        Err(End::Task(RunError::OutOfMemory)) => ExitCode::from(OUT_OF_MEMORY),
         Err(End::Before) => ExitCode::from(BEFORE),
         Ok(false) | Err(_) => ExitCode::from(OTHERWISE),
     }

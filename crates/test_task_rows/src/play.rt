@@ -6,25 +6,22 @@ ghost use Rattle.program_layout.specs.of_litmus_syntax_Views.{program_of};
 
 use crate::notation::Story;
 use litmus_parse::{ParseError, Program, parse};
-use program_layout::{Layout, Place};
-use program_sites::{SitesError, sites_of};
-use setup_access::Rules;
+use program_sites::{Prepared, RunError, Settings};
 use slot_table::{Answer, Board, BoardError, PlainBoard, Shape, Step};
 use std::alloc::{AllocError, Global};
 use step_schedule::{Entry, Schedule};
-use task_run::{TaskRun, TaskRunError};
+use task_run::TaskRun;
 use thiserror::Error;
 
 /// A program has so many tasks at most.
 const TASKS: u32 = 16;
 
-/// A litmus text, what its tasks go by, which of them makes how many steps, and where its variables stand.
+/// A litmus text, what its tasks go by, and which of them makes how many steps.
 #[derive(Drop)]
 pub struct Scene {
     pub text: String,
-    pub rules: Rules,
+    pub settings: Settings,
     pub schedule: Schedule,
-    pub places: Vec<Place>,
 }
 
 /// Why a text isn't played.
@@ -35,7 +32,7 @@ pub enum PlayError {
     #[error("refused: {0}")]
     Text(ParseError),
     #[error("{0}")]
-    Task(TaskRunError),
+    Task(RunError),
     #[error("there is no task {0}")]
     NoTask(u64),
     #[error("a step names a word that isn't there")]
@@ -57,10 +54,10 @@ impl From<ParseError> for PlayError {
     }
 }
 
-impl From<TaskRunError> for PlayError {
-    fn from(error: TaskRunError) -> PlayError {
+impl From<RunError> for PlayError {
+    fn from(error: RunError) -> PlayError {
         match error {
-            TaskRunError::OutOfMemory => PlayError::OutOfMemory,
+            RunError::OutOfMemory => PlayError::OutOfMemory,
             error => PlayError::Task(error),
         }
     }
@@ -96,21 +93,20 @@ fn play(alloc: Global, program: &Program, scene: &Scene) -> Result<String, PlayE
 }
 
 /// The words of a program before its first step.
-fn first_words(alloc: Global, program: &Program, scene: &Scene) -> Result<PlainBoard, TaskRunError>
+fn first_words(alloc: Global, program: &Program, scene: &Scene) -> Result<PlainBoard, RunError>
     requires { KeepsLimits (program_of program.now) }
 {
-    let layout = Layout::new(alloc, program.variables.as_slice(), scene.places.as_slice())?;
-    let cells = layout.cells_at_first(alloc)?;
+    let prepared = Prepared::new(alloc, program, &scene.settings)?;
     let shape = Shape {
-        slots: scene.rules.slots,
+        slots: prepared.rules.slots,
         tasks: TASKS,
-        locks: layout.locks(),
-        cells: cells.as_slice(),
+        locks: prepared.locks,
+        cells: prepared.words.as_slice(),
     };
     match PlainBoard::new(alloc, shape) {
         Ok(board) => Ok(board),
-        Err(BoardError::BadSlots) => Err(TaskRunError::BadSlots),
-        Err(BoardError::OutOfMemory) => Err(TaskRunError::OutOfMemory),
+        Err(BoardError::BadSlots) => Err(RunError::BadSlots),
+        Err(BoardError::OutOfMemory) => Err(RunError::OutOfMemory),
     }
 }
 
@@ -119,7 +115,7 @@ fn first_tasks<'a>(
     alloc: Global,
     program: &'a Program,
     scene: &Scene,
-) -> Result<Vec<TaskRun<'a>>, TaskRunError>
+) -> Result<Vec<TaskRun<'a>>, RunError>
     requires { KeepsLimits (program_of program.now) }
 {
     let mut runs = Vec::new(alloc);
@@ -140,30 +136,13 @@ fn first_task<'a>(
     program: &'a Program,
     number: u32,
     scene: &Scene,
-) -> Result<Option<TaskRun<'a>>, TaskRunError>
+) -> Result<Option<TaskRun<'a>>, RunError>
     requires { KeepsLimits (program_of program.now) }
 {
-    let places = scene.places.as_slice();
-    let layout = Layout::new(alloc, program.variables.as_slice(), places)?;
-    let cells = layout.cells(alloc)?;
-    let sites = match sites_of(alloc, program, places) {
-        Ok(sites) => sites,
-        Err(SitesError::OutOfMemory) => return Err(TaskRunError::OutOfMemory),
-        Err(SitesError::BadPlace) => return Err(TaskRunError::BadPlace),
-    };
-    let Some(task) = program.tasks.as_slice().get(number as usize) else {
+    if number as usize >= program.tasks.as_slice().len() {
         return Ok(None);
-    };
-    let run = TaskRun::new(
-        alloc,
-        program,
-        number,
-        task,
-        &scene.rules,
-        places,
-        cells.as_slice(),
-        sites,
-    )?;
+    }
+    let run = TaskRun::new(alloc, program, &scene.settings, number)?;
     Ok(Some(run))
 }
 
@@ -200,6 +179,6 @@ fn make(
         return Err(PlayError::NoWord);
     }
     let answer = board.step(step);
-    runs[task].answer(answer);
+    runs[task].answer(step, answer);
     Ok(Some((step, answer)))
 }

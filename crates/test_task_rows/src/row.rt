@@ -3,28 +3,11 @@
 use crate::play::{PlayError, Scene, played};
 use crate::texts::Texts;
 use place_list::parse_places;
-use setup_access::Rules;
+use program_layout::Place;
+use program_sites::Settings;
 use std::alloc::{AllocError, Global};
 use step_schedule::Schedule;
 use watch_word::Layout;
-
-/// No access is watched, unless it is the thousandth that is asked for.
-const UNWATCHED: Rules = Rules {
-    slots: 64,
-    skip: 1000,
-    randomize: false,
-    seed: 1,
-    value_change_only: true,
-    plain_writes_atomic: true,
-    layout: Layout::W64,
-    turns: 1000,
-};
-
-/// Each access is watched that may be.
-const WATCHED: Rules = Rules {
-    skip: 0,
-    ..UNWATCHED
-};
 
 /// The rules and the schedule of a text of one task.
 const ALONE: &str = "unwatched 0x1000";
@@ -111,26 +94,36 @@ fn with_course(alloc: Global, text: String, course: &str) -> Result<Option<Scene
     };
     let (schedule, places) = rest.split_once(' ').unwrap_or((rest, ""));
     let schedule = Schedule::parse(alloc, schedule)?;
-    let places = parse_places(alloc, places)?;
-    match (rules_of(rules), schedule, places) {
-        (Some(rules), Some(schedule), Some(places)) => Ok(Some(Scene {
+    let Some(places) = parse_places(alloc, places)? else {
+        return Ok(None);
+    };
+    match (settings_of(rules, places), schedule) {
+        (Some(settings), Some(schedule)) => Ok(Some(Scene {
             text,
-            rules,
+            settings,
             schedule,
-            places,
         })),
         _ => Ok(None),
     }
 }
 
-/// The rules of a word: `watched`, `unwatched`, or `turns=N`, where also a wait is stuck after so many vain tries.
-fn rules_of(word: &str) -> Option<Rules> {
-    match word {
-        "watched" => Some(WATCHED),
-        "unwatched" => Some(UNWATCHED),
-        other => Some(Rules {
-            turns: other.strip_prefix("turns=")?.parse().ok()?,
-            ..UNWATCHED
-        }),
-    }
+/// The settings of a word for the rules, with these places: `watched`, where each access is watched that may be; `unwatched`, where none is,
+/// unless it is the thousandth that is asked for; or `turns=N`, where also a wait is stuck after so many vain tries.
+fn settings_of(word: &str, places: Vec<Place>) -> Option<Settings> {
+    let (skip, turns) = match word {
+        "watched" => (0, 1000),
+        "unwatched" => (1000, 1000),
+        other => (1000, other.strip_prefix("turns=")?.parse().ok()?),
+    };
+    Some(Settings {
+        slots: 64,
+        skip,
+        randomize: false,
+        seed: 1,
+        value_change_only: true,
+        plain_writes_atomic: true,
+        layout: Layout::W64,
+        turns,
+        places,
+    })
 }

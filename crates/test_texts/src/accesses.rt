@@ -13,32 +13,34 @@ use litmus_parse::{ParseError, Program, parse};
 use litmus_syntax::Name;
 use oracle_accesses::reading::{Reading, read_text};
 use program_layout::Place;
-use setup_access::Rules;
+use program_sites::Settings;
 use slot_table::Record;
 use std::alloc::Global;
 use std::fmt::Write;
 use watch_word::Layout;
 
-/// Whose records are read: a task of a text, with places for some of its variables, under these rules.
+/// Whose records are read: a task of a text, under these settings.
 #[derive(Drop)]
 struct Given<'a> {
     text: &'a str,
     task: u32,
-    rules: Rules,
-    places: Vec<Place>,
+    settings: Settings,
 }
 
 /// Each access is watched that may be.
-const WATCHED: Rules = Rules {
-    slots: 64,
-    skip: 0,
-    randomize: false,
-    seed: 1,
-    value_change_only: true,
-    plain_writes_atomic: true,
-    layout: Layout::W64,
-    turns: 1000,
-};
+fn watched(alloc: Global) -> Settings {
+    Settings {
+        slots: 64,
+        skip: 0,
+        randomize: false,
+        seed: 1,
+        value_change_only: true,
+        plain_writes_atomic: true,
+        layout: Layout::W64,
+        turns: 1000,
+        places: Vec::new(alloc),
+    }
+}
 
 /// Shows what the steps of a task are of its text, and where they are the whole of it, which bent lists aren't read as they have
 /// to be: `TEXT TASK`, and behind that settings.
@@ -66,8 +68,7 @@ fn given_in<'a>(alloc: Global, blocks: &'a Blocks, row: &str) -> Result<Given<'a
     let mut given = Given {
         text: text.ok_or(Fault::NoRow)?,
         task: small(words.next().ok_or(Fault::NoRow)?)?,
-        rules: WATCHED,
-        places: Vec::new(alloc),
+        settings: watched(alloc),
     };
     for setting in words {
         set(alloc, &mut given, setting)?;
@@ -78,12 +79,12 @@ fn given_in<'a>(alloc: Global, blocks: &'a Blocks, row: &str) -> Result<Given<'a
 /// Takes a setting: `skip=COUNT`, `turns=COUNT`, or a place `NAME@ADDRESS`.
 fn set(alloc: Global, given: &mut Given<'_>, setting: &str) -> Result<(), Fault> {
     if let Some(skip) = setting.strip_prefix("skip=") {
-        given.rules.skip = number(skip)?;
+        given.settings.skip = number(skip)?;
     } else if let Some(turns) = setting.strip_prefix("turns=") {
-        given.rules.turns = number(turns)?;
+        given.settings.turns = number(turns)?;
     } else {
         let (name, addr) = setting.split_once('@').ok_or(Fault::NoRow)?;
-        given.places.push(Place {
+        given.settings.places.push(Place {
             name: Name::from_string(String::from_str(alloc, name)?),
             addr: number(addr)?,
         })?;
@@ -101,19 +102,11 @@ fn parsed(alloc: Global, text: &str) -> Result<Program, ParseError>
 /// What records are of the text of the task.
 fn read(alloc: Global, given: &Given<'_>, records: &[Record]) -> Result<Reading, Fault> {
     let program = parsed(alloc, given.text)?;
-    let index = given.task;
-    let Some(task) = program.tasks.as_slice().get(index as usize) else {
+    let number = given.task;
+    if number as usize >= program.tasks.as_slice().len() {
         return Err(Fault::NoRow);
-    };
-    let reading = read_text(
-        alloc,
-        &program,
-        index,
-        task,
-        &given.rules,
-        given.places.as_slice(),
-        records,
-    );
+    }
+    let reading = read_text(alloc, &program, &given.settings, number, records);
     reading.ok().ok_or(Fault::NoTask)
 }
 

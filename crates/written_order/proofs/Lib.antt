@@ -6,6 +6,7 @@ pub mod DisciplineKept
 pub mod EffectLemmas
 pub mod MeaningLemmas
 pub mod WayLemmas
+pub mod VainTries
 pub mod Tried
 pub use Rattle.setup_access.proofs.DisciplineLemmas as of_setup_access_DisciplineLemmas
 pub use Rattle.setup_access.proofs.FallLemmas as of_setup_access_FallLemmas

@@ -1,12 +1,13 @@
 -- How often a task tries in vain, and when it is stuck.
-use Rattle.std.specs.Prelude.{◌==◌, ◌&&◌, ◌++◌, ◌<◌, ◌≤◌, ℕ, suc, Bool, true, false, List, [], ◌∷◌, if◌then◌else◌, reverse}
+use Rattle.std.specs.Prelude.{◌==◌, ◌&&◌, ◌++◌, ◌<◌, ◌≤◌, ℕ, suc, Bool, false, List, [], ◌∷◌, None, if◌then◌else◌, reverse}
 use Rattle.memory_operation.specs.of_litmus_syntax_Tree.{Block}
 use Rattle.memory_operation.specs.Leads.{GoesOn}
 use Rattle.setup_access.specs.of_slot_table_declared.records.Record.{Record}
 use Rattle.setup_access.specs.of_slot_table_declared.step.Answer.{Answer}
-use Rattle.setup_access.specs.of_slot_table_declared.step.Answer.TheVariants as answers
 use Rattle.setup_access.specs.of_slot_table_declared.step.Step.{Step}
 use Rattle.setup_access.specs.of_slot_table_declared.step.Step.TheVariants.{CellExchange, LockTry, PairLoad}
+use Rattle.setup_access.specs.Waits as checks
+use Rattle.setup_access.specs.Waits.{is_vain}
 use Rattle.written_order.specs.Standing.{Setting}
 use Rattle.written_order.specs.WrittenOrder.{SpellsAll, WrittenOrder}
 
@@ -23,22 +24,19 @@ abbrev pub loads_pair : ℕ → Step → Bool
 loads_pair index (PairLoad at) = at == index
 loads_pair index step = false
 
--- the exchange was refused: its answer is the word that stood there
+-- answers of an exchange, and of a try of a lock, that was refused
 abbrev pub is_refused : Answer → Bool
-is_refused (answers.Word word) = true
-is_refused answer = false
+is_refused = checks.is_word
 
--- so was the try of a lock
 abbrev pub is_no : Answer → Bool
-is_no (answers.Flag false) = true
-is_no answer = false
+is_no = checks.is_no
 
--- The step was a try in vain if this one comes next, which tries the same again: a refused exchange,
--- a refused try of a lock, or the load of a pair whose half didn't stand yet. What was not in vain is
--- never made again at once.
+-- The step was a vain try of a wait if this one comes next, which tries the same again. What was not in vain
+-- is never made again at once: so in the written order a load of a pair that is followed by another one was
+-- a vain try too, as a law says.
 abbrev pub was_vain : Step → Answer → Step → Bool
-was_vain (CellExchange cell seen new) answer next = is_refused answer && exchanges_in cell next
-was_vain (LockTry lock task) answer next = is_no answer && tries_lock lock next
+was_vain (CellExchange cell seen new) answer next = is_vain None (CellExchange cell seen new) answer && exchanges_in cell next
+was_vain (LockTry lock task) answer next = is_vain None (LockTry lock task) answer && tries_lock lock next
 was_vain (PairLoad index) answer next = loads_pair index next
 was_vain step answer next = false
 
@@ -79,3 +77,12 @@ pub record IsStuck (s : Setting) (registers : ℕ) (body : Block) (records : Lis
   pub written : WrittenOrder s registers body records
   pub only : OnlyStep s registers body records step
   pub tried : IsTooMuch s.rules.turns step (reverse records)
+
+-- the same, told by what the records end with: the only step that they go on with is a try of a wait, after as
+-- many vain tries as are allowed
+pub record IsStuckInVain (s : Setting) (registers : ℕ) (body : Block) (records : List Record) : Type 0 where
+  pub step : Step
+  pub written : WrittenOrder s registers body records
+  pub only : OnlyStep s registers body records step
+  pub tries : IsTry step (reverse records)
+  pub in_vain : s.rules.turns ≤ checks.vain_tries records

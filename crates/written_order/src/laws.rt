@@ -1,12 +1,16 @@
 //! What is true of the written order.
 
-ghost use Rattle.std.specs.Prelude.{◌++◌, ◌≡◌, ℕ, List, reverse};
+ghost use Rattle.std.specs.Prelude.{◌++◌, ◌≡◌, ◌↔◌, ℕ, List, reverse};
 ghost use Rattle.setup_access.specs.of_access_types_declared.history.Happening.{Happening};
 ghost use Rattle.memory_operation.specs.of_litmus_meaning_Meaning.{MeansBlock};
 ghost use Rattle.memory_operation.specs.of_litmus_syntax_Tree.{Block};
 ghost use Rattle.setup_access.specs.of_slot_table_Discipline.{Discipline, IsFinished};
 ghost use Rattle.setup_access.specs.of_slot_table_declared.records.Record.{Record};
+ghost use Rattle.setup_access.specs.of_slot_table_declared.step.Step.{Step};
+ghost use Rattle.setup_access.specs.Waits.{vain_tries};
 ghost use Rattle.written_order.specs.Standing.{Setting, Standing};
+ghost use Rattle.written_order.specs.Waits as waits;
+ghost use Rattle.written_order.specs.Waits.{IsStuck, IsStuckInVain, IsTry, OnlyStep};
 ghost use Rattle.written_order.specs.WrittenOrder.{SpellsAll, StepsOfBlock, WrittenOrder, at_first, stands_after};
 
 use setup_access::laws::checks_keep_the_discipline;
@@ -41,4 +45,14 @@ pub fn what_is_done_is_meant()
         → MeansBlock s.text 0 body (at_first registers).progress spells.end.progress }
     ensures by_then { (s : Setting) (registers : ℕ) (body : Block) (records : List Record) → (written : WrittenOrder s registers body records)
         → (rest : List Happening) × (written.whole.end.progress.did ≡ (stands_after written).progress.did ++ rest) }
+{}
+
+/// Law: a try of a wait comes after as many tries of it as the records end with vain tries. So a task is stuck
+/// exactly where it goes on with a try of a wait and has made as many vain tries as are allowed.
+pub fn stuck_tasks_tried_in_vain()
+    ensures tries { (s : Setting) (registers : ℕ) (body : Block) (records : List Record) (step : Step)
+        → WrittenOrder s registers body records → OnlyStep s registers body records step → IsTry step (reverse records)
+        → waits.vain_tries step (reverse records) ≡ vain_tries records }
+    ensures stuck { (s : Setting) (registers : ℕ) (body : Block) (records : List Record)
+        → IsStuck s registers body records ↔ IsStuckInVain s registers body records }
 {}

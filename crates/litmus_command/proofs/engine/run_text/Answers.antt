@@ -1,7 +1,7 @@
 -- what is left of the program is left of its text
-use Rattle.std.proofs.Common.{inr}
-use Rattle.litmus_command.proofs.ResultLemmas.{map_err, map_ok}
-use Rattle.litmus_command.specs.Engine.{IsReadAs}
+use Rattle.litmus_command.proofs.ResultLemmas.{map_ok, no_sink_stops, refused_of}
+use Rattle.step_schedule.specs.Schedule.{entries_of}
+use Rattle.litmus_parse.specs.Read.{IsReadAs}
 use Rattle.litmus_command.proofs.engine.run_text.Goals as goal
 
 pub returns-clause-leaves : goal.returns-clause-leaves
@@ -19,4 +19,9 @@ returns-clause-refused c =
       spelled = c.in_ok-program.ensures.spelled;
       limits = c.in_ok-program.ensures.keeps_limits;
     } in
-    map_err c.run_program.result (λ error stops. inr (c.in_ok-program.program, read, stops)) c.run_program.ensures.stops
+    refused_of c.args.text.now c.in_ok-program.program c.args.settings.now (entries_of c.args.schedule.now) c.run_program.result read
+    c.run_program.ensures.stops
+
+pub returns-clause-unwritten : goal.returns-clause-unwritten
+returns-clause-unwritten c =
+    no_sink_stops c.in_ok-program.program c.args.settings.now (entries_of c.args.schedule.now) c.run_program.result c.run_program.ensures.stops

@@ -22,8 +22,8 @@ returns-in-Ok-clause-headline g c =
     let left = text.leaves in
     let list = left.stepped.list in
     let output = left.output_is in
-    let counters = counters_line output.counters output.unbalanced in
-    let condition = condition_line (if output.held then 1 else 0) 1 in
+    let counters = counters_line output.found.counters output.found.unbalanced in
+    let condition = condition_line (if output.found.held then 1 else 0) 1 in
     record {
       program = text.program;
       read = text.read;

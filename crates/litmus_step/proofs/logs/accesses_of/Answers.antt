@@ -15,7 +15,7 @@ loop-log-preserved c = λ run records list limits logs.
     (c.loop-log.invariant run records list limits logs)
     (subst (AreAccessesOf list c.loop-log.log-index) (sym c.as_slice.ensures.value) own) c.in_ok-extend_from_slice.ensures.items
 
-pub returns-clause-all : goal.returns-clause-all
-returns-clause-all c = λ run records list limits logs.
+pub returns : goal.returns
+returns c = λ run records list limits logs.
     let over : c.loop-log.log-index ≡ length c.args.logs.now = omega (arith, c.loop-log-test.false, c.loop-log.auto.log-index-end) in
     subst (λ n. ByTask (AreAccessesOf list) n c.loop-log.all.items) (over ∙ logs.all) (c.loop-log.invariant run records list limits logs)

@@ -1,6 +1,7 @@
 -- each turn adds one run
 use Rattle.std.proofs.Common.{◌≡◌, ◌<◌, ◌++◌, ◌∷◌, ◌∙◌, [], arith, false, inl, inr, length, refl, subst, sym, true}
 use Rattle.std.proofs.lemmas.List.{length-append}
+use Rattle.program_sites.specs.Prepared.{sites_in}
 use Rattle.run_tally.proofs.MadeLemmas.{none_before_none, none_of, quiet_before}
 use Rattle.run_tally.specs.Output.{reports_in}
 use Rattle.run_tally.proofs.made.made_of.Goals as goal
@@ -11,7 +12,7 @@ loop-run-init g c = record {
   made = record {
     runs = [];
     stuck = [];
-    made_are = c.new-made.ensures c.args.program.now c.args.settings.now c.args.sites.now;
+    made_are = c.new-made.ensures c.args.program.now c.args.settings.now (sites_in c.args.prepared.now);
     many_are = refl;
     first = λ stop. none_before_none;
     counted = λ off. refl;

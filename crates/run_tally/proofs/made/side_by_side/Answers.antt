@@ -12,8 +12,10 @@ use denote.Struct.Field.{shr_ref_field, u64-field}
 use denote.Struct.Struct.{Struct}
 use denote.Struct.Tuple.{type_at}
 use mir.Syntax.{named}
-use Rattle.litmus_step.proofs.settings.Settings.TheSendSync as settings
-use Rattle.litmus_step.specs.contracts.settings.Settings as settings_row
+use Rattle.program_sites.proofs.prepared.Prepared.TheSendSync as prepared
+use Rattle.program_sites.proofs.settings.Settings.TheSendSync as settings
+use Rattle.program_sites.specs.contracts.prepared.Prepared as prepared_row
+use Rattle.program_sites.specs.contracts.settings.Settings as settings_row
 use Rattle.litmus_syntax.specs.contracts.program.Program as program_row
 use Rattle.runner.proofs.Sent.{program_shared}
 use Rattle.run_tally.proofs.starters.Starters.TheSendSync as starters
@@ -32,10 +34,11 @@ map_indices-requires-sync-F g c κs within =
     ∷ global_row.the_row
     ∷ (shr_ref_field (record { mir = named 7; lft = κs.1.1.1.1.1.1.1.0 }) program_row.the_row tt).row
     ∷ (shr_ref_field (record { mir = named 8; lft = κs.1.1.1.1.1.1.1.1.0 }) settings_row.the_row tt).row
+    ∷ (shr_ref_field (record { mir = named 9; lft = κs.1.1.1.1.1.1.1.1.1.0 }) prepared_row.the_row tt).row
     ∷ u64-field.row
     ∷ starters_row.the_row
     ∷ [] in
     let number : IsSync u64-field.row = search (sendable, crosses) in
     let all : AllSync rows =
-    (number, (shr_sync _ _ _ c.type_bounds.sync-R, (global.the_sync, (shr_sync _ _ _ program_shared, (shr_sync _ _ _ settings.the_sync, (number, (starters.the_sync, tt))))))) in
+    (number, (shr_sync _ _ _ c.type_bounds.sync-R, (global.the_sync, (shr_sync _ _ _ program_shared, (shr_sync _ _ _ settings.the_sync, (shr_sync _ _ _ prepared.the_sync, (number, (starters.the_sync, tt)))))))) in
     param_sync 3 (lts.arg-0-3 g.row.R g.R.laws g.R.Threads-dict g.R.Wait-dict κs) (arg_sync _ yes _ (closure_sync (type_at _ rows) all))

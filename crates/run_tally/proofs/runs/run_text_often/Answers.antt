@@ -1,6 +1,6 @@
 -- what is left of the program's runs is left of those of its text
 use Rattle.run_tally.proofs.MadeLemmas.{map_ok, refused_of}
-use Rattle.run_tally.specs.Errors.{IsReadAs}
+use Rattle.litmus_parse.specs.Read.{IsReadAs}
 use Rattle.run_tally.proofs.runs.run_text_often.Goals as goal
 
 pub returns-clause-leaves : goal.returns-clause-leaves

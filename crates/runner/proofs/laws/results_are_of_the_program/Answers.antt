@@ -4,7 +4,7 @@ use Rattle.litmus_step.specs.Runs.{tasks_of}
 use Rattle.run_headline.specs.Cells.{CellsHold, memory_after, run_cells}
 use Rattle.run_headline.specs.Reported.{IsTrueReport}
 use Rattle.run_lists.specs.Told.{history_of}
-use Rattle.runner.proofs.ResultLemmas.{all_reported}
+use Rattle.accepted_traces.proofs.Parted.{all_reported}
 use Rattle.runner.proofs.laws.results_are_of_the_program.Goals as goal
 
 pub returns-clause-meant : goal.returns-clause-meant

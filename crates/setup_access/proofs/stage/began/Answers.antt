@@ -7,7 +7,7 @@ use Rattle.setup_access.proofs.stage.began.Goals as goal
 
 pub returns-then-not-begun-clause-left : goal.returns-then-not-begun-clause-left
 returns-then-not-begun-clause-left c = λ scopes asked samples.
-    (asked, samples, λ records passes. rw c.check_access.ensures (heard_left (setting_with c.args.setting.now c.args.sites.now) c.args.begun asked records passes scopes (not_true _ c.if-not-begun.true)))
+    (asked, samples, λ records passes. rw c.check_of.ensures (heard_left (setting_with c.args.setting.now c.args.sites.now) c.args.begun asked records passes scopes (not_true _ c.if-not-begun.true)))
 
 pub returns-then-begun-clause-left : goal.returns-then-begun-clause-left
 returns-then-begun-clause-left c = λ scopes asked samples.

@@ -15,4 +15,4 @@ returns-then-begun-clause-left c = λ s scopes asked records passes.
 pub returns-clause-left : goal.returns-clause-left
 returns-clause-left c = λ s scopes asked records passes.
     let heard : c.args.begun.silenced || c.args.silenced ≡ false = rw (c.if-begun.false, c.if-silenced.false) in
-    rw c.check_access.ensures (closing_heard s c.args.begun c.args.silenced scopes asked records passes heard)
+    rw c.check_of.ensures (closing_heard s c.args.begun c.args.silenced scopes asked records passes heard)

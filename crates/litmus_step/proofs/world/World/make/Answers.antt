@@ -21,15 +21,15 @@ step-answer-requires c =
     c.args.self.now.logs.items c.args.self.now.reports.items (vec_capacity c.args.self.now.reports)
     c.args.task c.args.step is.leads c.requires.next)
 
-pub answer-requires : goal.answer-requires
-answer-requires c =
+pub answer-requires-clause-says : goal.answer-requires-clause-says
+answer-requires-clause-says c =
     let same = same_machine c.args.self.now c.args.task c.index_mut.result.now c.requires.next.machine c.requires.there
     c.index_mut.ensures.value
     c.requires.next.stands in
-    (c.args.step, subst (λ (machine : TaskRun). Says machine c.args.step) (sym same) c.requires.next.makes.says, c.step-answer.ensures.kind)
+    subst (λ (machine : TaskRun). Says machine c.args.step) (sym same) c.requires.next.makes.says
 
-pub note-requires : goal.note-requires
-note-requires c =
+pub note_in-requires : goal.note_in-requires
+note_in-requires c =
     ∥∥₁_elim c.args.self.now.led (hlevel props)
     (λ is.
     let logs = is.leads.kept.logs_are.all in
@@ -56,19 +56,19 @@ invariant_of-self c =
         records = made c.args.task c.args.step c.step-answer.result ∷ is.records;
         leads = (world_leads c.steps_lead_on.ensures.leads c.args.self.now c.args.task c.args.step c.step-answer.result
             c.index_mut.result.now
-            c.answer.new.self c.step-answer.new.self c.saturating_add-self.result c.note.new.logs.items c.note.new.reports.items
-            (vec_capacity c.note.new.reports) c.requires.next c.requires.there c.index_mut.ensures.value
+            c.answer.new.self c.step-answer.new.self c.saturating_add-self.result c.note_in.new.logs.items c.note_in.new.reports.items
+            (vec_capacity c.note_in.new.reports) c.requires.next c.requires.there c.index_mut.ensures.value
             c.step-answer.ensures.kind c.step-answer.ensures.answer c.step-answer.ensures.after c.saturating_add-self.ensures
             c.answer.ensures.leads is.run is.records is.leads
             (noted_more c.steps_are_kept.ensures.more c.args.self.now c.args.task c.args.step c.step-answer.result
             c.requires.next.machine c.begins-begins.result
-            c.fell-outcome.result c.note.new.logs.items c.note.new.reports.items
-            (vec_capacity c.note.new.reports) c.requires.there c.requires.next.stands
+            c.fell-outcome.result c.note_in.new.logs.items c.note_in.new.reports.items
+            (vec_capacity c.note_in.new.reports) c.requires.there c.requires.next.stands
             c.requires.next.makes.says begun fallen
-            c.note.ensures.noted c.note.ensures.room is.run is.records is.leads)
+            c.note_in.ensures.noted c.note_in.ensures.room is.run is.records is.leads)
             (world_points c.steps_are_kept.ensures.points c.args.self.now c.args.task c.args.step c.step-answer.result
             c.requires.next.machine c.index_mut.result.now c.answer.new.self c.begins-begins.result c.fell-outcome.result
-            c.requires.next.stands same_mut c.requires.next.makes.says c.requires.next.free begun fallen c.answer.ensures.points
+            c.requires.next.stands same_mut c.requires.next.makes.says begun fallen c.answer.ensures.points
             is.run is.records is.leads));
       });
     }
@@ -89,19 +89,19 @@ returns-clause-moves c =
       made = made c.args.task c.args.step c.step-answer.result;
       own = refl;
       leads = (world_leads c.steps_lead_on.ensures.leads c.args.self.now c.args.task c.args.step c.step-answer.result c.index_mut.result.now
-          c.answer.new.self c.step-answer.new.self c.saturating_add-self.result c.note.new.logs.items c.note.new.reports.items
-          (vec_capacity c.note.new.reports) c.requires.next c.requires.there c.index_mut.ensures.value
+          c.answer.new.self c.step-answer.new.self c.saturating_add-self.result c.note_in.new.logs.items c.note_in.new.reports.items
+          (vec_capacity c.note_in.new.reports) c.requires.next c.requires.there c.index_mut.ensures.value
           c.step-answer.ensures.kind c.step-answer.ensures.answer c.step-answer.ensures.after c.saturating_add-self.ensures
           c.answer.ensures.leads run records leads
           (noted_more c.steps_are_kept.ensures.more c.args.self.now c.args.task c.args.step c.step-answer.result c.requires.next.machine
           c.begins-begins.result
-          c.fell-outcome.result c.note.new.logs.items c.note.new.reports.items
-          (vec_capacity c.note.new.reports) c.requires.there c.requires.next.stands
+          c.fell-outcome.result c.note_in.new.logs.items c.note_in.new.reports.items
+          (vec_capacity c.note_in.new.reports) c.requires.there c.requires.next.stands
           c.requires.next.makes.says begun fallen
-          c.note.ensures.noted c.note.ensures.room run records leads)
+          c.note_in.ensures.noted c.note_in.ensures.room run records leads)
           (world_points c.steps_are_kept.ensures.points c.args.self.now c.args.task c.args.step c.step-answer.result
           c.requires.next.machine c.index_mut.result.now c.answer.new.self c.begins-begins.result c.fell-outcome.result
-          c.requires.next.stands same_mut c.requires.next.makes.says c.requires.next.free begun fallen c.answer.ensures.points
+          c.requires.next.stands same_mut c.requires.next.makes.says begun fallen c.answer.ensures.points
           run records leads));
     }
 

@@ -27,8 +27,6 @@ make-requires-clause-next c = record {
   machine = c.index.result.now;
   stands = machine_at c.args.self.now c.args.task c.index.result.now c.requires c.index.ensures;
   makes = record { says = c.in-Some.ensures.says; only = c.in-Some.ensures.only; within = c.in-Some.ensures.within };
-  free = λ s registers body records leads stuck.
-      let none = (c.in-Some.ensures.none s registers body records leads).1 (inr (inl stuck)) in cc;
 }
 
 pub returns-clause-steps : goal.returns-clause-steps

@@ -5,7 +5,7 @@ use Rattle.setup_access.proofs.PassLemmas.{cleared_left, going_left, through}
 use Rattle.setup_access.proofs.pass.Pass.answer.Goals as goal
 
 pub returns-in-Find-clause-left : goal.returns-in-Find-clause-left
-returns-in-Find-clause-left c = λ asked samples. rw c.in-Find.is (c.looked.ensures.left asked samples)
+returns-in-Find-clause-left c = λ asked samples. rw c.in-Find.is (c.check_access.ensures.left asked samples)
 
 pub returns-in-Found-clause-left : goal.returns-in-Found-clause-left
 returns-in-Found-clause-left c = λ asked samples. rw c.in-Found.is

@@ -2,6 +2,8 @@
 use Rattle.task_run.proofs.StopLemmas.{on_err}
 use Rattle.std.proofs.Common.{◌<◌, ◌≢◌, ◌∙◌, [], None, Some, ap, subst, sym}
 use Rattle.litmus_meaning.specs.Task.{access_now}
+use Rattle.program_layout.specs.Lays.{Lays}
+use Rattle.program_layout.specs.declared.layout.Layout.{Layout}
 use Rattle.task_run.proofs.BeginLemmas.{begins_opening, proper}
 use Rattle.task_run.proofs.machine.Machine.opens.Goals as goal
 use Rattle.task_run.proofs.StopLemmas.{opening_never, opening_stops}
@@ -28,7 +30,8 @@ returns-clause-begins c = λ s.
     c.begin.ensures.begins.1 (subst (λ (m : Machine). m.in_force < 8) (sym c.begun-begun.ensures.unchanged) c.if-self-ge-SCOPES.false)
     (λ there standing. c.in_ok-access.ensures.made.3 s there (same there standing)
     ∙ ap (λ bytes. access_now s.text c.args.site there.progress bytes c.args.kind None)
-    (c.bytes_in.ensures s.text.places s.text.variables (same there standing).of.layout))
+    (c.bytes_in.ensures s.text.places s.text.variables (subst (λ (l : Layout). Lays s.text.places s.text.variables l) (sym c.deref.ensures)
+    (same there standing).of.layout)))
     (λ variables there later keeps. c.begins_at.ensures variables there c.in_ok-access.access later keeps c.in_ok-access.ensures.made.1)
     (λ scopes asked last. c.begin.ensures.begins.2 (checks_of s) scopes asked last)
     (λ scopes asked last. c.begin.ensures.context (checks_of s) scopes asked last)
@@ -38,7 +41,8 @@ pub returns-in_err-access-clause-stops : goal.returns-in_err-access-clause-stops
 returns-in_err-access-clause-stops c = on_err c.from_residual.result (λ s. opening_never s c.args.kind c.args.variable c.args.site c.args.self.now
     (λ before stands can. c.in_err-access.ensures.cannot s before stands
     (subst (λ bytes. CanBegin (access_now s.text c.args.site before.progress bytes c.args.kind None))
-    (sym (c.bytes_in.ensures s.text.places s.text.variables stands.of.layout)) can)))
+    (sym (c.bytes_in.ensures s.text.places s.text.variables
+    (subst (λ (l : Layout). Lays s.text.places s.text.variables l) (sym c.deref.ensures) stands.of.layout))) can)))
 
 pub returns-then-self-ge-SCOPES-clause-stops : goal.returns-then-self-ge-SCOPES-clause-stops
 returns-then-self-ge-SCOPES-clause-stops c = λ s. opening_stops s c.args.kind c.args.variable c.args.site c.args.self.now c.requires.scoped c.if-self-ge-SCOPES.true

@@ -51,8 +51,8 @@ returns-in-Locking-clause-fell c = λ s registers body records step leads says l
 
 pub returns-in-Unlocking-clause-leads : goal.returns-in-Unlocking-clause-leads
 returns-in-Unlocking-clause-leads c = λ s registers body records step leads says.
-    let stores = subst (λ stage. StageSays stage c.args.self.now c.requires.0) c.in-Unlocking.is c.requires.1 in
-    let done : c.args.answer ≡ Done = subst (λ x. Answers x c.args.answer) stores c.requires.2 in
+    let stores = subst (λ stage. StageSays stage c.args.self.now c.args.step) c.in-Unlocking.is c.requires.says in
+    let done : c.args.answer ≡ Done = subst (λ x. Answers x c.args.answer) stores c.requires.answers in
     keeping s registers body (records ++ made s.text.task step c.args.answer ∷ []) c.answers_unlock.new.self _
     (subst (λ answer. Leads s registers body (records ++ made s.text.task step answer ∷ []) c.answers_unlock.new.self) (sym done)
     (c.answers_unlock.ensures c.in-Unlocking.is s registers body records step leads says))

@@ -11,8 +11,8 @@ use denote.Struct.Declared as declared
 use denote.Struct.Field.{shr_ref_field}
 use denote.Struct.Tuple.{type_at}
 use mir.Syntax.{named}
-use Rattle.access_types.specs.contracts.sites.Sites as sites_row
-use Rattle.litmus_step.specs.contracts.settings.Settings as settings_row
+use Rattle.program_sites.specs.contracts.prepared.Prepared as prepared_row
+use Rattle.program_sites.specs.contracts.settings.Settings as settings_row
 use Rattle.litmus_syntax.specs.contracts.program.Program as program_row
 use Rattle.runner.specs.contracts.first.TaskStart as start_row
 use Rattle.shared_table.specs.contracts.table.SharedTable as table_row
@@ -24,15 +24,16 @@ use denote.Struct.Struct.{Struct}
 use Rattle.litmus_step.proofs.FirstLemmas.{each_push}
 use Rattle.litmus_step.specs.Runs.{run_of, tasks_of}
 use Rattle.run_lists.specs.Run.{Run}
-use Rattle.access_types.proofs.sites.Sites.TheSendSync as sites
-use Rattle.litmus_step.proofs.settings.Settings.TheSendSync as settings
+use Rattle.program_sites.proofs.prepared.Prepared.TheSendSync as prepared
+use Rattle.program_sites.specs.Prepared.{sites_in}
+use Rattle.program_sites.proofs.settings.Settings.TheSendSync as settings
 use Rattle.runner.proofs.Sent.{program_shared}
 use Rattle.runner.proofs.first.TaskStart.TheSendSync as start
 use Rattle.shared_table.proofs.table.SharedTable.TheSendSync as table
 use Rattle.runner.proofs.threads.fn.on_threads.scope.Goals as goal
 use Rattle.runner.specs.Starts.{AreSomeStarts, IsOutcome}
 use Rattle.runner.specs.Terms.{run_by}
-use Rattle.runner.specs.declared.error.RunError.{RunError}
+use Rattle.program_sites.specs.declared.error.RunError.{RunError}
 use Rattle.runner.specs.declared.first.TaskStart.{TaskStart}
 use Rattle.runner.specs.declared.seated.Found.{Found}
 use Rattle.runner.specs.declared.threads.OfTask.{OfTask}
@@ -57,7 +58,7 @@ spawn_with-requires-send-F g c κs within =
     let rows : List RattleType =
     (shr_ref_field (record { mir = named 6; lft = κs.1.1.1.1.1.1.0 }) program_row.the_row tt).row
     ∷ (shr_ref_field (record { mir = named 7; lft = κs.1.1.1.1.1.1.1.0 }) settings_row.the_row tt).row
-    ∷ (shr_ref_field (record { mir = named 8; lft = κs.1.1.1.1.1.1.1.1.0 }) sites_row.the_row tt).row
+    ∷ (shr_ref_field (record { mir = named 8; lft = κs.1.1.1.1.1.1.1.1.0 }) prepared_row.the_row tt).row
     ∷ (shr_ref_field (record { mir = named 9; lft = κs.1.1.1.1.1.1.1.1.1.0 }) table_row.the_row tt).row
     ∷ start_row.the_row
     ∷ (shr_ref_field (record { mir = named 10; lft = κs.1.1.1.1.1.1.1.1.1.1.0 }) (param 0 g.row.R) tt).row
@@ -66,7 +67,7 @@ spawn_with-requires-send-F g c κs within =
     ∷ (shr_ref_field (record { mir = named 12; lft = κs.1.1.1.1.1.1.1.1.1.1.1.1.0 }) (param 2 g.row.G) tt).row
     ∷ [] in
     let all : AllSend rows =
-    (shr_send _ _ _ program_shared, (shr_send _ _ _ settings.the_sync, (shr_send _ _ _ sites.the_sync, (shr_send _ _ _ table.the_sync, (start.the_send, (shr_send _ _ _ c.requires.sync.0, (global.the_send, (shr_send _ _ _ c.requires.sync.1, (shr_send _ _ _ c.requires.sync.2, tt))))))))) in
+    (shr_send _ _ _ program_shared, (shr_send _ _ _ settings.the_sync, (shr_send _ _ _ prepared.the_sync, (shr_send _ _ _ table.the_sync, (start.the_send, (shr_send _ _ _ c.requires.sync.0, (global.the_send, (shr_send _ _ _ c.requires.sync.1, (shr_send _ _ _ c.requires.sync.2, tt))))))))) in
     param_send 2 (lts.arg-7-2 g.row.R g.row.S g.row.G g.R.laws g.S.laws g.G.laws g.R.Threads-dict g.R.Wait-dict g.S.Stall-dict g.G.Gate-dict κs)
     (arg_send _ yes _ (closure_send (type_at _ rows) all))
 
@@ -74,7 +75,7 @@ pub spawn_with-requires-clause-runs : goal.spawn_with-requires-clause-runs
 spawn_with-requires-clause-runs g c κs within =
     let steps = c.in-Some.ensures.steps in
     let it = c.loop-start.invariant.rest 0 c.in-Some.start (ap (λ (xs : List TaskStart). slice_get xs 0) steps.0) in
-    let below : c.in-Some.start.number < tasks_of (run_of c.captures.program.now c.captures.settings.now c.captures.sites.now) =
+    let below : c.in-Some.start.number < tasks_of (run_of c.captures.program.now c.captures.settings.now (sites_in c.captures.prepared.now)) =
     subst (λ (n : ℕ). c.in-Some.start.number < n) c.requires.terms.tasks it.1 in
     (c.requires.terms, (it.0, (below, search rules)))
 
@@ -92,7 +93,7 @@ loop-start-preserved g c =
     let was = c.loop-start.invariant in
     let steps = c.in-Some.ensures.steps in
     let pushed = c.push_reserved.ensures in
-    let run : Run = run_of c.captures.program.now c.captures.settings.now c.captures.sites.now in
+    let run : Run = run_of c.captures.program.now c.captures.settings.now (sites_in c.captures.prepared.now) in
     record {
       made = omega (arith, was.made, steps.1, pushed.len);
       room = omega (arith, was.room, pushed.capacity);
@@ -113,7 +114,7 @@ loop-start-preserved g c =
 pub returns-in-Ok-join_promised : goal.returns-in-Ok-join_promised
 returns-in-Ok-join_promised g c =
     let was = c.loop-start.invariant in
-    let run : Run = run_of c.captures.program.now c.captures.settings.now c.captures.sites.now in
+    let run : Run = run_of c.captures.program.now c.captures.settings.now (sites_in c.captures.prepared.now) in
     let handles = c.loop-start.handles.items in
     let starts = c.captures.starts.items in
     let outcomes = c.in-Ok-join_promised.outcomes.items in

@@ -1,6 +1,7 @@
 -- Each thread so far promises what comes of its start, and there is room for the rest.
 use Rattle.std.proofs.Common.{◌≡◌, ◌≤◌, ◌<◌, ◌+◌, ◌++◌, ℕ, List, Some, map, slice_get, vec_capacity, vec_len}
 use Rattle.std.specs.Vec.Iter.{into_iter_items, into_iter_len}
+use Rattle.program_sites.specs.Prepared.{sites_in}
 use Rattle.litmus_step.specs.Runs.{run_of}
 use Rattle.runner.proofs.threads.fn.on_threads.scope.Given as goal
 use Rattle.runner.specs.Starts.{AreSomeStarts}
@@ -13,7 +14,7 @@ invariant-loop-start g l = record {
   room : into_iter_len l.initial.start-iterator ≤ vec_capacity l.handles;
   rest : AreSomeStarts l.table (into_iter_items l.start-iterator);
   runs : (at : ℕ) (handle : _) → slice_get l.handles.items at ≡ Some handle
-      → run_by handle.promise.terms ≡ run_of l.program l.settings l.sites;
+      → run_by handle.promise.terms ≡ run_of l.program l.settings (sites_in l.prepared);
   tables : (at : ℕ) (handle : _) → slice_get l.handles.items at ≡ Some handle → handle.promise.terms.table.now ≡ l.table;
   tasks : map (λ handle. handle.promise.task) l.handles.items ++ map (λ (start : TaskStart). start.number) (into_iter_items l.start-iterator)
       ≡ map (λ (start : TaskStart). start.number) (into_iter_items l.initial.start-iterator);

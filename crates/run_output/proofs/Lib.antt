@@ -1,0 +1,2 @@
+pub mod FinalLemmas
+pub mod CellValues

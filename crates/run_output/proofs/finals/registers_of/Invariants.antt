@@ -1,0 +1,12 @@
+-- The registers of the tasks so far.
+use Rattle.std.proofs.Common.{◌≡◌, List, length, map}
+use Rattle.run_headline.specs.of_run_lists_Run.{Run}
+use Rattle.run_output.proofs.finals.registers_of.Given as goal
+use Rattle.run_output.specs.Finals.{AreRegistersFrom}
+use Rattle.task_log.specs.of_slot_table_declared.records.Record.{Record}
+
+abbrev pub invariant-loop-task : goal.invariant-loop-task
+invariant-loop-task g l =
+    (length l.registers.items ≡ l.task)
+    × ((run : Run) (records : List Record) → (comes : g.R.Ran.comes_of l.ran run records)
+    → AreRegistersFrom (g.R.Ran.list_of l.ran run records comes) 0 (map (λ values. values.items) l.registers.items))

@@ -1,0 +1,16 @@
+-- A task of a program under some settings.
+use Rattle.std.specs.Prelude.{ℕ}
+use Rattle.access_types.specs.Sites.{AccessMap}
+use Rattle.litmus_syntax.specs.declared.program.Program.{Program}
+use Rattle.program_layout.specs.Places.{places_of}
+use Rattle.program_sites.specs.Settings.{rules_of}
+use Rattle.program_sites.specs.declared.settings.Settings.{Settings}
+use Rattle.text_walk.specs.of_written_order_Standing.{Setting}
+
+-- what the task of a number goes by, where tickets name these accesses
+abbrev pub setting_of : Program → Settings → AccessMap → ℕ → Setting
+setting_of program settings sites number = record {
+  text = record { task = number; variables = program.variables; places = places_of settings.places.items };
+  rules = rules_of settings;
+  sites = sites;
+}
