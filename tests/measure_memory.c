@@ -3,6 +3,8 @@
 #include <stddef.h>
 #include <stdio.h>
 #include <stdlib.h>
+#include <sys/syscall.h>
+#include <unistd.h>
 
 extern void *__libc_malloc(size_t);
 extern void *__libc_calloc(size_t, size_t);
@@ -30,11 +32,18 @@ void *realloc(void *block, size_t size) {
   return __libc_realloc(block, size);
 }
 
-__attribute__((destructor)) static void tell(void) {
+static void tell(void) {
   unsigned long calls_made = calls, bytes_asked = bytes;
   const char *name = getenv("GROWTHS");
   FILE *file = name ? fopen(name, "w") : NULL;
   if (!file) return;
   fprintf(file, "%lu %lu\n", calls_made, bytes_asked);
   fclose(file);
+}
+
+/* The program ends by `_exit`, which runs no destructor. */
+void _exit(int status) {
+  tell();
+  syscall(SYS_exit_group, status);
+  __builtin_unreachable();
 }
