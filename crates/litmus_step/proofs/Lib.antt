@@ -9,3 +9,4 @@ pub mod RoundLemmas
 pub mod KeptLemmas
 pub mod ReaderLemmas
 pub mod PointLemmas
+pub mod RoomLemmas

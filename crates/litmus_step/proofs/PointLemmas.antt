@@ -27,7 +27,7 @@ use Rattle.task_log.specs.declared.noted.Noted.{Noted}
 use Rattle.task_run.proofs.TellLemmas.{making_begins, opening_begins}
 use Rattle.task_run.specs.Agrees.{IsIn}
 use Rattle.task_run.specs.Fell.{FellAt}
-use Rattle.task_run.specs.Leads.{BeginsNext, IsStuck, Leads, stands_at}
+use Rattle.task_run.specs.Leads.{BeginsNext, Leads, stands_at}
 use Rattle.task_run.specs.Part.{Part, closes, locks, makes, opens, over, stops, unlocks}
 use Rattle.task_run.specs.Points.{HasMade, Stepped, next_is}
 use Rattle.task_run.specs.Says.{Says}
@@ -167,11 +167,11 @@ BeginsAreTold = (run : Run) (latest : Record) (earlier : List Record) (old : Tas
     → IsBegun run.rules.plain_writes_atomic latest.task (did_by (list.tasks latest.task) (made_by latest.task earlier))
     (did_next (list.tasks latest.task) (made_by latest.task earlier)) begins
 
--- what is told of a machine's next step
-abbrev pub TellsBefore : TaskRun → Before → Type 0
-TellsBefore machine before = (s : Setting) (registers : ℕ) (body : Block) (records : List Record)
+-- what is told of a machine's next step, which is this one
+abbrev pub TellsBefore : TaskRun → Step → Before → Type 0
+TellsBefore machine step before = (s : Setting) (registers : ℕ) (body : Block) (records : List Record)
     → (leads : Leads s registers body records machine)
-    → (step : Step) (begins : Option Begun) (steps : List Stepped) → Says machine step → (¬ IsStuck leads)
+    → (begins : Option Begun) (steps : List Stepped)
     → BeginsNext s leads.part (stands_at leads []) leads.mine begins → HasMade steps machine
     → before ≡ next_is steps step (is_some begins)
 
@@ -179,8 +179,8 @@ TellsBefore machine before = (s : Setting) (registers : ℕ) (body : Block) (rec
 pub next_told : BeginsAreTold → (run : Run) (records : List Record) (list : RunList run records) (task : ℕ) (machine : TaskRun)
     (said : Step) (before : Before) → (leads : LeadsTask run task records machine) → Says machine said
     → OnlyStep (task_setting run task) (length (task_of run task).registers) (task_of run task).body (reverse (records_of task records)) said
-    → (¬ IsStuck leads) → IsAtPoint list task machine → TellsBefore machine before → IsNext list task before
-next_told told run records list task machine said before leads says only free at tells = λ step answer other.
+    → IsAtPoint list task machine → TellsBefore machine said before → IsNext list task before
+next_told told run records list task machine said before leads says only at tells = λ step answer other.
     let same : step ≡ said = only_so run records task said step answer only other in
     let begins = begins_of leads.part machine.machine in
     let begun : (later : List Record) → BeginsNext (task_setting run task) leads.part (stands_at leads later) leads.mine begins =
@@ -192,7 +192,7 @@ next_told told run records list task machine said before leads says only free at
     let steps : steps_noted at.noted ≡ steps_told list task =
     noted_so (task_setting run task) (length (task_of run task).registers) (task_of run task).body (reverse (records_of task records))
     (list.tasks task) (records_of task records) at.noted at.notes in
-    tells _ _ _ _ leads said begins (steps_noted at.noted) says free (begun []) at.made
+    tells _ _ _ _ leads begins (steps_noted at.noted) (begun []) at.made
     ∙ (ap (λ (made_so : List Stepped). next_is made_so said (is_some begins)) steps
     ∙ (ap (λ (x : Step). next_is (steps_told list task) x (is_some begins)) (sym same)
     ∙ ap (λ (b : Bool). next_is (steps_told list task) step b) (sym one)))

@@ -1,5 +1,5 @@
 -- Which lists of steps lead to a world, and what a step of a task does to it.
-use Rattle.std.specs.Prelude.{◌≡◌, ◌⊎◌, ◌≤◌, ◌^◌, ◌∷◌, ℕ, List, Some, slice_get, vec_capacity, vec_len}
+use Rattle.std.specs.Prelude.{◌≡◌, ◌⊎◌, ◌≤◌, ◌^◌, ◌∷◌, ℕ, List, Some, map, slice_get, vec_capacity, vec_len}
 use Rattle.litmus_step.specs.Kept.{rooms_of}
 use Rattle.litmus_step.specs.Leads.{LeadsToAll}
 use Rattle.litmus_step.specs.Runs.{HasEnded, IsStuck}
@@ -12,6 +12,7 @@ use Rattle.step_bounds.specs.of_run_lists_Run.{Run}
 use Rattle.slot_table.specs.declared.records.Record.{Record}
 use Rattle.task_log.specs.Keeps as task_log
 use Rattle.task_run.specs.Leads.{Leads}
+use Rattle.task_run.specs.Room.{task_room}
 use Rattle.task_run.specs.declared.run.TaskRun.{TaskRun}
 use Rattle.written_tellings.specs.of_written_order_Standing.{Setting}
 use Rattle.written_tellings.specs.of_written_order_Waits as waits
@@ -27,9 +28,11 @@ LeadsTo run records world =
 abbrev pub tasks_in : World → ℕ
 tasks_in world = vec_len world.tasks
 
--- how much room there is for what a world keeps: tasks, what they did, with what is kept of each, and reports
+-- what the lists of a world can hold before they take memory: its tasks, the lists of each of them, what the tasks did, with what is
+-- kept of each, and reports. The board's lists can't grow.
 pub record Room : Type 0 where
   pub tasks : ℕ
+  pub machines : List (List ℕ)
   pub logs : ℕ
   pub each : List task_log.Room
   pub reports : ℕ
@@ -38,6 +41,7 @@ abbrev pub room_in : World → Room
 room_in world =
     record {
       tasks = vec_capacity world.tasks;
+      machines = map task_room world.tasks.items;
       logs = vec_capacity world.logs;
       each = rooms_of world.logs.items;
       reports = vec_capacity world.reports;

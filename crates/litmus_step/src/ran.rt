@@ -13,7 +13,7 @@ ghost use Rattle.step_bounds.specs.of_run_lists_Run.{Run, first_words};
 ghost use Rattle.step_bounds.specs.of_run_lists_RunList.{RunList};
 
 use access_types::{Arm, Report, Stamped, Take};
-use std::alloc::AllocError;
+use std::alloc::{AllocError, Global};
 use task_log::Counters;
 
 /// What came of the steps of a run: a world, or what threads leave. What is read of it is what the list of these steps gives. The latest
@@ -67,17 +67,17 @@ pub trait Ran {
             → IsUnbalanced (list_of self.now run records comes) result };
 
     /// The accesses that have ended, by task, and then in the order of their begins.
-    fn accesses(&self) -> Result<Vec<Stamped>, AllocError>
+    fn accesses(&self, alloc: Global) -> Result<Vec<Stamped>, AllocError>
         ensures { (run : Run) (records : List Record) → (comes : comes_of self.now run records)
             → IfOk result (λ all. AreAccesses (list_of self.now run records comes) all.items) };
 
     /// The armings that are over, by task, and then in the order of their removes.
-    fn arms(&self) -> Result<Vec<Arm>, AllocError>
+    fn arms(&self, alloc: Global) -> Result<Vec<Arm>, AllocError>
         ensures { (run : Run) (records : List Record) → (comes : comes_of self.now run records)
             → IfOk result (λ all. AreArms (list_of self.now run records comes) all.items) };
 
     /// The takings that are over, by task, and then in the order of their tells.
-    fn takes(&self) -> Result<Vec<Take>, AllocError>
+    fn takes(&self, alloc: Global) -> Result<Vec<Take>, AllocError>
         ensures { (run : Run) (records : List Record) → (comes : comes_of self.now run records)
             → IfOk result (λ all. AreTakes (list_of self.now run records comes) all.items) };
 }

@@ -22,7 +22,7 @@ use access_types::{Arm, Report, Sites, Stamped, Take};
 use run_headline::histories::{cells_hold_the_content, reports_are_true};
 use run_headline::laws::the_headline_holds;
 use run_kept::logs::a_machine_says_what_begins;
-use std::alloc::AllocError;
+use std::alloc::{AllocError, Global};
 use task_log::Counters;
 use task_run::{After, Before};
 
@@ -119,27 +119,27 @@ impl<'a> World<'a> {
     }
 
     /// The accesses that have ended, by task, and then in the order of their begins.
-    pub fn accesses(&self) -> Result<Vec<Stamped>, AllocError>
+    pub fn accesses(&self, alloc: Global) -> Result<Vec<Stamped>, AllocError>
         ensures { (run : Run) (records : List Record) → (leads : LeadsTo run records self.now)
             → IfOk result (λ all. AreAccesses leads.list all.items) }
     {
-        accesses_of(self.alloc, self.logs.as_slice())
+        accesses_of(alloc, self.logs.as_slice())
     }
 
     /// The armings that are over, by task, and then in the order of their removes.
-    pub fn arms(&self) -> Result<Vec<Arm>, AllocError>
+    pub fn arms(&self, alloc: Global) -> Result<Vec<Arm>, AllocError>
         ensures { (run : Run) (records : List Record) → (leads : LeadsTo run records self.now)
             → IfOk result (λ all. AreArms leads.list all.items) }
     {
-        arms_of(self.alloc, self.logs.as_slice())
+        arms_of(alloc, self.logs.as_slice())
     }
 
     /// The takings that are over, by task, and then in the order of their tells.
-    pub fn takes(&self) -> Result<Vec<Take>, AllocError>
+    pub fn takes(&self, alloc: Global) -> Result<Vec<Take>, AllocError>
         ensures { (run : Run) (records : List Record) → (leads : LeadsTo run records self.now)
             → IfOk result (λ all. AreTakes leads.list all.items) }
     {
-        takes_of(self.alloc, self.logs.as_slice())
+        takes_of(alloc, self.logs.as_slice())
     }
 
     /// What the next step of a task is. One that has ended or is stuck has none.
@@ -149,7 +149,7 @@ impl<'a> World<'a> {
     {
         a_machine_says_what_begins();
         match self.tasks[task].next() {
-            Some(_) => self.tasks[task].before(),
+            Some(step) => self.tasks[task].before(step),
             None => Before::Other,
         }
     }
@@ -201,15 +201,15 @@ impl<'a> Ran for World<'a> {
         World::unbalanced(self)
     }
 
-    fn accesses(&self) -> Result<Vec<Stamped>, AllocError> {
-        World::accesses(self)
+    fn accesses(&self, alloc: Global) -> Result<Vec<Stamped>, AllocError> {
+        World::accesses(self, alloc)
     }
 
-    fn arms(&self) -> Result<Vec<Arm>, AllocError> {
-        World::arms(self)
+    fn arms(&self, alloc: Global) -> Result<Vec<Arm>, AllocError> {
+        World::arms(self, alloc)
     }
 
-    fn takes(&self) -> Result<Vec<Take>, AllocError> {
-        World::takes(self)
+    fn takes(&self, alloc: Global) -> Result<Vec<Take>, AllocError> {
+        World::takes(self, alloc)
     }
 }

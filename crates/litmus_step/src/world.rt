@@ -42,10 +42,10 @@ pub enum Stepped {
     Stuck,
 }
 
-/// All tasks of a program, the words that they share, and what is kept of their steps.
+/// All tasks of a program, the words that they share, and what is kept of their steps. It keeps no allocator: what reads lists of it is
+/// passed one.
 #[derive(Drop)]
 pub struct World<'a> {
-    pub(crate) alloc: Global,
     pub(crate) board: PlainBoard,
     pub(crate) tasks: Vec<TaskRun<'a>>,
     pub(crate) logs: Vec<TaskLog>,
@@ -114,7 +114,6 @@ impl<'a> World<'a> {
         let reports = Vec::with_capacity(alloc, count * WATCHES)?;
         let sites = Arc::try_clone(&prepared.sites)?;
         Ok(World {
-            alloc,
             board,
             tasks,
             logs,

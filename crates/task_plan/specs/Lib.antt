@@ -3,4 +3,5 @@ pub mod Follow
 pub mod Views
 pub mod Plans
 pub mod Keeps
+pub mod Room
 pub mod Alike

@@ -7,6 +7,7 @@ ghost use Rattle.litmus_meaning.specs.Task.{begins_at, has_lock};
 ghost use Rattle.memory_operation.specs.of_slot_table_declared.records.Record.{Record};
 ghost use Rattle.task_plan.specs.Counts.{up_to_last};
 ghost use Rattle.task_plan.specs.Keeps.{Keeps};
+ghost use Rattle.task_plan.specs.Room.{room_of};
 ghost use Rattle.written_order.specs.Standing.{Standing, counting, doing, registered};
 ghost use Rattle.written_order.specs.WrittenOrder.{at_first};
 
@@ -51,8 +52,9 @@ impl Progress {
 
     /// A register gets a value; one that isn't there has none.
     pub fn assign(&mut self, register: usize, value: u64)
-        ensures { (variables : ℕ) (before : Standing) (later : List Record) → Keeps variables before self.old
+        ensures keeps { (variables : ℕ) (before : Standing) (later : List Record) → Keeps variables before self.old
             → Keeps variables (registered before later register value) self.new }
+        ensures room { room_of self.new ≡ room_of self.old }
     {
         if let Some(place) = self.registers.get_mut(register) {
             *place = value;
@@ -73,8 +75,9 @@ impl Progress {
     /// An access of a site begins.
     pub fn begins_at(&mut self, site: usize)
         requires { site < 256 }
-        ensures { (variables : ℕ) (before : Standing) (a : Access) (later : List Record) → Keeps variables before self.old
+        ensures keeps { (variables : ℕ) (before : Standing) (a : Access) (later : List Record) → Keeps variables before self.old
             → a.site ≡ site → Keeps variables (doing before later (Begin a ∷ [])) self.new }
+        ensures room { room_of self.new ≡ room_of self.old }
     {
         if let Some(count) = self.begun.get_mut(site) {
             *count = count.saturating_add(1);
@@ -94,8 +97,9 @@ impl Progress {
 
     /// The task takes the lock of this variable, or gives it back.
     pub fn set_lock(&mut self, variable: usize, held: bool)
-        ensures { (variables : ℕ) (before : Standing) (later : List Record) → Keeps variables before self.old → variable < variables
+        ensures keeps { (variables : ℕ) (before : Standing) (later : List Record) → Keeps variables before self.old → variable < variables
             → Keeps variables (doing before later ((if held then Lock variable else Unlock variable) ∷ [])) self.new }
+        ensures room { room_of self.new ≡ room_of self.old }
     {
         if let Some(place) = self.held.get_mut(variable) {
             *place = held;
@@ -111,8 +115,9 @@ impl Progress {
 
     /// A call had nothing to end.
     pub fn counts_unbalanced(&mut self)
-        ensures { (variables : ℕ) (before : Standing) → Keeps variables before self.old
+        ensures keeps { (variables : ℕ) (before : Standing) → Keeps variables before self.old
             → Keeps variables (counting true before) self.new }
+        ensures room { room_of self.new ≡ room_of self.old }
     {
         self.unbalanced = self.unbalanced.saturating_add(1);
     }

@@ -1,9 +1,10 @@
 -- By what the log says of the step.
-use Rattle.std.proofs.Common.{◌≡◌, ◌∙◌, ◌∷◌, [], List, Some, ap, refl, slice_get, slice_set, subst, suc, sym, zero, ℕ}
+use Rattle.std.proofs.Common.{◌≡◌, ◌∙◌, Some, refl, subst, sym}
 use Rattle.std.proofs.lemmas.Option.{slice_get_read}
 use Rattle.litmus_step.proofs.world.note_in.Goals as goal
-use Rattle.litmus_step.specs.Kept.{IsNotedIn, rooms_of}
-use Rattle.task_log.specs.Keeps.{Room, room_in}
+use Rattle.litmus_step.proofs.RoomLemmas.{same_mapped}
+use Rattle.litmus_step.specs.Kept.{IsNotedIn}
+use Rattle.task_log.specs.Keeps.{room_in}
 use Rattle.task_log.specs.declared.log.TaskLog.{TaskLog}
 
 same_some : (one other : TaskLog) → Some one ≡ Some other → one ≡ other
@@ -21,16 +22,8 @@ returns-clause-noted c = λ log stands.
       c.note.ensures.noted.2,
     )
 
-same_rooms : (logs : List TaskLog) (task : ℕ) (log after : TaskLog) → slice_get logs task ≡ Some log → room_in after ≡ room_in log
-    → rooms_of (slice_set logs task after) ≡ rooms_of logs
-same_rooms [] task log after stands same = refl
-same_rooms (first ∷ later) zero log after stands same =
-    ap (λ (room : Room). room ∷ rooms_of later) (same ∙ ap room_in (sym (same_some first log stands)))
-same_rooms (first ∷ later) (suc task) log after stands same =
-    ap (λ (rooms : List Room). room_in first ∷ rooms) (same_rooms later task log after stands same)
-
 pub returns-clause-each : goal.returns-clause-each
 returns-clause-each c =
     let here = slice_get_read c.args.logs.now.items c.args.logs.now.len c.args.task c.index_mut.result.now c.args.logs.now.ok.0 c.requires
     c.index_mut.ensures.value in
-    same_rooms c.args.logs.now.items c.args.task c.index_mut.result.now c.note.new.log here c.note.ensures.log
+    same_mapped room_in c.args.logs.now.items c.args.task c.index_mut.result.now c.note.new.log here c.note.ensures.log

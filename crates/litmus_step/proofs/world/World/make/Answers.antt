@@ -1,5 +1,5 @@
 -- One record more leads on.
-use Rattle.std.proofs.Common.{arith, vec_capacity, ◌∷◌, refl, subst, sym}
+use Rattle.std.proofs.Common.{arith, map, vec_capacity, ◌∷◌, ◌∙◌, ℕ, List, ap, refl, subst, sym}
 use Rattle.std.proofs.Math.Logic.{∥∥₁_map}
 use Rattle.std.proofs.Props.{props}
 use mathlib.Core.Logic.{∥∥₁_elim}
@@ -8,9 +8,14 @@ use Rattle.std.proofs.lemmas.Option.{slice_get_within}
 use Rattle.litmus_step.proofs.MakeLemmas.{SaysBegin, fell_in, noted_more, world_leads}
 use Rattle.litmus_step.proofs.NameLemmas.{names_prop}
 use Rattle.litmus_step.proofs.PointLemmas.{world_points}
+use Rattle.litmus_step.proofs.RoomLemmas.{same_mapped}
 use Rattle.litmus_step.proofs.StepLemmas.{set_other}
 use Rattle.litmus_step.proofs.TurnLemmas.{same_machine}
 use Rattle.litmus_step.proofs.world.World.make.Goals as goal
+use Rattle.litmus_step.specs.Kept.{rooms_of}
+use Rattle.litmus_step.specs.Steps.{Room}
+use Rattle.task_log.specs.Keeps as task_log
+use Rattle.task_run.specs.Room.{task_room}
 use Rattle.task_run.specs.Says.{Says}
 use Rattle.task_run.specs.declared.run.TaskRun.{TaskRun}
 
@@ -107,3 +112,21 @@ returns-clause-moves c =
 
 pub returns-clause-others : goal.returns-clause-others
 returns-clause-others c = λ other apart. set_other c.args.self.now.tasks.items c.args.task other c.answer.new.self apart
+
+-- the machine that took the answer has as much room as before, and so have the logs
+pub returns-clause-room : goal.returns-clause-room
+returns-clause-room c =
+    let world = c.args.self.now in
+    let same_mut = same_machine world c.args.task c.index_mut.result.now c.requires.next.machine c.requires.there c.index_mut.ensures.value
+    c.requires.next.stands in
+    let machines = same_mapped task_room world.tasks.items c.args.task c.requires.next.machine c.answer.new.self c.requires.next.stands
+    (c.answer.ensures.room ∙ ap task_room same_mut) in
+    let room : List (List ℕ) → ℕ → List task_log.Room → ℕ → Room = λ machines logs each reports.
+    record { tasks = vec_capacity world.tasks; machines = machines; logs = logs; each = each; reports = reports } in
+    let before = map task_room world.tasks.items in
+    let logs = c.note_in.new.logs in
+    let reports = vec_capacity c.note_in.new.reports in
+    ap (λ machines. room machines (vec_capacity logs) (rooms_of logs.items) reports) machines
+    ∙ (ap (λ count. room before count (rooms_of logs.items) reports) c.note_in.ensures.logs
+    ∙ (ap (λ each. room before (vec_capacity world.logs) each reports) c.note_in.ensures.each
+    ∙ ap (λ count. room before (vec_capacity world.logs) (rooms_of world.logs.items) count) c.note_in.ensures.room))

@@ -2,7 +2,6 @@
 use Rattle.std.proofs.Common.{◌≡◌, ◌∙◌, ◌*◌, ◌≤◌, [], ap, arith, length, refl, subst, sym, vec_capacity}
 use Rattle.std.proofs.lemmas.Grind.{merely}
 use Rattle.std.proofs.lemmas.List.{length-map}
-use Rattle.std.specs.Arc.{arc_value}
 use Rattle.access_types.specs.Sites.{AccessMap}
 use Rattle.litmus_syntax.specs.Views.{task_of}
 use Rattle.litmus_step.proofs.MakeLemmas.{first_kept, first_points, first_world}
