@@ -16,7 +16,7 @@ use Rattle.setup_access.proofs.of_skip_sampler_Positions.{not_yet, some_sampler}
 use Rattle.slot_table.specs.of_slot_Pair.{Halves}
 use Rattle.setup_access.specs.of_value_filter_Change.{BitDiffers, IsSeen}
 use Rattle.setup_access.specs.of_value_filter_Verdict as table
-use Rattle.setup_access.specs.of_value_filter_Verdict.{MattersUnchanged, VerdictOf}
+use Rattle.setup_access.specs.of_value_filter_Verdict.{MattersUnchanged}
 use Rattle.setup_access.specs.of_value_filter_declared.verdict.Change.{Change}
 use Rattle.setup_access.specs.of_value_filter_declared.verdict.Change.TheVariants.{Maybe, Ruled, Seen}
 use Rattle.setup_access.specs.of_value_filter_declared.verdict.Reason.TheVariants.{Encoding, MaskedBits, SameValue}

@@ -29,7 +29,7 @@ use Rattle.run_lists.specs.of_slot_table_declared.step.Answer.TheVariants as ans
 use Rattle.run_lists.specs.of_slot_table_declared.step.Step.{Step}
 use Rattle.run_lists.specs.of_slot_table_declared.step.Step.TheVariants.{CellExchange, LockTry, PairLoad}
 use Rattle.step_bounds.proofs.Firm.{firm, none_firm, one_firm, vain_before}
-use Rattle.run_lists.specs.of_written_order_Waits.{was_vain}
+use Rattle.run_lists.specs.of_written_order_Waits.{is_tried_again}
 
 -- up to the rest, no more than so many of the records are no tries in vain
 abbrev pub Few : ℕ → List Record → List Record → Type 0
@@ -95,7 +95,7 @@ loads_again : (half : Halves → ℕ) (task index : ℕ) (first : Record) (later
     → Hears half task index later both rest → vain_before first later ≡ true
 loads_again half task index first [] both rest is h = absurd h
 loads_again half task index first (next ∷ later) both rest is h =
-    ap (λ (x : Step). was_vain x first.answer next.step) is ∙ (ap (λ (x : Step). was_vain (PairLoad index) first.answer x) h.1
+    ap (λ (x : Step). is_tried_again x first.answer next.step) is ∙ (ap (λ (x : Step). is_tried_again (PairLoad index) first.answer x) h.1
     ∙ eq-eqb index index refl)
 
 hears_few : (half : Halves → ℕ) (task index : ℕ) (records : List Record) (both : Halves) (rest : List Record)
@@ -118,9 +118,9 @@ tries_again : (task lock : ℕ) (first : Record) (later rest : List Record) → 
     → TakesLock task lock later rest → vain_before first later ≡ true
 tries_again task lock first [] rest is refused h = absurd h
 tries_again task lock first (next ∷ later) rest is refused h =
-    ap (λ (x : Step). was_vain x first.answer next.step) is
-    ∙ (ap (λ (x : Answer). was_vain (LockTry lock task) x next.step) refused
-    ∙ (ap (λ (x : Step). was_vain (LockTry lock task) (answers.Flag false) x) h.1 ∙ eq-eqb lock lock refl))
+    ap (λ (x : Step). is_tried_again x first.answer next.step) is
+    ∙ (ap (λ (x : Answer). is_tried_again (LockTry lock task) x next.step) refused
+    ∙ (ap (λ (x : Step). is_tried_again (LockTry lock task) (answers.Flag false) x) h.1 ∙ eq-eqb lock lock refl))
 
 pub lock_few : (task lock : ℕ) (records rest : List Record) → TakesLock task lock records rest → Few 1 records rest
 lock_few task lock [] rest h = absurd h
@@ -159,9 +159,9 @@ module _ (task : ℕ) (a : Access) (source : Source) (change : Change) where
       by_bool (is_wanted a.size change (value_in a source word)) _ _ (Few 1 (first ∷ (next ∷ later)) rest) h
       (λ again.
       let vain : vain_before first (next ∷ later) ≡ true =
-      ap (λ (x : Step). was_vain x first.answer next.step) is
-      ∙ (ap (λ (x : Answer). was_vain (CellExchange source.cell old new) x next.step) refused
-      ∙ (ap (λ (x : Step). was_vain (CellExchange source.cell old new) (answers.Word word) x) again.0.1
+      ap (λ (x : Step). is_tried_again x first.answer next.step) is
+      ∙ (ap (λ (x : Answer). is_tried_again (CellExchange source.cell old new) x next.step) refused
+      ∙ (ap (λ (x : Step). is_tried_again (CellExchange source.cell old new) (answers.Word word) x) again.0.1
       ∙ eq-eqb source.cell source.cell refl)) in
       let same = none_firm first (next ∷ later) vain in omega (arith, more, same))
       (λ over. few_after 0 first (next ∷ later) rest (none_few (next ∷ later) rest over.1))

@@ -6,7 +6,7 @@ use Rattle.run_lists.specs.of_slot_table_declared.records.Record.{Record}
 use Rattle.run_lists.specs.of_slot_table_declared.step.Answer.{Answer}
 use Rattle.run_lists.specs.of_slot_table_declared.step.Step.{Step}
 use Rattle.run_lists.specs.of_slot_table_declared.step.Step.TheVariants.{CellExchange, LockTry, PairLoad}
-use Rattle.run_lists.specs.of_written_order_Waits.{IsTooMuch, IsTry, WithinTurns, exchanges_in, is_no, is_refused, loads_pair, tries_lock, vain_tries, was_vain}
+use Rattle.run_lists.specs.of_written_order_Waits.{IsTooMuch, IsTry, WithinTurns, exchanges_in, is_no, is_refused, loads_pair, tries_lock, vain_tries, is_tried_again}
 
 -- a step counts unless it was a try in vain
 abbrev pub one : Bool → ℕ
@@ -15,7 +15,7 @@ one vain = if vain then 0 else 1
 -- the step was a try in vain: what follows tries the same again
 abbrev pub vain_before : Record → List Record → Bool
 vain_before first [] = false
-vain_before first (next ∷ later) = was_vain first.step first.answer next.step
+vain_before first (next ∷ later) = is_tried_again first.step first.answer next.step
 
 -- how many steps are no tries in vain, the oldest step first
 abbrev pub firm : List Record → ℕ
@@ -41,7 +41,7 @@ firm_front (first ∷ (next ∷ more)) later = let rest = firm_front (next ∷ m
 -- the same of a list that stands with the latest first, but for its latest
 abbrev firm_before : Record → List Record → ℕ
 firm_before latest [] = 0
-firm_before latest (before ∷ earlier) = one (was_vain before.step before.answer latest.step) + firm_before before earlier
+firm_before latest (before ∷ earlier) = one (is_tried_again before.step before.answer latest.step) + firm_before before earlier
 
 abbrev firm_back : List Record → ℕ
 firm_back [] = 0
@@ -91,7 +91,7 @@ load_waits : (index : ℕ) (next : Step) → loads_pair index next ≡ true → 
 load_waits index (PairLoad at) is = tt
 load_waits index next is = absurd (let no : false ≡ true = is in cc)
 
-vain_waits : (step : Step) (answer : Answer) (next : Step) → was_vain step answer next ≡ true → IsWait next
+vain_waits : (step : Step) (answer : Answer) (next : Step) → is_tried_again step answer next ≡ true → IsWait next
 vain_waits (CellExchange cell seen new) answer next is = exchange_waits cell next (second (is_refused answer) (exchanges_in cell next) is)
 vain_waits (LockTry lock task) answer next is = try_waits lock next (second (is_no answer) (tries_lock lock next) is)
 vain_waits (PairLoad index) answer next is = load_waits index next is
@@ -99,9 +99,9 @@ vain_waits step answer next is = absurd (let no : false ≡ true = is in cc)
 
 tried_waits : (step : Step) (earlier : List Record) → 0 < vain_tries step earlier → IsWait step
 tried_waits step [] some = absurd (omega (arith, some))
-tried_waits step (before ∷ earlier) some = by_vain (was_vain before.step before.answer step) refl some
+tried_waits step (before ∷ earlier) some = by_vain (is_tried_again before.step before.answer step) refl some
   where
-    by_vain : (vain : Bool) → was_vain before.step before.answer step ≡ vain
+    by_vain : (vain : Bool) → is_tried_again before.step before.answer step ≡ vain
         → 0 < (if vain then suc (vain_tries before.step earlier) else 0) → IsWait step
     by_vain true is more = vain_waits before.step before.answer step is
     by_vain false is more = absurd (omega (arith, more))
@@ -125,7 +125,7 @@ few_before : (turns : ℕ) (latest : Record) (earlier : List Record) → WithinT
     → length earlier ≤ firm_before latest earlier * (turns + 1) + vain_tries latest.step earlier
 few_before turns latest [] within = omega arith
 few_before turns latest (before ∷ earlier) within =
-    by_vain (was_vain before.step before.answer latest.step)
+    by_vain (is_tried_again before.step before.answer latest.step)
     (few_before turns before earlier within.0) (few_tries turns before.step earlier within.1)
   where
     by_vain : (vain : Bool) → length earlier ≤ firm_before before earlier * (turns + 1) + vain_tries before.step earlier

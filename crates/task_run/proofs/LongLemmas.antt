@@ -43,7 +43,7 @@ use Rattle.slot_table.specs.declared.step.Step.{Step}
 use Rattle.slot_table.specs.declared.step.Step.TheVariants.{CellExchange, CellLoad, Clear, Clock, Consume, Insert, Load, LockStore, LockTry, Name, PairLoad, Remove, Tell, TryConsume}
 use Rattle.task_run.proofs.PairLemmas.{AreOfOne, GoesOnAt, IsOfIndex, StartsAt}
 use Rattle.task_run.proofs.TriesLemmas.{exchange_ends, onto}
-use Rattle.text_walk.specs.of_written_order_Waits.{IsTooMuch, vain_tries, was_vain}
+use Rattle.text_walk.specs.of_written_order_Waits.{IsTooMuch, vain_tries, is_tried_again}
 
 -- the records go on with a load of the pair at this index
 abbrev pub LoadsNext : ℕ → List Record → Type 0
@@ -61,7 +61,7 @@ LongBefore (Some wait) at before = (index : ℕ) → at ≡ PairLoad index → w
 abbrev LongAfter : Option Wait → Step → Answer → List Record → List Record → Type 0
 LongAfter None at answer before rest = Unit {0}
 LongAfter (Some wait) at answer before rest = (index : ℕ) → LoadsNext index rest
-    → wait.tries ≤ (if was_vain at answer (PairLoad index) then suc (vain_tries at before) else 0)
+    → wait.tries ≤ (if is_tried_again at answer (PairLoad index) then suc (vain_tries at before) else 0)
 
 same_index : (at index : ℕ) (rest : List Record) → StartsAt at rest → LoadsNext index rest → index ≡ at
 same_index at index [] starts next = absurd next
@@ -232,7 +232,7 @@ abbrev LongExchanges : ℕ → ℕ → List Record → Type 0
 LongExchanges cell n before = (seen new : ℕ) → n ≤ vain_tries (CellExchange cell seen new) before
 
 exchange_long : (cell : ℕ) (at : Step) (answer : Answer) (before : List Record) (n seen new : ℕ) → IsAtCell cell at → LongExchanges cell n before
-    → (if waits.is_refusal at answer then n + 1 else 0) ≤ (if was_vain at answer (CellExchange cell seen new) then suc (vain_tries at before) else 0)
+    → (if waits.is_refusal at answer then n + 1 else 0) ≤ (if is_tried_again at answer (CellExchange cell seen new) then suc (vain_tries at before) else 0)
 exchange_long cell (Load index) answer before n seen new is long = le_refl 0
 exchange_long cell (Insert index word) answer before n seen new is long = le_refl 0
 exchange_long cell (TryConsume index word) answer before n seen new is long = le_refl 0
@@ -311,7 +311,7 @@ abbrev LongTries : ℕ → ℕ → List Record → Type 0
 LongTries lock n before = (task : ℕ) → n ≤ vain_tries (LockTry lock task) before
 
 try_long : (lock : ℕ) (at : Step) (answer : Answer) (before : List Record) (n task : ℕ) → IsAtLock lock at → LongTries lock n before
-    → (if waits.is_refusal at answer then n + 1 else 0) ≤ (if was_vain at answer (LockTry lock task) then suc (vain_tries at before) else 0)
+    → (if waits.is_refusal at answer then n + 1 else 0) ≤ (if is_tried_again at answer (LockTry lock task) then suc (vain_tries at before) else 0)
 try_long lock (Load index) answer before n task is long = le_refl 0
 try_long lock (Insert index word) answer before n task is long = le_refl 0
 try_long lock (TryConsume index word) answer before n task is long = le_refl 0

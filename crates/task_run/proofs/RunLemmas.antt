@@ -59,7 +59,7 @@ use Rattle.text_walk.specs.Left.{WalkLeft}
 use Rattle.text_walk.specs.declared.walk.Walk.{Walk}
 use Rattle.text_walk.specs.of_written_order_Access.{operated}
 use Rattle.text_walk.specs.of_written_order_Standing.{Setting, Standing, checks_of, doing, lock_number}
-use Rattle.text_walk.specs.of_written_order_Waits.{was_vain}
+use Rattle.text_walk.specs.of_written_order_Waits.{is_tried_again}
 
 -- what is there is within the list
 pub in_list : {A : Type 0} (xs : List A) (index : ℕ) (P : A → Type 0) → IsSomeAnd (slice_get xs index) P → index < length xs
@@ -242,7 +242,7 @@ module _ (s : Setting) (registers : ℕ) (body : Block) (records : List Record) 
         record { of = a.of; counts = a.counts; rests = a.is_in.2 } in
         let only : (later : List Record) → mine ++ later ≡ made ∷ later = λ later.
         ap (λ (m : List Record). (m ++ made ∷ []) ++ later) (unlock_agrees []).is_in.1 in
-        let none : IsNoWait made = subst (λ (x : Step). (lock task : ℕ) → was_vain x made.answer (LockTry lock task) ≡ false)
+        let none : IsNoWait made = subst (λ (x : Step). (lock task : ℕ) → is_tried_again x made.answer (LockTry lock task) ≡ false)
         (sym (step (at_begin []) (stands []))) (no_try_no_wait (LockStore (lock_number s variable)) made.answer tt) in
         next_part s registers body records old leads (unlocks variable) unlock_part made none new old.machine.walk next
         (λ later. done_told registers mine (at_begin later) later (happenings.Unlock variable) (leads.told (mine ++ later)))

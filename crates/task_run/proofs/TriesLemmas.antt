@@ -49,7 +49,7 @@ use Rattle.slot_table.specs.declared.step.Answer.TheVariants as answers
 use Rattle.slot_table.specs.declared.step.Step.{Step}
 use Rattle.slot_table.specs.declared.step.Step.TheVariants.{CellExchange, CellLoad, Clear, Clock, Consume, Insert, Load, LockStore, LockTry, Name, PairLoad, Remove, Tell, TryConsume}
 use Rattle.task_run.proofs.WaitLemmas.{check_says}
-use Rattle.text_walk.specs.of_written_order_Waits.{IsTooMuch, vain_tries, was_vain}
+use Rattle.text_walk.specs.of_written_order_Waits.{IsTooMuch, vain_tries, is_tried_again}
 
 -- records, the oldest first, before others, which stand with the latest first
 abbrev pub onto : List Record → List Record → List Record
@@ -79,7 +79,7 @@ abbrev FewExchanges : ℕ → List Record → Type 0
 FewExchanges n before = (cell seen new : ℕ) → vain_tries (CellExchange cell seen new) before ≤ n
 
 exchange_grows : (at : Step) (answer : Answer) (before : List Record) (n cell seen new : ℕ) → FewExchanges n before
-    → (if was_vain at answer (CellExchange cell seen new) then suc (vain_tries at before) else 0) ≤ (if waits.is_refusal at answer then n + 1 else 0)
+    → (if is_tried_again at answer (CellExchange cell seen new) then suc (vain_tries at before) else 0) ≤ (if waits.is_refusal at answer then n + 1 else 0)
 exchange_grows (Load index) answer before n cell seen new few = le_refl 0
 exchange_grows (Insert index word) answer before n cell seen new few = le_refl 0
 exchange_grows (TryConsume index word) answer before n cell seen new few = le_refl 0
@@ -114,7 +114,7 @@ abbrev FewTries : ℕ → List Record → Type 0
 FewTries n before = (lock task : ℕ) → vain_tries (LockTry lock task) before ≤ n
 
 try_grows : (at : Step) (answer : Answer) (before : List Record) (n lock task : ℕ) → FewTries n before
-    → (if was_vain at answer (LockTry lock task) then suc (vain_tries at before) else 0) ≤ (if waits.is_refusal at answer then n + 1 else 0)
+    → (if is_tried_again at answer (LockTry lock task) then suc (vain_tries at before) else 0) ≤ (if waits.is_refusal at answer then n + 1 else 0)
 try_grows (Load index) answer before n lock task few = le_refl 0
 try_grows (Insert index word) answer before n lock task few = le_refl 0
 try_grows (TryConsume index word) answer before n lock task few = le_refl 0
@@ -153,7 +153,7 @@ FewLoads (Some wait) before = (index : ℕ) → vain_tries (PairLoad index) befo
 abbrev FewAfter : Option Wait → Step → Answer → List Record → Type 0
 FewAfter None at answer before = Unit {0}
 FewAfter (Some wait) at answer before =
-    (index : ℕ) → (if was_vain at answer (PairLoad index) then suc (vain_tries at before) else 0) ≤ wait.tries
+    (index : ℕ) → (if is_tried_again at answer (PairLoad index) then suc (vain_tries at before) else 0) ≤ wait.tries
 
 few_with : (wait : Option Wait) (first : Record) (before : List Record) → FewAfter wait first.step first.answer before → FewLoads wait (first ∷ before)
 few_with None first before few = few
@@ -300,7 +300,7 @@ module _ (task : ℕ) (a : Access) (source : Source) (operation : Operation) (do
       by_first (one ∷ later) loads =
           let none : waits.is_refusal one.step one.answer ≡ false = ap (λ (step : Step). waits.is_refusal step one.answer) loads in
           let few : FewExchanges 0 (one ∷ before) = λ at had put.
-          subst (λ (step : Step). (if was_vain step one.answer (CellExchange at had put) then suc (vain_tries step before) else 0) ≤ 0) (sym loads) (le_refl 0) in
+          subst (λ (step : Step). (if is_tried_again step one.answer (CellExchange at had put) then suc (vain_tries step before) else 0) ≤ 0) (sym loads) (le_refl 0) in
           let on : FewExchanges (waits.vain_from 0 later) (onto later (one ∷ before)) = exchanges_on later (one ∷ before) 0 few in
           subst (λ (b : Bool). FewExchanges (waits.vain_from (if b then 0 + 1 else 0) later) (onto later (one ∷ before))) (sym none) on
 

@@ -31,7 +31,7 @@ use Rattle.slot_table.specs.declared.step.Answer.TheVariants as answers
 use Rattle.slot_table.specs.declared.step.Step.{Step}
 use Rattle.slot_table.specs.declared.step.Step.TheVariants.{CellExchange, CellLoad, Clear, Clock, Consume, Insert, Load, LockStore, LockTry, Name, PairLoad, Remove, Tell, TryConsume}
 use Rattle.task_run.specs.Leads.{EndInNoWait}
-use Rattle.text_walk.specs.of_written_order_Waits.{is_no, is_refused, tries_lock, vain_tries, was_vain}
+use Rattle.text_walk.specs.of_written_order_Waits.{is_no, is_refused, tries_lock, vain_tries, is_tried_again}
 
 -- the step tries no lock
 abbrev pub IsNoTry : Step → Type 0
@@ -67,9 +67,9 @@ and_false false = refl
 
 -- after the record a try of a lock begins a new wait
 abbrev pub IsNoWait : Record → Type 0
-IsNoWait made = (lock task : ℕ) → was_vain made.step made.answer (LockTry lock task) ≡ false
+IsNoWait made = (lock task : ℕ) → is_tried_again made.step made.answer (LockTry lock task) ≡ false
 
-pub no_try_no_wait : (step : Step) (answer : Answer) → IsNoTry step → (lock task : ℕ) → was_vain step answer (LockTry lock task) ≡ false
+pub no_try_no_wait : (step : Step) (answer : Answer) → IsNoTry step → (lock task : ℕ) → is_tried_again step answer (LockTry lock task) ≡ false
 no_try_no_wait (Load index) answer ok lock task = refl
 no_try_no_wait (Insert index word) answer ok lock task = refl
 no_try_no_wait (TryConsume index word) answer ok lock task = refl
@@ -142,7 +142,7 @@ none_left (first ∷ more) last is = absurd (let no : [] ≡ first ∷ (more ++ 
 pub taken_no_wait : (task lock : ℕ) (mine : List Record) (last : Record) → TakesLock task lock (mine ++ last ∷ []) [] → IsNoWait last
 taken_no_wait task lock [] last h = λ at holder.
     let no : is_no last.answer ≡ false = was_free last.answer _ h.2 in
-    subst (λ (step : Step). was_vain step last.answer (LockTry at holder) ≡ false) (sym h.1)
+    subst (λ (step : Step). is_tried_again step last.answer (LockTry at holder) ≡ false) (sym h.1)
     (ap (λ (b : Bool). b && tries_lock lock (LockTry at holder)) no)
 taken_no_wait task lock (first ∷ more) last h =
     let got = on_flag first.answer _ h.2 in

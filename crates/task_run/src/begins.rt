@@ -15,6 +15,7 @@ ghost use Rattle.litmus_meaning.specs.Task as meaning;
 ghost use Rattle.task_plan.specs.Plans.{call_plan, planned_access};
 ghost use Rattle.task_plan.specs.Keeps.{Keeps};
 ghost use Rattle.task_run.specs.Plans.{LoadLeft, PlanLeft};
+ghost use Rattle.task_run.specs.Room.{room_of};
 ghost use Rattle.task_run.specs.Stands.{Stands, StandsBy};
 ghost use Rattle.task_run.specs.Stops.{CanBegin, Stops};
 ghost use Rattle.text_bounds.specs.Scopes.{is_scoped};
@@ -42,8 +43,9 @@ use text_walk::Due;
 impl<'a> Machine<'a> {
     /// Goes on in the text to the next part that makes a step, or to the end.
     pub(crate) fn advance(&mut self) -> Stage<'a>
-        ensures { (s : Setting) (before : List Record → Standing) → StandsBy s before self.old
+        ensures begins { (s : Setting) (before : List Record → Standing) → StandsBy s before self.old
             → Begins s (WalkLeft s self.old.walk) before self.new result }
+        ensures room { room_of self.new ≡ room_of self.old }
     {
         loop {
             let due = self.walk.go_on();
@@ -60,6 +62,7 @@ impl<'a> Machine<'a> {
         ensures begins { (s : Setting) → PartBegins s (DueLeft s due.entry self.old.walk) self.old self.new result }
         ensures ends { due.entry ≡ dues.Ends → result ≢ None }
         ensures cost { walk_cost self.new.walk ≤ walk_cost self.old.walk }
+        ensures room { room_of self.new ≡ room_of self.old }
     {
         match self.part(due) {
             Ok(stage) => stage,
@@ -75,6 +78,7 @@ impl<'a> Machine<'a> {
         ensures stops { OnErr result ((s : Setting) → Stops s (DueLeft s due.entry self.old.walk) self.old) }
         ensures ends { IfOk result (λ stage. due.entry ≡ dues.Ends → stage ≢ None) }
         ensures cost { walk_cost self.new.walk ≤ walk_cost self.old.walk }
+        ensures room { room_of self.new ≡ room_of self.old }
     {
         match due {
             Due::Statement { statement, site } => self.statement(statement, site),
@@ -118,6 +122,7 @@ impl<'a> Machine<'a> {
         ensures unchanged { OnErr result (self.new ≡ self.old) }
         ensures stops { OnErr result ((s : Setting) → Stops s (StatementDue s (statement_of statement.now) site self.old.walk) self.old) }
         ensures cost { self.new.walk ≡ self.old.walk }
+        ensures room { room_of self.new ≡ room_of self.old }
     {
         match statement {
             Statement::Load(load) => self.loads(load, Taker::Nobody, site),
@@ -143,6 +148,7 @@ impl<'a> Machine<'a> {
         ensures stops { OnErr result ((s : Setting)
             → Stops s (LoadLeft s self.old.walk site (load_of load.now) (taker_of taker.entry)) self.old) }
         ensures cost { self.new.walk ≡ self.old.walk }
+        ensures room { room_of self.new ≡ room_of self.old }
     {
         let plan = self.planner().load(load, taker);
         self.makes(plan, site)
@@ -159,6 +165,7 @@ impl<'a> Machine<'a> {
         ensures unchanged { OnErr result (self.new ≡ self.old) }
         ensures stops { OnErr result ((s : Setting) → Stops s (ConditionDue s (expression_of condition.now) site self.old.walk) self.old) }
         ensures cost { walk_cost self.new.walk ≤ walk_cost self.old.walk }
+        ensures room { room_of self.new ≡ room_of self.old }
     {
         match condition {
             Expression::Pure(value) => {
@@ -176,6 +183,7 @@ impl<'a> Machine<'a> {
         ensures begins { (s : Setting) (site : ℕ)
             → PartBegins s (ConditionDue s (tree.pure (pure_of value.now)) site self.old.walk) self.old self.new None }
         ensures cost { walk_cost self.new.walk ≤ walk_cost self.old.walk }
+        ensures room { room_of self.new ≡ room_of self.old }
     {
         if pure_value(value, self.progress.registers()) != 0 {
             self.walk.holds();
@@ -196,6 +204,7 @@ impl<'a> Machine<'a> {
         ensures stops { OnErr result ((s : Setting)
             → Stops s (StatementDue s (tree.assign data_race (assignment_of assignment.now)) site self.old.walk) self.old) }
         ensures cost { self.new.walk ≡ self.old.walk }
+        ensures room { room_of self.new ≡ room_of self.old }
     {
         match assignment {
             Assignment::Register { register, value } => {
@@ -225,6 +234,7 @@ impl<'a> Machine<'a> {
             → Stops s
             (StatementDue s (tree.assign data_race (tree.to_register register (expression_of value.now))) site self.old.walk) self.old) }
         ensures cost { self.new.walk ≡ self.old.walk }
+        ensures room { room_of self.new ≡ room_of self.old }
     {
         match value {
             Expression::Pure(value) => {
@@ -259,6 +269,7 @@ impl<'a> Machine<'a> {
             (StatementDue s (tree.assign data_race (tree.to_register register (tree.pure (pure_of value.now)))) site self.old.walk)
             self.old) }
         ensures cost { self.new.walk ≡ self.old.walk }
+        ensures room { room_of self.new ≡ room_of self.old }
     {
         self.disable(so_often(data_race))?;
         let value = pure_value(value, self.progress.registers());
@@ -274,6 +285,7 @@ impl<'a> Machine<'a> {
         ensures unchanged { OnErr result (self.new ≡ self.old) }
         ensures stops { OnErr result ((s : Setting) → Stops s (StatementDue s (tree.call call) site self.old.walk) self.old) }
         ensures cost { self.new.walk ≡ self.old.walk }
+        ensures room { room_of self.new ≡ room_of self.old }
     {
         match call {
             Call::Lock { variable } => self.locks(variable),
@@ -303,6 +315,7 @@ impl<'a> Machine<'a> {
         ensures unchanged { OnErr result (self.new ≡ self.old) }
         ensures stops { OnErr result ((s : Setting) → Stops s (StatementDue s (tree.call call) site self.old.walk) self.old) }
         ensures cost { self.new.walk ≡ self.old.walk }
+        ensures room { room_of self.new ≡ room_of self.old }
     {
         match self.planner().call(call) {
             Some(plan) => self.makes(plan, site),
@@ -317,6 +330,7 @@ impl<'a> Machine<'a> {
         ensures unchanged { self.new ≡ self.old }
         ensures stops { OnErr result ((s : Setting) (site : ℕ)
             → Stops s (StatementDue s (tree.call (Lock variable)) site self.old.walk) self.old) }
+        ensures room { room_of self.new ≡ room_of self.old }
     {
         if !is_lock_at(self.variables, variable) {
             return Err(Beyond);
@@ -330,6 +344,7 @@ impl<'a> Machine<'a> {
         ensures begins { (s : Setting) (site : ℕ)
             → PartBegins s (StatementDue s (tree.call (Unlock variable)) site self.old.walk) self.old self.new result }
         ensures cost { self.new.walk ≡ self.old.walk }
+        ensures room { room_of self.new ≡ room_of self.old }
     {
         if self.progress.has_lock(variable) {
             return Some(Stage::Unlocking(variable));
@@ -402,6 +417,7 @@ impl<'a> Machine<'a> {
         ensures unchanged { OnErr result (self.new ≡ self.old) }
         ensures stops { OnErr result ((s : Setting) → Stops s (PlanLeft s self.old.walk site (plan_of plan.entry)) self.old) }
         ensures cost { self.new.walk ≡ self.old.walk }
+        ensures room { room_of self.new ≡ room_of self.old }
     {
         let access = self.access(plan, site)?;
         if !self.has_cell(&access, plan.operation) {
@@ -428,6 +444,7 @@ impl<'a> Machine<'a> {
         ensures unchanged { OnErr result (self.new ≡ self.old) }
         ensures stops { OnErr result ((s : Setting) → Stops s (DueLeft s (dues.Opens kind variable site) self.old.walk) self.old) }
         ensures cost { self.new.walk ≡ self.old.walk }
+        ensures room { room_of self.new ≡ room_of self.old }
     {
         let plan = Plan {
             bytes: self.layout.bytes_in(variable),
@@ -453,6 +470,7 @@ impl<'a> Machine<'a> {
         ensures unchanged { OnErr result (self.new ≡ self.old) }
         ensures stops { OnErr result ((s : Setting) → Stops s (DueLeft s dues.Closes self.old.walk) self.old) }
         ensures cost { self.new.walk ≡ self.old.walk }
+        ensures room { room_of self.new ≡ room_of self.old }
     {
         if self.in_force == 0 {
             return Err(Beyond);

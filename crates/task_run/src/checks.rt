@@ -14,6 +14,7 @@ ghost use Rattle.setup_access.specs.declared.begun.Begun.{Begun};
 ghost use Rattle.slot_table.specs.Answer.{Answers};
 ghost use Rattle.slot_table.specs.declared.records.Record.{Record};
 ghost use Rattle.slot_table.specs.declared.step.Step.{Step};
+ghost use Rattle.task_run.specs.Room.{room_of};
 
 use crate::machine::Machine;
 use access_run::AccessRun;
@@ -53,6 +54,7 @@ impl<'a> Machine<'a> {
         ensures context { context_of self.new.checker ≡ context_of self.old.checker }
         ensures kept { self.new ≡ record self.old { checker = self.new.checker; begins = self.new.begins } }
         ensures begun { self.new.begins ≡ None }
+        ensures room { room_of self.new ≡ room_of self.old }
     {
         let mut run = run;
         run.answer(&mut self.checker, answer, &*self.sites);
@@ -76,6 +78,7 @@ impl<'a> Machine<'a> {
         ensures fell { result.fell ≡ slice_get (outcomes_of self.new.checker) (length (outcomes_of self.old.checker)) }
         ensures kept { self.new ≡ record self.old { checker = self.new.checker; begins = self.new.begins } }
         ensures begun { self.new.begins ≡ None }
+        ensures room { room_of self.new ≡ room_of self.old }
     {
         let came = self.came();
         self.checker.answer(answer, &*self.sites);
@@ -94,6 +97,7 @@ impl<'a> Machine<'a> {
         ensures in_force { self.old.in_force < 8 → self.new.in_force ≡ self.old.in_force + 1 }
         ensures context { context_of self.new.checker ≡ context_of self.old.checker }
         ensures kept { self.new ≡ record self.old { checker = self.new.checker; in_force = self.new.in_force } }
+        ensures room { room_of self.new ≡ room_of self.old }
     {
         self.checker.open_scoped();
         self.in_force = self.in_force.saturating_add(1);

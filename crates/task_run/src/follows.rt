@@ -5,6 +5,7 @@ ghost use Rattle.slot_table.specs.declared.records.Record.{Record};
 ghost use Rattle.task_run.specs.Due.{EndsAtOnce};
 ghost use Rattle.task_run.specs.Follows.{IsRead};
 ghost use Rattle.task_run.specs.Part.{FollowLeft, TakerLeft};
+ghost use Rattle.task_run.specs.Room.{room_of};
 ghost use Rattle.task_run.specs.Stands.{StandsBy};
 ghost use Rattle.task_plan.specs.Views.{follow_of, taker_of};
 ghost use Rattle.text_walk.specs.of_written_order_Standing.{Setting, Standing};
@@ -18,8 +19,9 @@ use task_plan::{Taker, Then};
 impl<'a> Machine<'a> {
     /// An access is over, of which this came.
     pub(crate) fn follows(&mut self, after: Then<'a>, effect: Effect)
-        ensures { (s : Setting) (before : List Record → Standing) → StandsBy s before self.old → IsRead (follow_of after.entry) effect
+        ensures stands { (s : Setting) (before : List Record → Standing) → StandsBy s before self.old → IsRead (follow_of after.entry) effect
             → EndsAtOnce s (FollowLeft s self.old.walk (follow_of after.entry) effect) before self.new }
+        ensures room { room_of self.new ≡ room_of self.old }
     {
         match after {
             Then::GoesOn => {}
@@ -40,8 +42,9 @@ impl<'a> Machine<'a> {
 
     /// The value of a load is taken.
     fn takes(&mut self, taker: Taker<'a>, loaded: u64)
-        ensures { (s : Setting) (before : List Record → Standing) → StandsBy s before self.old
+        ensures stands { (s : Setting) (before : List Record → Standing) → StandsBy s before self.old
             → EndsAtOnce s (TakerLeft s self.old.walk (taker_of taker.entry) loaded) before self.new }
+        ensures room { room_of self.new ≡ room_of self.old }
     {
         match taker {
             Taker::Nobody => {}

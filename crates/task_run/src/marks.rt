@@ -11,6 +11,7 @@ ghost use Rattle.litmus_syntax.specs.Tree as tree;
 ghost use Rattle.litmus_syntax.specs.declared.statement.Call.TheVariants as calls;
 ghost use Rattle.task_run.specs.Due.{StatementDue};
 ghost use Rattle.task_run.specs.Part.{disabled, enabled};
+ghost use Rattle.task_run.specs.Room.{room_of};
 ghost use Rattle.task_run.specs.Stands.{AfterMark, Stands};
 ghost use Rattle.task_run.specs.Stops.{Stops};
 ghost use Rattle.text_walk.specs.of_written_order_Standing.{EndsNothing, Setting, Standing, counting, doing, is_lock, lock_number};
@@ -49,6 +50,7 @@ impl<'a> Machine<'a> {
         ensures stands { AfterMark Disable self.old self.new }
         ensures count { (context_of self.new.checker).disable_count ≡ (context_of self.old.checker).disable_count + 1 }
         ensures walk { self.new.walk ≡ self.old.walk }
+        ensures room { room_of self.new ≡ room_of self.old }
     {
         self.checker.context().disable();
     }
@@ -59,6 +61,7 @@ impl<'a> Machine<'a> {
         ensures nothing { IsTrue result ↔ ((context_of self.old.checker).disable_count ≡ 0) }
         ensures progress { self.new.progress ≡ self.old.progress }
         ensures walk { self.new.walk ≡ self.old.walk }
+        ensures room { room_of self.new ≡ room_of self.old }
     {
         self.checker.context().enable().is_err()
     }
@@ -68,6 +71,7 @@ impl<'a> Machine<'a> {
         requires { (context_of self.old.checker).nest_count < 2 ^ 32 }
         ensures stands { AfterMark NestOpen self.old self.new }
         ensures walk { self.new.walk ≡ self.old.walk }
+        ensures room { room_of self.new ≡ room_of self.old }
     {
         self.checker.context().nest_begin();
     }
@@ -78,6 +82,7 @@ impl<'a> Machine<'a> {
         ensures nothing { IsTrue result ↔ ((context_of self.old.checker).nest_count ≡ 0) }
         ensures progress { self.new.progress ≡ self.old.progress }
         ensures walk { self.new.walk ≡ self.old.walk }
+        ensures room { room_of self.new ≡ room_of self.old }
     {
         self.checker.context().nest_end().is_err()
     }
@@ -86,6 +91,7 @@ impl<'a> Machine<'a> {
     fn flat(&mut self, begins: bool)
         ensures stands { AfterMark (if begins then FlatBegin else FlatEnd) self.old self.new }
         ensures walk { self.new.walk ≡ self.old.walk }
+        ensures room { room_of self.new ≡ room_of self.old }
     {
         if begins {
             self.checker.context().flat_begin();
@@ -98,6 +104,7 @@ impl<'a> Machine<'a> {
     pub(crate) fn marks_next(&mut self, count: u64)
         ensures stands { AfterMark (Next count) self.old self.new }
         ensures walk { self.new.walk ≡ self.old.walk }
+        ensures room { room_of self.new ≡ room_of self.old }
     {
         self.checker.context().atomic_next(count);
     }
@@ -110,6 +117,7 @@ impl<'a> Machine<'a> {
         ensures walk { self.new.walk ≡ self.old.walk }
         ensures unchanged { OnErr result (self.new ≡ self.old) }
         ensures many { OnErr result (2 ^ 32 < (context_of self.old.checker).disable_count + count) }
+        ensures room { room_of self.new ≡ room_of self.old }
     {
         if count > self.disable_room() {
             return Err(Beyond);
@@ -125,6 +133,7 @@ impl<'a> Machine<'a> {
         ensures stands { (s : Setting) (before : Standing) (later : List Record) → Stands s before self.old
             → Stands s (enabled count before later) self.new }
         ensures walk { self.new.walk ≡ self.old.walk }
+        ensures room { room_of self.new ≡ room_of self.old }
     {
         for _ in 0..count {
             let _ = self.turns_on();
@@ -137,6 +146,7 @@ impl<'a> Machine<'a> {
             → Stands s (doing before later (happenings.Mark mark ∷ [])) self.old
             → Stands s (doing (counting ends_nothing before) later (happenings.Mark mark ∷ [])) self.new }
         ensures walk { self.new.walk ≡ self.old.walk }
+        ensures room { room_of self.new ≡ room_of self.old }
     {
         if ends_nothing {
             self.progress.counts_unbalanced();
@@ -152,6 +162,7 @@ impl<'a> Machine<'a> {
         ensures unchanged { OnErr result (self.new ≡ self.old) }
         ensures stops { OnErr result ((s : Setting) (site : ℕ)
             → Stops s (StatementDue s (tree.call (calls.Mark mark)) site self.old.walk) self.old) }
+        ensures room { room_of self.new ≡ room_of self.old }
     {
         match mark {
             Mark::Disable => {

@@ -53,6 +53,7 @@ impl<'a> TaskRun<'a> {
     ghost use Rattle.std.specs.Option.{is_some};
     ghost use Rattle.setup_access.specs.declared.begun.Begun.{Begun};
     ghost use Rattle.task_run.specs.Points.{HasMade, Stepped, kept_by, last_was, next_is};
+    ghost use Rattle.task_run.specs.Room.{room_of, task_room};
     ghost use Rattle.text_walk.specs.of_written_order_Waits.{OnlyStep, WithinTurns};
     ghost use Rattle.setup_access.specs.Parts.{made};
     ghost use Rattle.slot_table.specs.declared.step.Answer.{Answer};
@@ -227,6 +228,7 @@ impl<'a> TaskRun<'a> {
             → (begins : Option Begun) (steps : List Stepped)
             → BeginsNext s leads.part (stands_at leads []) leads.mine begins → HasMade steps self.old
             → HasMade (record { step = step; begins = is_some begins } ∷ steps) self.new }
+        ensures room { task_room self.new ≡ task_room self.old }
     {
         let latest = self.latest(step);
         match self.stage {
@@ -261,17 +263,14 @@ impl<'a> TaskRun<'a> {
         self.news.fell
     }
 
-    /// What the next step is.
-    pub fn before(&self) -> Before
+    /// What the next step is, which is this one: `next` says it.
+    pub fn before(&self, step: Step) -> Before
+        requires { Says self.now step }
         ensures { (s : Setting) (registers : ℕ) (body : Block) (records : List Record) → (leads : Leads s registers body records self.now)
-            → (step : Step) (begins : Option Begun) (steps : List Stepped) → Says self.now step → (¬ IsStuck leads)
-            → BeginsNext s leads.part (stands_at leads []) leads.mine begins → HasMade steps self.now
-            → result ≡ next_is steps step (is_some begins) }
+            → (begins : Option Begun) (steps : List Stepped) → BeginsNext s leads.part (stands_at leads []) leads.mine begins
+            → HasMade steps self.now → result ≡ next_is steps step (is_some begins) }
     {
-        match self.next() {
-            Some(step) => self.news.latest.with_next(step, self.begins().is_some()),
-            None => Before::Other,
-        }
+        self.news.latest.with_next(step, self.begins().is_some())
     }
 
     /// What the last step was.
@@ -296,6 +295,7 @@ impl<'a> TaskRun<'a> {
         requires { (step : Step) × AccessSays run self.old.machine.checker step × Answers step answer }
         ensures leads { self.old.stage ≡ Making run after.entry → LeadsOn self.old self.new answer }
         ensures fell { self.old.stage ≡ Making run after.entry → FellAt self.old result answer }
+        ensures room { room_of self.new.machine ≡ room_of self.old.machine }
     {
         let came = self.machine.came();
         let run = self.machine.answers_access(run, answer);
@@ -315,6 +315,7 @@ impl<'a> TaskRun<'a> {
         requires { (step : Step) × checks.Says self.old.machine.checker step × Answers step answer }
         ensures leads { self.old.stage ≡ Opening → LeadsOn self.old self.new answer }
         ensures fell { self.old.stage ≡ Opening → FellAt self.old result answer }
+        ensures room { room_of self.new.machine ≡ room_of self.old.machine }
     {
         let came = self.machine.answers_check(answer);
         if came.over {
@@ -329,6 +330,7 @@ impl<'a> TaskRun<'a> {
         requires { (step : Step) × checks.Says self.old.machine.checker step × Answers step answer }
         ensures leads { self.old.stage ≡ Closing → LeadsOn self.old self.new answer }
         ensures fell { self.old.stage ≡ Closing → FellAt self.old result answer }
+        ensures room { room_of self.new.machine ≡ room_of self.old.machine }
     {
         let came = self.machine.answers_check(answer);
         if came.over {
@@ -341,7 +343,8 @@ impl<'a> TaskRun<'a> {
     /// The wait for a lock takes the answer. Once it is over, the task has the lock.
     fn answers_lock(&mut self, wait: LockWait, variable: usize, answer: Answer)
         requires { (step : Step) × LockSays wait step × Answers step answer }
-        ensures { self.old.stage ≡ Locking wait variable → LeadsOn self.old self.new answer }
+        ensures leads { self.old.stage ≡ Locking wait variable → LeadsOn self.old self.new answer }
+        ensures room { room_of self.new.machine ≡ room_of self.old.machine }
     {
         let mut wait = wait;
         wait.answer(answer);
@@ -355,7 +358,8 @@ impl<'a> TaskRun<'a> {
 
     /// The lock is given back.
     fn answers_unlock(&mut self, variable: usize)
-        ensures { self.old.stage ≡ Unlocking variable → LeadsOn self.old self.new Done }
+        ensures leads { self.old.stage ≡ Unlocking variable → LeadsOn self.old self.new Done }
+        ensures room { room_of self.new.machine ≡ room_of self.old.machine }
     {
         self.machine.progress.set_lock(variable, false);
         self.stage = self.machine.advance();

@@ -26,7 +26,7 @@ use Rattle.setup_access.specs.of_slot_table_declared.step.Answer.TheVariants as 
 use Rattle.setup_access.specs.of_slot_table_declared.step.Step.{Step}
 use Rattle.setup_access.specs.of_slot_table_declared.step.Step.TheVariants.{CellExchange, CellLoad, Clear, Clock, Consume, Insert, Load, LockStore, LockTry, Name, PairLoad, Remove, Tell, TryConsume}
 use Rattle.written_order.specs.Standing.{Setting, Standing, checks_of, lock_number}
-use Rattle.written_order.specs.Waits.{IsStuck, IsStuckInVain, IsTry, OnlyStep, exchanges_in, loads_pair, tries_lock, vain_tries, was_vain}
+use Rattle.written_order.specs.Waits.{IsStuck, IsStuckInVain, IsTry, OnlyStep, exchanges_in, loads_pair, tries_lock, vain_tries, is_tried_again}
 use Rattle.written_order.specs.WrittenOrder.{SpellsAll, WrittenOrder, at_first}
 use Rattle.written_order.proofs.Induction.{Kept, by_block}
 
@@ -160,7 +160,7 @@ loads_on index Clock h = absurd (let none : false ≡ true = h in cc)
 
 -- a step that is tried again was a vain try
 was_in_vain : (half : Option (Halves → ℕ)) (step : Step) (answer : Answer) (next : Step) → (LoadsPair step → LoadsPair next → is_vain half step answer ≡ true)
-    → was_vain step answer next ≡ true → is_vain half step answer ≡ true
+    → is_tried_again step answer next ≡ true → is_vain half step answer ≡ true
 was_in_vain half (CellExchange cell seen new) answer next again h = left_of (is_word answer) (exchanges_in cell next) h
 was_in_vain half (LockTry lock task) answer next again h = left_of (checks.is_no answer) (tries_lock lock next) h
 was_in_vain half (PairLoad index) answer next again h = again tt (loads_on index next h)
@@ -203,7 +203,7 @@ next_few : (first : Record) (later before : List Record) (half : Option (Halves 
     → FirstFew later (first ∷ before) (if is_vain half first.step first.answer then most + 1 else 0)
 next_few first [] before half most again few = tt
 next_few first (next ∷ later) before half most again few =
-    one_more (was_vain first.step first.answer next.step) (is_vain half first.step first.answer) (vain_tries first.step before) most
+    one_more (is_tried_again first.step first.answer next.step) (is_vain half first.step first.answer) (vain_tries first.step before) most
     (was_in_vain half first.step first.answer next.step again) few
 
 tries_in_vain : (mine before rest : List Record) (last : Record) (half : Option (Halves → ℕ)) (most : ℕ) → AgainInVain half (mine ++ last ∷ rest)
@@ -239,7 +239,7 @@ both_true a b p q = rw (p, q) refl
 
 -- a vain try before one of the same is one before that step
 was_same : (half : Option (Halves → ℕ)) (step : Step) (answer : Answer) (next : Step) → is_vain half step answer ≡ true → TriesSame step next
-    → was_vain step answer next ≡ true
+    → is_tried_again step answer next ≡ true
 was_same half (PairLoad at) answer next h same = subst (λ (x : Step). loads_pair at x ≡ true) (sym same) (eq-eqb at at refl)
 was_same half (CellExchange cell seen new) answer next h same =
     both_true (is_word answer) (exchanges_in cell next) h
@@ -274,7 +274,7 @@ next_many : (first : Record) (later before : List Record) (half : Option (Halves
     → FirstMany later (first ∷ before) (if is_vain half first.step first.answer then least + 1 else 0)
 next_many first [] before half least same many = tt
 next_many first (next ∷ later) before half least same many = λ tries.
-    one_less (was_vain first.step first.answer next.step) (is_vain half first.step first.answer) (vain_tries first.step before) least
+    one_less (is_tried_again first.step first.answer next.step) (is_vain half first.step first.answer) (vain_tries first.step before) least
     (λ vain. was_same half first.step first.answer next.step vain (same vain tries))
     (λ vain. many (vain_tries_so half first.step first.answer vain))
 

@@ -31,21 +31,20 @@ is_refused = checks.is_word
 abbrev pub is_no : Answer → Bool
 is_no = checks.is_no
 
--- The step was a vain try of a wait if this one comes next, which tries the same again. What was not in vain
--- is never made again at once: so in the written order a load of a pair that is followed by another one was
--- a vain try too, as a law says.
-abbrev pub was_vain : Step → Answer → Step → Bool
-was_vain (CellExchange cell seen new) answer next = is_vain None (CellExchange cell seen new) answer && exchanges_in cell next
-was_vain (LockTry lock task) answer next = is_vain None (LockTry lock task) answer && tries_lock lock next
-was_vain (PairLoad index) answer next = loads_pair index next
-was_vain step answer next = false
+-- This step tries again what the one before it tried. Only a vain try is tried again (`is_vain`): of an exchange and of a lock that is asked
+-- here, and a load of a pair is never followed by the same load unless the awaited half was empty, as a law says.
+abbrev pub is_tried_again : Step → Answer → Step → Bool
+is_tried_again (CellExchange cell seen new) answer next = is_vain None (CellExchange cell seen new) answer && exchanges_in cell next
+is_tried_again (LockTry lock task) answer next = is_vain None (LockTry lock task) answer && tries_lock lock next
+is_tried_again (PairLoad index) answer next = loads_pair index next
+is_tried_again step answer next = false
 
--- how many tries in vain the step comes after, in the wait that it goes on with; the records before
--- it stand with the latest first
+-- how many tries the step comes after that were tried again, in the wait that it goes on with; the records before it stand with the
+-- latest first
 abbrev pub vain_tries : Step → List Record → ℕ
 vain_tries step [] = 0
 vain_tries step (before ∷ earlier) =
-    if was_vain before.step before.answer step then suc (vain_tries before.step earlier) else 0
+    if is_tried_again before.step before.answer step then suc (vain_tries before.step earlier) else 0
 
 -- The step, after these records with the latest first, is a try of a wait: a load of a pair, a try of a
 -- lock, or an exchange that is tried again after it was refused.

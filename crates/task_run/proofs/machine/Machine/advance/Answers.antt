@@ -1,22 +1,30 @@
 -- One small step of the walk more, and what is due there.
-use Rattle.std.proofs.Common.{refl}
+use Rattle.std.proofs.Common.{◌∙◌, ◌++◌, ◌∷◌, ap, refl}
+use Rattle.setup_access.specs.Shown as checker
+use Rattle.task_plan.specs.Room as progress
 use Rattle.task_run.proofs.BeginsLemmas.{begins_then, ends_then, to_end, walked}
 use Rattle.task_run.proofs.machine.Machine.advance.Goals as goal
 use Rattle.task_run.specs.Told.{nothing}
 use Rattle.text_walk.specs.Left.{DueLeft, WalkLeft}
 
 pub loop-stage-init : goal.loop-stage-init
-loop-stage-init c = λ s before stands. (before, stands, λ later end. (λ h. h, λ h. h), λ later. nothing)
+loop-stage-init c = record {
+  stands = λ s before stands. (before, stands, λ later end. (λ h. h, λ h. h), λ later. nothing);
+  room = refl;
+}
 
 pub loop-stage-preserved : goal.loop-stage-preserved
-loop-stage-preserved c = λ s before stands. let so_far = c.loop-stage.invariant s before stands in
-    ends_then s (WalkLeft s c.args.self.now.walk) before (DueLeft s c.go_on-due.result c.go_on-due.new.self) so_far.0 c.begins.new.self
-    (to_end (WalkLeft s c.args.self.now.walk) (WalkLeft s c.loop-stage.self.walk) (DueLeft s c.go_on-due.result c.go_on-due.new.self) before so_far.0 so_far.2 (c.go_on-due.ensures.left s))
-    so_far.3
-    ((rw c.in-None.is at (c.begins.ensures.begins s)) so_far.0 (λ later. walked s (so_far.0 later) c.loop-stage.self _ refl (so_far.1 later)))
+loop-stage-preserved c = record {
+  stands = λ s before stands. let so_far = c.loop-stage.invariant.stands s before stands in
+      ends_then s (WalkLeft s c.args.self.now.walk) before (DueLeft s c.go_on-due.result c.go_on-due.new.self) so_far.0 c.begins.new.self
+      (to_end (WalkLeft s c.args.self.now.walk) (WalkLeft s c.loop-stage.self.walk) (DueLeft s c.go_on-due.result c.go_on-due.new.self) before so_far.0 so_far.2 (c.go_on-due.ensures.left s))
+      so_far.3
+      ((rw c.in-None.is at (c.begins.ensures.begins s)) so_far.0 (λ later. walked s (so_far.0 later) c.loop-stage.self _ refl (so_far.1 later)));
+  room = c.begins.ensures.room ∙ (ap (λ n. n ∷ (progress.room_of c.loop-stage.self.progress ++ checker.room_of c.loop-stage.self.checker)) c.go_on-due.ensures.room ∙ c.loop-stage.invariant.room);
+}
 
-pub returns-in-Some : goal.returns-in-Some
-returns-in-Some c = λ s before stands. let so_far = c.loop-stage.invariant s before stands in
+pub returns-in-Some-clause-begins : goal.returns-in-Some-clause-begins
+returns-in-Some-clause-begins c = λ s before stands. let so_far = c.loop-stage.invariant.stands s before stands in
     begins_then s (WalkLeft s c.args.self.now.walk) before (DueLeft s c.go_on-due.result c.go_on-due.new.self) so_far.0 c.begins.new.self c.in-Some.stage
     (to_end (WalkLeft s c.args.self.now.walk) (WalkLeft s c.loop-stage.self.walk) (DueLeft s c.go_on-due.result c.go_on-due.new.self) before so_far.0 so_far.2 (c.go_on-due.ensures.left s))
     so_far.3

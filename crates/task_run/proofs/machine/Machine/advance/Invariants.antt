@@ -1,7 +1,8 @@
 -- All that was due so far was over at once, and each small step leaves less of the text.
-use Rattle.std.proofs.Common.{List}
+use Rattle.std.proofs.Common.{◌≡◌, List}
 use Rattle.slot_table.specs.declared.records.Record.{Record}
 use Rattle.task_run.specs.Due.{EndsAtOnce}
+use Rattle.task_run.specs.Room.{room_of}
 use Rattle.task_run.specs.Stands.{StandsBy}
 use Rattle.task_run.proofs.machine.Machine.advance.Given as goal
 use Rattle.text_walk.specs.Cost.{walk_cost}
@@ -9,8 +10,10 @@ use Rattle.text_walk.specs.Left.{WalkLeft}
 use Rattle.text_walk.specs.of_written_order_Standing.{Setting, Standing}
 
 abbrev pub invariant-loop-stage : goal.invariant-loop-stage
-invariant-loop-stage l = (s : Setting) (before : List Record → Standing) → StandsBy s before l.fn.self
-    → EndsAtOnce s (WalkLeft s l.fn.self.walk) before l.self
+invariant-loop-stage l = record {
+  stands : (s : Setting) (before : List Record → Standing) → StandsBy s before l.fn.self → EndsAtOnce s (WalkLeft s l.fn.self.walk) before l.self;
+  room : room_of l.self ≡ room_of l.fn.self;
+}
 
 abbrev pub decreases-loop-stage : goal.decreases-loop-stage
 decreases-loop-stage l = walk_cost l.self.walk

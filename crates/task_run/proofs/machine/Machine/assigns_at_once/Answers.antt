@@ -39,7 +39,7 @@ returns-clause-begins c = λ s site before stands.
     (λ later. subst (λ (n : ℕ). Stands s (enabled n (registered (start later) later c.args.register value) later) c.enable.new.self) c.so_often-2.ensures
     (c.enable.ensures.stands s (registered (start later) later c.args.register value) later
     (stands_keeping s (start later) (registered (start later) later c.args.register value) c.disable.new.self c.assign.new.self refl refl refl
-    (c.assign.ensures (length s.text.variables) (start later) later (began later).counts.keeps) (began later))))
+    (c.assign.ensures.keeps (length s.text.variables) (start later) later (began later).counts.keeps) (began later))))
     (λ later. marks_more later (before later) _ often marks.Enable (registers_more later (before later) _ c.args.register value (marks_now later (before later) often marks.Disable)))
 
 pub returns-in_err-disable-clause-stops : goal.returns-in_err-disable-clause-stops

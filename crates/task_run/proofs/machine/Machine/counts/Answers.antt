@@ -12,4 +12,4 @@ returns-then-ends_nothing-clause-stands c = λ s before later mark stands. rw c.
     c.counts_unbalanced.new.self refl refl refl
     (keeps_alike (length s.text.variables) (counting true (doing before later (happenings.Mark mark ∷ []))) (doing (counting true before) later (happenings.Mark mark ∷ []))
     c.counts_unbalanced.new.self (record { progress = refl; unbalanced = refl })
-    (c.counts_unbalanced.ensures (length s.text.variables) (doing before later (happenings.Mark mark ∷ [])) stands.counts.keeps)) stands)
+    (c.counts_unbalanced.ensures.keeps (length s.text.variables) (doing before later (happenings.Mark mark ∷ [])) stands.counts.keeps)) stands)

@@ -11,6 +11,7 @@ pub loop-init : goal.loop-init
 loop-init c = record {
   stands = λ s before later stands. stands_still s before later (happenings.Mark marks.Enable) _ stands;
   walk = refl;
+  lists = refl;
 }
 
 pub loop-preserved : goal.loop-preserved
@@ -18,6 +19,7 @@ loop-preserved c = record {
   stands = λ s before later stands. stands_more s before later c.loop.counter marks.Enable c.loop.self c.turns_on.new.self c.turns_on.ensures.stands
       (c.loop.invariant.stands s before later stands);
   walk = c.turns_on.ensures.walk ∙ c.loop.invariant.walk;
+  lists = c.turns_on.ensures.room ∙ c.loop.invariant.lists;
 }
 
 pub returns-clause-stands : goal.returns-clause-stands

@@ -22,7 +22,7 @@ returns-clause-begins c = λ s fit before stands.
     (subst (λ m. Stands s (disabled c.data_races.result there later) m) (sym c.begun-begun.ensures.unchanged)
     (c.in_ok-disable.ensures.stands s there later standing)))
     ((c.has_cell.ensures s (before []) (stands [])).0 c.if-not-has_cell.false)
-    (λ variables there later keeps. c.begins_at.ensures variables there c.in_ok-access.access later keeps c.in_ok-access.ensures.made.1)
+    (λ variables there later keeps. c.begins_at.ensures.keeps variables there c.in_ok-access.access later keeps c.in_ok-access.ensures.made.1)
     (λ scopes asked last. c.begin-run.ensures.begins.2 (checks_of s) scopes asked last)
     (λ scopes asked last. c.begin-run.ensures.context (checks_of s) scopes asked last) c.begun-begun.result
     (λ there standing own. c.begun-begun.ensures.begins s there (subst (λ m. Stands s there m) c.begun-begun.ensures.unchanged standing) own) before stands

@@ -32,7 +32,7 @@ returns-clause-begins c = λ s.
     ∙ ap (λ bytes. access_now s.text c.args.site there.progress bytes c.args.kind None)
     (c.bytes_in.ensures s.text.places s.text.variables (subst (λ (l : Layout). Lays s.text.places s.text.variables l) (sym c.deref.ensures)
     (same there standing).of.layout)))
-    (λ variables there later keeps. c.begins_at.ensures variables there c.in_ok-access.access later keeps c.in_ok-access.ensures.made.1)
+    (λ variables there later keeps. c.begins_at.ensures.keeps variables there c.in_ok-access.access later keeps c.in_ok-access.ensures.made.1)
     (λ scopes asked last. c.begin.ensures.begins.2 (checks_of s) scopes asked last)
     (λ scopes asked last. c.begin.ensures.context (checks_of s) scopes asked last)
     c.begun-begun.result (λ there standing own. c.begun-begun.ensures.begins s there (same there standing) own) before stands)

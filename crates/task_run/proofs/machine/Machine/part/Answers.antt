@@ -15,7 +15,7 @@ pub returns-in-Closes-clause-begins : goal.returns-in-Closes-clause-begins
 returns-in-Closes-clause-begins c = rw c.in-Closes.is c.closes.ensures.begins
 
 pub returns-in-Sets-clause-begins : goal.returns-in-Sets-clause-begins
-returns-in-Sets-clause-begins c = λ s. rw c.in-Sets.is (ends_setting s c.in-Sets.register c.in-Sets.value c.args.self.now c.assign.new.self c.assign.ensures)
+returns-in-Sets-clause-begins c = λ s. rw c.in-Sets.is (ends_setting s c.in-Sets.register c.in-Sets.value c.args.self.now c.assign.new.self c.assign.ensures.keeps)
 
 pub returns-in-Leaves-clause-begins : goal.returns-in-Leaves-clause-begins
 returns-in-Leaves-clause-begins c = λ s. rw c.in-Leaves.is (ends_leaving s c.args.self.now)

@@ -16,4 +16,4 @@ returns-clause-begins c = λ s site. ends_unlocking s site c.args.variable c.arg
     (λ before stands. sym (c.has_lock.ensures (length s.text.variables) before stands.counts.keeps) ∙ c.if-has_lock.false)
     (λ before later stands. stands_keeping s before (coming (counting true before) later before.progress) c.args.self.now c.counts_unbalanced.new.self refl refl refl
     (keeps_alike (length s.text.variables) (counting true before) (coming (counting true before) later before.progress) c.counts_unbalanced.new.self
-    (record { progress = refl; unbalanced = refl }) (c.counts_unbalanced.ensures (length s.text.variables) before stands.counts.keeps)) stands)
+    (record { progress = refl; unbalanced = refl }) (c.counts_unbalanced.ensures.keeps (length s.text.variables) before stands.counts.keeps)) stands)

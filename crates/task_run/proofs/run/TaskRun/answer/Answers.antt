@@ -41,7 +41,7 @@ returns-in-Closing-clause-fell c = λ s registers body records step leads says l
 pub returns-in-Locking-clause-leads : goal.returns-in-Locking-clause-leads
 returns-in-Locking-clause-leads c = λ s registers body records step leads says.
     keeping s registers body (records ++ made s.text.task step c.args.answer ∷ []) c.answers_lock.new.self _
-    (c.answers_lock.ensures c.in-Locking.is s registers body records step leads says)
+    (c.answers_lock.ensures.leads c.in-Locking.is s registers body records step leads says)
 
 pub returns-in-Locking-clause-fell : goal.returns-in-Locking-clause-fell
 returns-in-Locking-clause-fell c = λ s registers body records step leads says later.
@@ -55,7 +55,7 @@ returns-in-Unlocking-clause-leads c = λ s registers body records step leads say
     let done : c.args.answer ≡ Done = subst (λ x. Answers x c.args.answer) stores c.requires.answers in
     keeping s registers body (records ++ made s.text.task step c.args.answer ∷ []) c.answers_unlock.new.self _
     (subst (λ answer. Leads s registers body (records ++ made s.text.task step answer ∷ []) c.answers_unlock.new.self) (sym done)
-    (c.answers_unlock.ensures c.in-Unlocking.is s registers body records step leads says))
+    (c.answers_unlock.ensures.leads c.in-Unlocking.is s registers body records step leads says))
 
 pub returns-in-Unlocking-clause-fell : goal.returns-in-Unlocking-clause-fell
 returns-in-Unlocking-clause-fell c = λ s registers body records step leads says later.

@@ -21,8 +21,8 @@ returns-then-is_over-clause-leads c = λ is s registers body records step leads 
     c.effect.result
     (λ scopes begun asked operation so_far l. c.effect.ensures.complete (checks_of s) scopes begun asked operation so_far checker l
     ((c.is_over.ensures (checks_of s) scopes begun asked operation so_far checker l).0 c.if-is_over.true))
-    c.follows.new.self (λ before stands read. c.follows.ensures s before stands read) _
-    (λ before stands. c.advance-self.ensures s before stands)
+    c.follows.new.self (λ before stands read. c.follows.ensures.stands s before stands read) _
+    (λ before stands. c.advance-self.ensures.begins s before stands)
 
 pub returns-else-is_over-clause-leads : goal.returns-else-is_over-clause-leads
 returns-else-is_over-clause-leads c = λ is s registers body records step leads says.

@@ -24,7 +24,7 @@ returns-then-came-clause-leads c = λ is s registers body records step leads say
     ((c.answers_check-came.ensures.over (checks_of s) scopes what asked so_far l).0 c.if-came.true))
     _
     (λ before stands. subst (λ w. Begins s (WalkLeft s w) before c.advance-self.new.self c.advance-self.result) (ap (λ m. m.walk) c.closed.ensures)
-    (c.advance-self.ensures s before (λ later. subst (λ m. Stands s (before later) m) (sym c.closed.ensures) (stands later))))
+    (c.advance-self.ensures.begins s before (λ later. subst (λ m. Stands s (before later) m) (sym c.closed.ensures) (stands later))))
 
 pub returns-else-came-clause-leads : goal.returns-else-came-clause-leads
 returns-else-came-clause-leads c = λ is s registers body records step leads says.

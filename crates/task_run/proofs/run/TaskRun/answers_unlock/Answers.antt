@@ -8,10 +8,10 @@ use Rattle.task_run.specs.Says.{StageSays}
 use Rattle.task_run.proofs.run.TaskRun.answers_unlock.Goals as goal
 use Rattle.text_walk.specs.of_written_order_Standing.{is_lock}
 
-pub returns : goal.returns
-returns c = λ is s registers body records step leads says.
+pub returns-clause-leads : goal.returns-clause-leads
+returns-clause-leads c = λ is s registers body records step leads says.
     unlock_ended s registers body records c.args.self.now leads (made s.text.task step Done) c.args.variable is refl
     (λ before stands. subst (λ stage. StageSays stage c.args.self.now step) is says
     ∙ ap (λ vs. LockStore (count_by (λ v. is_lock v.contents) (take c.args.variable vs))) stands.of.variables) refl
-    c.set_lock.new.self (λ variables before later keeps below. c.set_lock.ensures variables before later keeps below) _
-    (λ before stands. c.advance-self.ensures s before stands)
+    c.set_lock.new.self (λ variables before later keeps below. c.set_lock.ensures.keeps variables before later keeps below) _
+    (λ before stands. c.advance-self.ensures.begins s before stands)

@@ -79,4 +79,4 @@ returns-clause-leads c = λ settings task prepared is.
     (rw (← c.as_slice-variables.ensures, ← c.as_slice-registers.ensures) c.in_ok-progress.ensures) c.in_ok-checker.ensures.context refl
     (rw (← prepared.cells, ← prepared.rules) (c.in_ok-checker.ensures.rests (sites_in c.args.prepared.now))))
     (λ before records after rest. rw (← c.as_slice-2.ensures.value) (c.in_ok-walk.ensures.left s before records after rest))
-    (λ before stands. c.advance-stage.ensures s before stands))
+    (λ before stands. c.advance-stage.ensures.begins s before stands))
