@@ -1,6 +1,7 @@
 -- Each outcome falls at one of the records: each part of a check reads a beginning of them, and its outcome falls at the last record that it reads.
 use Rattle.std.proofs.Common.{◌≡◌, ◌∙◌, ◌∷◌, ◌+◌, ◌++◌, ◌||◌, [], ℕ, Bool, true, false, List, Option, None, Some}
-use Rattle.std.proofs.Common.{MatchBool, MatchOption, ap, append_assoc, drop, inl, inr, refl, subst, sym, ◌<◌, zero, suc, arith, if◌then◌else◌}
+use Rattle.std.proofs.Common.{IsSome, MatchBool, MatchOption, ap, append_assoc, drop, inl, inr, is_some, refl, subst, sym}
+use Rattle.std.proofs.Common.{◌<◌, zero, suc, arith, if◌then◌else◌}
 use Rattle.access_types.specs.Access.{Access}
 use Rattle.access_types.specs.Ticket.{ticket_number}
 use Rattle.slot.specs.Pair.{Halves}
@@ -12,12 +13,12 @@ use Rattle.watch_word.specs.Word.{word_of}
 use Rattle.setup_access.specs.Check as cases
 use Rattle.setup_access.specs.Check.{ChecksAll, ChecksBegun, ChecksLast, ChecksOnce, ChecksStamped, Ends, Fallen, GoesOn, NoneFound, Pass, Passes, Rechecks, fallen_of, left_to_check}
 use Rattle.setup_access.specs.Checker.{RoleLeft, StageLeft}
-use Rattle.setup_access.specs.FallsAt.{AllFallIn, FallsAt, FallsIn, GivesAt, TakingFalls, WatchingFalls}
+use Rattle.setup_access.specs.FallsAt.{AllFallIn, EndsLookUp, FallsAt, FallsIn, GivesAt, TakingFalls, WatchingFalls}
 use Rattle.setup_access.specs.Due.{extended}
 use Rattle.setup_access.specs.Fallen.{followed}
-use Rattle.setup_access.specs.Find.{LooksUp}
 use Rattle.setup_access.specs.Found.{Hears, Takes, Tells, TellsTo, finder_half, setter_half}
-use Rattle.setup_access.specs.Parts.{FindLeft, SetupLeft, after_refusal, made, place_after}
+use Rattle.setup_access.specs.Hits.{Hits}
+use Rattle.setup_access.specs.Parts.{FindLeft, SetupLeft, after_refusal, left_to_try, look_index, made, place_after, try_index}
 use Rattle.setup_access.specs.PassLeft.{Given, PassLeft, falls_before}
 use Rattle.setup_access.specs.Records.{MakesDone, MakesWord, OnFlag, OnHalves, OnWord}
 use Rattle.setup_access.specs.Setting.{Setting, slot_of}
@@ -105,41 +106,67 @@ clock_ends task (first ∷ later) rest h =
     one_on first later rest (all_left later rest (on_word first.answer (λ stamp. rest ≡ later) h.2).2)
 
 module _ (s : Setting) (a : Access) where
-  -- the last load of a look-up
-  abbrev IsLoad : Record → Type 0
-  IsLoad = FallsAt s a Nothing
+  -- a look-up that found a watchpoint, or none, ended with this load
+  found_ends : (place : Place) (first : Record) (word : ℕ) (found : Option Watchpoint)
+      → first ≡ made s.task (Load (look_index place (slot_of s a))) (answers.Word word) → Hits s.rules.layout a word
+      → found ≡ Some (record { index = look_index place (slot_of s a); word = word }) → EndsLookUp s a found first
+  found_ends place first word found is hits same =
+      subst (λ (f : Option Watchpoint). EndsLookUp s a f first) (sym same) (place, refl, hits, is)
 
-  looks_last : (index : ℕ) (indices : List ℕ) (records : List Record) (found : Option Watchpoint) (rest : List Record)
-      → LooksUp s a (index ∷ indices) records found rest → EndsAfter IsLoad records rest
-  looks_last index indices [] found rest h = absurd h
-  looks_last index [] (first ∷ later) found rest h =
-      let got = word_made s.task (Load index) first _ h in
-      elim got.2 [ inl p ↦ last_now IsLoad first later rest (index, got.0, got.1) p.2 | inr q ↦ last_now IsLoad first later rest (index, got.0, got.1) q.1.1 ]
-  looks_last index (next ∷ others) (first ∷ later) found rest h =
-      let got = word_made s.task (Load index) first _ h in
-      elim got.2 [
-        | inl p ↦ last_now IsLoad first later rest (index, got.0, got.1) p.2
-        | inr q ↦ last_later IsLoad first later rest (looks_last next others later found rest q.1)
-      ]
+  none_ends : (first : Record) (word : ℕ) (found : Option Watchpoint) → first ≡ made s.task (Load (slot_of s a + 2)) (answers.Word word)
+      → ¬ Hits s.rules.layout a word → found ≡ None → EndsLookUp s a found first
+  none_ends first word found is misses same = subst (λ (f : Option Watchpoint). EndsLookUp s a f first) (sym same) (word, is, misses)
+
+  -- a word that was read leaves nothing of the look-up
+  pub sought_ends : (place : Place) (word : ℕ) (found : Option Watchpoint)
+      → FindLeft s a (record { place = place }) (made s.task (Load (look_index place (slot_of s a))) (answers.Word word) ∷ []) found []
+      → EndsLookUp s a found (made s.task (Load (look_index place (slot_of s a))) (answers.Word word))
+  sought_ends First word found h = elim h.2 [ inl p ↦ found_ends First _ word found refl p.0 p.1 | inr q ↦ absurd q.1 ]
+  sought_ends Second word found h = elim h.2 [ inl p ↦ found_ends Second _ word found refl p.0 p.1 | inr q ↦ absurd q.1 ]
+  sought_ends Third word found h =
+      elim h.2 [ inl p ↦ found_ends Third _ word found refl p.0 p.1 | inr q ↦ none_ends _ word found refl q.0 q.1.0 ]
+
+  -- an access with a mask takes nothing
+  pub masked_falls : (found : Watchpoint) (last : Record) → IsSome a.mask → EndsLookUp s a (Some found) last → FallsAt s a Nothing last
+  masked_falls found last masked looked = inr (found, masked, looked)
 
   find_last : (place : Place) (records : List Record) (found : Option Watchpoint) (rest : List Record)
-      → FindLeft s a (record { place = place }) records found rest → EndsAfter IsLoad records rest
-  find_last First records found rest h = looks_last (slot_of s a) ((slot_of s a + 1) ∷ (slot_of s a + 2) ∷ []) records found rest h
-  find_last Second records found rest h = looks_last (slot_of s a + 1) ((slot_of s a + 2) ∷ []) records found rest h
-  find_last Third records found rest h = looks_last (slot_of s a + 2) [] records found rest h
+      → FindLeft s a (record { place = place }) records found rest → EndsAfter (EndsLookUp s a found) records rest
+  find_last First [] found rest h = absurd h
+  find_last Second [] found rest h = absurd h
+  find_last Third [] found rest h = absurd h
+  find_last First (first ∷ later) found rest h =
+      let got = word_made s.task (Load (slot_of s a)) first _ h in
+      elim got.2 [
+        | inl p ↦ last_now (EndsLookUp s a found) first later rest (found_ends First first got.0 found got.1 p.0 p.1) p.2
+        | inr q ↦ last_later (EndsLookUp s a found) first later rest (find_last Second later found rest q.1)
+      ]
+  find_last Second (first ∷ later) found rest h =
+      let got = word_made s.task (Load (slot_of s a + 1)) first _ h in
+      elim got.2 [
+        | inl p ↦ last_now (EndsLookUp s a found) first later rest (found_ends Second first got.0 found got.1 p.0 p.1) p.2
+        | inr q ↦ last_later (EndsLookUp s a found) first later rest (find_last Third later found rest q.1)
+      ]
+  find_last Third (first ∷ later) found rest h =
+      let got = word_made s.task (Load (slot_of s a + 2)) first _ h in
+      elim got.2 [
+        | inl p ↦ last_now (EndsLookUp s a found) first later rest (found_ends Third first got.0 found got.1 p.0 p.1) p.2
+        | inr q ↦ last_now (EndsLookUp s a found) first later rest (none_ends first got.0 found got.1 q.0 q.1.0) q.1.1
+      ]
 
-  -- a half was heard at the last load of the pair
-  abbrev HeardAt : ℕ → Halves → Record → Type 0
-  HeardAt index both last = last ≡ made s.task (PairLoad index) (answers.Halves both.setter both.finder)
+  -- a half was heard at the last load of the pair: it stood
+  abbrev HeardAt : (Halves → ℕ) → ℕ → Halves → Record → Type 0
+  HeardAt half index both last = (last ≡ made s.task (PairLoad index) (answers.Halves both.setter both.finder)) × (0 < half both)
 
   hears_last : (half : Halves → ℕ) (index : ℕ) (records : List Record) (both : Halves) (rest : List Record)
-      → Hears half s.task index records both rest → EndsAfter (HeardAt index both) records rest
+      → Hears half s.task index records both rest → EndsAfter (HeardAt half index both) records rest
   hears_last half index [] both rest h = absurd h
   hears_last half index (first ∷ later) both rest h =
       let got = halves_made s.task (PairLoad index) first _ h in
       elim got.2 [
-        | inl p ↦ last_now (HeardAt index both) first later rest (got.1 ∙ ap (λ (b : Halves). made s.task (PairLoad index) (answers.Halves b.setter b.finder)) (sym p.1)) p.2
-        | inr q ↦ last_later (HeardAt index both) first later rest (hears_last half index later both rest q.1)
+        | inl p ↦ last_now (HeardAt half index both) first later rest
+            (subst (λ (b : Halves). HeardAt half index b first) (sym p.1) (got.1, p.0)) p.2
+        | inr q ↦ last_later (HeardAt half index both) first later rest (hears_last half index later both rest q.1)
       ]
 
   module _ (outcome : Outcome) where
@@ -158,7 +185,9 @@ module _ (s : Setting) (a : Access) where
 
     tells_last : (index : ℕ) (records rest : List Record) → Tells s a index records outcome rest → EndsAfter Falls records rest
     tells_last index records rest h =
-        last_after Falls records h.1 rest (past_last (HeardAt index h.0) records h.1 (hears_last setter_half index records h.0 h.1 h.2)) (tells_to_last index h.0.setter h.1 rest h.3)
+        last_after Falls records h.1 rest
+        (past_last (HeardAt setter_half index h.0) records h.1 (hears_last setter_half index records h.0 h.1 h.2))
+        (tells_to_last index h.0.setter h.1 rest h.3)
 
     takes_last : (found : Watchpoint) (records rest : List Record) → Takes s a found records outcome rest → EndsAfter Falls records rest
     takes_last found [] rest h = absurd h
@@ -171,18 +200,22 @@ module _ (s : Setting) (a : Access) where
         by_flag false is h = last_now Falls first later rest (as_known Lost first h.0 (found.index, found.word, is)) h.1
 
     -- a watchpoint was found: an access with a mask has its outcome at the look-up's last load
-    found_last : (mask : Option ℕ) (found : Watchpoint) (before records rest : List Record) → EndsAfter IsLoad before records
+    found_last : (mask : Option ℕ) (found : Watchpoint) (before records rest : List Record) → a.mask ≡ mask
+        → EndsAfter (EndsLookUp s a (Some found)) before records
         → MatchOption mask (Takes s a found records outcome rest) (λ m. (outcome ≡ Nothing) × (rest ≡ records)) → EndsAfter Falls before rest
-    found_last None found before records rest looked h =
-        last_after Falls before records rest (past_last IsLoad before records looked) (takes_last found records rest h)
-    found_last (Some m) found before records rest looked h =
-        same_rest Falls before records rest h.1 (looked.0, looked.1, looked.2, as_known Nothing looked.1 h.0 looked.3)
+    found_last None found before records rest none looked h =
+        last_after Falls before records rest (past_last (EndsLookUp s a (Some found)) before records looked)
+        (takes_last found records rest h)
+    found_last (Some m) found before records rest masked looked h =
+        let falls = masked_falls found looked.1 (ap is_some masked) looked.3 in
+        same_rest Falls before records rest h.1 (looked.0, looked.1, looked.2, as_known Nothing looked.1 h.0 falls)
 
     -- what was heard makes the verdict
-    pub hit_falls : (index : ℕ) (values : Option (ℕ × ℕ)) (both : Halves) (last : Record) → HeardAt index both last → HitOutcome s a values both outcome → Falls last
-    hit_falls index values both last is (of.encoding none e) = as_known _ last e (index, both.setter, both.finder, is)
-    hit_falls index values both last is (of.reported c h cs vs e) = as_known _ last e (index, is)
-    hit_falls index values both last is (of.dropped c r h cs vs e) = as_known _ last e (index, both.setter, both.finder, is)
+    pub hit_falls : (index : ℕ) (values : Option (ℕ × ℕ)) (both : Halves) (last : Record) → HeardAt finder_half index both last
+        → HitOutcome s a values both outcome → Falls last
+    hit_falls index values both last is (of.encoding none e) = as_known _ last e (both.setter, both.finder, (index, is.0, is.1))
+    hit_falls index values both last is (of.reported c h cs vs e) = as_known _ last e (index, is.0, is.1)
+    hit_falls index values both last is (of.dropped c r h cs vs e) = as_known _ last e (both.setter, both.finder, (index, is.0, is.1))
 
     pub untouched_falls : (index : ℕ) (values : Option (ℕ × ℕ)) (last : Record) → last ≡ made s.task (Consume index) (answers.Flag true) → UntouchedOutcome s a values outcome → Falls last
     untouched_falls index values last is (of.unknown c old new cs vs v e) = as_known _ last e (index, is)
@@ -239,18 +272,44 @@ module _ (s : Setting) (a : Access) where
       by_flag true h on = all_left later rest h.1
       by_flag false h on = on h
 
-  tries_full : (word index : ℕ) (indices : List ℕ) (records : List Record) (place : Option ℕ) (rest : List Record) → TriesInsert s.task word (index ∷ indices) records place rest
-      → place ≡ None → EndsAfter (FallsAt s a Capacity) records rest
-  tries_full word index indices [] place rest h none = absurd h
-  tries_full word index indices (first ∷ later) place rest h none =
-      let got = flag_made s.task (Insert index word) first _ h in by_flag got.0 got.1 indices got.2 (λ next others more. tries_full word next others later place rest more none)
+  -- a try, in an insertion that finds no place
+  refused_last : (index word : ℕ) (indices : List ℕ) (records : List Record) (place : Option ℕ) (rest : List Record)
+      → TriesInsert s.task word (index ∷ indices) records place rest → place ≡ None
+      → ((first : Record) (later : List Record) → first ≡ made s.task (Insert index word) (answers.Flag false)
+      → TriesInsert s.task word indices later place rest → EndsAfter (FallsAt s a Capacity) (first ∷ later) rest)
+      → EndsAfter (FallsAt s a Capacity) records rest
+  refused_last index word indices [] place rest h none on = absurd h
+  refused_last index word indices (first ∷ later) place rest h none on =
+      let got = flag_made s.task (Insert index word) first _ h in by_flag got.0 got.1 got.2
     where
-      by_flag : (accepted : Bool) → first ≡ made s.task (Insert index word) (answers.Flag accepted) → (left : List ℕ)
-          → MatchBool accepted ((place ≡ Some index) × (rest ≡ later)) (TriesInsert s.task word left later place rest)
-          → ((next : ℕ) (others : List ℕ) → TriesInsert s.task word (next ∷ others) later place rest → EndsAfter (FallsAt s a Capacity) later rest) → EndsAfter (FallsAt s a Capacity) (first ∷ later) rest
-      by_flag true is left h on = absurd (let no : Some index ≡ None = sym h.0 ∙ none in cc)
-      by_flag false is [] h on = last_now (FallsAt s a Capacity) first later rest (index, word, is) h.1
-      by_flag false is (next ∷ others) h on = last_later (FallsAt s a Capacity) first later rest (on next others h)
+      by_flag : (accepted : Bool) → first ≡ made s.task (Insert index word) (answers.Flag accepted)
+          → MatchBool accepted ((place ≡ Some index) × (rest ≡ later)) (TriesInsert s.task word indices later place rest)
+          → EndsAfter (FallsAt s a Capacity) (first ∷ later) rest
+      by_flag true is h = absurd (let no : Some index ≡ None = sym h.0 ∙ none in cc)
+      by_flag false is h = on first later is h
+
+  -- the third is the last
+  third_full : (word : ℕ) (records : List Record) (place : Option ℕ) (rest : List Record)
+      → TriesInsert s.task word (slot_of s a ∷ []) records place rest → place ≡ None → EndsAfter (FallsAt s a Capacity) records rest
+  third_full word records place rest h none =
+      refused_last (slot_of s a) word [] records place rest h none
+      (λ first later is over. last_now (FallsAt s a Capacity) first later rest (word, is) over.1)
+
+  second_full : (word : ℕ) (records : List Record) (place : Option ℕ) (rest : List Record)
+      → TriesInsert s.task word ((slot_of s a + 2) ∷ slot_of s a ∷ []) records place rest → place ≡ None
+      → EndsAfter (FallsAt s a Capacity) records rest
+  second_full word records place rest h none =
+      refused_last (slot_of s a + 2) word (slot_of s a ∷ []) records place rest h none
+      (λ first later is more. last_later (FallsAt s a Capacity) first later rest (third_full word later place rest more none))
+
+  tries_full : (from : Place) (word : ℕ) (records : List Record) (place : Option ℕ) (rest : List Record)
+      → TriesInsert s.task word (left_to_try from (slot_of s a)) records place rest → place ≡ None
+      → EndsAfter (FallsAt s a Capacity) records rest
+  tries_full First word records place rest h none =
+      refused_last (slot_of s a + 1) word ((slot_of s a + 2) ∷ slot_of s a ∷ []) records place rest h none
+      (λ first later is more. last_later (FallsAt s a Capacity) first later rest (second_full word later place rest more none))
+  tries_full Second word records place rest h none = second_full word records place rest h none
+  tries_full Third word records place rest h none = third_full word records place rest h none
 
   frees_ends : (index : ℕ) (records rest : List Record) → Frees s index records rest → EndsWith records rest
   frees_ends index records rest h =
@@ -270,27 +329,26 @@ module _ (s : Setting) (a : Access) where
       )
 
   -- an insertion, and what follows on it
-  inserts_comes : (word asked index : ℕ) (indices : List ℕ) (records : List Record) (place : Option ℕ) (mid : List Record) (judged : Option Judged) (later : List Record) (pass : Pass) (rest : List Record)
-      → TriesInsert s.task word (index ∷ indices) records place mid → WatchesAt s a place mid judged later → Ends s asked judged later pass rest → Comes records pass rest
-  inserts_comes word asked index indices records None mid judged later pass rest tries watches h =
+  inserts_comes : (from : Place) (word asked : ℕ) (records : List Record) (place : Option ℕ) (mid : List Record)
+      (judged : Option Judged) (later : List Record) (pass : Pass) (rest : List Record)
+      → TriesInsert s.task word (left_to_try from (slot_of s a)) records place mid → WatchesAt s a place mid judged later
+      → Ends s asked judged later pass rest → Comes records pass rest
+  inserts_comes from word asked records None mid judged later pass rest tries watches h =
       let over : Ends s asked None later pass rest = subst (λ (j : Option Judged). Ends s asked j later pass rest) watches.0 h in
-      let last = same_rest (FallsAt s a Capacity) records mid later watches.1 (tries_full word index indices records None mid tries refl) in (
+      let last = same_rest (FallsAt s a Capacity) records mid later watches.1 (tries_full from word records None mid tries refl) in (
         subst (λ (p : Pass). FallsIn s records (fallen_of a p)) (sym over.0) last,
         more_on records later rest (past_last (FallsAt s a Capacity) records later last) (all_left later rest over.1),
       )
-  inserts_comes word asked index indices records (Some at) mid judged later pass rest tries watches h =
+  inserts_comes from word asked records (Some at) mid judged later pass rest tries watches h =
       judged_comes asked at watches.0 records judged later pass rest
-      (last_after (FallsAt s a watches.0) records mid later (tries_ends word (index ∷ indices) records (Some at) mid tries) (arms_last watches.0 at mid later watches.1)) watches.2 h
+      (last_after (FallsAt s a watches.0) records mid later (tries_ends word (left_to_try from (slot_of s a)) records (Some at) mid tries)
+      (arms_last watches.0 at mid later watches.1)) watches.2 h
 
   -- what an access that sets a watchpoint up has left
   setup_comes : (setup : Setup) (asked : ℕ) (records : List Record) (judged : Option Judged) (later : List Record) (pass : Pass) (rest : List Record)
       → SetupLeft s a setup records judged later → Ends s asked judged later pass rest → Comes records pass rest
-  setup_comes (setups.Insert First word) asked records judged later pass rest h ends =
-      inserts_comes word asked (slot_of s a + 1) ((slot_of s a + 2) ∷ slot_of s a ∷ []) records h.0 h.1 judged later pass rest h.2 h.3 ends
-  setup_comes (setups.Insert Second word) asked records judged later pass rest h ends =
-      inserts_comes word asked (slot_of s a + 2) (slot_of s a ∷ []) records h.0 h.1 judged later pass rest h.2 h.3 ends
-  setup_comes (setups.Insert Third word) asked records judged later pass rest h ends =
-      inserts_comes word asked (slot_of s a) [] records h.0 h.1 judged later pass rest h.2 h.3 ends
+  setup_comes (setups.Insert from word) asked records judged later pass rest h ends =
+      inserts_comes from word asked records h.0 h.1 judged later pass rest h.2 h.3 ends
   setup_comes (setups.Name index) asked records judged later pass rest h ends =
       judged_comes asked index h.0 records judged later pass rest (arms_last h.0 index records later h.1) h.2 ends
   setup_comes (setups.LoadOld index source) asked records judged later pass rest h ends =
@@ -305,33 +363,39 @@ module _ (s : Setting) (a : Access) where
       judged_comes asked index h.0 records judged later pass rest (judges_hit_last h.0 index values records later h.1) h.2 ends
 
   -- what follows on a look-up
-  module _ (before records : List Record) (looked : EndsAfter IsLoad before records) where
-    looked_only : (outcome : Outcome) (pass : Pass) (rest : List Record) (settled : Bool) (asked : ℕ) → ((last : Record) → IsLoad last → FallsAt s a outcome last)
+  module _ (before records : List Record) where
+    looked_only : (outcome : Outcome) (pass : Pass) (rest : List Record) (settled : Bool) (asked : ℕ)
+        → EndsAfter (FallsAt s a outcome) before records
         → pass ≡ record { outcome = outcome; later = records; settled = settled; asked = asked } → rest ≡ records → Comes before pass rest
-    looked_only outcome pass rest settled asked falls is over = (
-      subst (λ (p : Pass). FallsIn s before (fallen_of a p)) (sym is) (looked.0, looked.1, looked.2, falls looked.1 looked.3),
-      more_on before records rest (past_last IsLoad before records looked) (all_left records rest over),
+    looked_only outcome pass rest settled asked last is over = (
+      subst (λ (p : Pass). FallsIn s before (fallen_of a p)) (sym is) last,
+      more_on before records rest (past_last (FallsAt s a outcome) before records last) (all_left records rest over),
     )
 
-    none_comes : (marked : Bool) (asked : ℕ) (pass : Pass) (rest : List Record) → NoneFound s a marked asked records pass rest → Comes before pass rest
-    none_comes marked asked pass rest (cases.counts_as_marked m is r) = looked_only Nothing pass rest _ _ (λ last h. h) is r
-    none_comes marked asked pass rest (cases.skipped m n is r) = looked_only Nothing pass rest _ _ (λ last h. h) is r
-    none_comes marked asked pass rest (cases.unencodable m w n is r) = looked_only _ pass rest _ _ (λ last h. h) is r
-    none_comes marked asked pass rest (cases.watched judged later m w e up ends) =
+    none_comes : (marked : Bool) (asked : ℕ) (pass : Pass) (rest : List Record) → EndsAfter (EndsLookUp s a None) before records
+        → NoneFound s a marked asked records pass rest → Comes before pass rest
+    none_comes marked asked pass rest looked (cases.counts_as_marked m is r) =
+        looked_only Nothing pass rest _ _ (looked.0, looked.1, looked.2, inl looked.3) is r
+    none_comes marked asked pass rest looked (cases.skipped m n is r) =
+        looked_only Nothing pass rest _ _ (looked.0, looked.1, looked.2, inl looked.3) is r
+    none_comes marked asked pass rest looked (cases.unencodable m w n is r) = looked_only _ pass rest _ _ looked is r
+    none_comes marked asked pass rest looked (cases.watched judged later m w e up ends) =
         let set = setup_comes (setups.Insert First (word_of s.rules.layout a)) (asked + 1) records judged later pass rest up ends in
-        let back = past_last IsLoad before records looked in
+        let back = past_last (EndsLookUp s a None) before records looked in
         (last_after (FallsAt s a pass.outcome) before records pass.later back set.0, more_on before records rest back set.1)
 
-    goes_on_comes : (found : Option Watchpoint) (marked : Bool) (asked : ℕ) (pass : Pass) (rest : List Record) → GoesOn s a marked asked found records pass rest → Comes before pass rest
-    goes_on_comes None marked asked pass rest h = none_comes marked asked pass rest h
-    goes_on_comes (Some found) marked asked pass rest h =
-        let last = found_last pass.outcome a.mask found before records rest looked h.3 in
+    goes_on_comes : (found : Option Watchpoint) (marked : Bool) (asked : ℕ) (pass : Pass) (rest : List Record)
+        → EndsAfter (EndsLookUp s a found) before records
+        → GoesOn s a marked asked found records pass rest → Comes before pass rest
+    goes_on_comes None marked asked pass rest looked h = none_comes marked asked pass rest looked h
+    goes_on_comes (Some found) marked asked pass rest looked h =
+        let last = found_last pass.outcome a.mask found before records rest refl looked h.3 in
         (same_rest (FallsAt s a pass.outcome) before rest pass.later h.2 last, past_last (FallsAt s a pass.outcome) before rest last)
 
   -- a check of an access
   pub once_comes : (marked : Bool) (asked : ℕ) (records : List Record) (pass : Pass) (rest : List Record) → ChecksOnce s a marked asked records pass rest → Comes records pass rest
   once_comes marked asked records pass rest h =
-      goes_on_comes records h.1 (find_last First records h.0 h.1 h.2) h.0 marked asked pass rest h.3
+      goes_on_comes records h.1 h.0 marked asked pass rest (find_last First records h.0 h.1 h.2) h.3
 
 module _ (s : Setting) where
   -- records before
@@ -409,7 +473,8 @@ module _ (s : Setting) where
   pass_come : (begun : Begun) (pass : code.Pass) (asked : ℕ) (records : List Record) (given : Given) (rest : List Record)
       → PassLeft s begun pass asked records given rest → AllCome records given.outcomes rest
   pass_come begun (parts.Find find) asked records given rest h =
-      let come = goes_on_comes s begun.access records h.1 (find_last s begun.access find.place records h.0 h.1 h.2) h.0 begun.marked asked h.3.0 rest h.3.1 in
+      let looked = find_last s begun.access find.place records h.0 h.1 h.2 in
+      let come = goes_on_comes s begun.access records h.1 h.0 begun.marked asked h.3.0 rest looked h.3.1 in
       (subst (λ (g : Given). AllFallIn s records g.outcomes) (sym h.3.2) (come.0, tt), come.1)
   pass_come begun (parts.Found (founds.TryConsume found)) asked records given rest h =
       one_come begun.access records h.0 given asked rest (takes_last s begun.access h.0 found records rest h.1) h.2
@@ -456,15 +521,18 @@ module _ (s : Setting) where
 
   -- an insertion, and the consume
   pub inserted_falls : (a : Access) (place : Place) (word index : ℕ) (accepted : Bool) (result : Watching) → (accepted ≡ true → result ≡ watchings.Going (setups.Name index))
-      → (accepted ≡ false → result ≡ after_refusal word (place_after place)) → (at : ℕ) → WatchingFalls s a result (made s.task (Insert at word) (answers.Flag accepted))
-  inserted_falls a place word index true result stands again at =
-      subst (λ (w : Watching). WatchingFalls s a w (made s.task (Insert at word) (answers.Flag true))) (sym (stands refl)) tt
-  inserted_falls a First word index false result stands again at =
-      subst (λ (w : Watching). WatchingFalls s a w (made s.task (Insert at word) (answers.Flag false))) (sym (again refl)) tt
-  inserted_falls a Second word index false result stands again at =
-      subst (λ (w : Watching). WatchingFalls s a w (made s.task (Insert at word) (answers.Flag false))) (sym (again refl)) tt
-  inserted_falls a Third word index false result stands again at =
-      subst (λ (w : Watching). WatchingFalls s a w (made s.task (Insert at word) (answers.Flag false))) (sym (again refl)) (at, word, refl)
+      → (accepted ≡ false → result ≡ after_refusal word (place_after place))
+      → WatchingFalls s a result (made s.task (Insert (try_index place (slot_of s a)) word) (answers.Flag accepted))
+  inserted_falls a place word index true result stands again =
+      subst (λ (w : Watching). WatchingFalls s a w (made s.task (Insert (try_index place (slot_of s a)) word) (answers.Flag true)))
+      (sym (stands refl)) tt
+  inserted_falls a First word index false result stands again =
+      subst (λ (w : Watching). WatchingFalls s a w (made s.task (Insert (slot_of s a + 1) word) (answers.Flag false))) (sym (again refl)) tt
+  inserted_falls a Second word index false result stands again =
+      subst (λ (w : Watching). WatchingFalls s a w (made s.task (Insert (slot_of s a + 2) word) (answers.Flag false))) (sym (again refl)) tt
+  inserted_falls a Third word index false result stands again =
+      subst (λ (w : Watching). WatchingFalls s a w (made s.task (Insert (slot_of s a) word) (answers.Flag false)))
+      (sym (again refl)) (word, refl)
 
   pub consumed_falls : (a : Access) (index : ℕ) (values : Option (ℕ × ℕ)) (untouched : Bool) (result : Watching)
       → (untouched ≡ true → (outcome : Outcome) × UntouchedOutcome s a values outcome × (result ≡ watchings.Judged index outcome))

@@ -1,4 +1,4 @@
--- Each law by the cases of the definition that it speaks of.
+-- A reported pair is the one that was heard, and shares a byte: by the cases of the verdict.
 use Rattle.std.proofs.Common.{◌≡◌, ℕ, Option, subst, sym}
 use Rattle.access_types.specs.Access.{Access}
 use Rattle.access_types.specs.declared.report.ValueChange.{ValueChange}

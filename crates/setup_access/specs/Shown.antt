@@ -1,4 +1,4 @@
-use Rattle.std.specs.Prelude.{◌↔◌, List, IsTrue}
+use Rattle.std.specs.Prelude.{◌↔◌, ℕ, List, [], ◌∷◌, IsTrue, vec_capacity}
 use Rattle.access_types.specs.History.{History}
 use Rattle.access_types.specs.Marked.{CountsAfter, EndsRaised, is_disable, is_enable, marks_of}
 use Rattle.task_context.specs.Context.{Context}
@@ -26,3 +26,7 @@ pub record IsDecided (s : Setting) (context : Context) (begun : Begun) : Type 0 
   pub marked : (moments : History) → LeadsTo s.rules.plain_writes_atomic s.task moments context
       → IsTrue begun.marked ↔ CountsAfter s.rules.plain_writes_atomic begun.access moments
   pub silenced : IsSilenced s context (IsTrue begun.silenced)
+
+-- what a checker's lists can hold before they take memory
+abbrev pub room_of : Checker → List ℕ
+room_of checker = vec_capacity checker.setting.cells ∷ vec_capacity checker.scopes ∷ []

@@ -4,7 +4,7 @@ ghost use Rattle.std.specs.Prelude.{◌≡◌, ◌+◌, ◌-◌, ◌^◌, ◌<�
 ghost use Rattle.slot_table.specs.Answer.{Answers};
 ghost use Rattle.slot_table.specs.declared.records.Record.{Record};
 ghost use Rattle.setup_access.specs.Due.{given_now, to_due};
-ghost use Rattle.setup_access.specs.FallsAt.{FallsAt, GivesAt, TakingFalls};
+ghost use Rattle.setup_access.specs.FallsAt.{EndsLookUp, GivesAt, TakingFalls};
 ghost use Rattle.setup_access.specs.Parts.{FoundLeft, TakingLeft, found_step, made};
 ghost use Rattle.setup_access.specs.PassLeft.{Given, GoesOnGiven, PassLeft, TurnLeft};
 ghost use Rattle.setup_access.specs.Setting as spec;
@@ -42,7 +42,8 @@ pub enum Taking {
 pub(crate) fn found_watchpoint(begun: &Begun, found: Watchpoint) -> Turn
     ensures fits { given_now result.outcome + to_due result.to ≤ 1 }
     ensures waits { to_wait result.to ≡ None }
-    ensures falls { (s : spec.Setting) (last : Record) → FallsAt s begun.now.access Outcome.Nothing last → GivesAt s begun.now.access result.outcome last }
+    ensures falls { (s : spec.Setting) (last : Record) → EndsLookUp s begun.now.access (Some found) last
+        → GivesAt s begun.now.access result.outcome last }
     ensures left { (s : spec.Setting) (asked : ℕ) (given : Given) (later rest : List Record) →
         GoesOnGiven s begun.now asked (Some found) later given rest ↔ TurnLeft s begun.now result asked later given rest }
 {

@@ -1,38 +1,23 @@
 //! What is true of every check.
 
-ghost use Rattle.std.specs.Prelude.{◌≡◌, ◌++◌, [], ℕ, Bool, IfSome, List, Option, reverse};
-ghost use Rattle.access_types.specs.Access as access;
-ghost use Rattle.slot.specs.Pair.{Halves};
+ghost use Rattle.std.specs.Prelude.{◌≡◌, ◌++◌, [], ℕ, Bool, IfSome, List, reverse};
 ghost use Rattle.slot_table.specs.Discipline.{Discipline, IsFinished};
 ghost use Rattle.slot_table.specs.declared.records.Record.{Record};
-ghost use Rattle.access_types.specs.declared.report.ValueChange.{ValueChange};
 ghost use Rattle.setup_access.specs.Check.{Check, Close, Fallen, Passes};
 ghost use Rattle.setup_access.specs.Fallen.{HaveFallen};
 ghost use Rattle.setup_access.specs.FallsAt.{AllFallIn};
 ghost use Rattle.setup_access.specs.MadeOfChecks.{FreesHeldLocks, MadeOfChecks};
 ghost use Rattle.setup_access.specs.Checker.{Does, Doing};
-ghost use Rattle.setup_access.specs.Leads.{Leads, Rests};
-ghost use Rattle.setup_access.specs.Lending.{with_context};
-ghost use Rattle.setup_access.specs.Shown.{context_of};
-ghost use Rattle.task_context.specs.Context.{Context};
 ghost use Rattle.setup_access.specs.Setting.{Setting};
-ghost use Rattle.setup_access.specs.Verdicts.{HitOutcome, SharesByte};
 ghost use Rattle.setup_access.specs.Waits.{vain_tries, wait_after};
 ghost use Rattle.setup_access.specs.declared.begun.Begun.{Begun};
 
-use crate::checker::Checker;
-use crate::outcome::Outcome;
 use access_types::tickets_read_back;
 use watch_word::words_are_above_one;
 
-/// Law: a reported pair is the one that was heard, and its finder shares a byte with the setter.
-pub fn reports_share_a_byte()
-    ensures { (s : Setting) (a : access.Access) (values : Option (ℕ × ℕ)) (both pair : Halves) (seen : Option ValueChange)
-        → HitOutcome s a values both (Outcome.Report pair seen) → (pair ≡ both) × SharesByte s.sites a pair.finder }
-{}
-
 /// Law: each outcome of a check, and of a close, is of one access and falls at one of the records, of its own
-/// kind: told at the tell, a verdict for two sides at the load of the pair that it names, and so on.
+/// kind: nothing at the last load of a look-up, told at the tell, no room at the third insertion, a verdict for two
+/// sides at the load of the pair in which the finder's half stood, and so on.
 pub fn outcomes_fall_at_records()
     ensures check { (s : Setting) (scopes : List Begun) (begun : Begun) (asked : ℕ) (records : List Record) (passes : Passes) (rest : List Record)
         → Check s scopes begun asked records passes rest → AllFallIn s records passes.outcomes }
@@ -61,13 +46,4 @@ pub fn checks_keep_the_discipline()
 /// Law: a wait counts the vain tries that its records end with.
 pub fn waits_count_vain_tries()
     ensures { (records : List Record) → IfSome (wait_after records) (λ wait. wait.tries ≡ vain_tries records) }
-{}
-
-/// Law: the calls of a task's context change nothing of what its checker does, or has in force.
-pub fn context_is_apart()
-    ensures context { (checker : Checker) (context : Context) → context_of (with_context checker context) ≡ context }
-    ensures rests { (s : Setting) (scopes : List Begun) (asked : ℕ) (last : Option Begun) (checker : Checker) (context : Context)
-        → Rests s scopes asked last checker → Rests s scopes asked last (with_context checker context) }
-    ensures leads { (s : Setting) (scopes : List Begun) (doing : Doing) (asked : ℕ) (records : List Record) (checker : Checker) (context : Context)
-        → Leads s scopes doing asked records checker → Leads s scopes doing asked records (with_context checker context) }
 {}

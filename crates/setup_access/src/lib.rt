@@ -1,6 +1,5 @@
-//! What KCSAN does at one access, from its begin to the point where memory is touched: it looks for a
-//! watchpoint and takes it, or sets one up and watches. The machine says the next step and takes its
-//! answer. It knows no board, no program and no thread.
+//! What KCSAN does at one access, from its begin to the point where memory is touched: it looks for a watchpoint and
+//! takes it, or sets one up and watches. It says the next step, takes its answer, and knows no board or program.
 //!
 //! Of kernel/kcsan/core.c, in this order: `check_access` is in `pass`, `find_watchpoint` in `find`,
 //! `kcsan_found_watchpoint` in `found`, `kcsan_setup_watchpoint` in `setup`, `kcsan_check_scoped_accesses` in

@@ -6,10 +6,7 @@ ghost use Rattle.setup_access.specs.Due.{extended, given_now};
 use crate::outcome::Outcome;
 use std::marker::Model;
 
-/// At most so many outcomes a check has: its own, and one for each scoped assertion in force.
-pub const OUTCOMES: usize = 9;
-
-/// The outcomes of a check so far, in order.
+/// The outcomes of a check so far, in order: at most 9, its own and one for each scoped assertion in force.
 #[derive(Debug, Drop)]
 pub struct Outcomes {
     outcomes: [Outcome; 9],

@@ -5,7 +5,7 @@ ghost use Rattle.access_types.specs.Sites.{AccessMap};
 ghost use Rattle.slot_table.specs.Answer.{Answers};
 ghost use Rattle.slot_table.specs.declared.records.Record.{Record};
 ghost use Rattle.setup_access.specs.Due.{given_now, to_due};
-ghost use Rattle.setup_access.specs.FallsAt.{FallsAt, GivesAt, WatchingFalls};
+ghost use Rattle.setup_access.specs.FallsAt.{EndsLookUp, GivesAt, WatchingFalls};
 ghost use Rattle.setup_access.specs.Kept.{setting_with};
 ghost use Rattle.setup_access.specs.Parts.{SetupLeft, WatchingLeft, after_name, after_refusal, made, place_after, setup_step, try_index};
 ghost use Rattle.setup_access.specs.PassLeft.{Given, GoesOnGiven, PassLeft, TurnLeft};
@@ -83,7 +83,8 @@ pub enum Watching {
 pub(crate) fn setup_watchpoint(setting: &Setting, begun: &Begun) -> Turn
     ensures fits { given_now result.outcome + to_due result.to ≤ 1 }
     ensures waits { to_wait result.to ≡ None }
-    ensures falls { (s : spec.Setting) (last : Record) → FallsAt s begun.now.access Outcome.Nothing last → GivesAt s begun.now.access result.outcome last }
+    ensures falls { (s : spec.Setting) (last : Record) → EndsLookUp s begun.now.access None last
+        → GivesAt s begun.now.access result.outcome last }
     ensures left { (sites : AccessMap) (asked : ℕ) (given : Given) (later rest : List Record) → let s = setting_with setting.now sites in
         begun.now.marked ≡ false → spec.IsWatched s asked → (GoesOnGiven s begun.now asked None later given rest ↔ TurnLeft s begun.now result (asked + 1) later given rest) }
 {

@@ -1,9 +1,10 @@
 -- What is left of the look-up, and of what follows on it, is what is left of the check.
-use Rattle.std.proofs.Common.{◌+◌, ◌∷◌, None, Some}
+use Rattle.std.proofs.Common.{◌+◌, ◌∷◌, [], None, Some, inl, refl}
 use Rattle.slot_table.specs.declared.step.Answer.TheVariants.{Word}
 use Rattle.setup_access.specs.Kept.{setting_with}
 use Rattle.setup_access.specs.Parts.{find_step, made}
 use Rattle.setup_access.specs.declared.pass.Pass.TheVariants as passes
+use Rattle.setup_access.proofs.FallLemmas.{sought_ends}
 use Rattle.setup_access.proofs.PassLemmas.{going_left, look_goes, look_over, not_watched, through, watch_unmarked}
 use Rattle.setup_access.proofs.pass.check_access.Goals as goal
 
@@ -58,3 +59,26 @@ returns-else-not-should_watch-clause-left c = λ asked samples.
           (λ found mid. c.in-Missed.ensures c.args.sites.now found later mid))
           (c.setup_watchpoint.ensures.left c.args.sites.now asked given later rest unmarked ((c.should_watch.ensures.watched asked unmarked samples).0 c.if-not-should_watch.false)),
     )
+
+pub returns-in-Found-clause-falls : goal.returns-in-Found-clause-falls
+returns-in-Found-clause-falls c =
+    let s = setting_with c.args.setting.now c.args.sites.now in
+    rw c.in-Word.is
+    (c.found_watchpoint.ensures.falls s _
+    (sought_ends s c.args.begun.now.access c.args.find.place c.in-Word.word (Some c.in-Found.found)
+    ((c.in-Found.ensures c.args.sites.now (Some c.in-Found.found) [] []).1 (refl, refl))))
+
+pub returns-then-not-should_watch-clause-falls : goal.returns-then-not-should_watch-clause-falls
+returns-then-not-should_watch-clause-falls c =
+    let s = setting_with c.args.setting.now c.args.sites.now in
+    rw (c.in-Word.is, c.over.ensures)
+    (inl (sought_ends s c.args.begun.now.access c.args.find.place c.in-Word.word None
+    ((c.in-Missed.ensures c.args.sites.now None [] []).1 (refl, refl))))
+
+pub returns-else-not-should_watch-clause-falls : goal.returns-else-not-should_watch-clause-falls
+returns-else-not-should_watch-clause-falls c =
+    let s = setting_with c.args.setting.now c.args.sites.now in
+    rw c.in-Word.is
+    (c.setup_watchpoint.ensures.falls s _
+    (sought_ends s c.args.begun.now.access c.args.find.place c.in-Word.word None
+    ((c.in-Missed.ensures c.args.sites.now None [] []).1 (refl, refl))))

@@ -84,7 +84,7 @@ pub returns-in-Insert-Flag-clause-falls : goal.returns-in-Insert-Flag-clause-fal
 returns-in-Insert-Flag-clause-falls c =
     rw (c.in-Insert-Flag.is-0, c.in-Insert-Flag.is-1)
     (inserted_falls (setting_with c.args.setting.now c.args.sites.now) c.args.access.now c.in-Insert-Flag.place c.in-Insert-Flag.word _ c.in-Insert-Flag.accepted c.inserted.result
-    (c.inserted.ensures.accepted c.args.sites.now) c.inserted.ensures.refused _)
+    (c.inserted.ensures.accepted c.args.sites.now) c.inserted.ensures.refused)
 
 pub returns-in-Consume-Flag-clause-falls : goal.returns-in-Consume-Flag-clause-falls
 returns-in-Consume-Flag-clause-falls c =
@@ -96,7 +96,8 @@ pub returns-else-finder-eq0-clause-falls : goal.returns-else-finder-eq0-clause-f
 returns-else-finder-eq0-clause-falls c =
     rw (c.in-HearFinder-Halves.is-0, c.in-HearFinder-Halves.is-1)
     (hit_falls (setting_with c.args.setting.now c.args.sites.now) c.args.access.now c.hit-outcome.result c.in-HearFinder-Halves.index c.in-HearFinder-Halves.values
-    (record { setter = c.in-HearFinder-Halves.setter; finder = c.in-HearFinder-Halves.finder }) _ refl (rw c.pair_of.ensures at c.hit-outcome.ensures))
+    (record { setter = c.in-HearFinder-Halves.setter; finder = c.in-HearFinder-Halves.finder }) _ (refl, omega arith)
+    (rw c.pair_of.ensures at c.hit-outcome.ensures))
 
 pub returns-in-Name-Done-clause-falls : goal.returns-in-Name-Done-clause-falls
 returns-in-Name-Done-clause-falls c = rw (c.named.ensures c.args.sites.now) tt
