@@ -9,7 +9,7 @@ use mathlib.Core.Option.{some}
 use lib.ListN.{get_elem?}
 use Rattle.atomic_table.specs.Table.{Allows as AllowsStep, State, keeps as leaves_slots}
 use Rattle.atomic_table.proofs.Lists.{at_set}
-use Rattle.slot_table.specs.Discipline.{AllKeepDiscipline, Allows, Discipline}
+use Rattle.slot_table.specs.Discipline.{AllKeepDiscipline, Allows, Discipline, LegalInDiscipline}
 use Rattle.slot_table.specs.Records.{Follows, records_of, words_after}
 use Rattle.slot_table.specs.StepLine.{Names, step_line}
 use Rattle.slot_table.specs.Words.{Words}
@@ -25,6 +25,7 @@ use Rattle.shared_table.specs.Plays.{Me, Notes}
 use Rattle.slot.specs.Pair.{unnamed}
 use Rattle.shared_table.specs.Row.{cells_from, halves_in, indices, locks_from, pairs_from, row_length, section, words_in}
 use Rattle.shared_table.specs.RunningWords.{IsHeld, IsHeldByNobody, RunningWords}
+use Rattle.shared_table.specs.Touches.{HasList, Told}
 use Rattle.shared_table.specs.Views.{alone, noted}
 use Rattle.shared_table.specs.declared.view.Held.{Held}
 use Rattle.shared_table.specs.declared.view.View.{View}
@@ -169,10 +170,13 @@ module _ (given : Given) (id task : ℕ) (own : List Record) (step : Step) (plac
           (λ all. All-cons P (record { task = task; records = own }) [] (is_other other nobody) (All-nil P))
           nobody)
 
+      legal : LegalInDiscipline given.page_slots given.locks given.cells (latest ∷ now.records)
+      legal = record { legal = (now.legal.legal, follows); keeps = keeps_more latest now.records now.legal.keeps may }
+
       pub kept : RunningWords given (set row place (change (found_in row))) (set views id (view_after (found_in row)))
       kept = record {
         records = latest ∷ now.records;
-        legal = record { legal = (now.legal.legal, follows); keeps = keeps_more latest now.records now.legal.keeps may };
+        legal = legal;
         counts = length-set row place (change (found_in row)) ∙ now.counts;
         stand = stands;
         seat_of = now.seat_of;
@@ -181,9 +185,29 @@ module _ (given : Given) (id task : ℕ) (own : List Record) (step : Step) (plac
         others = λ other past. others_stay latest now.records other (λ same. omega arith) ∙ now.others other past;
       }
 
+    -- the seat notes the one record, and its list is that of the rule
+    listed : (row : List ℕ) (views : List View) (now : RunningWords given row views) → get_elem? views id ≡ some (alone given task own)
+        → get_or row place 0 < 2 ^ 64 → HasList (view_after (found_in row))
+    listed row views now at fits =
+        let latest : Record = made (found_in row) in (
+          latest ∷ now.records,
+          record {
+            legal = legal row views now at fits;
+            all = own_grows latest now.records ∙ ap (λ (held : List Record). latest ∷ held) (mine row views now at fits).all;
+          },
+        )
+
     pub allows : (key : Given) (slots : ℕ) (me : Me) → key ≡ given → me ≡ (alone given task own, [])
-        → AllowsStep (λ (state : State (Unit {0}) View). RunningWords key state.words state.views) slots id me place change (λ found after. Notes step (answer found) me after)
+        → AllowsStep (λ (state : State (Unit {0}) View). RunningWords key state.words state.views) slots id me place change
+        (Told (λ found after. Notes step (answer found) me after) me)
     allows key slots me is me_is =
-        let P : Given × Me → Type 0 = λ p. AllowsStep (λ (state : State (Unit {0}) View). RunningWords p.0 state.words state.views) slots id p.1 place change (λ found after. Notes step (answer found) p.1 after) in
+        let P : Given × Me → Type 0 = λ p. AllowsStep (λ (state : State (Unit {0}) View). RunningWords p.0 state.words state.views) slots id p.1 place change
+        (Told (λ found after. Notes step (answer found) p.1 after) p.1) in
         subst P (λ i. (sym is i, sym me_is i))
-        (λ state now homes at fits. (view_after (found_in state.words), leaves_slots, tt, kept state.words state.views now at fits, refl))
+        (λ state now homes at fits. (
+          view_after (found_in state.words),
+          leaves_slots,
+          tt,
+          kept state.words state.views now at fits,
+          (refl, (step, answer (found_in state.words), refl), listed state.words state.views now at fits),
+        ))

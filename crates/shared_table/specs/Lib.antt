@@ -4,4 +4,5 @@ pub mod Views
 pub mod RunningWords
 pub mod Plays
 pub mod Seats
+pub mod Touches
 pub mod Ended

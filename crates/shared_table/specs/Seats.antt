@@ -1,7 +1,8 @@
-use Rattle.std.specs.Prelude.{ℕ, List, [], ◌∷◌, map}
+use Rattle.std.specs.Prelude.{◌≡◌, ℕ, List, [], ◌∷◌, map}
 use Rattle.std.specs.List.{range_with_len}
 use Rattle.atomic_table.specs.Seated.{TableId}
-use Rattle.slot_table.specs.Discipline.{Allows}
+use Rattle.slot_table.specs.Discipline.{Allows, LegalInDiscipline}
+use Rattle.slot_table.specs.Records.{records_of}
 use Rattle.slot_table.specs.StepLine.{Names}
 use Rattle.slot_table.specs.declared.records.Record.{Record}
 use Rattle.slot_table.specs.declared.step.Answer.{Answer}
@@ -35,3 +36,13 @@ seat_after seat step answer =
 abbrev pub new_seats : Opened → ℕ → List Sitting
 new_seats opened tasks =
     map (λ task. record { table = opened; task = task; records = [] }) (range_with_len 0 tasks)
+
+-- the list is legal from the first words on, each task by the discipline, and these are all records
+-- that it has of a task
+pub record IsListWith (given : Given) (task : ℕ) (own records : List Record) : Type 0 where
+  pub legal : LegalInDiscipline given.page_slots given.locks given.cells records
+  pub all : records_of task records ≡ own
+
+-- such a list, with the records that a seat holds of its task
+abbrev pub IsListAt : Sitting → List Record → Type 0
+IsListAt seat records = IsListWith seat.table.given seat.task seat.records records

@@ -34,6 +34,11 @@ abbrev pub without_first : List Held → List Held
 without_first [] = []
 without_first (own ∷ others) = others
 
+-- the task of a seat of one task
+abbrev pub own_task : List Held → ℕ
+own_task [] = 0
+own_task (own ∷ others) = own.task
+
 -- the records that a seat of one task holds
 abbrev pub own_records : List Held → List Record
 own_records [] = []

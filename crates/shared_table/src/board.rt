@@ -1,23 +1,29 @@
 //! The board of one task on the shared words. Code that is written for any `Board` runs on it as it
 //! is.
 
-ghost use Rattle.std.specs.Prelude.{◌≡◌, ◌↔◌, IsTrue};
+ghost use Rattle.std.specs.Prelude.{◌≡◌, ◌↔◌, ℕ, IsTrue, List};
 ghost use Rattle.slot_table.specs.Answer.{Answers};
+ghost use Rattle.slot_table.specs.Records.{words_after};
+ghost use Rattle.slot_table.specs.Roles.{Stands};
 ghost use Rattle.slot_table.specs.StepLine.{Names};
+ghost use Rattle.slot_table.specs.declared.records.Record.{Record};
 ghost use Rattle.shared_table.specs.Given.{first_words};
-ghost use Rattle.shared_table.specs.Seats.{MayMake, seat_after};
+ghost use Rattle.shared_table.specs.Seats.{IsListAt, MayMake, seat_after};
 
 use crate::seat::TaskSeat;
 use crate::table::SharedTable;
+use crate::words::SharedWords;
 use slot::CONSUMED;
+use slot_table::laws::roles;
 use slot_table::{Answer, Board, Step};
 use std::marker::Model;
 
-/// A task at its seat, before the shared words. Each step is one atomic operation on one word; it
-/// takes no memory, waits for nobody and can't fail.
+/// A task at its seat, before the shared words. Each step is one atomic operation on one word, which
+/// can't fail: each operation in its reach notes one record, and a step has one. Nothing in its reach
+/// lends an allocator.
 #[derive(Drop)]
 pub struct SharedBoard<'a> {
-    table: &'a SharedTable,
+    words: SharedWords<'a>,
     seat: TaskSeat,
 }
 
@@ -29,7 +35,7 @@ impl<'a> Model for SharedBoard<'a> {
 
     ghost view = { λ b. b.seat };
 
-    ghost invariant = { λ b. b.seat.table ≡ b.table.now };
+    ghost invariant = { λ b. b.seat.table ≡ b.words };
 }
 
 impl SharedTable {
@@ -38,7 +44,10 @@ impl SharedTable {
         requires { seat.table ≡ self.now }
         ensures { result ≡ seat }
     {
-        SharedBoard { table: self, seat }
+        SharedBoard {
+            words: self.words(),
+            seat,
+        }
     }
 }
 
@@ -74,6 +83,52 @@ impl<'a> SharedBoard<'a> {
     {
         self.seat
     }
+
+    /// Law: a list that is legal from the first words on, each task by the discipline, has just the
+    /// seat's records of its task. No step is made. Each call tells of a list of its own.
+    pub fn has_one_list(&self)
+        ensures { (records : List Record) × IsListAt self.now records }
+    {
+        self.seat.has_one_list();
+    }
+
+    /// Law: in such a list the words and the parts of all tasks stand, index by index, as the table of
+    /// roles has it. Who needs both facts of one list takes them here.
+    pub fn has_roles(&self)
+        ensures { (records : List Record) × IsListAt self.now records
+            × ((index : ℕ) → Stands (words_after (first_words self.now.table.given) records) records index) }
+    {
+        roles();
+        self.seat.has_one_list();
+    }
+
+    /// Makes a step, by the operation of its kind.
+    fn make(&mut self, step: Step) -> Answer
+        requires { MayMake self.old step }
+        ensures kind { Answers step result }
+        ensures made { self.new ≡ seat_after self.old step result }
+    {
+        let words = &self.words;
+        let seat = &mut self.seat;
+        match step {
+            Step::Load(index) => seat.load(words, index),
+            Step::Insert(index, word) => seat.insert(words, index, word),
+            Step::TryConsume(index, word) => seat.try_consume(words, index, word),
+            Step::Consume(index) => seat.consume(words, index),
+            Step::Remove(index) => seat.remove(words, index),
+            Step::PairLoad(index) => seat.pair_load(words, index),
+            Step::Name(index, ticket) => seat.name(words, index, ticket),
+            Step::Tell(index, ticket) => seat.tell(words, index, ticket),
+            Step::Clear(index) => seat.clear(words, index),
+            Step::CellLoad(cell) => seat.cell_load(words, cell),
+            Step::CellExchange(cell, expected, new) => {
+                seat.cell_exchange(words, cell, expected, new)
+            }
+            Step::LockTry(lock, task) => seat.lock_try(words, lock, task),
+            Step::LockStore(lock) => seat.lock_store(words, lock),
+            Step::Clock => seat.tick(words),
+        }
+    }
 }
 
 impl<'a> Board for SharedBoard<'a> {
@@ -85,26 +140,10 @@ impl<'a> Board for SharedBoard<'a> {
         requires { MayMake self.old step }
         ensures kind { Answers step result }
         ensures made { self.new ≡ seat_after self.old step result }
+        ensures list { (records : List Record) × IsListAt self.new records }
     {
-        let table = self.table;
-        let seat = &mut self.seat;
-        match step {
-            Step::Load(index) => seat.load(table, index),
-            Step::Insert(index, word) => seat.insert(table, index, word),
-            Step::TryConsume(index, word) => seat.try_consume(table, index, word),
-            Step::Consume(index) => seat.consume(table, index),
-            Step::Remove(index) => seat.remove(table, index),
-            Step::PairLoad(index) => seat.pair_load(table, index),
-            Step::Name(index, ticket) => seat.name(table, index, ticket),
-            Step::Tell(index, ticket) => seat.tell(table, index, ticket),
-            Step::Clear(index) => seat.clear(table, index),
-            Step::CellLoad(cell) => seat.cell_load(table, cell),
-            Step::CellExchange(cell, expected, new) => {
-                seat.cell_exchange(table, cell, expected, new)
-            }
-            Step::LockTry(lock, task) => seat.lock_try(table, lock, task),
-            Step::LockStore(lock) => seat.lock_store(table, lock),
-            Step::Clock => seat.tick(table),
-        }
+        let answer = self.make(step);
+        self.has_one_list();
+        answer
     }
 }

@@ -12,6 +12,7 @@ mod rule;
 pub mod seat;
 pub mod table;
 mod view;
+mod words;
 
 pub use board::SharedBoard;
 pub use gathered::Gathered;

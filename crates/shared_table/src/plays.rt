@@ -8,6 +8,7 @@ ghost use Rattle.shared_table.specs.Plays.{Tells, Ticks, TriesLock, TriesToConsu
 
 use crate::view::View;
 use atomic_table::{Join, Play, Split};
+use std::marker::PhantomData;
 
 pub struct Load;
 
@@ -120,4 +121,15 @@ impl Join<View> for AllTasks {
     ghost both = { with_both };
 
     ghost spent = { nothing_held };
+}
+
+/// What a play tells, of an operation that notes one record at the seat.
+pub struct Noted<M> {
+    of: PhantomData<M>,
+}
+
+impl<M: Play<(), View>> Play<(), View> for Noted<M> {
+    ghost use Rattle.shared_table.specs.Touches.{Told};
+
+    ghost then = { λ on before found after. Told (M.then on before) before found after };
 }

@@ -1,17 +1,18 @@
 //! A task's seat: the token of what the task has seen. Each step on the shared words needs it and
 //! keeps it.
 
-ghost use Rattle.std.specs.Prelude.{◌≡◌, ◌==◌, ◌<◌, ◌*◌, ◌^◌, ℕ, true, [], if◌then◌else◌, is_some};
+ghost use Rattle.std.specs.Prelude.{◌≡◌, ◌==◌, ◌<◌, ◌*◌, ◌^◌, ℕ, List, true, [], if◌then◌else◌, is_some};
 ghost use Rattle.slot_table.specs.declared.step.Answer.TheVariants as answers;
 ghost use Rattle.slot_table.specs.Answer.{Answers};
 ghost use Rattle.slot_table.specs.Discipline.{in_hand};
+ghost use Rattle.slot_table.specs.declared.records.Record.{Record};
 ghost use Rattle.slot_table.specs.declared.step.Step.TheVariants as steps;
-ghost use Rattle.shared_table.specs.Seats.{MayMake, seat_after};
+ghost use Rattle.shared_table.specs.Seats.{IsListAt, MayMake, seat_after};
 ghost use Rattle.shared_table.specs.Views.{alone};
 
 use crate::plays;
-use crate::table::SharedTable;
 use crate::view::View;
+use crate::words::{RowSeat, SharedWords};
 use atomic_table::Seat;
 use slot::CONSUMED;
 use slot_table::Answer;
@@ -29,7 +30,7 @@ pub struct TaskSeat {
     task: u32,
     /// Whether a handshake is in hand.
     is_open: bool,
-    seat: Seat<(), View>,
+    seat: RowSeat,
 }
 
 impl Model for TaskSeat {
@@ -66,7 +67,7 @@ impl TaskSeat {
         TaskSeat {
             task,
             is_open: false,
-            seat,
+            seat: RowSeat::new(seat),
         }
     }
 
@@ -90,41 +91,47 @@ impl TaskSeat {
         ensures id { result.table_id ≡ self.table.id }
         ensures me { result.me ≡ (alone self.table.given self.task self.records, []) }
     {
-        self.seat
+        self.seat.into_seat()
+    }
+
+    /// Law: a list that is legal from the first words on, each task by the discipline, has just these
+    /// records of the task. Each call tells of a list of its own.
+    pub fn has_one_list(&self)
+        ensures { (records : List Record) × IsListAt self.now records }
+    {
+        self.seat.has_one_list();
     }
 
     /// Reads the watch word at an index.
-    pub(crate) fn load(&mut self, table: &SharedTable, index: usize) -> Answer
-        requires table { self.old.table ≡ table.now }
+    pub(crate) fn load(&mut self, words: &SharedWords<'_>, index: usize) -> Answer
+        requires table { self.old.table ≡ words.now }
         requires may { MayMake self.old (steps.Load index) }
         ensures kind { Answers (steps.Load index) result }
         ensures made { self.new ≡ seat_after self.old (steps.Load index) result }
     {
-        Answer::Word(table.row.shared.load::<plays::Load>(&mut self.seat, index))
+        Answer::Word(words.load::<plays::Load>(&mut self.seat, index))
     }
 
     /// Sets up a watchpoint at an index, if there is none.
-    pub(crate) fn insert(&mut self, table: &SharedTable, index: usize, word: u64) -> Answer
-        requires table { self.old.table ≡ table.now }
+    pub(crate) fn insert(&mut self, words: &SharedWords<'_>, index: usize, word: u64) -> Answer
+        requires table { self.old.table ≡ words.now }
         requires may { MayMake self.old (steps.Insert index word) }
         ensures kind { Answers (steps.Insert index word) result }
         ensures made { self.new ≡ seat_after self.old (steps.Insert index word) result }
     {
-        let shared = &table.row.shared;
-        let found = shared.compare_exchange::<plays::Insert>(&mut self.seat, index, 0, word);
+        let found = words.compare_exchange::<plays::Insert>(&mut self.seat, index, 0, word);
         self.is_open = found == 0;
         Answer::Flag(self.is_open)
     }
 
     /// Claims the watchpoint at an index, if it is still this word.
-    pub(crate) fn try_consume(&mut self, table: &SharedTable, index: usize, word: u64) -> Answer
-        requires table { self.old.table ≡ table.now }
+    pub(crate) fn try_consume(&mut self, words: &SharedWords<'_>, index: usize, word: u64) -> Answer
+        requires table { self.old.table ≡ words.now }
         requires may { MayMake self.old (steps.TryConsume index word) }
         ensures kind { Answers (steps.TryConsume index word) result }
         ensures made { self.new ≡ seat_after self.old (steps.TryConsume index word) result }
     {
-        let shared = &table.row.shared;
-        let found = shared.compare_exchange::<plays::TryConsume>(
+        let found = words.compare_exchange::<plays::TryConsume>(
             &mut self.seat,
             index,
             word,
@@ -135,128 +142,108 @@ impl TaskSeat {
     }
 
     /// Ends the watch at an index.
-    pub(crate) fn consume(&mut self, table: &SharedTable, index: usize) -> Answer
-        requires table { self.old.table ≡ table.now }
+    pub(crate) fn consume(&mut self, words: &SharedWords<'_>, index: usize) -> Answer
+        requires table { self.old.table ≡ words.now }
         requires may { MayMake self.old (steps.Consume index) }
         ensures kind { Answers (steps.Consume index) result }
         ensures made { self.new ≡ seat_after self.old (steps.Consume index) result }
     {
-        let shared = &table.row.shared;
-        let found = shared.swap::<plays::Consume>(&mut self.seat, index, CONSUMED);
+        let found = words.swap::<plays::Consume>(&mut self.seat, index, CONSUMED);
         self.is_open = true;
         Answer::Flag(found != 0 && found != CONSUMED)
     }
 
     /// Frees an index.
-    pub(crate) fn remove(&mut self, table: &SharedTable, index: usize) -> Answer
-        requires table { self.old.table ≡ table.now }
+    pub(crate) fn remove(&mut self, words: &SharedWords<'_>, index: usize) -> Answer
+        requires table { self.old.table ≡ words.now }
         requires may { MayMake self.old (steps.Remove index) }
         ensures kind { Answers (steps.Remove index) result }
         ensures made { self.new ≡ seat_after self.old (steps.Remove index) result }
     {
-        table
-            .row
-            .shared
-            .store::<plays::Remove>(&mut self.seat, index, 0);
+        words.store::<plays::Remove>(&mut self.seat, index, 0);
         self.is_open = false;
         Answer::Done
     }
 
     /// Reads both halves of the pair word at an index.
-    pub(crate) fn pair_load(&mut self, table: &SharedTable, index: usize) -> Answer
-        requires table { self.old.table ≡ table.now }
+    pub(crate) fn pair_load(&mut self, words: &SharedWords<'_>, index: usize) -> Answer
+        requires table { self.old.table ≡ words.now }
         requires may { MayMake self.old (steps.PairLoad index) }
         ensures kind { Answers (steps.PairLoad index) result }
         ensures made { self.new ≡ seat_after self.old (steps.PairLoad index) result }
     {
-        let place = table.pair_at(index);
-        let both = table
-            .row
-            .shared
-            .load::<plays::PairLoad>(&mut self.seat, place);
+        let place = words.pair_at(index);
+        let both = words.load::<plays::PairLoad>(&mut self.seat, place);
         Answer::Halves((both >> HALF) as u32, (both & LOWER_HALF) as u32)
     }
 
     /// Names the setter at an index by its ticket.
-    pub(crate) fn name(&mut self, table: &SharedTable, index: usize, ticket: u32) -> Answer
-        requires table { self.old.table ≡ table.now }
+    pub(crate) fn name(&mut self, words: &SharedWords<'_>, index: usize, ticket: u32) -> Answer
+        requires table { self.old.table ≡ words.now }
         requires may { MayMake self.old (steps.Name index ticket) }
         ensures kind { Answers (steps.Name index ticket) result }
         ensures made { self.new ≡ seat_after self.old (steps.Name index ticket) result }
     {
-        let place = table.pair_at(index);
+        let place = words.pair_at(index);
         let half = setters_half(ticket);
-        table
-            .row
-            .shared
-            .fetch_or::<plays::Name>(&mut self.seat, place, half);
+        words.fetch_or::<plays::Name>(&mut self.seat, place, half);
         self.is_open = true;
         Answer::Done
     }
 
     /// Tells the setter at an index who took its watchpoint, by the finder's ticket.
-    pub(crate) fn tell(&mut self, table: &SharedTable, index: usize, ticket: u32) -> Answer
-        requires table { self.old.table ≡ table.now }
+    pub(crate) fn tell(&mut self, words: &SharedWords<'_>, index: usize, ticket: u32) -> Answer
+        requires table { self.old.table ≡ words.now }
         requires may { MayMake self.old (steps.Tell index ticket) }
         ensures kind { Answers (steps.Tell index ticket) result }
         ensures made { self.new ≡ seat_after self.old (steps.Tell index ticket) result }
     {
-        let place = table.pair_at(index);
+        let place = words.pair_at(index);
         let half = u64::from(ticket);
-        let shared = &table.row.shared;
-        shared.fetch_or::<plays::Tell>(&mut self.seat, place, half);
+        words.fetch_or::<plays::Tell>(&mut self.seat, place, half);
         self.is_open = false;
         Answer::Done
     }
 
     /// Empties both halves of the pair word at an index.
-    pub(crate) fn clear(&mut self, table: &SharedTable, index: usize) -> Answer
-        requires table { self.old.table ≡ table.now }
+    pub(crate) fn clear(&mut self, words: &SharedWords<'_>, index: usize) -> Answer
+        requires table { self.old.table ≡ words.now }
         requires may { MayMake self.old (steps.Clear index) }
         ensures kind { Answers (steps.Clear index) result }
         ensures made { self.new ≡ seat_after self.old (steps.Clear index) result }
     {
-        let place = table.pair_at(index);
-        table
-            .row
-            .shared
-            .store::<plays::Clear>(&mut self.seat, place, 0);
+        let place = words.pair_at(index);
+        words.store::<plays::Clear>(&mut self.seat, place, 0);
         self.is_open = true;
         Answer::Done
     }
 
     /// Reads a cell.
-    pub(crate) fn cell_load(&mut self, table: &SharedTable, cell: usize) -> Answer
-        requires table { self.old.table ≡ table.now }
+    pub(crate) fn cell_load(&mut self, words: &SharedWords<'_>, cell: usize) -> Answer
+        requires table { self.old.table ≡ words.now }
         requires may { MayMake self.old (steps.CellLoad cell) }
         ensures kind { Answers (steps.CellLoad cell) result }
         ensures made { self.new ≡ seat_after self.old (steps.CellLoad cell) result }
     {
-        let place = table.cell_at(cell);
-        Answer::Word(
-            table
-                .row
-                .shared
-                .load::<plays::CellLoad>(&mut self.seat, place),
-        )
+        let place = words.cell_at(cell);
+        Answer::Word(words.load::<plays::CellLoad>(&mut self.seat, place))
     }
 
     /// Puts a new value into a cell, if it holds the expected one.
     pub(crate) fn cell_exchange(
         &mut self,
-        table: &SharedTable,
+        words: &SharedWords<'_>,
         cell: usize,
         expected: u64,
         new: u64,
     ) -> Answer
-        requires table { self.old.table ≡ table.now }
+        requires table { self.old.table ≡ words.now }
         requires may { MayMake self.old (steps.CellExchange cell expected new) }
         ensures kind { Answers (steps.CellExchange cell expected new) result }
         ensures made { self.new ≡ seat_after self.old (steps.CellExchange cell expected new) result }
     {
-        let place = table.cell_at(cell);
-        let shared = &table.row.shared;
-        let found = shared.compare_exchange::<plays::CellExchange>(
+        let place = words.cell_at(cell);
+        let found = words.compare_exchange::<plays::CellExchange>(
             &mut self.seat,
             place,
             expected,
@@ -266,48 +253,39 @@ impl TaskSeat {
     }
 
     /// Takes a lock for a task, if it is free.
-    pub(crate) fn lock_try(&mut self, table: &SharedTable, lock: usize, task: u32) -> Answer
-        requires table { self.old.table ≡ table.now }
+    pub(crate) fn lock_try(&mut self, words: &SharedWords<'_>, lock: usize, task: u32) -> Answer
+        requires table { self.old.table ≡ words.now }
         requires may { MayMake self.old (steps.LockTry lock task) }
         ensures kind { Answers (steps.LockTry lock task) result }
         ensures made { self.new ≡ seat_after self.old (steps.LockTry lock task) result }
     {
-        let place = table.lock_at(lock);
+        let place = words.lock_at(lock);
         let holder = 1 + u64::from(task);
-        let shared = &table.row.shared;
-        let found = shared.compare_exchange::<plays::LockTry>(&mut self.seat, place, 0, holder);
+        let found = words.compare_exchange::<plays::LockTry>(&mut self.seat, place, 0, holder);
         Answer::Flag(found == 0)
     }
 
     /// Frees a lock.
-    pub(crate) fn lock_store(&mut self, table: &SharedTable, lock: usize) -> Answer
-        requires table { self.old.table ≡ table.now }
+    pub(crate) fn lock_store(&mut self, words: &SharedWords<'_>, lock: usize) -> Answer
+        requires table { self.old.table ≡ words.now }
         requires may { MayMake self.old (steps.LockStore lock) }
         ensures kind { Answers (steps.LockStore lock) result }
         ensures made { self.new ≡ seat_after self.old (steps.LockStore lock) result }
     {
-        let place = table.lock_at(lock);
-        table
-            .row
-            .shared
-            .store::<plays::LockStore>(&mut self.seat, place, 0);
+        let place = words.lock_at(lock);
+        words.store::<plays::LockStore>(&mut self.seat, place, 0);
         Answer::Done
     }
 
     /// Advances the clock.
-    pub(crate) fn tick(&mut self, table: &SharedTable) -> Answer
-        requires table { self.old.table ≡ table.now }
+    pub(crate) fn tick(&mut self, words: &SharedWords<'_>) -> Answer
+        requires table { self.old.table ≡ words.now }
         requires may { MayMake self.old (steps.Clock) }
         ensures kind { Answers (steps.Clock) result }
         ensures made { self.new ≡ seat_after self.old (steps.Clock) result }
     {
-        let place = table.clock_at();
-        Answer::Word(
-            table
-                .row
-                .shared
-                .fetch_add::<plays::Clock>(&mut self.seat, place, 1),
-        )
+        let place = words.clock_at();
+        Answer::Word(words.fetch_add::<plays::Clock>(&mut self.seat, place, 1))
     }
 }
 

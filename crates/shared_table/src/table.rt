@@ -2,7 +2,7 @@
 
 ghost use Rattle.std.specs.Prelude.{◌≡◌, ◌+◌, ◌≤◌, ◌<◌, ◌⊎◌, ◌↔◌, [], IfOk, IsErrOf, length};
 ghost use Rattle.slot_table.specs.declared.board.BoardError.TheVariants.{BadSlots};
-ghost use Rattle.shared_table.specs.Row.{cells_from, clock_at, indices, locks_from, pairs_from};
+ghost use Rattle.shared_table.specs.Row.{cells_from};
 ghost use Rattle.shared_table.specs.Seats.{new_seats};
 ghost use Rattle.shared_table.specs.Views.{everyone};
 
@@ -84,44 +84,12 @@ impl SharedTable {
         self.opening.tasks
     }
 
-    /// Where in the row the pair word of an index stands.
-    pub(crate) fn pair_at(&self, index: usize) -> usize
-        requires { index < indices self.now.given }
-        ensures { result ≡ pairs_from self.now.given + index }
-    {
-        self.opening.slots + 2 + index
-    }
-
     /// Where in the row the cells begin.
     pub(crate) fn cells_from(&self) -> usize
         ensures { result ≡ cells_from self.now.given }
     {
         let indices = self.opening.slots + 2;
         indices + indices
-    }
-
-    /// Where in the row a cell stands.
-    pub(crate) fn cell_at(&self, cell: usize) -> usize
-        requires { cell < length self.now.given.cells }
-        ensures { result ≡ cells_from self.now.given + cell }
-    {
-        let indices = self.opening.slots + 2;
-        indices + indices + cell
-    }
-
-    /// Where in the row a lock word stands.
-    pub(crate) fn lock_at(&self, lock: usize) -> usize
-        requires { lock < self.now.given.locks }
-        ensures { result ≡ locks_from self.now.given + lock }
-    {
-        self.cells_from() + self.opening.cells.len() + lock
-    }
-
-    /// Where in the row the clock stands.
-    pub(crate) fn clock_at(&self) -> usize
-        ensures { result ≡ clock_at self.now.given }
-    {
-        self.cells_from() + self.opening.cells.len() + self.opening.locks
     }
 }
 

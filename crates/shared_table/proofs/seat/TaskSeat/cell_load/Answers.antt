@@ -7,17 +7,17 @@ use Rattle.shared_table.proofs.seat.TaskSeat.cell_load.Goals as goal
 
 pub load-requires : goal.load-requires
 load-requires c =
-    let at = counted c.self.inside c.table.inside c.args.self.now c.args.table.now c.self.view_is c.table.view_is
-    c.self.invariant c.table.invariant c.requires.table _ c.requires.may cells_from c.args.cell c.cell_at-place.result c.cell_at-place.ensures in
-    asks_as c.self.inside c.table.inside c.args.self.now c.args.table.now c.self.view_is c.table.view_is
-    c.self.invariant c.table.invariant c.requires.table _ c.requires.may _ (ap CellLoad at)
+    let at = counted c.self.inside c.args.self.now c.args.words.now c.self.view_is
+    c.self.invariant c.requires.table _ c.requires.may cells_from c.args.cell c.cell_at-place.result c.cell_at-place.ensures in
+    asks_as c.self.inside c.args.self.now c.args.words.now c.self.view_is
+    c.self.invariant c.requires.table _ c.requires.may _ (ap CellLoad at)
     cells_from c.args.cell c.cell_at-place.result c.cell_at-place.ensures _ _
     (λ given is names. loads_cell given c.args.cell c.cell_at-place.result is names)
 
 pub returns-clause-made : goal.returns-clause-made
 returns-clause-made c =
-    let at = counted c.self.inside c.table.inside c.args.self.now c.args.table.now c.self.view_is c.table.view_is
-    c.self.invariant c.table.invariant c.requires.table _ c.requires.may cells_from c.args.cell c.cell_at-place.result c.cell_at-place.ensures in
-    made c.self.inside c.table.inside c.args.self.now c.args.table.now c.self.view_is c.table.view_is
-    c.self.invariant c.table.invariant c.requires.table _ c.requires.may _ (ap CellLoad at)
-    c.self.inside.is_open c.load.new.seat _ _ refl c.load.ensures.0 c.load.ensures.2
+    let at = counted c.self.inside c.args.self.now c.args.words.now c.self.view_is
+    c.self.invariant c.requires.table _ c.requires.may cells_from c.args.cell c.cell_at-place.result c.cell_at-place.ensures in
+    made c.self.inside c.args.self.now c.args.words.now c.self.view_is
+    c.self.invariant c.requires.table _ c.requires.may _ (ap CellLoad at)
+    c.self.inside.is_open c.load.new.seat _ _ refl c.load.ensures.told.0 c.load.ensures.told.2

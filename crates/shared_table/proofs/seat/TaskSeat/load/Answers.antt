@@ -4,6 +4,6 @@ use Rattle.shared_table.proofs.seat.TaskSeat.load.Goals as goal
 
 pub load-requires : goal.load-requires
 load-requires c =
-    asks c.self.inside c.table.inside c.args.self.now c.args.table.now c.self.view_is c.table.view_is
-    c.self.invariant c.table.invariant c.requires.table _ c.requires.may c.args.index _ _
+    asks c.self.inside c.args.self.now c.args.words.now c.self.view_is
+    c.self.invariant c.requires.table _ c.requires.may c.args.index _ _
     (λ given is names. loads given c.args.index names)

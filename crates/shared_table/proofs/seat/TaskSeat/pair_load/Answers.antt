@@ -9,17 +9,17 @@ use Rattle.shared_table.proofs.seat.TaskSeat.pair_load.Goals as goal
 
 pub load-both-requires : goal.load-both-requires
 load-both-requires c =
-    let at = counted c.self.inside c.table.inside c.args.self.now c.args.table.now c.self.view_is c.table.view_is
-    c.self.invariant c.table.invariant c.requires.table _ c.requires.may pairs_from c.args.index c.pair_at-place.result c.pair_at-place.ensures in
-    asks_as c.self.inside c.table.inside c.args.self.now c.args.table.now c.self.view_is c.table.view_is
-    c.self.invariant c.table.invariant c.requires.table _ c.requires.may _ (ap PairLoad at)
+    let at = counted c.self.inside c.args.self.now c.args.words.now c.self.view_is
+    c.self.invariant c.requires.table _ c.requires.may pairs_from c.args.index c.pair_at-place.result c.pair_at-place.ensures in
+    asks_as c.self.inside c.args.self.now c.args.words.now c.self.view_is
+    c.self.invariant c.requires.table _ c.requires.may _ (ap PairLoad at)
     pairs_from c.args.index c.pair_at-place.result c.pair_at-place.ensures _ _
     (λ given is names. loads_pair given c.args.index c.pair_at-place.result is names)
 
 pub returns-clause-made : goal.returns-clause-made
 returns-clause-made c =
-    let at = counted c.self.inside c.table.inside c.args.self.now c.args.table.now c.self.view_is c.table.view_is
-    c.self.invariant c.table.invariant c.requires.table _ c.requires.may pairs_from c.args.index c.pair_at-place.result c.pair_at-place.ensures in
-    made c.self.inside c.table.inside c.args.self.now c.args.table.now c.self.view_is c.table.view_is
-    c.self.invariant c.table.invariant c.requires.table _ c.requires.may _ (ap PairLoad at)
-    c.self.inside.is_open c.load-both.new.seat _ _ (ap (λ (lower : ℕ). answers.Halves (c.load-both.result / 2 ^ 32) lower) (sym (and_mask c.load-both.result 32))) c.load-both.ensures.0 c.load-both.ensures.2
+    let at = counted c.self.inside c.args.self.now c.args.words.now c.self.view_is
+    c.self.invariant c.requires.table _ c.requires.may pairs_from c.args.index c.pair_at-place.result c.pair_at-place.ensures in
+    made c.self.inside c.args.self.now c.args.words.now c.self.view_is
+    c.self.invariant c.requires.table _ c.requires.may _ (ap PairLoad at)
+    c.self.inside.is_open c.load-both.new.seat _ _ (ap (λ (lower : ℕ). answers.Halves (c.load-both.result / 2 ^ 32) lower) (sym (and_mask c.load-both.result 32))) c.load-both.ensures.told.0 c.load-both.ensures.told.2
