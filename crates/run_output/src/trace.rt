@@ -22,9 +22,9 @@ pub fn trace_of<R: Ran>(alloc: Global, settings: &Settings, ran: &R) -> Result<V
         → IfOk result (λ trace. IsToBeAccepted trace.items) }
 {
     traces_in_either_order_are_true();
-    let accesses = ran.accesses()?;
-    let arms = ran.arms()?;
-    let takes = ran.takes()?;
+    let accesses = ran.accesses(alloc)?;
+    let arms = ran.arms(alloc)?;
+    let takes = ran.takes(alloc)?;
     masks_are_low(accesses.as_slice());
     let mut sink = MemorySink::new(alloc);
     match write_trace(

@@ -1,7 +1,10 @@
 -- Runs that were made.
-use Rattle.std.proofs.Common.{◌≤◌, ◌&&◌, Bor, ◌≡◌, ◌<◌, ◌⊎◌, ◌++◌, ◌∷◌, ◌==◌, ◌∙◌, [], suc, All, List, OnOk, Option, None, Some, Bool, IfErr, IfOk, IfSome, Result, Ok, Err, Vec, ℕ, ap, ap₂, arith, drop, false, is_some, length, not, refl, subst, sym, true}
+use Rattle.std.proofs.Common.{◌≤◌, ◌&&◌, Bor, ◌≡◌, ◌<◌, ◌⊎◌, ◌++◌, ◌∷◌, ◌==◌, ◌∙◌, [], suc, All, List, OnOk, Option, None, Some, Bool, IfErr, IfOk, IfSome, Result, Ok, Err, Vec, ℕ, ap, ap₂, arith, drop, false, is_some, length, not, refl, slice_index_or, subst, sym, true, zero, ◌+◌}
 use Rattle.std.proofs.lemmas.List.{length-append}
+use Rattle.std.proofs.lemmas.List.Elements.{All-append}
+use Rattle.std.proofs.lemmas.List.Quantifiers.{all_pairs_push}
 use Rattle.std.specs.Global.{Global}
+use Rattle.std.specs.Prelude.{IsErrAnd}
 use Rattle.std.specs.Option.{option_copied, option_map}
 use Rattle.access_types.specs.Sites.{AccessMap}
 use Rattle.litmus_step.specs.Runs.{run_of}
@@ -17,7 +20,7 @@ use Rattle.run_headline.specs.of_run_lists_RunList.{AllHaveEnded, RunList}
 use Rattle.runner.specs.Result.{IsOf, IsRunOnce}
 use Rattle.task_log.specs.of_slot_table_declared.records.Record.{Record}
 use Rattle.run_tally.specs.Output.{AreQuietBeforeLast, IsTraceOfLast, reports_in}
-use Rattle.run_tally.specs.Runs.{Comes, IsLast, OneRun, StuckRun}
+use Rattle.run_tally.specs.Runs.{AreMadeApart, AreNumberedFrom, Comes, IsLast, IsNumbered, OneRun, StuckRun}
 use Rattle.run_output.specs.declared.error.EngineError.{EngineError}
 use Rattle.run_output.specs.declared.error.EngineError.TheVariants.{Run, SinkFailed, Text}
 use Rattle.program_sites.specs.Errors.{IsOfPreparing}
@@ -64,6 +67,39 @@ pub quiet_before : {program : Program} {settings : Settings} (runs : List (OneRu
 quiet_before {program} {settings} runs one none before last is =
     ap (λ (all : List (OneRun program settings)). reports_in all) (sym (same_before runs before one last is)) ∙ none
 
+-- a run of a number above those of all runs before it was made by a call of its own
+pub more_apart : {program : Program} {settings : Settings} (runs : List (OneRun program settings)) (one : OneRun program settings)
+    → (many : ℕ) → AreMadeApart runs → All (λ (before : OneRun program settings). before.result.number < many) runs → one.result.number ≡ many
+    → AreMadeApart (runs ++ one ∷ [])
+more_apart {program} {settings} runs one many apart below is =
+    all_pairs_push (λ (before later : OneRun program settings). before.result.number < later.result.number) runs one apart
+    (λ k d within. subst (λ (n : ℕ). (slice_index_or runs k d).result.number < n) (sym is) (below k d within))
+
+-- what is below a number is below the next
+pub still_below : {program : Program} {settings : Settings} (runs : List (OneRun program settings)) (many : ℕ)
+    → All (λ (before : OneRun program settings). before.result.number < many) runs
+    → All (λ (before : OneRun program settings). before.result.number < many + 1) runs
+still_below runs many below at d within = let less = below at d within in omega (arith, less)
+
+all_one : {X : Type 0} (P : X → Type 0) (x : X) → P x → All P (x ∷ [])
+all_one P x p zero d below = p
+all_one P x p (suc at) d below = absurd (omega (arith, below))
+
+pub more_below : {program : Program} {settings : Settings} (runs : List (OneRun program settings)) (one : OneRun program settings)
+    → (many : ℕ) → All (λ (before : OneRun program settings). before.result.number < many) runs → one.result.number ≡ many
+    → All (λ (before : OneRun program settings). before.result.number < many + 1) (runs ++ one ∷ [])
+more_below {program} {settings} runs one many below is =
+    let P : OneRun program settings → Type 0 = λ before. before.result.number < many + 1 in
+    All-append P runs (one ∷ []) (still_below runs many below) (all_one P one (omega (arith, is)))
+
+-- behind the first of what came of runs from a number on is what came of those from the next on
+pub numbered_rest : (from : ℕ) (outcomes : List (Result RunResult RunError)) → AreNumberedFrom from outcomes
+    → AreNumberedFrom (from + 1) (drop 1 outcomes)
+numbered_rest from [] each at d below = absurd (omega (arith, below))
+numbered_rest from (x ∷ xs) each at d below =
+    subst (λ (n : ℕ). IsNumbered n (slice_index_or xs at d)) (let n : from + suc at ≡ from + 1 + at = omega arith in n)
+    (each (suc at) d (omega (arith, below)))
+
 -- what holds of the items of a Vec, if there is one, holds of a list, if there is one
 pub items_if_some : (P : List ℕ → Type 0) (bytes : Option (Vec ℕ Global)) → IfSome bytes (λ vec. P vec.items)
     → IfSome (option_map (λ vec. vec.items) bytes) P
@@ -105,8 +141,10 @@ preparing_stops counted program settings BadSchedule of slots place = absurd of
 preparing_stops counted program settings NoThread of slots place = absurd of
 
 -- what holds of an error holds of what it is answered in
-pub err_holds : {X E : Type 0} (P : E → Type 0) (result : Result X E) (error : E) → result ≡ Err error → P error → IfErr result P
-err_holds {X} {E} P result error is holds = subst (λ (r : Result X E). IfErr r P) (sym is) holds
+pub err_holds : {X E : Type 0} (P : E → Type 0) (result : Result X E) (error : E) → IsErrAnd result (λ found. found ≡ error) → P error
+    → IfErr result P
+err_holds P (Ok x) error is holds = tt
+err_holds P (Err found) error is holds = subst P (sym is) holds
 
 -- what holds of each item holds of each behind the first
 pub all_rest : {X : Type 0} (P : X → Type 0) (xs : List X) → All P xs → All P (drop 1 xs)
@@ -167,7 +205,7 @@ pub refused_of : {X : Type 0} (counted : Bool) (text : List ℕ) (program : Prog
     → IsReadAs text program
     → IfErr result (Stops counted program settings) → IfErr result (IsRefused counted text settings)
 refused_of counted text program settings (Ok x) read stops = tt
-refused_of counted text program settings (Err (Text error)) read stops = tt
+refused_of counted text program settings (Err (Text error)) read stops = absurd stops
 refused_of counted text program settings (Err (Run error)) read stops = (program, read, stops.0, stops.1)
 refused_of counted text program settings (Err SinkFailed) read stops = stops
 

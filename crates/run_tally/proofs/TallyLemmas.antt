@@ -1,10 +1,10 @@
 -- What is kept of runs, with one run more.
-use Rattle.std.proofs.Common.{◌≡◌, ◌+◌, ◌∙◌, ◌++◌, ◌∷◌, ◌==◌, ◌||◌, ◌<◌, [], ℕ, zero, suc, Bool, true, List, Some, Vec, ap, arith, flat_map, fold, length, map, not, refl, slice_get, subst, sym}
+use Rattle.std.proofs.Common.{◌≡◌, ◌+◌, ◌∙◌, ◌++◌, ◌∷◌, ◌==◌, ◌||◌, ◌<◌, [], ℕ, Bool, true, List, ap, arith, flat_map, fold, length, map, not, refl, sym}
 use Rattle.std.proofs.Common.{if◌then◌else◌, count_by}
-use Rattle.std.proofs.Common.{cond, slice_index_or, take}
+use Rattle.std.proofs.Common.{cond}
 use Rattle.std.proofs.Common.{inl, inr}
 use Rattle.std.proofs.lemmas.Bool.Decides.{eqb_tells}
-use Rattle.std.proofs.lemmas.List.{append-nil, length-map, map-append}
+use Rattle.std.proofs.lemmas.List.{append-nil, map-append}
 use Rattle.std.proofs.lemmas.List.Sums.{fold-append, sum_by-append, sum_by-cons}
 use Rattle.std.proofs.lemmas.Grind.{flat_map-append}
 use Rattle.std.specs.List.{sum_by}

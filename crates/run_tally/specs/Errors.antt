@@ -1,9 +1,13 @@
 -- Why runs have no output.
 use Rattle.std.specs.Prelude.{◌≡◌, ◌<◌, ◌⊎◌, ℕ, Bool, List, false}
 use Rattle.access_types.specs.Sites.{AccessMap}
+use Rattle.litmus_parse.specs.Grammar.{SpellsProgram}
 use Rattle.litmus_parse.specs.Read.{IsReadAs}
 use Rattle.litmus_step.specs.Runs.{run_of}
 use Rattle.program_sites.specs.declared.settings.Settings.{Settings}
+use Rattle.litmus_syntax.specs.Tree as tree
+use Rattle.litmus_syntax.specs.declared.error.ParseError.{ParseError}
+use Rattle.litmus_syntax.specs.declared.error.ParseError.TheVariants as parse
 use Rattle.litmus_syntax.specs.declared.program.Program.{Program}
 use Rattle.program_sites.specs.of_program_layout_Places.{AreFit}
 use Rattle.run_output.specs.declared.error.EngineError.{EngineError}
@@ -43,9 +47,13 @@ Stops counted program settings (Text error) = ⊥
 Stops counted program settings (Run error) = StopsRun program settings error × (is_counted counted error ≡ false)
 Stops counted program settings SinkFailed = ⊥
 
+-- why a text is not read: it spells no program, or memory ran out
+abbrev pub IsNotRead : (text : List ℕ) → ParseError → Type 0
+IsNotRead text error = (program : tree.Program) → SpellsProgram text program → error ≡ parse.OutOfMemory
+
 -- why a text has no output of its runs: it is not read as a program, or the program's runs stop
 abbrev pub IsRefused : (counted : Bool) → (text : List ℕ) → Settings → EngineError → Type 0
-IsRefused counted text settings (Text error) = Unit {0}
+IsRefused counted text settings (Text error) = IsNotRead text error
 IsRefused counted text settings (Run error) =
     (program : Program) × IsReadAs text program × StopsRun program settings error × (is_counted counted error ≡ false)
 IsRefused counted text settings SinkFailed = ⊥

@@ -3,3 +3,4 @@ pub mod Runs
 pub mod Output
 pub mod Tally
 pub mod Made
+pub mod Asked

@@ -13,7 +13,7 @@ use Rattle.report_text.specs.ReportOf.{report_text}
 use Rattle.run_output.specs.Lines.{condition_line, counters_line, stuck_line}
 use Rattle.litmus_parse.specs.Read.{IsReadAs}
 use Rattle.run_output.specs.Traces.{IsToBeAccepted, IsTraceOf}
-use Rattle.run_tally.specs.Runs.{OneRun, StuckRun}
+use Rattle.run_tally.specs.Runs.{AreMadeApart, OneRun, StuckRun}
 use Rattle.run_tally.specs.declared.times.Times.{Times}
 use Rattle.task_log.specs.Counters.{resting}
 use Rattle.task_log.specs.declared.counters.Counters.{Counters}
@@ -82,13 +82,15 @@ AreQuietBeforeLast {program = program} {settings = settings} runs =
     (before : List (OneRun program settings)) (last : OneRun program settings) → runs ≡ before ++ last ∷ [] → reports_in before ≡ []
 
 -- Of the runs that are asked for these were made and ended, and in these others a task got stuck. That is all of them, or, where it is
--- asked for, those up to the first with a report; and stuck ones are among them only where they are counted.
+-- asked for, those up to the first with a report; and stuck ones are among them only where they are counted. Each that ended was made by a
+-- call of its own.
 pub record AreAsMany {program : Program} {settings : Settings} (times : Times) (runs : List (OneRun program settings))
     (stuck : List (StuckRun program settings)) : Type 0 where
   pub most : length runs + length stuck ≤ times.runs
   pub fewer : length runs + length stuck < times.runs → (times.stop_at_first ≡ true) × ¬ (reports_in runs ≡ [])
   pub first : times.stop_at_first ≡ true → AreQuietBeforeLast runs
   pub counted : times.keep_going ≡ false → stuck ≡ []
+  pub apart : AreMadeApart runs
 
 -- This is left of runs of the program on threads, under these settings, as often as is asked for: whether there was a report, the output,
 -- and the trace of the last run that ended, where one is wanted and there is such a run.

@@ -1,5 +1,5 @@
 -- What is seen of runs on threads.
-use Rattle.std.specs.Prelude.{◌≡◌, ◌++◌, ◌∷◌, [], ◌↔◌, ℕ, Bool, IfErr, IfOk, IsTrue, List, Option, None, Result, Some}
+use Rattle.std.specs.Prelude.{◌≡◌, ◌<◌, ◌+◌, ◌++◌, ◌∷◌, [], ℕ, AllPairs, IfErr, IfOk, List, Option, None, Result, Some, length, slice_index_or}
 use Rattle.program_sites.specs.declared.settings.Settings.{Settings}
 use Rattle.litmus_syntax.specs.declared.program.Program.{Program}
 use Rattle.run_tally.specs.Errors.{GetsStuck, StopsRun}
@@ -28,6 +28,19 @@ pub record StuckRun (program : Program) (settings : Settings) : Type 0 where
 pub record Comes (program : Program) (settings : Settings) (outcome : Result RunResult RunError) : Type 0 where
   pub once : IfOk outcome (IsRunOnce program settings)
   pub stops : IfErr outcome (StopsRun program settings)
+
+-- what came of a run that was made under this number, if it ended
+abbrev pub IsNumbered : ℕ → Result RunResult RunError → Type 0
+IsNumbered number outcome = IfOk outcome (λ result. result.number ≡ number)
+
+-- what came of runs that were made under the numbers from this one on
+abbrev pub AreNumberedFrom : ℕ → List (Result RunResult RunError) → Type 0
+AreNumberedFrom from outcomes = (at : ℕ) (d : Result RunResult RunError) → at < length outcomes
+    → IsNumbered (from + at) (slice_index_or outcomes at d)
+
+-- Each of these runs was made by a call of its own: the number under which it was made is below those of all runs behind it.
+abbrev pub AreMadeApart : {program : Program} {settings : Settings} → List (OneRun program settings) → Type 0
+AreMadeApart runs = AllPairs (λ one later. one.result.number < later.result.number) runs
 
 -- this is the result of the last of the runs, if there is one
 abbrev pub IsLast : {program : Program} {settings : Settings} → List (OneRun program settings) → Option RunResult → Type 0

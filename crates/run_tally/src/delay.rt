@@ -2,6 +2,7 @@
 
 ghost use Rattle.std.specs.Prelude.{◌≡◌};
 
+use crate::turns::turns_until;
 use crossbeam_utils::atomic::AtomicCell;
 use runner::{Gate, Point, Stall};
 use std::thread;
@@ -106,14 +107,7 @@ impl Stall for Delay {
         self.awaits_all();
         self.delaying.fetch_add(1);
         self.away.fetch_add(1);
-        let mut turns = 0;
-        for turn in 0..self.loads {
-            if self.away.load() >= self.tasks {
-                break;
-            }
-            thread::yield_now();
-            turns = turn + 1;
-        }
+        let turns = turns_until(self.loads, || self.away.load() >= self.tasks);
         self.turns.fetch_add(turns);
         self.away.fetch_sub(1);
         self.delaying.fetch_sub(1);

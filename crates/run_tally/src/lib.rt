@@ -2,13 +2,16 @@
 #![tactic(auto)]
 
 pub mod delay;
+pub mod hooks;
 mod made;
 pub mod runs;
 mod starters;
 pub mod tally;
 pub mod times;
+mod turns;
 
 pub use delay::Delay;
+pub use hooks::{Delays, Hooks};
 pub use run_output::{EngineError, Written};
-pub use runs::run_text_often;
+pub use runs::{run_text_often, run_text_with};
 pub use times::{Progress, Times};

@@ -15,10 +15,10 @@ ghost use Rattle.run_tally.specs.Errors as spec;
 ghost use Rattle.run_tally.specs.Errors.{Stops};
 ghost use Rattle.run_tally.specs.Made.{AreAllMade, AreMade, IsOneMore};
 ghost use Rattle.run_tally.specs.Output.{IsOutput, found_text, stuck_text};
-ghost use Rattle.run_tally.specs.Runs.{Comes, OneRun, StuckRun};
+ghost use Rattle.run_tally.specs.Runs.{AreNumberedFrom, Comes, IsNumbered, OneRun, StuckRun};
 ghost use Rattle.runner.specs.Result.{IsRunOnce};
 
-use crate::delay::Delay;
+use crate::hooks::Hooks;
 use crate::starters::Starters;
 use crate::tally::Tally;
 use crate::times::{Progress, Times};
@@ -27,7 +27,7 @@ use litmus_step::{Prepared, Settings};
 use report_text::laws::groups_are_of_their_texts;
 use report_text::{MemorySink, Sink, WriteError};
 use run_output::{EngineError, write_stuck};
-use runner::{RunError, RunResult, run_prepared};
+use runner::{RunError, RunResult, Turn, run_prepared};
 use std::alloc::{AllocError, Global};
 use std::collections::VecDeque;
 use std::sync::Wait;
@@ -43,84 +43,111 @@ pub(crate) struct Made {
     stuck: u64,
 }
 
+/// What all runs of a program go by.
+#[derive(Drop)]
+pub(crate) struct Plan<'t, H> {
+    pub(crate) program: &'t Program,
+    pub(crate) settings: &'t Settings,
+    pub(crate) prepared: &'t Prepared,
+    pub(crate) times: Times,
+    pub(crate) starters: Starters,
+    pub(crate) hooks: &'t H,
+}
+
 /// What comes of the run of a number.
-fn one_run<R: Threads + Wait + Sync>(
+fn one_run<R: Threads + Wait + Sync, H: Hooks>(
     rt: &R,
     alloc: Global,
-    program: &Program,
-    settings: &Settings,
-    prepared: &Prepared,
-    delay: u64,
-    starters: Starters,
+    plan: &Plan<'_, H>,
     number: u64,
 ) -> Result<RunResult, RunError>
-    requires limits { KeepsLimits (program_of program.now) }
-    requires ready { IsPrepared program.now settings.now prepared.now }
-    ensures { Comes program.now settings.now result }
+    requires limits { KeepsLimits (program_of plan.now.program.now) }
+    requires ready { IsPrepared plan.now.program.now plan.now.settings.now plan.now.prepared.now }
+    ensures comes { Comes plan.now.program.now plan.now.settings.now result }
+    ensures number { IsNumbered number result }
 {
-    let tasks = program.tasks.as_slice().len() as u64;
-    let first = starters.first(number, tasks);
-    let delay = Delay::new(delay, tasks, first);
+    let tasks = plan.program.tasks.as_slice().len() as u64;
+    let first = plan.starters.first(number, tasks);
+    let hooks = plan.hooks.of_run(plan.times.delay, tasks, first);
+    let turn = Turn { number, first };
     run_prepared(
-        rt, alloc, program, settings, prepared, first, &delay, &delay,
+        rt,
+        alloc,
+        plan.program,
+        plan.settings,
+        plan.prepared,
+        turn,
+        &hooks,
+        &hooks,
     )
 }
 
 /// What comes of so many runs, side by side, from the run of this number on.
-fn side_by_side<R: Threads + Wait + Sync>(
+fn side_by_side<R: Threads + Wait + Sync, H: Hooks>(
     rt: &R,
     alloc: Global,
-    program: &Program,
-    settings: &Settings,
-    prepared: &Prepared,
-    delay: u64,
-    starters: Starters,
+    plan: &Plan<'_, H>,
     number: u64,
     many: usize,
 ) -> Result<Vec<Result<RunResult, RunError>>, AllocError>
-    requires limits { KeepsLimits (program_of program.now) }
-    requires ready { IsPrepared program.now settings.now prepared.now }
-    ensures each { IfOk result (λ all. All (Comes program.now settings.now) all.items) }
+    requires limits { KeepsLimits (program_of plan.now.program.now) }
+    requires ready { IsPrepared plan.now.program.now plan.now.settings.now plan.now.prepared.now }
+    requires few { number + many < 2 ^ 64 }
+    ensures each { IfOk result (λ all. All (Comes plan.now.program.now plan.now.settings.now) all.items) }
+    ensures numbers { IfOk result (λ all. AreNumberedFrom number all.items) }
     ensures many { IfOk result (λ all. vec_len all ≡ many) }
 {
+    let Plan {
+        program,
+        settings,
+        prepared,
+        times,
+        starters,
+        hooks,
+    } = *plan;
     let run = move |at: usize| -> Result<RunResult, RunError>
         requires limits { KeepsLimits (program_of program.now) }
         requires ready { IsPrepared program.now settings.now prepared.now }
-        ensures { Comes program.entry.now settings.entry.now result }
+        requires few { number + at < 2 ^ 64 }
+        ensures comes { Comes program.entry.now settings.entry.now result }
+        ensures number { IsNumbered (number + at) result }
     {
-        let number = number.wrapping_add(at as u64);
-        one_run(
-            rt, alloc, program, settings, prepared, delay, starters, number,
-        )
+        let plan = Plan {
+            program,
+            settings,
+            prepared,
+            times,
+            starters,
+            hooks,
+        };
+        one_run(rt, alloc, &plan, number + at as u64)
     };
     thread::map_indices(rt, alloc, many, &run)
 }
 
 /// What comes of the run of this number: what is ready first, or else the first of so many more that are made side by side, of which the
 /// rest is ready then.
-fn next_run<R: Threads + Wait + Sync>(
+fn next_run<R: Threads + Wait + Sync, H: Hooks>(
     rt: &R,
     alloc: Global,
-    program: &Program,
-    settings: &Settings,
-    prepared: &Prepared,
-    delay: u64,
-    starters: Starters,
+    plan: &Plan<'_, H>,
     number: u64,
     many: usize,
     ready: &mut VecDeque<Result<RunResult, RunError>>,
 ) -> Result<Result<RunResult, RunError>, AllocError>
-    requires limits { KeepsLimits (program_of program.now) }
-    requires prepared { IsPrepared program.now settings.now prepared.now }
+    requires limits { KeepsLimits (program_of plan.now.program.now) }
+    requires prepared { IsPrepared plan.now.program.now plan.now.settings.now plan.now.prepared.now }
     requires many { 1 ≤ many }
-    requires ready { All (Comes program.now settings.now) ready.old.items }
-    ensures next { IfOk result (Comes program.now settings.now) }
-    ensures ready { OnOk result (All (Comes program.now settings.now) ready.new.items) }
+    requires few { number + many < 2 ^ 64 }
+    requires ready { All (Comes plan.now.program.now plan.now.settings.now) ready.old.items }
+    requires numbers { AreNumberedFrom number ready.old.items }
+    ensures next { IfOk result (Comes plan.now.program.now plan.now.settings.now) }
+    ensures number { IfOk result (IsNumbered number) }
+    ensures ready { OnOk result (All (Comes plan.now.program.now plan.now.settings.now) ready.new.items) }
+    ensures numbers { OnOk result (AreNumberedFrom (number + 1) ready.new.items) }
 {
     if ready.is_empty() {
-        *ready = VecDeque::from(side_by_side(
-            rt, alloc, program, settings, prepared, delay, starters, number, many,
-        )?);
+        *ready = VecDeque::from(side_by_side(rt, alloc, plan, number, many)?);
     }
     let Some(outcome) = ready.pop_front() else {
         unreachable!()
@@ -184,7 +211,8 @@ impl Made {
         requires few { self.old.ended < 2 ^ 64 - 1 }
         ensures made { (runs : List (OneRun program.now settings.now)) (stuck : List (StuckRun program.now settings.now))
             → AreMade program.now settings.now (sites_in prepared.now) runs stuck self.old
-            → OnOk result ((one : OneRun program.now settings.now) × AreMade program.now settings.now (sites_in prepared.now) (runs ++ one ∷ []) stuck self.new) }
+            → OnOk result ((one : OneRun program.now settings.now) × (one.result ≡ ended)
+            × AreMade program.now settings.now (sites_in prepared.now) (runs ++ one ∷ []) stuck self.new) }
         ensures stops { IfErr result (Stops true program.now settings.now) }
     {
         self.tally.add(alloc, program, prepared, &ended)?;
@@ -209,7 +237,7 @@ impl Made {
         requires few { (self.old.ended < 2 ^ 64 - 1) × (self.old.stuck < 2 ^ 64 - 1) }
         ensures made { (runs : List (OneRun program.now settings.now)) (stuck : List (StuckRun program.now settings.now))
             → AreMade program.now settings.now (sites_in prepared.now) runs stuck self.old
-            → OnOk result (IsOneMore program.now settings.now (sites_in prepared.now) counted runs stuck self.new) }
+            → OnOk result (IsOneMore program.now settings.now (sites_in prepared.now) counted outcome runs stuck self.new) }
         ensures stops { IfErr result (Stops counted program.now settings.now) }
     {
         match outcome {
@@ -254,24 +282,21 @@ impl Made {
     }
 }
 
-/// Runs a program on threads, as often as is asked for, and takes together what comes of the runs.
-pub(crate) fn made_of<R: Threads + Wait + Sync, P: Progress>(
+/// Makes the runs of a plan, as often as is asked for, and takes together what comes of them.
+pub(crate) fn made_of<R: Threads + Wait + Sync, P: Progress, H: Hooks>(
     rt: &R,
     alloc: Global,
-    program: &Program,
-    settings: &Settings,
-    prepared: &Prepared,
-    times: Times,
+    plan: &Plan<'_, H>,
     progress: &P,
 ) -> Result<Made, EngineError>
-    requires limits { KeepsLimits (program_of program.now) }
-    requires ready { IsPrepared program.now settings.now prepared.now }
-    requires jobs { 1 ≤ times.jobs }
-    ensures made { IfOk result (AreAllMade program.now settings.now (sites_in prepared.now) times) }
+    requires limits { KeepsLimits (program_of plan.now.program.now) }
+    requires ready { IsPrepared plan.now.program.now plan.now.settings.now plan.now.prepared.now }
+    requires jobs { 1 ≤ plan.now.times.jobs }
+    ensures made { IfOk result (AreAllMade plan.now.program.now plan.now.settings.now (sites_in plan.now.prepared.now) plan.now.times) }
     ensures few { IfOk result (λ made. made.ended + made.stuck < 2 ^ 64) }
-    ensures stops { IfErr result (Stops times.keep_going program.now settings.now) }
+    ensures stops { IfErr result (Stops plan.now.times.keep_going plan.now.program.now plan.now.settings.now) }
 {
-    let starters = Starters::new(prepared.sites(), settings.plain_writes_atomic);
+    let times = plan.times;
     let mut made = Made::new(alloc);
     let mut ready = VecDeque::new(alloc);
     for run in 0..times.runs {
@@ -279,23 +304,12 @@ pub(crate) fn made_of<R: Threads + Wait + Sync, P: Progress>(
             return Ok(made);
         }
         let many = times.jobs.min(times.runs - run) as usize;
-        let outcome = next_run(
-            rt,
-            alloc,
-            program,
-            settings,
-            prepared,
-            times.delay,
-            starters,
-            run,
-            many,
-            &mut ready,
-        )?;
+        let outcome = next_run(rt, alloc, plan, run, many, &mut ready)?;
         made.add(
             alloc,
-            program,
-            settings,
-            prepared,
+            plan.program,
+            plan.settings,
+            plan.prepared,
             times.keep_going,
             outcome,
         )?;

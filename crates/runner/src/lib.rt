@@ -13,4 +13,4 @@ mod threads;
 pub use hooks::{Gate, NoStall, Open, Point, Stall};
 pub use litmus_step::RunError;
 pub use result::RunResult;
-pub use run::{run_once, run_prepared};
+pub use run::{Turn, run_once, run_prepared};

@@ -17,10 +17,11 @@ use shared_table::Gathered;
 use std::alloc::{AllocError, Global};
 use task_log::{Counters, TaskLog};
 
-/// What came of a run on threads: what was kept of the steps of its tasks, and the words at its end.
+/// What came of a run on threads: what was kept of the steps of its tasks, and the words at its end. Only a call that makes a run answers
+/// one, and it is never copied: those of two numbers are of two calls.
 #[derive(Drop)]
 pub struct RunResult {
-    pub(crate) alloc: Global,
+    pub(crate) number: u64,
     pub(crate) logs: Vec<TaskLog>,
     pub(crate) reports: Vec<Report>,
     pub(crate) registers: Vec<Vec<u64>>,
@@ -29,6 +30,13 @@ pub struct RunResult {
 }
 
 impl RunResult {
+    /// The number under which the run was made.
+    pub fn number(&self) -> u64
+        ensures { result ≡ self.now.number }
+    {
+        self.number
+    }
+
     /// What was reported, by the setter's task, and then in that task's order.
     pub fn reports(&self) -> &[Report]
         ensures { result.now ≡ self.now.reports.items }
@@ -51,30 +59,30 @@ impl RunResult {
     }
 
     /// The accesses, by task, and then in the order of their begins. The reports are of these.
-    pub fn accesses(&self) -> Result<Vec<Stamped>, AllocError>
+    pub fn accesses(&self, alloc: Global) -> Result<Vec<Stamped>, AllocError>
         ensures all { (run : Run) (records : List Record) → (list : RunList run records) → IsOf list self.now
             → IfOk result (λ all. AreAccesses list all.items) }
         ensures races { (run : Run) (records : List Record) → (list : RunList run records) → IsOf list self.now
             → IfOk result (λ all. All (ReportFits all.items) self.now.reports.items) }
     {
         reports_are_of_ended_accesses();
-        accesses_of(self.alloc, self.logs.as_slice())
+        accesses_of(alloc, self.logs.as_slice())
     }
 
     /// The armings, by task, and then in the order of their removes.
-    pub fn arms(&self) -> Result<Vec<Arm>, AllocError>
+    pub fn arms(&self, alloc: Global) -> Result<Vec<Arm>, AllocError>
         ensures { (run : Run) (records : List Record) → (list : RunList run records) → IsOf list self.now
             → IfOk result (λ all. AreArms list all.items) }
     {
-        arms_of(self.alloc, self.logs.as_slice())
+        arms_of(alloc, self.logs.as_slice())
     }
 
     /// The takings, by task, and then in the order of their tells.
-    pub fn takes(&self) -> Result<Vec<Take>, AllocError>
+    pub fn takes(&self, alloc: Global) -> Result<Vec<Take>, AllocError>
         ensures { (run : Run) (records : List Record) → (list : RunList run records) → IsOf list self.now
             → IfOk result (λ all. AreTakes list all.items) }
     {
-        takes_of(self.alloc, self.logs.as_slice())
+        takes_of(alloc, self.logs.as_slice())
     }
 
     /// How many tasks there were.
@@ -135,15 +143,15 @@ impl Ran for RunResult {
         RunResult::unbalanced(self)
     }
 
-    fn accesses(&self) -> Result<Vec<Stamped>, AllocError> {
-        RunResult::accesses(self)
+    fn accesses(&self, alloc: Global) -> Result<Vec<Stamped>, AllocError> {
+        RunResult::accesses(self, alloc)
     }
 
-    fn arms(&self) -> Result<Vec<Arm>, AllocError> {
-        RunResult::arms(self)
+    fn arms(&self, alloc: Global) -> Result<Vec<Arm>, AllocError> {
+        RunResult::arms(self, alloc)
     }
 
-    fn takes(&self) -> Result<Vec<Take>, AllocError> {
-        RunResult::takes(self)
+    fn takes(&self, alloc: Global) -> Result<Vec<Take>, AllocError> {
+        RunResult::takes(self, alloc)
     }
 }

@@ -153,24 +153,38 @@ pub fn run_once<R: Threads + Wait + Sync, S: Stall, G: Gate>(
         × ((below : ℕ) → below < task → IsThrough (run_of program.now settings.now sites) below) }
 {
     let prepared = Prepared::new(alloc, program, settings)?;
-    run_prepared(rt, alloc, program, settings, &prepared, 0, stall, gate)
+    let turn = Turn {
+        number: 0,
+        first: 0,
+    };
+    run_prepared(rt, alloc, program, settings, &prepared, turn, stall, gate)
 }
 
-/// Runs a program that is made ready under these settings once, as [`run_once`] does. The thread of the first of these tasks starts first,
-/// then those of the tasks above, then those below: who starts first is often over before the last begins.
+/// Which of many runs one is.
+#[derive(Clone, Copy, Debug, PartialEq, Eq)]
+pub struct Turn {
+    /// Its number, which stands in its result.
+    pub number: u64,
+    /// The task whose thread starts first, then those of the tasks above, then those below: who starts first is often over before the last
+    /// begins.
+    pub first: usize,
+}
+
+/// Runs a program that is made ready under these settings once, as [`run_once`] does.
 pub fn run_prepared<R: Threads + Wait + Sync, S: Stall, G: Gate>(
     rt: &R,
     alloc: Global,
     program: &Program,
     settings: &Settings,
     prepared: &Prepared,
-    first: usize,
+    turn: Turn,
     stall: &S,
     gate: &G,
 ) -> Result<RunResult, RunError>
     requires limits { KeepsLimits (program_of program.now) }
     requires ready { IsPrepared program.now settings.now prepared.now }
     ensures once { IfOk result (IsRunOnce program.now settings.now) }
+    ensures number { IfOk result (λ ran. ran.number ≡ turn.number) }
     ensures errors { IfErr result IsOfThreads }
     ensures stuck { (task : ℕ) → IsErrOf result (Stuck task) → (sites : AccessMap) × IsInVain (run_of program.now settings.now sites) task
         × ((below : ℕ) → below < task → IsThrough (run_of program.now settings.now sites) below) }
@@ -186,7 +200,7 @@ pub fn run_prepared<R: Threads + Wait + Sync, S: Stall, G: Gate>(
         prepared,
         table: &table,
     };
-    let found = steps_on(rt, alloc, terms, seats, first, stall, gate)?;
+    let found = steps_on(rt, alloc, terms, seats, turn.first, stall, gate)?;
     let reports = reports_of(alloc, found.as_slice())?;
     let unbalanced = calls_of(found.as_slice());
     let Parts {
@@ -198,7 +212,7 @@ pub fn run_prepared<R: Threads + Wait + Sync, S: Stall, G: Gate>(
         unreachable!()
     };
     Ok(RunResult {
-        alloc,
+        number: turn.number,
         logs,
         reports,
         registers,

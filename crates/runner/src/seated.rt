@@ -93,7 +93,7 @@ impl<'t> SeatedTask<'t> {
             let Some(step) = run.next() else {
                 break;
             };
-            comes_to(stall, gate, task, run.before());
+            comes_to(stall, gate, task, run.before(step));
             let begins = run.begins();
             let answer = board.step(step);
             run.answer(step, answer);

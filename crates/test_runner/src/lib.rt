@@ -2,6 +2,10 @@
 #![tactic(auto)]
 
 #[cfg(test)]
+mod many;
+#[cfg(test)]
+mod points;
+#[cfg(test)]
 mod runs;
 #[cfg(test)]
 mod words;

@@ -7,7 +7,9 @@ ghost use Rattle.litmus_parse.specs.of_litmus_syntax_Views.{program_of};
 use litmus_parse::{ParseError, Program, parse};
 use litmus_step::{Prepared, Settings};
 use run_tally::{Delay, EngineError, Progress, Times, Written, run_text_often};
-use runner::{Gate, NoStall, Open, Point, RunError, RunResult, Stall, run_once, run_prepared};
+use runner::{
+    Gate, NoStall, Open, Point, RunError, RunResult, Stall, Turn, run_once, run_prepared,
+};
 use std::alloc::{AllocError, Global};
 use std::sync::Wait;
 use std::sync::atomic::{AtomicU64, Ordering};
@@ -16,13 +18,17 @@ use std::thread;
 use std::thread::Threads;
 use watch_word::Layout;
 
+/// Both tasks want the lock.
+const LOCKED: &str =
+    "C behind\n\n{}\n\nP0(int *x, spinlock_t *l)\n{\n\tspin_lock(l);\n\tWRITE_ONCE(*x, 1);\n\tspin_unlock(l);\n}\n\nP1(int *y, spinlock_t *l)\n{\n\tWRITE_ONCE(*y, 1);\n\tspin_lock(l);\n\tspin_unlock(l);\n}\n\nexists (true)\n";
+
 /// For how many turns a task is held at most.
 const HOLD: u32 = 100_000_000;
 
 /// How often the same program is run.
 const RUNS: u32 = 10;
 
-const RACE: &str =
+pub(crate) const RACE: &str =
     "C race\n\n{}\n\nP0(int *x)\n{\n\tint r0;\n\n\tr0 = *x;\n}\n\nP1(int *x)\n{\n\t*x = 1;\n}\n\nexists (0:r0=1)\n";
 
 const OWN_WRITE_READ: &str =
@@ -32,18 +38,18 @@ const LOCKED_INCREMENTS: &str =
     "C locked\n\n{}\n\nP0(int *x, spinlock_t *l)\n{\n\tspin_lock(l);\n\t(*x)++;\n\tspin_unlock(l);\n}\n\nP1(int *x, spinlock_t *l)\n{\n\tspin_lock(l);\n\t(*x)++;\n\tspin_unlock(l);\n}\n\nexists (x=2)\n";
 
 /// Each of the last two tasks waits for a lock that it has itself.
-const TWO_STUCK: &str =
+pub(crate) const TWO_STUCK: &str =
     "C stuck\n\n{}\n\nP0(int *x)\n{\n\tWRITE_ONCE(*x, 1);\n}\n\nP1(spinlock_t *a)\n{\n\tspin_lock(a);\n\tspin_lock(a);\n}\n\nP2(spinlock_t *b)\n{\n\tspin_lock(b);\n\tspin_lock(b);\n}\n\nexists (true)\n";
 
 /// The program that a text spells.
-fn parsed(alloc: Global, text: &str) -> Result<Program, ParseError>
+pub(crate) fn parsed(alloc: Global, text: &str) -> Result<Program, ParseError>
     ensures { IfOk result (λ program. KeepsLimits (program_of program)) }
 {
     parse(alloc, text.as_bytes())
 }
 
 /// Every access is watched that may be; a strict run reports hits without a change of the value, and holds no plain write for marked.
-fn settings(alloc: Global, strict: bool, turns: u64) -> Settings {
+pub(crate) fn settings(alloc: Global, strict: bool, turns: u64) -> Settings {
     Settings {
         slots: 64,
         skip: 0,
@@ -85,7 +91,7 @@ fn register(ran: &RunResult, task: usize) -> Option<u64> {
 }
 
 /// Waits until this has come about so often, and answers whether it has.
-fn wait(count: &AtomicU64, least: u64) -> bool {
+pub(crate) fn wait(count: &AtomicU64, least: u64) -> bool {
     for _ in 0..HOLD {
         if count.load(Ordering::SeqCst) >= least {
             return true;
@@ -97,14 +103,22 @@ fn wait(count: &AtomicU64, least: u64) -> bool {
 
 /// The writer of a race begins once the reader has armed, and the reader's stall holds until the writer has told.
 #[derive(Drop)]
-struct Meeting {
+pub(crate) struct Meeting {
     armed: AtomicU64,
     told: AtomicU64,
-    ran_out: AtomicU64,
+    pub(crate) ran_out: AtomicU64,
 }
 
 impl Meeting {
-    fn hold(&self, count: &AtomicU64) {
+    pub(crate) fn new() -> Meeting {
+        Meeting {
+            armed: AtomicU64::new(0),
+            told: AtomicU64::new(0),
+            ran_out: AtomicU64::new(0),
+        }
+    }
+
+    pub(crate) fn hold(&self, count: &AtomicU64) {
         if !wait(count, 1) {
             self.ran_out.fetch_add(1, Ordering::SeqCst);
         }
@@ -134,6 +148,31 @@ impl Stall for Meeting {
     }
 }
 
+/// The second task begins once the first makes no step more.
+#[derive(Drop)]
+struct Behind {
+    over: AtomicU64,
+    ran_out: AtomicU64,
+}
+
+impl Gate for Behind {
+    fn pass(&self, task: usize, point: Point) {
+        if (task, point) == (1, Point::Begin) && !wait(&self.over, 1) {
+            self.ran_out.fetch_add(1, Ordering::SeqCst);
+        }
+    }
+}
+
+impl Stall for Behind {
+    fn stall(&self, _task: usize, _index: usize) {}
+
+    fn over(&self, task: usize) {
+        if task == 0 {
+            self.over.store(1, Ordering::SeqCst);
+        }
+    }
+}
+
 /// Each task begins once all sixteen are there.
 #[derive(Drop)]
 struct Start {
@@ -153,7 +192,7 @@ impl Gate for Start {
 }
 
 /// Nobody is told how far runs have come.
-struct Unseen;
+pub(crate) struct Unseen;
 
 impl Progress for Unseen {
     fn ran(&self, _runs: u64, _of: u64) {}
@@ -162,7 +201,7 @@ impl Progress for Unseen {
 }
 
 /// A thousand runs at the default delay.
-const THOUSAND: Times = Times {
+pub(crate) const THOUSAND: Times = Times {
     runs: 1000,
     delay: 64,
     jobs: 1,
@@ -186,11 +225,7 @@ impl Stall for Counted {
 fn stall_holds_until_told(rt: HostRuntime) -> Result<(), Fail> {
     let alloc = rt.alloc();
     let program = parsed(alloc, RACE)?;
-    let meeting = Meeting {
-        armed: AtomicU64::new(0),
-        told: AtomicU64::new(0),
-        ran_out: AtomicU64::new(0),
-    };
+    let meeting = Meeting::new();
     let strict = settings(alloc, true, 1_000_000_000);
     let ran = run_once(&rt, alloc, &program, &strict, &meeting, &meeting)?;
     let counters = ran.counters();
@@ -258,7 +293,7 @@ fn full_slots_sixteen(rt: HostRuntime) -> Result<(), Fail> {
         let counters = ran.counters();
         assert_eq!(rt; counters.arms, counters.quiet);
         assert_eq!(rt; counters.arms.saturating_add(counters.capacity), 16);
-        assert_eq!(rt; ran.accesses()?.len(), 16);
+        assert_eq!(rt; ran.accesses(alloc)?.len(), 16);
         assert!(rt; ran.reports().is_empty());
     }
     Ok(())
@@ -272,6 +307,24 @@ fn the_smallest_stuck_task_is_named(rt: HostRuntime) -> Result<(), Fail> {
     for _ in 0..RUNS {
         let refused = run_once(&rt, alloc, &program, &settings, &NoStall, &Open).err();
         assert_eq!(rt; refused, Some(RunError::Stuck { task: 1 }));
+    }
+    Ok(())
+}
+
+/// A task of this program gets stuck where the lock isn't free at its first try. In these runs it is.
+#[test]
+fn no_task_is_stuck_without_a_vain_try(rt: HostRuntime) -> Result<(), Fail> {
+    let alloc = rt.alloc();
+    let program = parsed(alloc, LOCKED)?;
+    let settings = settings(alloc, false, 1);
+    for _ in 0..RUNS {
+        let behind = Behind {
+            over: AtomicU64::new(0),
+            ran_out: AtomicU64::new(0),
+        };
+        let ran = run_once(&rt, alloc, &program, &settings, &behind, &behind)?;
+        assert_eq!(rt; ran.tasks(), 2);
+        assert_eq!(rt; behind.ran_out.load(Ordering::SeqCst), 0);
     }
     Ok(())
 }
@@ -321,13 +374,15 @@ fn any_task_may_start_first(rt: HostRuntime) -> Result<(), Fail> {
     let settings = settings(alloc, false, 1_000_000_000);
     let prepared = Prepared::new(alloc, &program, &settings)?;
     for first in 0..18 {
+        let turn = Turn { number: 5, first };
         let ran = run_prepared(
-            &rt, alloc, &program, &settings, &prepared, first, &NoStall, &Open,
+            &rt, alloc, &program, &settings, &prepared, turn, &NoStall, &Open,
         )?;
         for task in 0..16 {
             assert_eq!(rt; register(&ran, task), Some(7));
         }
-        assert_eq!(rt; ran.accesses()?.len(), 48);
+        assert_eq!(rt; ran.accesses(alloc)?.len(), 48);
+        assert_eq!(rt; ran.number(), 5);
     }
     Ok(())
 }
@@ -345,7 +400,7 @@ fn raced<R: Threads + Wait + Sync>(
 }
 
 /// Whether a text has another one in it.
-fn has(text: &[u8], part: &str) -> bool {
+pub(crate) fn has(text: &[u8], part: &str) -> bool {
     match str::from_utf8(text) {
         Ok(text) => text.contains(part),
         Err(_) => false,

@@ -20,14 +20,22 @@ const READ: u64 = 0x0008_0000_0001_0000;
 /// For how many turns a thread waits for another at most.
 const TURNS: u32 = 100_000_000;
 
+/// How often the same game is played.
+const GAMES: u32 = 4;
+
+/// How many checks a task makes that checks often.
+const CHECKS: u32 = 250;
+
 /// The index of all watchpoints here.
 const INDEX: usize = 17;
 
 /// What the tasks do at their seats.
 #[derive(Clone, Copy)]
 enum Game {
-    /// Each checks 1000 times.
+    /// Each checks often.
     Checks,
+    /// The first is watched, and stops there until the other has checked often.
+    Paused,
     /// Each adds 1 to the first cell 100 times, and each time stamps a cell of its own.
     Increments,
     /// The first is watched, and two others find it at once.
@@ -44,7 +52,9 @@ struct Gate {
     armed: AtomicU64,
     loaded: AtomicU64,
     told: AtomicU64,
+    heard: AtomicU64,
     lost: AtomicU64,
+    through: AtomicU64,
 }
 
 impl Gate {
@@ -53,7 +63,9 @@ impl Gate {
             armed: AtomicU64::new(0),
             loaded: AtomicU64::new(0),
             told: AtomicU64::new(0),
+            heard: AtomicU64::new(0),
             lost: AtomicU64::new(0),
+            through: AtomicU64::new(0),
         }
     }
 }
@@ -170,8 +182,8 @@ impl<'a> Player<'a> {
         is_taken
     }
 
-    /// One check: it takes what it finds there, or is watched itself.
-    fn check<R: Abort>(&mut self, rt: &R)
+    /// One check: it takes what it finds there, or is watched itself. Others may run while it is.
+    fn check<R: Abort>(&mut self, rt: &R, gate: &Gate)
         ensures { self.new.table.now ≡ self.old.table.now }
     {
         if let Answer::Word(word) = self.step(rt, Step::Load(INDEX))
@@ -179,21 +191,46 @@ impl<'a> Player<'a> {
         {
             if self.step(rt, Step::TryConsume(INDEX, word)) == Answer::Flag(true) {
                 self.tell(rt);
+                gate.told.fetch_add(1, Ordering::SeqCst);
             }
             return;
         }
         if self.is_watched(rt) {
-            self.end_watch(rt);
+            gate.armed.fetch_add(1, Ordering::SeqCst);
+            thread::yield_now();
+            if self.end_watch(rt) {
+                gate.heard.fetch_add(1, Ordering::SeqCst);
+            }
         }
     }
 
-    /// Checks 1000 times.
-    fn check_often<R: Abort>(&mut self, rt: &R)
+    /// Checks often.
+    fn check_often<R: Abort>(&mut self, rt: &R, gate: &Gate)
         ensures { self.new.table.now ≡ self.old.table.now }
     {
-        'checks: for _ in 0..1000 {
-            self.check(rt);
+        'checks: for _ in 0..CHECKS {
+            self.check(rt, gate);
         }
+        gate.through.fetch_add(1, Ordering::SeqCst);
+    }
+
+    /// Is watched until the other has checked as often as it does.
+    fn pause<R: Abort>(&mut self, rt: &R, gate: &Gate)
+        ensures { self.new.table.now ≡ self.old.table.now }
+    {
+        assert!(rt; self.is_watched(rt), "another watchpoint is there");
+        gate.armed.fetch_add(1, Ordering::SeqCst);
+        assert!(rt; wait(&gate.through, 1), "the other can't go on");
+        assert!(rt; self.end_watch(rt), "nobody took it");
+        gate.heard.fetch_add(1, Ordering::SeqCst);
+    }
+
+    /// Checks often while another is watched.
+    fn go_on<R: Abort>(&mut self, rt: &R, gate: &Gate)
+        ensures { self.new.table.now ≡ self.old.table.now }
+    {
+        assert!(rt; wait(&gate.armed, 1), "no watchpoint is set up");
+        self.check_often(rt, gate);
     }
 
     /// Waits for the lock.
@@ -295,7 +332,9 @@ impl<'a> Player<'a> {
         ensures { self.new.table.now ≡ self.old.table.now }
     {
         match game {
-            Game::Checks => self.check_often(rt),
+            Game::Checks => self.check_often(rt, gate),
+            Game::Paused if self.task == 0 => self.pause(rt, gate),
+            Game::Paused => self.go_on(rt, gate),
             Game::Increments => self.increment_often(rt),
             Game::Finders if self.task == 0 => self.be_found(rt, gate),
             Game::Finders => self.find(rt, gate),
@@ -371,10 +410,36 @@ fn opened(
 
 #[test]
 fn four_seats(rt: HostRuntime) -> Result<(), Fail> {
-    let (table, seats) = opened(rt.alloc(), 4, &[7, 8])?;
-    let seats = all_played(&rt, rt.alloc(), &table, seats, Game::Checks, &Gate::new())?;
-    let gathered = table.gather(seats).expect(&rt, "no check is unfinished");
-    assert_eq!(rt; gathered.cells(), [7, 8].as_slice());
+    let gate = Gate::new();
+    for _ in 0..GAMES {
+        let (table, seats) = opened(rt.alloc(), 4, &[7, 8])?;
+        let seats = all_played(&rt, rt.alloc(), &table, seats, Game::Checks, &gate)?;
+        let gathered = table.gather(seats).expect(&rt, "no check is unfinished");
+        assert_eq!(rt; gathered.cells(), [7, 8].as_slice());
+    }
+    assert!(rt;
+        gate.armed.load(Ordering::SeqCst) > 0,
+        "no insert succeeded"
+    );
+    assert!(rt;
+        gate.told.load(Ordering::SeqCst) > 0,
+        "no watchpoint was taken"
+    );
+    assert_eq!(rt;
+        gate.told.load(Ordering::SeqCst),
+        gate.heard.load(Ordering::SeqCst)
+    );
+    Ok(())
+}
+
+#[test]
+fn one_goes_on_while_another_is_paused(rt: HostRuntime) -> Result<(), Fail> {
+    let (table, seats) = opened(rt.alloc(), 2, &[])?;
+    let gate = Gate::new();
+    let seats = all_played(&rt, rt.alloc(), &table, seats, Game::Paused, &gate)?;
+    assert!(rt; table.gather(seats).is_some(), "a check is unfinished");
+    assert_eq!(rt; gate.told.load(Ordering::SeqCst), 1);
+    assert_eq!(rt; gate.heard.load(Ordering::SeqCst), 1);
     Ok(())
 }
 

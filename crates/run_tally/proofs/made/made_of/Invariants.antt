@@ -2,11 +2,12 @@
 use Rattle.std.proofs.Common.{All}
 use Rattle.program_sites.specs.Prepared.{sites_in}
 use Rattle.run_tally.specs.Made.{AreMadeSoFar}
-use Rattle.run_tally.specs.Runs.{Comes}
+use Rattle.run_tally.specs.Runs.{AreNumberedFrom, Comes}
 use Rattle.run_tally.proofs.made.made_of.Given as goal
 
 abbrev pub invariant-loop-run : goal.invariant-loop-run
 invariant-loop-run g l = record {
-  made : AreMadeSoFar l.program l.settings (sites_in l.prepared) l.times l.run l.made;
-  ready : All (Comes l.program l.settings) l.ready.items;
+  made : AreMadeSoFar l.plan.program.now l.plan.settings.now (sites_in l.plan.prepared.now) l.plan.times l.run l.made;
+  ready : All (Comes l.plan.program.now l.plan.settings.now) l.ready.items;
+  numbers : AreNumberedFrom l.run l.ready.items;
 }

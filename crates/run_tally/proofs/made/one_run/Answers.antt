@@ -2,7 +2,7 @@
 use Rattle.run_tally.proofs.MadeLemmas.{comes}
 use Rattle.run_tally.proofs.made.one_run.Goals as goal
 
-pub returns : goal.returns
-returns g c =
+pub returns-clause-comes : goal.returns-clause-comes
+returns-clause-comes g c =
     let run = c.run_prepared.ensures in
-    comes c.args.program.now c.args.settings.now c.run_prepared.result run.once run.errors run.stuck
+    comes c.args.plan.now.program.now c.args.plan.now.settings.now c.run_prepared.result run.once run.errors run.stuck

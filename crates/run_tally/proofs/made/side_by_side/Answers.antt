@@ -20,6 +20,8 @@ use Rattle.litmus_syntax.specs.contracts.program.Program as program_row
 use Rattle.runner.proofs.Sent.{program_shared}
 use Rattle.run_tally.proofs.starters.Starters.TheSendSync as starters
 use Rattle.run_tally.specs.contracts.starters.Starters as starters_row
+use Rattle.run_tally.proofs.times.Times.TheSendSync as times
+use Rattle.run_tally.specs.contracts.times.Times as times_row
 use Rattle.run_tally.proofs.made.side_by_side.Goals as goal
 use Rattle.run_tally.proofs.made.side_by_side.Lts as lts
 
@@ -29,16 +31,33 @@ closure_sync T all = recorded_sync (Struct (declared.shape T)) T.D T.to T.to_one
 pub map_indices-requires-sync-F : goal.map_indices-requires-sync-F
 map_indices-requires-sync-F g c κs within =
     let rows : List RattleType =
-    u64-field.row
-    ∷ (shr_ref_field (record { mir = named 6; lft = κs.1.1.1.1.1.1.0 }) (param 0 g.row.R) tt).row
-    ∷ global_row.the_row
-    ∷ (shr_ref_field (record { mir = named 7; lft = κs.1.1.1.1.1.1.1.0 }) program_row.the_row tt).row
-    ∷ (shr_ref_field (record { mir = named 8; lft = κs.1.1.1.1.1.1.1.1.0 }) settings_row.the_row tt).row
-    ∷ (shr_ref_field (record { mir = named 9; lft = κs.1.1.1.1.1.1.1.1.1.0 }) prepared_row.the_row tt).row
-    ∷ u64-field.row
+    (shr_ref_field (record { mir = named 6; lft = κs.1.1.1.1.1.1.0 }) program_row.the_row tt).row
+    ∷ (shr_ref_field (record { mir = named 7; lft = κs.1.1.1.1.1.1.1.0 }) settings_row.the_row tt).row
+    ∷ (shr_ref_field (record { mir = named 8; lft = κs.1.1.1.1.1.1.1.1.0 }) prepared_row.the_row tt).row
+    ∷ times_row.the_row
     ∷ starters_row.the_row
+    ∷ (shr_ref_field (record { mir = named 9; lft = κs.1.1.1.1.1.1.1.1.1.0 }) (param 1 g.row.H) tt).row
+    ∷ (shr_ref_field (record { mir = named 10; lft = κs.1.1.1.1.1.1.1.1.1.1.0 }) (param 0 g.row.R) tt).row
+    ∷ global_row.the_row
+    ∷ u64-field.row
     ∷ [] in
     let number : IsSync u64-field.row = search (sendable, crosses) in
-    let all : AllSync rows =
-    (number, (shr_sync _ _ _ c.type_bounds.sync-R, (global.the_sync, (shr_sync _ _ _ program_shared, (shr_sync _ _ _ settings.the_sync, (shr_sync _ _ _ prepared.the_sync, (number, (starters.the_sync, tt)))))))) in
-    param_sync 3 (lts.arg-0-3 g.row.R g.R.laws g.R.Threads-dict g.R.Wait-dict κs) (arg_sync _ yes _ (closure_sync (type_at _ rows) all))
+    let all : AllSync rows = (
+      shr_sync _ _ _ program_shared,
+      (
+        shr_sync _ _ _ settings.the_sync,
+        (
+          shr_sync _ _ _ prepared.the_sync,
+          (
+            times.the_sync,
+            (
+              starters.the_sync,
+              (shr_sync _ _ _ c.type_bounds.sync-H, (shr_sync _ _ _ c.type_bounds.sync-R, (global.the_sync, (number, tt)))),
+            ),
+          ),
+        ),
+      ),
+    ) in
+    param_sync 3 (lts.arg-0-3 g.row.R g.row.H g.row.H-OfRun g.R.laws g.H.laws g.H.OfRun.laws g.R.Threads-dict g.R.Wait-dict g.H.Hooks-dict
+    g.H.OfRun.Stall-dict g.H.OfRun.Gate-dict g.H.OfRun.Destruct-dict κs)
+    (arg_sync _ yes _ (closure_sync (type_at _ rows) all))

@@ -1,5 +1,5 @@
 -- what is kept of the runs is what is left of them
-use Rattle.std.proofs.Common.{◌≡◌, ◌∙◌, ◌&&◌, Bool, ap, is_some, subst, sym}
+use Rattle.std.proofs.Common.{◌∙◌, ◌&&◌, Bool, ap, subst, sym}
 use Rattle.run_tally.proofs.MadeLemmas.{a_last_tells, items_if_some, lent_is_there, some_items, traces_last}
 use Rattle.run_tally.specs.Output.{IsTraceOfLast}
 use Rattle.run_tally.specs.Runs.{IsLast}

@@ -1,5 +1,5 @@
 -- one run more is kept
-use Rattle.std.proofs.Common.{◌++◌, ◌∷◌, [], arith, refl}
+use Rattle.std.proofs.Common.{◌∷◌, [], arith, refl}
 use Rattle.std.proofs.lemmas.List.{length-append}
 use Rattle.program_sites.specs.Prepared.{sites_in}
 use Rattle.run_tally.proofs.NameLemmas.{reports_are_named}
@@ -13,6 +13,7 @@ pub returns-clause-made : goal.returns-clause-made
 returns-clause-made c = λ runs stuck was.
     let more = c.in_ok-add.ensures c.args.settings.now runs was.tallies c.requires.ready c.requires.once in (
       more.0,
+      more.1,
       record {
         ended = let before = was.ended in omega (arith, before, length-append runs (more.0 ∷ []));
         stuck_are = was.stuck_are;

@@ -1,0 +1,193 @@
+//! Many runs, of which each is made once.
+
+use crate::runs::{Meeting, RACE, THOUSAND, TWO_STUCK, Unseen, has, settings};
+use run_tally::{Hooks, Progress, Times, run_text_with};
+use runner::{Gate, Point, Stall};
+use std::sync::atomic::{AtomicU64, Ordering};
+use std::test::Fail;
+use trace_replay::{Accepted, replay};
+
+/// The trace of a run in which the race is found.
+const ONE_RACE: Accepted = Accepted::Second {
+    accesses: 2,
+    arms: 1,
+    takes: 1,
+    reports: 1,
+};
+
+/// What is counted over all runs that are asked for.
+#[derive(Drop)]
+struct Counts {
+    runs: AtomicU64,
+    reader_begins: AtomicU64,
+    writer_begins: AtomicU64,
+    /// The delays that were asked for, added up.
+    loads: AtomicU64,
+    ran_out: AtomicU64,
+    /// Of how many runs it was told after each that they are over, added up in hundreds, and of how many in all, in ones; and that there are no
+    /// more, in ten thousands.
+    told: AtomicU64,
+}
+
+/// Each run has a meeting of its own, and all are counted. Behind the first so many nobody is held any more.
+#[derive(Drop)]
+struct Meetings<'a> {
+    most: u64,
+    counts: &'a Counts,
+}
+
+/// The meeting of one run, and what is counted over all. The reader is held until the writer's access has ended, so that it sees the value
+/// change in each run.
+#[derive(Drop)]
+struct CountedMeeting<'a> {
+    holds: bool,
+    meeting: Meeting,
+    written: AtomicU64,
+    counts: &'a Counts,
+}
+
+impl Counts {
+    fn new() -> Counts {
+        Counts {
+            runs: AtomicU64::new(0),
+            reader_begins: AtomicU64::new(0),
+            writer_begins: AtomicU64::new(0),
+            loads: AtomicU64::new(0),
+            ran_out: AtomicU64::new(0),
+            told: AtomicU64::new(0),
+        }
+    }
+}
+
+impl Progress for Counts {
+    fn ran(&self, runs: u64, of: u64) {
+        let told = runs.saturating_mul(100).saturating_add(of);
+        self.told.fetch_add(told, Ordering::SeqCst);
+    }
+
+    fn over(&self) {
+        self.told.fetch_add(10_000, Ordering::SeqCst);
+    }
+}
+
+impl<'a> Hooks for Meetings<'a> {
+    type OfRun = CountedMeeting<'a>;
+
+    ghost asks = { λ run loads. Unit {0} };
+
+    fn of_run(&self, loads: u64, _tasks: u64, _first: usize) -> CountedMeeting<'a> {
+        self.counts.loads.fetch_add(loads, Ordering::SeqCst);
+        CountedMeeting {
+            holds: self.counts.runs.fetch_add(1, Ordering::SeqCst) < self.most,
+            meeting: Meeting::new(),
+            written: AtomicU64::new(0),
+            counts: self.counts,
+        }
+    }
+}
+
+impl<'a> Gate for CountedMeeting<'a> {
+    fn pass(&self, task: usize, point: Point) {
+        if point == Point::Begin {
+            let begins = if task == 0 {
+                &self.counts.reader_begins
+            } else {
+                &self.counts.writer_begins
+            };
+            begins.fetch_add(1, Ordering::SeqCst);
+        }
+        if self.holds {
+            self.meeting.pass(task, point);
+        }
+        if (task, point) == (1, Point::End) {
+            self.written.store(1, Ordering::SeqCst);
+        }
+    }
+}
+
+impl<'a> Stall for CountedMeeting<'a> {
+    fn stall(&self, task: usize, index: usize) {
+        if self.holds {
+            self.meeting.stall(task, index);
+            self.meeting.hold(&self.written);
+        }
+    }
+
+    fn over(&self, _task: usize) {
+        let ran_out = self.meeting.ran_out.swap(0, Ordering::SeqCst);
+        self.counts.ran_out.fetch_add(ran_out, Ordering::SeqCst);
+    }
+}
+
+/// Runs whose reports are thrown away, or one that is counted for many, would begin more accesses or fewer.
+#[test]
+fn each_run_that_is_asked_for_is_made_once(rt: HostRuntime) -> Result<(), Fail> {
+    let alloc = rt.alloc();
+    let strict = settings(alloc, true, 1_000_000_000);
+    for jobs in [1, 3] {
+        let counts = Counts::new();
+        let hooks = Meetings {
+            most: 3,
+            counts: &counts,
+        };
+        let times = Times {
+            runs: 3,
+            delay: 9,
+            jobs,
+            ..THOUSAND
+        };
+        let left = run_text_with(
+            &rt,
+            alloc,
+            RACE.as_bytes(),
+            &strict,
+            times,
+            true,
+            &counts,
+            &hooks,
+        )?;
+        assert!(rt; left.raced);
+        assert!(rt; has(left.output.as_slice(), "\nseen 3 times\n"));
+        assert!(rt; has(left.output.as_slice(), " two-sided 3 "));
+        let trace = left.trace.unwrap_or(Vec::new(alloc));
+        assert_eq!(rt; replay(alloc, trace.as_slice())?, ONE_RACE);
+        assert_eq!(rt; counts.runs.load(Ordering::SeqCst), 3);
+        assert_eq!(rt; counts.reader_begins.load(Ordering::SeqCst), 3);
+        assert_eq!(rt; counts.writer_begins.load(Ordering::SeqCst), 3);
+        assert_eq!(rt; counts.loads.load(Ordering::SeqCst), 27);
+        assert_eq!(rt; counts.ran_out.load(Ordering::SeqCst), 0);
+        assert_eq!(rt; counts.told.load(Ordering::SeqCst), 10_609);
+    }
+    Ok(())
+}
+
+/// One run that is counted as stuck for many would begin fewer accesses.
+#[test]
+fn each_stuck_run_is_made_once(rt: HostRuntime) -> Result<(), Fail> {
+    let alloc = rt.alloc();
+    let settings = settings(alloc, false, 3);
+    let counts = Counts::new();
+    let hooks = Meetings {
+        most: 0,
+        counts: &counts,
+    };
+    let times = Times {
+        runs: 3,
+        keep_going: true,
+        ..THOUSAND
+    };
+    let left = run_text_with(
+        &rt,
+        alloc,
+        TWO_STUCK.as_bytes(),
+        &settings,
+        times,
+        false,
+        &Unseen,
+        &hooks,
+    )?;
+    assert!(rt; has(left.output.as_slice(), "\nstuck in 3 of 3 runs\n"));
+    assert_eq!(rt; counts.runs.load(Ordering::SeqCst), 3);
+    assert_eq!(rt; counts.reader_begins.load(Ordering::SeqCst), 3);
+    Ok(())
+}
