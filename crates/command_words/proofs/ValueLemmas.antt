@@ -1,15 +1,16 @@
 -- What is read of the values of options.
-use Rattle.std.proofs.Common.{◌≡◌, ◌∙◌, ℕ, Bool, true, false, List, Option, None, Some, Result, Ok, Err, IfErr, IfSome, ap, ap₂}
+use Rattle.std.proofs.Common.{◌≡◌, ◌∙◌, ◌<◌, ◌^◌, ℕ, Bool, true, false, List, Option, None, Some, Result, Ok, Err, IfErr, IfSome, ap, ap₂, arith, is_some, length}
 use Rattle.std.proofs.Common.{not, option_map, refl, subst, sym, Bor, ◌&&◌}
 use Rattle.std.proofs.lemmas.Option.{same_Some}
 use Rattle.std.specs.Prelude.{IsErrAnd, codes}
 use Rattle.std.specs.Bool.{then_some}
-use Rattle.std.specs.Str.Parse.{digits_value, without_leading_plus}
+use Rattle.std.specs.Str.Parse.{IsNumeral, digits_value, without_leading_plus}
 use Rattle.clap.specs.Words.{ReadsOne, Row, Text, first_of, first_value, is_simple, is_simple_and_free, one_text, rows_of, subcommand_of}
 use Rattle.clap.specs.declared.parser.matches.Found.{Found}
 use Rattle.clap.proofs.WalkLemmas.{first_value-rows, one_text-rows}
-use Rattle.command_words.specs.Words.{AreSizes, Ask, IsAskedOf, IsFlag, IsNumber, program_app}
+use Rattle.command_words.specs.Words.{AreSizes, Ask, IsAskedBy, IsAskedOf, IsFlag, IsNumber, program_app}
 use Rattle.command_words.specs.declared.request.Request.{Request}
+use Rattle.command_words.specs.declared.request.Request.TheVariants as requests
 
 -- the text of an option that was read is its first value
 pub text_read : (found : Found) (option : Text) (result : Option (Bor Text))
@@ -32,7 +33,8 @@ never number same = cc
 
 -- a number that was read is spelled by the option's value
 pub number_read : {E : Type 0} (gives : List ℕ → Result ℕ E → Type 0)
-    → ((text : Text) (n : ℕ) → gives text (Ok n) → digits_value 10 (without_leading_plus text) ≡ n)
+    → ((text : Text) (n : ℕ) → gives text (Ok n)
+    → IsNumeral 10 (without_leading_plus text) × (digits_value 10 (without_leading_plus text) ≡ n) × (n < 2 ^ 64))
     → (found : Found) (option : Text) (result : Option ℕ) (number : ℕ) → result ≡ Some number
     → (one_text found option ≡ None → result ≡ None)
     → ((text : Text) → one_text found option ≡ Some text → ReadsOne gives text result)
@@ -40,11 +42,55 @@ pub number_read : {E : Type 0} (gives : List ℕ → Result ℕ E → Type 0)
 number_read {E} gives spelled found option result number some none value = by (one_text found option) refl where
   by : (text : Option Text) → one_text found option ≡ text → IsNumber (rows_of found) option number
   by None is = absurd (never number (sym (none is) ∙ some))
-  by (Some text) is = record {
-    text = text;
-    given = sym (one_text-rows found option) ∙ is;
-    spelled = spelled text number (subst (ReadsOne gives text) some (value text is));
-  }
+  by (Some text) is =
+      let read = spelled text number (subst (ReadsOne gives text) some (value text is)) in
+      record {
+        text = text;
+        given = sym (one_text-rows found option) ∙ is;
+        numeral = read.0;
+        spelled = read.1;
+        fits = read.2;
+      }
+
+-- an option that has a first value is read
+no_none : (text : Text) → Some text ≡ None → ⊥
+no_none text same = cc
+
+pub text_there : (found : Found) (option : Text) (result : Option (Bor Text)) (text : Text)
+    → option_map (λ text. text.now) result ≡ first_value found option → first_of option (rows_of found) ≡ Some text
+    → result ≡ None → ⊥
+text_there found option result text is given none =
+    no_none text (sym given ∙ (text_read found option result is ∙ ap (option_map (λ (text : Bor Text). text.now)) none))
+
+-- what is there is not missing
+pub not_missing : {X : Type 0} (result : Option X) → is_some result ≡ true → result ≡ None → ⊥
+not_missing {X} result some none = let no : false ≡ true = sym (ap (λ (o : Option X). is_some o) none) ∙ some in cc
+
+-- what is read is there
+pub is_there : {X : Type 0} (result : Option X) → ((x : X) → result ≡ Some x → ⊥) → is_some result ≡ true → ⊥
+is_there None other some = absurd (let no : false ≡ true = some in cc)
+is_there (Some x) other some = other x refl
+
+-- a number that an option's value spells is read, and no other
+pub number_there : {E : Type 0} (gives : List ℕ → Result ℕ E → Type 0)
+    → ((text : Text) (e : E) → gives text (Err e) → IsNumeral 10 (without_leading_plus text)
+    → digits_value 10 (without_leading_plus text) < 2 ^ 64 → ⊥)
+    → (found : Found) (option : Text) (result : Option ℕ) (number : ℕ)
+    → ((text : Text) → one_text found option ≡ Some text → ReadsOne gives text result)
+    → IsNumber (rows_of found) option number → result ≡ None → ⊥
+number_there gives refuses found option result number value asks none =
+    let read : one_text found option ≡ Some asks.text = one_text-rows found option ∙ asks.given in
+    let error = subst (ReadsOne gives asks.text) none (value asks.text read) in
+    refuses asks.text error.0 error.1 asks.numeral (subst (λ n. n < 2 ^ 64) (sym asks.spelled) asks.fits)
+
+pub number_same : {E : Type 0} (gives : List ℕ → Result ℕ E → Type 0)
+    → ((text : Text) (n : ℕ) → gives text (Ok n) → n ≡ digits_value 10 (without_leading_plus text))
+    → (found : Found) (option : Text) (result : Option ℕ) (number other : ℕ) → result ≡ Some number
+    → ((text : Text) → one_text found option ≡ Some text → ReadsOne gives text result)
+    → IsNumber (rows_of found) option other → number ≡ other
+number_same gives spelled found option result number other some value asks =
+    let read : one_text found option ≡ Some asks.text = one_text-rows found option ∙ asks.given in
+    spelled asks.text number (subst (ReadsOne gives asks.text) some (value asks.text read)) ∙ asks.spelled
 
 -- whether an option that stands alone is set
 pub flag_read : (found : Found) (option : Text) (set : Bool) → (one_text found option ≡ None → set ≡ false)
@@ -78,6 +124,15 @@ third_is_not true true true rest is = absurd (cc)
 third_is_not true true false rest is = refl
 third_is_not true false third rest is = absurd (cc)
 third_is_not false other third rest is = absurd (cc)
+
+-- `replay` asks for a trace
+pub asked_replay : (name : Text) (values : List Row) (request : Request) → name ≡ codes "replay" → IsAskedBy name values request
+    → (text : Text) × (first_of (codes "TRACE") values ≡ Some text)
+asked_replay name values (requests.Step request) is asks =
+    absurd (let long : 4 ≡ 6 = ap (λ (text : Text). length text) (sym asks.0 ∙ is) in omega (arith, long))
+asked_replay name values (requests.Run request) is asks =
+    absurd (let long : 3 ≡ 6 = ap (λ (text : Text). length text) (sym asks.0 ∙ is) in omega (arith, long))
+asked_replay name values (requests.Replay request) is asks = (request.trace.now, asks.1)
 
 -- the words ask for what the command that they call asks for
 pub asked_by : (words : List Text) (sizes : Bor (List (Bor Text))) → AreSizes sizes

@@ -1,7 +1,7 @@
 -- What words ask for: the commands that the program knows, with their options, and what is read of the words.
-use Rattle.std.specs.Prelude.{◌≡◌, ◌⊎◌, ◌∷◌, [], ℕ, Bool, List, Option, None, Some, bytes_eq, codes, map, option_map, true, false}
+use Rattle.std.specs.Prelude.{◌≡◌, ◌<◌, ◌^◌, ◌⊎◌, ◌∷◌, [], ℕ, Bool, List, Option, None, Some, bytes_eq, codes, map, option_map, true, false}
 use Rattle.std.specs.Prelude.{if◌then◌else◌}
-use Rattle.std.specs.Str.Parse.{digits_value, without_leading_plus}
+use Rattle.std.specs.Str.Parse.{IsNumeral, digits_value, without_leading_plus}
 use Rattle.std.specs.Borrow.{Bor}
 use Rattle.clap.specs.Words.{App, IsAmong, Row, Rule, Text, app_of, fault_of, first_of, new_app, new_rule, one_of, rule_of}
 use Rattle.clap.specs.Words.{subcommand_of, with_rule, with_subcommand}
@@ -12,6 +12,7 @@ use Rattle.clap.specs.declared.builder.command.Command.{Command}
 use Rattle.clap.specs.declared.error.kind.ErrorKind.{ErrorKind}
 use Rattle.clap.specs.declared.error.kind.ErrorKind.TheVariants as kinds
 use Rattle.clap.specs.declared.builder.value_parser.ValueParser.TheVariants as values
+use Rattle.command_words.specs.Bounds.{MayBeAsked}
 use Rattle.command_words.specs.declared.request.RunOptions.{RunOptions}
 use Rattle.command_words.specs.declared.request.ReplayRequest.{ReplayRequest}
 use Rattle.command_words.specs.declared.request.Request.{Request}
@@ -109,11 +110,13 @@ pub record IsCall (words : List Text) (name : Text) (values : List Row) : Type 0
   pub sizes_are : AreSizes sizes
   pub called : subcommand_of (program_app sizes) words ≡ Some (name, values)
 
--- the value of an option is a number, in decimal digits
+-- the value of an option is a number of 64 bits, in decimal digits
 pub record IsNumber (values : List Row) (option : Text) (number : ℕ) : Type 0 where
   pub text : Text
   pub given : one_of option values ≡ Some text
+  pub numeral : IsNumeral 10 (without_leading_plus text)
   pub spelled : digits_value 10 (without_leading_plus text) ≡ number
+  pub fits : number < 2 ^ 64
 
 -- whether an option that stands alone is set
 pub record IsFlag (values : List Row) (option : Text) (set : Bool) : Type 0 where
@@ -187,6 +190,15 @@ pub record IsSaidOf (words : List Text) (kind : ErrorKind) : Type 0 where
 abbrev pub AskForHelp : List Text → Type 0
 AskForHelp words = IsSaidOf words kinds.DisplayHelp
 
--- this may be said where the words ask for nothing: that memory ran out, that they name no command, or what is to be said of them
+-- nothing is to be said of the words, and yet no request, with numbers within their bounds, is asked for by the command that they call
+pub record AskForNothing (words : List Text) : Type 0 where
+  pub sizes : Bor (List (Bor Text))
+  pub sizes_are : AreSizes sizes
+  pub sound : fault_of (program_app sizes) words ≡ []
+  pub nothing : (request : Request) → MayBeAsked request → IsAskedOf (subcommand_of (program_app sizes) words) request → ⊥
+
+-- This may be said in place of a request: that memory ran out, what is to be said of the words, or, where nothing is and yet they ask for
+-- nothing, that a value doesn't do. So it is said of no words that name a command that none is named.
 abbrev pub MayFail : List Text → ErrorKind → Type 0
-MayFail words kind = (kind ≡ kinds.OutOfMemory) ⊎ ((kind ≡ kinds.MissingSubcommand) ⊎ IsSaidOf words kind)
+MayFail words kind =
+    (kind ≡ kinds.OutOfMemory) ⊎ (((kind ≡ kinds.ValueValidation) × AskForNothing words) ⊎ IsSaidOf words kind)

@@ -21,7 +21,8 @@ pub const AFTER_PROGRAM: &str = "\
     \x20\x20\x20\x20kcsan_litmus step race.litmus --schedule 0x7,1x9\n\
     \n\
     After the reports come a line with what became of the checks, and one that says whether\n\
-    the condition held. 'kcsan_litmus step --help' says what a schedule is.";
+    the condition held: its proposition, whatever the quantifier. 'kcsan_litmus step --help'\n\
+    says what a schedule is.";
 
 /// What `step` does.
 pub const STEP: &str =
@@ -56,7 +57,8 @@ pub const AFTER_STEP: &str = "\
     and up to 71 nothing goes to standard output or to the trace's file.";
 
 /// What `replay` does.
-pub const REPLAY: &str = "Checks a trace, and says of what it is a true one";
+pub const REPLAY: &str =
+    "Checks whether a trace is true, and says how many lines of each kind it has";
 
 /// What follows the words of `replay`.
 pub const AFTER_REPLAY: &str = "\
@@ -98,7 +100,7 @@ pub const SKIP: &str =
 pub const RANDOMIZE: &str = "Draws each skip at random, from 1 to what --skip says";
 
 /// What `--seed` says.
-pub const SEED: &str = "The seed of the skips that are drawn; task T has this number and T";
+pub const SEED: &str = "The seed of the skips that are drawn; that of task T is this number plus T";
 
 /// What `--strict` does.
 pub const STRICT: &str =
@@ -108,8 +110,7 @@ pub const STRICT: &str =
 pub const WORD: &str = "How many bits a watch word has, 64 or 32";
 
 /// What `--turns` says.
-pub const TURNS: &str =
-    "At so many vain tries to take a lock or to change a variable a task is stuck, 1 to 1000000000";
+pub const TURNS: &str = "At so many vain tries of one wait a task is stuck, 1 to 1000000000";
 
 /// What `run` does.
 pub const RUN: &str =

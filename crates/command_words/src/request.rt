@@ -1,6 +1,6 @@
 //! What the words ask for.
 
-ghost use Rattle.std.specs.Prelude.{◌≡◌, ◌≤◌, ◌<◌, ℕ, IfErr, IfOk, IfSome, codes, map};
+ghost use Rattle.std.specs.Prelude.{◌≡◌, ◌≤◌, ◌<◌, ℕ, IfErr, IfOk, IfSome, IsSome, codes, map};
 ghost use Rattle.command_words.specs.Bounds.{KeepsBounds, KeepsRunBounds, MayBeAsked};
 ghost use Rattle.command_words.specs.Words.{AreSizes, Ask, AskOptions, AskRun, AskStep, IsArg, IsAskedOf, IsLayout, IsNumber, IsProgram, MayFail};
 ghost use Rattle.command_words.specs.Words.{flag_rule, number_rule, replay_app, run_app, step_app, text_rule, with_options, word_rule};
@@ -116,13 +116,14 @@ pub fn asked<'a, S: AsStr>(alloc: Global, words: &'a [S]) -> Result<Request<'a>,
     if let Some(request) = request_of(&matches) {
         return Ok(request);
     }
-    Err(program(alloc)?.error(ErrorKind::MissingSubcommand, "a subcommand is missing")?)
+    Err(program(alloc)?.error(ErrorKind::ValueValidation, "a value doesn't do")?)
 }
 
 /// What is asked, by the values of the words.
 fn request_of<'a>(matches: &ArgMatches<'a>) -> Option<Request<'a>>
     ensures bounds { IfSome result MayBeAsked }
     ensures asked { IfSome result (IsAskedOf (subcommand_rows_of matches.now)) }
+    ensures complete { (request : Request) → MayBeAsked request → IsAskedOf (subcommand_rows_of matches.now) request → IsSome result }
 {
     match matches.subcommand()? {
         ("step", step) => Some(Request::Step(step_request(step)?)),
@@ -138,6 +139,8 @@ fn request_of<'a>(matches: &ArgMatches<'a>) -> Option<Request<'a>>
 fn step_request<'a>(step: &ArgMatches<'a>) -> Option<StepRequest<'a>>
     ensures bounds { IfSome result (λ request. KeepsBounds request.options) }
     ensures asked { IfSome result (AskStep (rows_of (found_of step.now))) }
+    ensures complete { (request : StepRequest) → KeepsBounds request.options → AskStep (rows_of (found_of step.now)) request
+        → IsSome result }
 {
     Some(StepRequest {
         file: step.get_str("FILE")?,
@@ -150,6 +153,7 @@ fn step_request<'a>(step: &ArgMatches<'a>) -> Option<StepRequest<'a>>
 fn run_request<'a>(run: &ArgMatches<'a>) -> Option<RunRequest<'a>>
     ensures bounds { IfSome result KeepsRunBounds }
     ensures asked { IfSome result (AskRun (rows_of (found_of run.now))) }
+    ensures complete { (request : RunRequest) → KeepsRunBounds request → AskRun (rows_of (found_of run.now)) request → IsSome result }
 {
     Some(RunRequest {
         file: run.get_str("FILE")?,
@@ -166,6 +170,8 @@ fn run_request<'a>(run: &ArgMatches<'a>) -> Option<RunRequest<'a>>
 fn options<'a>(matches: &ArgMatches<'a>) -> Option<RunOptions<'a>>
     ensures bounds { IfSome result KeepsBounds }
     ensures asked { IfSome result (AskOptions (rows_of (found_of matches.now))) }
+    ensures complete { (options : RunOptions) → KeepsBounds options → AskOptions (rows_of (found_of matches.now)) options
+        → IsSome result }
 {
     Some(RunOptions {
         places: matches.get_str("place")?,
@@ -184,6 +190,8 @@ fn options<'a>(matches: &ArgMatches<'a>) -> Option<RunOptions<'a>>
 fn number(matches: &ArgMatches<'_>, option: &str, bounds: (u64, u64)) -> Option<u64>
     ensures within { IfSome result (λ number. (bounds.0 ≤ number) × (number ≤ bounds.1)) }
     ensures asked { IfSome result (IsNumber (rows_of (found_of matches.now)) option.now) }
+    ensures complete { (number : ℕ) → bounds.0 ≤ number → number ≤ bounds.1 → IsNumber (rows_of (found_of matches.now)) option.now number
+        → IsSome result }
 {
     let number = matches.get_one::<u64>(option)?;
     (bounds.0 <= number && number <= bounds.1).then_some(number)
@@ -191,7 +199,8 @@ fn number(matches: &ArgMatches<'_>, option: &str, bounds: (u64, u64)) -> Option<
 
 /// How many bits a watch word is to have.
 fn layout(matches: &ArgMatches<'_>) -> Option<Layout>
-    ensures { IfSome result (IsLayout (rows_of (found_of matches.now)) (codes "word")) }
+    ensures asked { IfSome result (IsLayout (rows_of (found_of matches.now)) (codes "word")) }
+    ensures complete { (layout : Layout) → IsLayout (rows_of (found_of matches.now)) (codes "word") layout → IsSome result }
 {
     let bits = matches.get_str("word")?;
     Some(if bits == "32" {

@@ -1,8 +1,8 @@
 -- the matches are those of the program on the words
 use Rattle.std.proofs.Common.{◌∙◌, ap, inl, inr, map, subst, sym}
 use Rattle.clap.specs.Words.{App, IsAmong, fault_of, is_simple, is_simple_and_free, kind_of, subcommand_of, subcommand_rows_of}
-use Rattle.command_words.specs.Words.{MayFail}
-use Rattle.command_words.proofs.ValueLemmas.{asked_by, err_holds, program_is_free, program_is_simple}
+use Rattle.command_words.specs.Words.{IsAskedOf, MayFail}
+use Rattle.command_words.proofs.ValueLemmas.{asked_by, err_holds, is_there, program_is_free, program_is_simple}
 use Rattle.command_words.proofs.request.asked.Goals as goal
 
 pub returns-in-Some-clause-asked : goal.returns-in-Some-clause-asked
@@ -28,3 +28,21 @@ returns-in_err-matches-clause-fails g c =
     ] in
     err_holds (λ error. MayFail words (kind_of error)) c.from_residual-in_err-matches.result c.in_err-matches.field-0.0
     c.from_residual-in_err-matches.ensures.1 may
+
+pub returns-clause-fails : goal.returns-clause-fails
+returns-clause-fails g c =
+    let program = c.in_ok-program.ensures in
+    let words = map g.S.AsStr.text c.args.words.now in
+    let called = ap (λ app. subcommand_of app words) (sym program.is)
+    ∙ sym (c.in_ok-matches.ensures.matches (ap is_simple program.is ∙ program_is_simple program.sizes)).1 in
+    let sound = c.in_ok-matches.ensures.kinds (ap is_simple_and_free program.is ∙ program_is_free program.sizes) in
+    inr (inl (
+      c.in_ok-error.ensures.kind,
+      record {
+        sizes = program.sizes;
+        sizes_are = program.sizes_are;
+        sound = ap (λ app. fault_of app words) (sym program.is) ∙ sound;
+        nothing = λ request may asked. is_there c.request_of.result c.in_default.not-Some
+            (c.request_of.ensures.complete request may (subst (λ called. IsAskedOf called request) called asked));
+      },
+    ))
