@@ -13,12 +13,14 @@ pub fn version_1_is_spelled()
 
 /// The example of version 2, as bytes.
 pub fn version_2_is_spelled()
-    ensures { trace_text (second 64 W64) told ≡ codes "KCSAN-TRACE 2\nshape 64 64\naccess 0 0 r 0x0000000000010000 4 0x0000000000000000 0 3\naccess 1 0 wc 0x0000000000010000 4 0x0000000000000000 1 2\narm 0 0 0 17 0x0008000000010000 1 0 report\ntake 1 0 17 0 0\nrace 0 0 1 0\nend\n" }
+    ensures { trace_text (second 64 W64) told ≡ codes "KCSAN-TRACE 2\nshape 64 64\naccess 0 0 r 0x0000000000010000 4 0x0000000000000000 0 3\naccess 1 0 wc 0x0000000000010000 4 0x0000000000000000 1 2\n"
+        ++ codes "arm 0 0 0 17 0x0008000000010000 1 0 report\ntake 1 0 17 0 0\nrace 0 0 1 0\nend\n" }
 {}
 
 /// A loop's turns, as bytes.
 pub fn turns_are_spelled()
-    ensures { trace_text first turns ≡ codes "KCSAN-TRACE 1\naccess 0 0 r 0x0000000000010000 4 0x0000000000000000 0 1\naccess 0 0.1 r 0x0000000000010000 4 0x0000000000000000 2 3\naccess 0 0.2 r 0x0000000000010000 4 0x0000000000000000 4 7\naccess 1 0 wc 0x0000000000010000 4 0x0000000000000000 5 6\nrace 0 0.2 1 0\nend\n" }
+    ensures { trace_text first turns ≡ codes "KCSAN-TRACE 1\naccess 0 0 r 0x0000000000010000 4 0x0000000000000000 0 1\naccess 0 0.1 r 0x0000000000010000 4 0x0000000000000000 2 3\n"
+        ++ codes "access 0 0.2 r 0x0000000000010000 4 0x0000000000000000 4 7\naccess 1 0 wc 0x0000000000010000 4 0x0000000000000000 5 6\nrace 0 0.2 1 0\nend\n" }
 {}
 
 /// The example of version 1 is a true trace.

@@ -1,5 +1,6 @@
 -- What is spelled as an expression is read so, whatever follows it that can't continue it.
-use Rattle.std.proofs.Common.{eqb, map, ◌≡◌, ◌∙◌, ℕ, zero, suc, ◌+◌, ◌-◌, ◌<◌, ◌≤◌, ◌==◌, nat_lt, List, [], ◌∷◌, ◌++◌, Bool, true, false, cond, Option, Some, None, length, refl, sym, ap, subst, arith, add-one, eq-eqb, length-append}
+use Rattle.std.proofs.Common.{eqb, map, ◌≡◌, ◌∙◌, ℕ, zero, suc, ◌+◌, ◌-◌, ◌<◌, ◌≤◌, ◌==◌, nat_lt, List, [], ◌∷◌, ◌++◌, Bool, true, false, cond, Option, Some, None, length}
+use Rattle.std.proofs.Common.{refl, sym, ap, subst, arith, add-one, eq-eqb, length-append}
 use Rattle.std.specs.Prelude.{Contains}
 use Rattle.std.proofs.lemmas.Bool.{eqb-true, le-ltb}
 use Rattle.litmus_lex.specs.declared.sign.Sign.{Sign}
@@ -374,7 +375,8 @@ module _ (P : List Parameter) (st t : ℕ) (apart : Differ (map name_of P)) wher
       ∙ ap (λ (o : Option Found). o >>= λ y. cond (is_foreign (first y.1.symbols)) None (Some y)) found
       ∙ ap (λ (b : Bool). cond b None (Some x)) ends
 
-  prefixed_operator : (d : ℕ) (op : UnaryOperator) (s : State) (r f : Rest) (e : tree.Expression) (u : State) (q : Rest) → unary_at (first s.symbols) ≡ Some op → take_operator r ≡ Some f → level_at t d 0 (after s) f ≡ Some (e, u, q)
+  prefixed_operator : (d : ℕ) (op : UnaryOperator) (s : State) (r f : Rest) (e : tree.Expression) (u : State) (q : Rest) → unary_at (first s.symbols) ≡ Some op
+      → take_operator r ≡ Some f → level_at t d 0 (after s) f ≡ Some (e, u, q)
       → level_at t d 0 s r ≡ Some (reader.applied op e, u, q)
   prefixed_operator d op s r f e u q begins taken inside =
       let inner : prefixed_at t d (after s) f ≡ Some (e, u, q) = sym (level_unrolls t d 0 (after s) f) ∙ inside in
@@ -392,7 +394,8 @@ module _ (P : List Parameter) (st t : ℕ) (apart : Differ (map name_of P)) wher
       ∙ ap (λ (i : ℕ). Some (tree.pure (tree.number k), placed P st rest before i, r)) count
       ∙ ap (λ (v : Rest). Some (tree.pure (tree.number k), placed P st rest before m, v)) same
 
-  operand_name : (d register : ℕ) (name : List ℕ) (before later : Names) (rest : List Symbol) (n m : ℕ) (r q : Rest) → Differ before → IsRegister P before name register later → Spends t (tree.pure (tree.register register)) n m r q
+  operand_name : (d register : ℕ) (name : List ℕ) (before later : Names) (rest : List Symbol) (n m : ℕ) (r q : Rest) → Differ before → IsRegister P before name register later
+      → Spends t (tree.pure (tree.register register)) n m r q
       → is_sign OpenParen (first rest) ≡ false
       → operand_at t d (placed P st (identifier name ∷ rest) before n) r ≡ Some (tree.pure (tree.register register), placed P st rest later m, q)
   operand_name d register name before later rest n m r q differ is spends no_call =
@@ -509,7 +512,8 @@ module _ (P : List Parameter) (st t : ℕ) (apart : Differ (map name_of P)) wher
       → arguments_at t d loads.Exchange (placed P st (identifier name ∷ sign Comma ∷ symbols) before n) ≡ Some (tree.exchange variable value, placed P st rest later n)
   exchange_read d name variable before later symbols rest value n v inside =
       arguments_unrolls t d loads.Exchange (placed P st (identifier name ∷ sign Comma ∷ symbols) before n)
-      ∙ ap (λ (o : Option (ℕ × State)). o >>= λ v. take_sign Comma v.1.symbols >>= λ l. pure_at t d (with_left v.1 l) >>= λ x. Some (tree.exchange v.0 x.0, x.1)) (integer_back P st apart name variable v (sign Comma ∷ symbols) before n)
+      ∙ ap (λ (o : Option (ℕ × State)). o >>= λ v. take_sign Comma v.1.symbols >>= λ l. pure_at t d (with_left v.1 l) >>= λ x. Some (tree.exchange v.0 x.0, x.1))
+      (integer_back P st apart name variable v (sign Comma ∷ symbols) before n)
       ∙ ap (λ (o : Option (List Symbol)). o >>= λ l. pure_at t d (placed P st l before n) >>= λ x. Some (tree.exchange variable x.0, x.1)) (sign_there Comma symbols)
       ∙ ap (λ (o : Option (tree.Pure × State)). o >>= λ x. Some (tree.exchange variable x.0, x.1)) inside
 
@@ -528,7 +532,8 @@ module _ (P : List Parameter) (st t : ℕ) (apart : Differ (map name_of P)) wher
       ∙ ap (λ (o : Option (List Symbol)). o >>= λ l. pure_at t d (placed P st l between n) >>= λ y. Some (tree.compare_exchange variable expected y.0, y.1)) (sign_there Comma middle)
       ∙ ap (λ (o : Option (tree.Pure × State)). o >>= λ y. Some (tree.compare_exchange variable expected y.0, y.1)) two
 
-  whole_pure : (d : ℕ) (before later : Names) (symbols rest : List Symbol) (value : tree.Pure) (n m : ℕ) → pure_operators value ≤ 256 → n ≡ m → m ≤ 1024 → Whole 7 d before symbols (tree.pure value) rest later → Follows 7 rest
+  whole_pure : (d : ℕ) (before later : Names) (symbols rest : List Symbol) (value : tree.Pure) (n m : ℕ) → pure_operators value ≤ 256 → n ≡ m → m ≤ 1024
+      → Whole 7 d before symbols (tree.pure value) rest later → Follows 7 rest
       → pure_at t d (placed P st symbols before n) ≡ Some (value, placed P st rest later m)
   whole_pure d before later symbols rest value n m le same limit whole follows =
       let q : Rest = record { operators = 256 - pure_operators value; may_load = false } in

@@ -1,5 +1,6 @@
 -- A name that is looked up stands where it is found, and is found where it stands, among names that differ.
-use Rattle.std.proofs.Common.{inl, inr, ◌≡◌, ◌∙◌, ℕ, zero, suc, ◌+◌, ◌<◌, ◌≤◌, ◌==◌, nat_lt, not, List, [], ◌∷◌, ◌++◌, Bool, true, false, cond, get_or, Option, Some, None, length, refl, sym, ap, subst, map, arith}
+use Rattle.std.proofs.Common.{inl, inr, ◌≡◌, ◌∙◌, ℕ, zero, suc, ◌+◌, ◌<◌, ◌≤◌, ◌==◌, nat_lt, not, List, [], ◌∷◌, ◌++◌, Bool, true, false, cond, get_or, Option, Some, None}
+use Rattle.std.proofs.Common.{length, refl, sym, ap, subst, map, arith}
 use Rattle.std.specs.Prelude.{Contains, find, position, slice_get}
 use Rattle.std.specs.List.{position_or_len, prefix_len}
 use Rattle.std.specs.Bool.{Decides}

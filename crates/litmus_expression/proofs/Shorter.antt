@@ -15,7 +15,8 @@ use Rattle.litmus_cursor.specs.Words.{Symbol, word, identifier, number, sign, fa
 use Rattle.litmus_expression.specs.declared.expression.Rest.{Rest}
 use Rattle.litmus_expression.specs.declared.process.Takes.{Takes}
 use Rattle.litmus_expression.specs.declared.process.Takes.TheVariants.{Integers}
-use Rattle.litmus_expression.specs.ExpressionReader.{Readers, Beginning, a_number, parenthesis, a_load, a_name, nothing, Loader, starred, called, by, deep, all_of_it, applied, beginning_of, binary_at, closed, combined, fetch_with, is_foreign}
+use Rattle.litmus_expression.specs.ExpressionReader.{Readers, Beginning, a_number, parenthesis, a_load, a_name, nothing, Loader, starred, called, by, deep, all_of_it, applied, beginning_of, binary_at, closed, combined}
+use Rattle.litmus_expression.specs.ExpressionReader.{fetch_with, is_foreign}
 use Rattle.litmus_expression.specs.ExpressionReader.{idle, is_data_race, loader_of, more_with, of_level, opened, operand_with, prefixed_with, pure_of, read_by, read_of, read_with, register_operand, take_operator, take_star, unary_at}
 use Rattle.litmus_expression.specs.ExpressionReader as reader
 use Rattle.litmus_expression.specs.NameReader.{count_access, index_of, name_among, numbered, parameter_named, register_at, register_name, register_named, take_register, take_variable, takes_type, variable_named, variable_of}
@@ -62,7 +63,8 @@ numbered_same s name None x e =
     let g = guarded (length s.names == 32) (Some (length s.names, record s { names = s.names ++ name ∷ [] })) x e in
     sym (ap (λ (y : ℕ × State). y.1.symbols) (same_given (length s.names, record s { names = s.names ++ name ∷ [] }) x g.1))
 
-name_among_fewer : (parameters : List Parameter) (symbols : List Symbol) (o : Option (List ℕ)) (name : List ℕ) → identifier_at (first symbols) ≡ o → name_among parameters o ≡ Some name → length (others symbols) < length symbols
+name_among_fewer : (parameters : List Parameter) (symbols : List Symbol) (o : Option (List ℕ)) (name : List ℕ) → identifier_at (first symbols) ≡ o → name_among parameters o ≡ Some name
+    → length (others symbols) < length symbols
 name_among_fewer parameters symbols None name is e = absurd cc
 name_among_fewer parameters symbols (Some other) name is e = identifier_fewer symbols (first symbols) other refl is
 
@@ -190,7 +192,8 @@ pub record Shorter (R : Readers) : Type 0 where
   pub arguments : (t d : ℕ) (w : LoadWord) (s : State) (x : tree.Fetch × State) → R.arguments t d w s ≡ Some x → Less x.1 s
   pub pure : (t d : ℕ) (s : State) (x : tree.Pure × State) → R.pure t d s ≡ Some x → Less x.1 s
 
-more_shorter : (R : Readers) → Shorter R → (t d k : ℕ) (a : tree.Expression) (s : State) (r : Rest) (o : Option BinaryOperator) (x : Found) → of_level k (binary_at (first s.symbols)) ≡ o → more_with R t d k a s r o ≡ Some x → AtMost x.1 s
+more_shorter : (R : Readers) → Shorter R → (t d k : ℕ) (a : tree.Expression) (s : State) (r : Rest) (o : Option BinaryOperator) (x : Found) → of_level k (binary_at (first s.symbols)) ≡ o
+    → more_with R t d k a s r o ≡ Some x → AtMost x.1 s
 more_shorter R h t d k a s r None x is e =
     let same : s ≡ x.1 = ap (λ (y : Found). y.1) (same_given (a, s, r) x e) in
     subst (λ (u : State). AtMost u s) same (omega arith)

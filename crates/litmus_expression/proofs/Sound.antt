@@ -1,5 +1,6 @@
 -- What the readers of expressions read is spelled so.
-use Rattle.std.proofs.Common.{◌≡◌, ◌∙◌, ℕ, zero, suc, ◌+◌, ◌-◌, ◌*◌, ◌<◌, ◌≤◌, ◌==◌, nat_lt, List, [], ◌∷◌, ◌++◌, Bool, true, false, cond, Option, Some, None, length, refl, sym, ap, subst, arith, add-one, eq-eqb, length-append}
+use Rattle.std.proofs.Common.{◌≡◌, ◌∙◌, ℕ, zero, suc, ◌+◌, ◌-◌, ◌*◌, ◌<◌, ◌≤◌, ◌==◌, nat_lt, List, [], ◌∷◌, ◌++◌, Bool, true, false, cond, Option, Some, None, length}
+use Rattle.std.proofs.Common.{refl, sym, ap, subst, arith, add-one, eq-eqb, length-append}
 use Rattle.std.specs.Prelude.{Contains}
 use Rattle.std.proofs.lemmas.Bool.{eqb-true}
 use Rattle.litmus_lex.specs.declared.sign.Sign.TheVariants.{OpenParen, CloseParen, Comma, Star, Plus, Minus, Tilde, Not, Ampersand, Caret, Bar, Less, Greater, LessEqual, GreaterEqual, Equal, NotEqual}
@@ -482,7 +483,8 @@ level_zero : (P : List Parameter) (d : ℕ) (before later : Names) (symbols rest
 level_zero P d before later symbols rest a o = grammar.operand o
 
 module _ (R : Readers) (h : Sound R) where
-  more_sound : (t d j : ℕ) (a : tree.Expression) (s : State) (r : Rest) (o : Option BinaryOperator) (x : Found) → d ≤ 16 → length s.names ≤ 32 → of_level (suc j) (binary_at (first s.symbols)) ≡ o → more_with R t d (suc j) a s r o ≡ Some x
+  more_sound : (t d j : ℕ) (a : tree.Expression) (s : State) (r : Rest) (o : Option BinaryOperator) (x : Found) → d ≤ 16 → length s.names ≤ 32 → of_level (suc j) (binary_at (first s.symbols)) ≡ o
+      → more_with R t d (suc j) a s r o ≡ Some x
       → ReadsMore t d (suc j) a s r x
   more_sound t d j a s r None x deep within is e =
       subst (ReadsMore t d (suc j) a s r) (same_given (a, s, r) x e) (record { goes_on = λ before symbols l. l; within = within; parameters = refl; statements = refl; repeats = refl; operators_are = refl })
@@ -496,7 +498,8 @@ module _ (R : Readers) (h : Sound R) where
       let both = combined_is t op a two.0.0 three.0 three.1 in
       let rest = h.more t d (suc j) three.0 two.0.1 two.0.2 x (omega arith) deep right.within three.2 in
       let j_is : suc j - 1 ≡ j = omega arith in
-      let right_at : Level s.parameters j d s.names (others s.symbols) two.0.0 two.0.1.symbols two.0.1.names = subst (λ (k : ℕ). Level s.parameters k d s.names (others s.symbols) two.0.0 two.0.1.symbols two.0.1.names) j_is right.spelled in
+      let right_at : Level s.parameters j d s.names (others s.symbols) two.0.0 two.0.1.symbols two.0.1.names
+      = subst (λ (k : ℕ). Level s.parameters k d s.names (others s.symbols) two.0.0 two.0.1.symbols two.0.1.names) j_is right.spelled in
       record {
         goes_on = λ before symbols l.
             let left = subst (λ (m : List Symbol). Level s.parameters (suc j) d before symbols a m s.names) next l in
@@ -510,7 +513,8 @@ module _ (R : Readers) (h : Sound R) where
         operators_are = omega (arith, rest.operators_are, right.operators_are, both.operators_are, operator_taken r one.0 one.1);
       }
 
-  prefixed_sound : (t d : ℕ) (s : State) (r : Rest) (o : Option UnaryOperator) (x : Found) → d ≤ 16 → length s.names ≤ 32 → unary_at (first s.symbols) ≡ o → prefixed_with R t d s r o ≡ Some x → ReadsExpression (AtLevel 0 d) t s r x
+  prefixed_sound : (t d : ℕ) (s : State) (r : Rest) (o : Option UnaryOperator) (x : Found) → d ≤ 16 → length s.names ≤ 32 → unary_at (first s.symbols) ≡ o
+      → prefixed_with R t d s r o ≡ Some x → ReadsExpression (AtLevel 0 d) t s r x
   prefixed_sound t d s r None x deep within is e =
       let b = bind_some (R.operand t d s r) (λ y. cond (is_foreign (first y.1.symbols)) None (Some y)) x e in
       let g = guarded (is_foreign (first b.0.1.symbols)) (Some b.0) x b.2 in
@@ -569,7 +573,8 @@ module _ (R : Readers) (h : Sound R) where
   loader_called (sign Star) w e = absurd cc
   loader_called _ w e = absurd cc
 
-  operand_sound : (t d : ℕ) (s : State) (r : Rest) (b : Beginning) (x : Found) → d ≤ 16 → length s.names ≤ 32 → beginning_of (first s.symbols) ≡ b → operand_with R t d s r b ≡ Some x → ReadsExpression (AsOperand d) t s r x
+  operand_sound : (t d : ℕ) (s : State) (r : Rest) (b : Beginning) (x : Found) → d ≤ 16 → length s.names ≤ 32 → beginning_of (first s.symbols) ≡ b
+      → operand_with R t d s r b ≡ Some x → ReadsExpression (AsOperand d) t s r x
   operand_sound t d s r (a_number n) x deep within is e =
       let next : s.symbols ≡ number n ∷ others s.symbols = begins s.symbols (number n) (beginning_number (first s.symbols) n is) (λ never. cc) in
       subst (ReadsExpression (AsOperand d) t s r) (same_given (tree.pure (tree.number n), after s, r) x e) (record {
