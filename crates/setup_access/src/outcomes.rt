@@ -34,6 +34,13 @@ impl Outcomes {
         }
     }
 
+    /// None yet: room and what stands in it stay, so a check that begins writes one number.
+    pub(crate) fn clear(&mut self)
+        ensures { self.new ≡ [] }
+    {
+        self.count = 0;
+    }
+
     pub(crate) fn extend(&mut self, outcome: Option<Outcome>)
         requires { length self.old + given_now outcome ≤ 9 }
         ensures { self.new ≡ extended self.old outcome }
