@@ -1,8 +1,9 @@
 //! What an access does next.
 
-ghost use Rattle.std.specs.Prelude.{◌<◌, ◌++◌, ◌∷◌, [], ℕ, List, Option};
+ghost use Rattle.std.specs.Prelude.{◌<◌, ◌++◌, ◌∷◌, [], ℕ, IfSome, List, Option, unwrap_or};
 ghost use Rattle.access_run.specs.Leads.{HasCell, IsChecked, IsReady, IsUnderWay, Runs, StageLeads};
 ghost use Rattle.access_run.specs.Whole.{NoneWhole};
+ghost use Rattle.access_run.specs.declared.stage.Stage.TheVariants as stages;
 ghost use Rattle.memory_operation.specs.Operations.{Operates};
 ghost use Rattle.memory_operation.specs.declared.operation.Operation as kinds;
 ghost use Rattle.setup_access.specs.Check.{Check};
@@ -45,38 +46,37 @@ pub(crate) fn ready(
     Some(OperationRun::new(access, source, operation))
 }
 
-/// What follows on a step of the check.
-pub(crate) fn after_check(checker: &Checker, run: Option<OperationRun>) -> Stage
-    ensures going { IsUnderWay result }
+/// What follows on a step of the check, where the check is over. Where it goes on nothing is copied: most steps are such.
+pub(crate) fn after_check(checker: &Checker, run: &Option<OperationRun>) -> Option<Stage>
+    ensures going { IfSome result IsUnderWay }
     ensures leads { (s : Setting) (scopes : List Begun) (begun : Begun) (asked : ℕ) (operation : Option kinds.Operation) (records : List Record) (last : Record)
         → Leads s scopes (Checks begun) asked (records ++ last ∷ []) checker.now
-        → NoneWhole (Check s scopes begun asked) records → IsReady s begun.access operation run
-        → StageLeads s scopes begun asked operation (records ++ last ∷ []) result checker.now }
+        → NoneWhole (Check s scopes begun asked) records → IsReady s begun.access operation run.now
+        → StageLeads s scopes begun asked operation (records ++ last ∷ []) (unwrap_or result (stages.Check run.now)) checker.now }
 {
     if !checker.is_over() {
-        return Stage::Check(run);
+        return None;
     }
     match run {
-        Some(run) => Stage::Operate(run),
-        None => Stage::End(Effect {
+        Some(run) => Some(Stage::Operate(*run)),
+        None => Some(Stage::End(Effect {
             read: None,
             written: None,
-        }),
+        })),
     }
 }
 
-/// What follows on a step of the operation.
-pub(crate) fn after_step(run: OperationRun) -> Stage
-    ensures going { IsUnderWay result }
+/// What follows on a step of the operation, where that is over.
+pub(crate) fn after_step(run: &OperationRun) -> Option<Stage>
+    ensures going { IfSome result IsUnderWay }
     ensures leads { (s : Setting) (scopes : List Begun) (begun : Begun) (asked : ℕ) (operation : Option kinds.Operation)
         (checked done : List Record) (last : Record) (checker : checkers.Checker)
         → IsChecked s scopes begun asked checked checker → NoneWhole (Operates s begun.access operation) done
-        → Runs s begun.access operation (done ++ last ∷ []) run
-        → StageLeads s scopes begun asked operation (checked ++ (done ++ last ∷ [])) result checker }
+        → Runs s begun.access operation (done ++ last ∷ []) run.now
+        → StageLeads s scopes begun asked operation (checked ++ (done ++ last ∷ [])) (unwrap_or result (stages.Operate run.now)) checker }
 {
-    if run.is_over() {
-        Stage::End(run.effect())
-    } else {
-        Stage::Operate(run)
+    if !run.is_over() {
+        return None;
     }
+    Some(Stage::End(run.effect()))
 }

@@ -3,25 +3,25 @@ use Rattle.std.proofs.Common.{◌≡◌, ◌++◌, ◌∷◌, [], false, refl, t
 use Rattle.access_run.proofs.LeadsLemmas.{operated_now, still_operates}
 use Rattle.access_run.proofs.stage.after_step.Goals as goal
 
-pub returns-then-is_over-clause-leads : goal.returns-then-is_over-clause-leads
-returns-then-is_over-clause-leads c = λ s scopes begun asked operation checked done last checker whole none runs. (
+pub returns-clause-leads : goal.returns-clause-leads
+returns-clause-leads c = λ s scopes begun asked operation checked done last checker whole none runs. (
   checked,
   done ++ last ∷ [],
   refl,
   whole,
-  operated_now s begun.access operation done last c.args.run c.effect.result none runs
+  operated_now s begun.access operation done last c.args.run.now c.effect.result none runs
       (λ source of leads. c.effect.ensures.complete s.task begun.access source of (done ++ last ∷ []) leads
-      ((c.is_over.ensures s.task begun.access source of (done ++ last ∷ []) leads).0 c.if-is_over.true)),
+      ((c.is_over.ensures s.task begun.access source of (done ++ last ∷ []) leads).0 c.if-not-is_over.false)),
 )
 
-pub returns-else-is_over-clause-leads : goal.returns-else-is_over-clause-leads
-returns-else-is_over-clause-leads c = λ s scopes begun asked operation checked done last checker whole none runs. (
+pub returns-then-not-is_over-clause-leads : goal.returns-then-not-is_over-clause-leads
+returns-then-not-is_over-clause-leads c = λ s scopes begun asked operation checked done last checker whole none runs. (
   checked,
   done ++ last ∷ [],
   refl,
   whole,
-  still_operates s begun.access operation done last c.args.run none runs
+  still_operates s begun.access operation done last c.args.run.now none runs
       (λ source of leads over. let yes : c.is_over.result ≡ true = (c.is_over.ensures s.task begun.access source of (done ++ last ∷ []) leads).1 over in
-      let no : c.is_over.result ≡ false = c.if-is_over.false in cc),
+      let no : c.is_over.result ≡ false = c.if-not-is_over.true in cc),
   runs,
 )
