@@ -69,6 +69,15 @@ abbrev pub is_unencodable : Option Outcome → Bool
 is_unencodable (Some outcomes.Unencodable) = true
 is_unencodable outcome = false
 
+-- a count with one more
+abbrev pub more : ℕ → ℕ
+more count = resting (count + 1)
+
+-- a count with one more, or as it was
+abbrev pub counting : Bool → ℕ → ℕ
+counting true count = more count
+counting false count = count
+
 -- the counts are those of a task's steps, the latest first
 pub record Count (own : List Noted) (counters : Counters) : Type 0 where
   pub arms : counters.arms ≡ resting (count_by (λ noted. is_arming noted.step noted.answer) own)

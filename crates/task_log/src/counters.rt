@@ -1,8 +1,9 @@
 //! How often each thing came of a check.
 
-ghost use Rattle.std.specs.Prelude.{◌≡◌, ◌∷◌, ◌+◌, [], ℕ, List, if◌then◌else◌};
-ghost use Rattle.task_log.specs.Counters as spec;
-ghost use Rattle.task_log.specs.Counters.{Count, resting, together};
+ghost use Rattle.std.specs.Prelude.{◌≡◌, ◌∷◌, [], List};
+ghost use Rattle.task_log.specs.Counters.{Count, counting, is_arming, is_capacity, is_encoding, is_lost, is_masked};
+ghost use Rattle.task_log.specs.Counters.{is_quiet, is_same, is_taken, is_two_sided, is_unencodable, is_unknown};
+ghost use Rattle.task_log.specs.Counters.{more, together};
 ghost use Rattle.task_log.specs.declared.noted.Noted.{Noted};
 
 use crate::noted::Noted;
@@ -38,100 +39,11 @@ pub struct Counters {
     pub unencodable: u64,
 }
 
-/// A watchpoint is set up.
-fn is_arming(noted: &Noted) -> bool
-    ensures { result ≡ spec.is_arming noted.now.step noted.now.answer }
+/// A count with one more.
+fn more(count: u64) -> u64
+    ensures { result ≡ more count }
 {
-    matches!(
-        (noted.step, noted.answer),
-        (Step::Insert(_, _), Answer::Flag(true))
-    )
-}
-
-/// A watchpoint ends that nobody hit.
-fn is_quiet(noted: &Noted) -> bool
-    ensures { result ≡ spec.is_quiet noted.now.step noted.now.answer }
-{
-    matches!(
-        (noted.step, noted.answer),
-        (Step::Consume(_), Answer::Flag(true))
-    )
-}
-
-/// A watchpoint ends that an access hit.
-fn is_taken(noted: &Noted) -> bool
-    ensures { result ≡ spec.is_taken noted.now.step noted.now.answer }
-{
-    matches!(
-        (noted.step, noted.answer),
-        (Step::Consume(_), Answer::Flag(false))
-    )
-}
-
-/// A watchpoint that was found is gone.
-fn is_lost(noted: &Noted) -> bool
-    ensures { result ≡ spec.is_lost noted.now.step noted.now.answer }
-{
-    matches!(
-        (noted.step, noted.answer),
-        (Step::TryConsume(_, _), Answer::Flag(false))
-    )
-}
-
-/// A race of two accesses is reported.
-fn is_two_sided(noted: &Noted) -> bool
-    ensures { result ≡ spec.is_two_sided noted.now.outcome }
-{
-    matches!(noted.outcome, Some(Outcome::Report { .. }))
-}
-
-/// A change of unknown origin is reported.
-fn is_unknown(noted: &Noted) -> bool
-    ensures { result ≡ spec.is_unknown noted.now.outcome }
-{
-    matches!(noted.outcome, Some(Outcome::Unknown { .. }))
-}
-
-/// A hit is dropped: the two share no byte.
-fn is_encoding(noted: &Noted) -> bool
-    ensures { result ≡ spec.is_encoding noted.now.outcome }
-{
-    matches!(noted.outcome, Some(Outcome::Dropped(Reason::Encoding)))
-}
-
-/// A hit is dropped: the value is the same.
-fn is_same(noted: &Noted) -> bool
-    ensures { result ≡ spec.is_same noted.now.outcome }
-{
-    matches!(noted.outcome, Some(Outcome::Dropped(Reason::SameValue)))
-}
-
-/// A hit is dropped: no bit of the mask changed.
-fn is_masked(noted: &Noted) -> bool
-    ensures { result ≡ spec.is_masked noted.now.outcome }
-{
-    matches!(noted.outcome, Some(Outcome::Dropped(Reason::MaskedBits)))
-}
-
-/// No place is free for a watchpoint.
-fn is_capacity(noted: &Noted) -> bool
-    ensures { result ≡ spec.is_capacity noted.now.outcome }
-{
-    matches!(noted.outcome, Some(Outcome::Capacity))
-}
-
-/// No watch word can stand for the access.
-fn is_unencodable(noted: &Noted) -> bool
-    ensures { result ≡ spec.is_unencodable noted.now.outcome }
-{
-    matches!(noted.outcome, Some(Outcome::Unencodable))
-}
-
-/// A count with one more, or none.
-fn counting(count: u64, more: bool) -> u64
-    ensures { (n : ℕ) → count ≡ resting n → result ≡ resting ((if more then 1 else 0) + n) }
-{
-    if more { count.saturating_add(1) } else { count }
+    count.saturating_add(1)
 }
 
 impl Counters {
@@ -158,17 +70,61 @@ impl Counters {
     pub fn note(&mut self, noted: &Noted)
         ensures { (own : List Noted) → Count own self.old → Count (noted.now ∷ own) self.new }
     {
-        self.arms = counting(self.arms, is_arming(noted));
-        self.quiet = counting(self.quiet, is_quiet(noted));
-        self.taken = counting(self.taken, is_taken(noted));
-        self.lost = counting(self.lost, is_lost(noted));
-        self.two_sided = counting(self.two_sided, is_two_sided(noted));
-        self.unknown = counting(self.unknown, is_unknown(noted));
-        self.encoding = counting(self.encoding, is_encoding(noted));
-        self.same = counting(self.same, is_same(noted));
-        self.masked = counting(self.masked, is_masked(noted));
-        self.capacity = counting(self.capacity, is_capacity(noted));
-        self.unencodable = counting(self.unencodable, is_unencodable(noted));
+        self.note_step(noted);
+        self.note_outcome(noted);
+    }
+
+    /// What a step does to a watchpoint is counted. Most steps do nothing to one, and then no count is touched.
+    fn note_step(&mut self, noted: &Noted)
+        ensures arms { self.new.arms ≡ counting (is_arming noted.now.step noted.now.answer) self.old.arms }
+        ensures quiet { self.new.quiet ≡ counting (is_quiet noted.now.step noted.now.answer) self.old.quiet }
+        ensures taken { self.new.taken ≡ counting (is_taken noted.now.step noted.now.answer) self.old.taken }
+        ensures lost { self.new.lost ≡ counting (is_lost noted.now.step noted.now.answer) self.old.lost }
+        ensures kept { self.new ≡ record self.old {
+          arms = self.new.arms;
+          quiet = self.new.quiet;
+          taken = self.new.taken;
+          lost = self.new.lost;
+        } }
+    {
+        match (noted.step, noted.answer) {
+            (Step::Insert(_, _), Answer::Flag(true)) => self.arms = more(self.arms),
+            (Step::Consume(_), Answer::Flag(true)) => self.quiet = more(self.quiet),
+            (Step::Consume(_), Answer::Flag(false)) => self.taken = more(self.taken),
+            (Step::TryConsume(_, _), Answer::Flag(false)) => self.lost = more(self.lost),
+            _ => {}
+        }
+    }
+
+    /// What came of a check is counted, where a step settles it.
+    fn note_outcome(&mut self, noted: &Noted)
+        ensures two_sided { self.new.two_sided ≡ counting (is_two_sided noted.now.outcome) self.old.two_sided }
+        ensures unknown { self.new.unknown ≡ counting (is_unknown noted.now.outcome) self.old.unknown }
+        ensures encoding { self.new.encoding ≡ counting (is_encoding noted.now.outcome) self.old.encoding }
+        ensures same { self.new.same ≡ counting (is_same noted.now.outcome) self.old.same }
+        ensures masked { self.new.masked ≡ counting (is_masked noted.now.outcome) self.old.masked }
+        ensures capacity { self.new.capacity ≡ counting (is_capacity noted.now.outcome) self.old.capacity }
+        ensures unencodable { self.new.unencodable ≡ counting (is_unencodable noted.now.outcome) self.old.unencodable }
+        ensures kept { self.new ≡ record self.old {
+          two_sided = self.new.two_sided;
+          unknown = self.new.unknown;
+          encoding = self.new.encoding;
+          same = self.new.same;
+          masked = self.new.masked;
+          capacity = self.new.capacity;
+          unencodable = self.new.unencodable;
+        } }
+    {
+        match noted.outcome {
+            Some(Outcome::Report { .. }) => self.two_sided = more(self.two_sided),
+            Some(Outcome::Unknown { .. }) => self.unknown = more(self.unknown),
+            Some(Outcome::Dropped(Reason::Encoding)) => self.encoding = more(self.encoding),
+            Some(Outcome::Dropped(Reason::SameValue)) => self.same = more(self.same),
+            Some(Outcome::Dropped(Reason::MaskedBits)) => self.masked = more(self.masked),
+            Some(Outcome::Capacity) => self.capacity = more(self.capacity),
+            Some(Outcome::Unencodable) => self.unencodable = more(self.unencodable),
+            _ => {}
+        }
     }
 
     /// Those of another task are added.

@@ -118,19 +118,19 @@ impl TaskLog {
         ensures { (accesses watches : ℕ) (own : List Noted) → Keeps accesses watches own self.now
             → result ≡ reported noted.now.outcome own }
     {
-        match noted.outcome? {
+        match noted.outcome.as_ref()? {
             Outcome::Report { pair, seen } => {
                 let (setter, finder) = pair.halves();
                 Some(Report::Two {
                     setter,
                     finder,
-                    seen,
+                    seen: *seen,
                 })
             }
             Outcome::Unknown { old, new } => Some(Report::Unknown {
                 setter: self.latest.named.unwrap_or(0),
-                old,
-                new,
+                old: *old,
+                new: *new,
             }),
             _ => None,
         }

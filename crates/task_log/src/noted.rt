@@ -21,26 +21,6 @@ pub struct Noted {
 }
 
 impl Noted {
-    /// The ticket by which a setter named itself.
-    pub(crate) fn named(&self) -> Option<u32>
-        ensures { result ≡ spec.named self.now }
-    {
-        match self.step {
-            Step::Name(_, ticket) => Some(ticket),
-            _ => None,
-        }
-    }
-
-    /// The watch word of a watchpoint that was set up.
-    pub(crate) fn armed(&self) -> Option<u64>
-        ensures { result ≡ spec.armed self.now }
-    {
-        match (self.step, self.answer) {
-            (Step::Insert(_, word), Answer::Flag(true)) => Some(word),
-            _ => None,
-        }
-    }
-
     /// The finder's half of a pair that was loaded, where there is none 0.
     fn finder_heard(&self) -> u32
         ensures { result ≡ spec.finder_heard self.now.step self.now.answer }

@@ -59,6 +59,9 @@ pub(crate) fn note(touches: &mut Vec<Touch>, noted: &Noted)
         → touches.new.items ≡ touches_at noted.now.step noted.now.answer noted.now.begins touches.old.items }
     ensures room { vec_capacity touches.new ≡ vec_capacity touches.old }
 {
+    if !matches!(noted.step, Step::Clock) {
+        return;
+    }
     match (noted.step, noted.answer, noted.begins) {
         (Step::Clock, Answer::Word(begin), Some(begun)) => {
             if touches.len() < touches.capacity() {

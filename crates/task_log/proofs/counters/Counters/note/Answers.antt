@@ -1,5 +1,7 @@
+use Rattle.std.proofs.Common.{◌∙◌, ap}
 use Rattle.task_log.proofs.CountLemmas.{counted}
 use Rattle.task_log.specs.Counters as spec
+use Rattle.task_log.specs.declared.counters.Counters.{Counters}
 use Rattle.task_log.specs.declared.noted.Noted.{Noted}
 use Rattle.task_log.proofs.counters.Counters.note.Goals as goal
 
@@ -7,38 +9,30 @@ pub returns : goal.returns
 returns c = λ own count.
     let noted = c.args.noted.now in
     let was = c.args.self.now in
+    let now = c.note_outcome.new.self in
+    let stepped = c.note_step.ensures in
+    let settled = c.note_outcome.ensures in
     record {
-      arms = counted (λ (noted : Noted). spec.is_arming noted.step noted.answer) noted own was.arms
-          c.counting-self.result
-          c.is_arming.result c.is_arming.ensures c.counting-self.ensures count.arms;
-      quiet = counted (λ (noted : Noted). spec.is_quiet noted.step noted.answer) noted own was.quiet
-          c.counting-self-2.result
-          c.is_quiet.result c.is_quiet.ensures c.counting-self-2.ensures count.quiet;
-      taken = counted (λ (noted : Noted). spec.is_taken noted.step noted.answer) noted own was.taken
-          c.counting-self-3.result
-          c.is_taken.result c.is_taken.ensures c.counting-self-3.ensures count.taken;
-      lost = counted (λ (noted : Noted). spec.is_lost noted.step noted.answer) noted own was.lost
-          c.counting-self-4.result
-          c.is_lost.result c.is_lost.ensures c.counting-self-4.ensures count.lost;
-      two_sided = counted (λ (noted : Noted). spec.is_two_sided noted.outcome) noted own was.two_sided
-          c.counting-self-5.result
-          c.is_two_sided.result c.is_two_sided.ensures c.counting-self-5.ensures count.two_sided;
-      unknown = counted (λ (noted : Noted). spec.is_unknown noted.outcome) noted own was.unknown
-          c.counting-self-6.result
-          c.is_unknown.result c.is_unknown.ensures c.counting-self-6.ensures count.unknown;
-      encoding = counted (λ (noted : Noted). spec.is_encoding noted.outcome) noted own was.encoding
-          c.counting-self-7.result
-          c.is_encoding.result c.is_encoding.ensures c.counting-self-7.ensures count.encoding;
-      same = counted (λ (noted : Noted). spec.is_same noted.outcome) noted own was.same
-          c.counting-self-8.result
-          c.is_same.result c.is_same.ensures c.counting-self-8.ensures count.same;
-      masked = counted (λ (noted : Noted). spec.is_masked noted.outcome) noted own was.masked
-          c.counting-self-9.result
-          c.is_masked.result c.is_masked.ensures c.counting-self-9.ensures count.masked;
-      capacity = counted (λ (noted : Noted). spec.is_capacity noted.outcome) noted own was.capacity
-          c.counting-self-10.result
-          c.is_capacity.result c.is_capacity.ensures c.counting-self-10.ensures count.capacity;
-      unencodable = counted (λ (noted : Noted). spec.is_unencodable noted.outcome) noted own was.unencodable
-          c.counting-self-11.result
-          c.is_unencodable.result c.is_unencodable.ensures c.counting-self-11.ensures count.unencodable;
+      arms = counted (λ (n : Noted). spec.is_arming n.step n.answer) noted own was.arms now.arms
+          (ap (λ (all : Counters). all.arms) settled.kept ∙ stepped.arms) count.arms;
+      quiet = counted (λ (n : Noted). spec.is_quiet n.step n.answer) noted own was.quiet now.quiet
+          (ap (λ (all : Counters). all.quiet) settled.kept ∙ stepped.quiet) count.quiet;
+      taken = counted (λ (n : Noted). spec.is_taken n.step n.answer) noted own was.taken now.taken
+          (ap (λ (all : Counters). all.taken) settled.kept ∙ stepped.taken) count.taken;
+      lost = counted (λ (n : Noted). spec.is_lost n.step n.answer) noted own was.lost now.lost
+          (ap (λ (all : Counters). all.lost) settled.kept ∙ stepped.lost) count.lost;
+      two_sided = counted (λ (n : Noted). spec.is_two_sided n.outcome) noted own was.two_sided now.two_sided
+          (settled.two_sided ∙ ap (λ (all : Counters). spec.counting (spec.is_two_sided noted.outcome) all.two_sided) stepped.kept) count.two_sided;
+      unknown = counted (λ (n : Noted). spec.is_unknown n.outcome) noted own was.unknown now.unknown
+          (settled.unknown ∙ ap (λ (all : Counters). spec.counting (spec.is_unknown noted.outcome) all.unknown) stepped.kept) count.unknown;
+      encoding = counted (λ (n : Noted). spec.is_encoding n.outcome) noted own was.encoding now.encoding
+          (settled.encoding ∙ ap (λ (all : Counters). spec.counting (spec.is_encoding noted.outcome) all.encoding) stepped.kept) count.encoding;
+      same = counted (λ (n : Noted). spec.is_same n.outcome) noted own was.same now.same
+          (settled.same ∙ ap (λ (all : Counters). spec.counting (spec.is_same noted.outcome) all.same) stepped.kept) count.same;
+      masked = counted (λ (n : Noted). spec.is_masked n.outcome) noted own was.masked now.masked
+          (settled.masked ∙ ap (λ (all : Counters). spec.counting (spec.is_masked noted.outcome) all.masked) stepped.kept) count.masked;
+      capacity = counted (λ (n : Noted). spec.is_capacity n.outcome) noted own was.capacity now.capacity
+          (settled.capacity ∙ ap (λ (all : Counters). spec.counting (spec.is_capacity noted.outcome) all.capacity) stepped.kept) count.capacity;
+      unencodable = counted (λ (n : Noted). spec.is_unencodable n.outcome) noted own was.unencodable now.unencodable
+          (settled.unencodable ∙ ap (λ (all : Counters). spec.counting (spec.is_unencodable noted.outcome) all.unencodable) stepped.kept) count.unencodable;
     }
