@@ -1,3 +1,4 @@
+mod ArmingLemmas
 mod CountLemmas
 pub mod RoomLemmas
 mod TouchLemmas

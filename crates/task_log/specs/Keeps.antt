@@ -2,6 +2,7 @@
 use Rattle.std.specs.Prelude.{◌≡◌, ◌<◌, ◌≤◌, ℕ, List, length, vec_capacity, vec_len}
 use Rattle.slot_table.specs.declared.step.Step.{Step}
 use Rattle.slot_table.specs.declared.step.Step.TheVariants.{Remove, Tell}
+use Rattle.task_log.specs.Armings.{Counts}
 use Rattle.task_log.specs.Arms.{arms_of, takes_of}
 use Rattle.task_log.specs.Counters.{Count}
 use Rattle.task_log.specs.Noted.{armed, became, last_of, named}
@@ -27,10 +28,12 @@ HasRoomToTell (Tell index ticket) log = vec_len log.takes < vec_capacity log.tak
 HasRoomToTell step log = Unit {0}
 
 -- What is kept is what a task's steps say, the latest first; its accesses, armings and takings are
--- all kept as long as they are at most so many. There is room for these.
+-- all kept as long as they are at most so many. The armings that are kept are counted by their setters, also where
+-- others aren't kept. There is room for these.
 pub record Keeps (accesses watches : ℕ) (own : List Noted) (log : TaskLog) : Type 0 where
   pub touches : length (touches_of own) ≤ accesses → log.touches.items ≡ touches_of own
   pub arms : length (arms_of own) ≤ watches → log.arms.items ≡ arms_of own
+  pub armings : Counts log.arms.items log.armings.sites.items
   pub takes : length (takes_of own) ≤ watches → log.takes.items ≡ takes_of own
   pub latest : IsLatest own log.latest
   pub counts : Count own log.counters
@@ -38,11 +41,17 @@ pub record Keeps (accesses watches : ℕ) (own : List Noted) (log : TaskLog) : T
   pub room_for_arms : watches ≤ vec_capacity log.arms
   pub room_for_takes : watches ≤ vec_capacity log.takes
 
--- how much room there is for what a task keeps: accesses, armings and takings
+-- how much room there is for what a task keeps: accesses, armings, sites at which these are counted, and takings
 pub record Room : Type 0 where
   pub accesses : ℕ
   pub arms : ℕ
+  pub sites : ℕ
   pub takes : ℕ
 
 abbrev pub room_in : TaskLog → Room
-room_in log = record { accesses = vec_capacity log.touches; arms = vec_capacity log.arms; takes = vec_capacity log.takes }
+room_in log = record {
+  accesses = vec_capacity log.touches;
+  arms = vec_capacity log.arms;
+  sites = vec_capacity log.armings.sites;
+  takes = vec_capacity log.takes;
+}

@@ -1,3 +1,4 @@
+pub mod Armings
 pub mod Arms
 pub mod Counters
 pub mod Keeps

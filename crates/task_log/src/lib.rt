@@ -2,6 +2,7 @@
 //! reported, and how often each thing came of a check.
 #![tactic(auto)]
 
+pub mod armings;
 pub mod counters;
 pub mod latest;
 pub mod log;

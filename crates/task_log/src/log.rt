@@ -1,6 +1,7 @@
 //! What a task keeps of its steps.
 
-ghost use Rattle.std.specs.Prelude.{◌≡◌, ◌==◌, ◌<◌, ◌≤◌, ◌++◌, ◌∷◌, [], ℕ, List, IfOk, count_by, length, vec_capacity, vec_len};
+ghost use Rattle.std.specs.Prelude.{◌≡◌, ◌<◌, ◌≤◌, ◌++◌, ◌∷◌, [], ℕ, List, IfOk, length, vec_capacity, vec_len};
+ghost use Rattle.task_log.specs.Armings.{Counts};
 ghost use Rattle.task_log.specs.Arms.{arm_removed, arms_at, arms_of, takes_at, takes_of};
 ghost use Rattle.task_log.specs.Counters.{Count};
 ghost use Rattle.task_log.specs.Keeps.{HasRoomToRemove, HasRoomToTell, IsLatest, Keeps, room_in};
@@ -8,6 +9,7 @@ ghost use Rattle.task_log.specs.Reports.{reported};
 ghost use Rattle.task_log.specs.Touches.{accesses_of, touches_of};
 ghost use Rattle.task_log.specs.declared.noted.Noted.{Noted};
 
+use crate::armings::Armings;
 use crate::counters::Counters;
 use crate::latest::Latest;
 use crate::noted::Noted;
@@ -22,16 +24,10 @@ use std::alloc::{AllocError, Global};
 pub struct TaskLog {
     touches: Vec<Touch>,
     arms: Vec<Arm>,
+    armings: Armings,
     takes: Vec<Take>,
     latest: Latest,
     counters: Counters,
-}
-
-/// How many armings are by the access with this ticket.
-fn armings_of(arms: &[Arm], setter: u32) -> u64
-    ensures { result ≡ count_by (λ arm. arm.setter == setter) arms.now }
-{
-    arms.iter().filter(|arm| arm.setter() == setter).count() as u64
 }
 
 impl TaskLog {
@@ -43,6 +39,7 @@ impl TaskLog {
         Ok(TaskLog {
             touches: Vec::with_capacity(alloc, accesses)?,
             arms: Vec::with_capacity(alloc, watches)?,
+            armings: Armings::new(alloc)?,
             takes: Vec::with_capacity(alloc, watches)?,
             latest: Latest::new(),
             counters: Counters::new(),
@@ -68,12 +65,15 @@ impl TaskLog {
 
     /// An arming that is removed and a taking that is told are over.
     fn over(&mut self, noted: &Noted)
-        ensures arms { (own : List Noted) → IsLatest own self.old.latest → HasRoomToRemove noted.now.step self.old
-            → self.new.arms.items ≡ arms_at noted.now.step own self.old.arms.items }
+        ensures arms { (own : List Noted) → IsLatest own self.old.latest → Counts self.old.arms.items self.old.armings.sites.items
+            → HasRoomToRemove noted.now.step self.old → self.new.arms.items ≡ arms_at noted.now.step own self.old.arms.items }
+        ensures counts { Counts self.old.arms.items self.old.armings.sites.items
+            → Counts self.new.arms.items self.new.armings.sites.items }
         ensures takes { HasRoomToTell noted.now.step self.old
             → self.new.takes.items ≡ takes_at noted.now.step noted.now.outcome self.old.takes.items }
-        ensures kept { self.new ≡ record self.old { arms = self.new.arms; takes = self.new.takes } }
+        ensures kept { self.new ≡ record self.old { arms = self.new.arms; armings = self.new.armings; takes = self.new.takes } }
         ensures room_for_arms { vec_capacity self.new.arms ≡ vec_capacity self.old.arms }
+        ensures room_for_sites { vec_capacity self.new.armings.sites ≡ vec_capacity self.old.armings.sites }
         ensures room_for_takes { vec_capacity self.new.takes ≡ vec_capacity self.old.takes }
     {
         match noted.step {
@@ -85,16 +85,21 @@ impl TaskLog {
 
     /// The watchpoint that the task set up is removed.
     fn removes(&mut self, index: usize)
-        ensures arms { (own : List Noted) → IsLatest own self.old.latest → vec_len self.old.arms < vec_capacity self.old.arms
+        ensures arms { (own : List Noted) → IsLatest own self.old.latest → Counts self.old.arms.items self.old.armings.sites.items
+            → vec_len self.old.arms < vec_capacity self.old.arms
             → self.new.arms.items ≡ self.old.arms.items ++ arm_removed index own self.old.arms.items ∷ [] }
-        ensures kept { self.new ≡ record self.old { arms = self.new.arms } }
-        ensures room { vec_capacity self.new.arms ≡ vec_capacity self.old.arms }
+        ensures counts { Counts self.old.arms.items self.old.armings.sites.items
+            → Counts self.new.arms.items self.new.armings.sites.items }
+        ensures kept { self.new ≡ record self.old { arms = self.new.arms; armings = self.new.armings } }
+        ensures room_for_arms { vec_capacity self.new.arms ≡ vec_capacity self.old.arms }
+        ensures room_for_sites { vec_capacity self.new.armings.sites ≡ vec_capacity self.old.armings.sites }
     {
         if self.arms.len() == self.arms.capacity() {
             return;
         }
         let setter = self.latest.named.unwrap_or(0);
-        let number = armings_of(self.arms.as_slice(), setter);
+        let number = self.armings.by(self.arms.as_slice(), setter);
+        self.armings.note(setter, number);
         let word = self.latest.armed.unwrap_or(0);
         let outcome = self.latest.became.unwrap_or(ArmOutcome::Quiet);
         self.arms

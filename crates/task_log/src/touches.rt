@@ -59,6 +59,7 @@ pub(crate) fn note(touches: &mut Vec<Touch>, noted: &Noted)
         → touches.new.items ≡ touches_at noted.now.step noted.now.answer noted.now.begins touches.old.items }
     ensures room { vec_capacity touches.new ≡ vec_capacity touches.old }
 {
+    // Most steps aren't of the clock. For those not even the access that begins is read.
     if !matches!(noted.step, Step::Clock) {
         return;
     }

@@ -25,7 +25,8 @@ returns-clause-keeps c = λ accesses watches own keeps.
           let before : length (arms_of own) ≤ watches = omega (arith, arms_grow noted.step own (arms_of own), few) in
           let room = room_to_remove noted.step own (record c.args.self.now { touches = c.note.new.touches }) (arms_of own) watches
           (keeps.arms before) few keeps.room_for_arms in
-          c.over.ensures.arms own keeps.latest room ∙ ap (arms_at noted.step own) (keeps.arms before);
+          c.over.ensures.arms own keeps.latest keeps.armings room ∙ ap (arms_at noted.step own) (keeps.arms before);
+      armings = c.over.ensures.counts keeps.armings;
       takes = λ few.
           let before : length (takes_of own) ≤ watches = omega (arith, takes_grow noted.step noted.outcome (takes_of own), few) in
           let room = room_to_tell noted.step noted.outcome (record c.args.self.now { touches = c.note.new.touches }) (takes_of own) watches

@@ -1,0 +1,19 @@
+-- How many armings each setter has, told without going through all of them.
+use Rattle.std.specs.Prelude.{◌≡◌, ◌==◌, ◌<◌, ℕ, List, count_by, length, slice_index_or}
+use Rattle.access_types.specs.Arms.{Arm}
+use Rattle.access_types.specs.Ticket.{site_in}
+use Rattle.task_log.specs.declared.armings.Highest.{Highest}
+
+-- how many armings are by the access with this ticket
+abbrev pub armings_by : ℕ → List Arm → ℕ
+armings_by setter arms = count_by (λ (arm : Arm). arm.setter == setter) arms
+
+-- how many armings a setter has, by the highest of its site, unless it is a lower one
+pub record Tells (arms : List Arm) (setter : ℕ) (highest : Highest) : Type 0 where
+  pub above : highest.setter < setter → armings_by setter arms ≡ 0
+  pub same : highest.setter ≡ setter → highest.number ≡ armings_by setter arms
+
+-- each site that has a place tells of its setters
+pub record Counts (arms : List Arm) (sites : List Highest) : Type 0 where
+  pub each : (setter : ℕ) (d : Highest) → site_in setter < length sites
+      → Tells arms setter (slice_index_or sites (site_in setter) d)
