@@ -8,7 +8,7 @@ use Rattle.std.proofs.lemmas.List.Sums.{sum_by-append}
 use Rattle.std.specs.Prelude.{◌==◌, if◌then◌else◌}
 use Rattle.access_types.specs.Arms.{Arm}
 use Rattle.access_types.specs.Ticket.{site_in}
-use Rattle.task_log.specs.Armings.{Counts, Tells, armings_by}
+use Rattle.task_log.specs.Armings.{CountsBySite, Tells, armings_by}
 use Rattle.task_log.specs.declared.armings.Highest.{Highest}
 
 one_by : (setter : ℕ) (arms : List Arm) (arm : Arm)
@@ -49,7 +49,7 @@ tells_new arms arm setter was now under named number tells = record {
 pub placed : (arms : List Arm) (arm : Arm) (sites : List Highest) (place : ℕ) (was now : Highest)
     → place ≡ site_in arm.setter → place < length sites → was ≡ get_or sites place was → was.setter ≤ arm.setter
     → now.setter ≡ arm.setter → now.number ≡ armings_by arm.setter arms + 1
-    → Counts arms sites → Counts (arms ++ arm ∷ []) (set sites place now)
+    → CountsBySite arms sites → CountsBySite (arms ++ arm ∷ []) (set sites place now)
 placed arms arm sites place was now here inside at under named number counts = record {
   each = λ setter d within.
       let still : site_in setter < length sites = subst (λ n. site_in setter < n) (length-set sites place now) within in

@@ -14,6 +14,6 @@ pub record Tells (arms : List Arm) (setter : ℕ) (highest : Highest) : Type 0 w
   pub same : highest.setter ≡ setter → highest.number ≡ armings_by setter arms
 
 -- each site that has a place tells of its setters
-pub record Counts (arms : List Arm) (sites : List Highest) : Type 0 where
+pub record CountsBySite (arms : List Arm) (sites : List Highest) : Type 0 where
   pub each : (setter : ℕ) (d : Highest) → site_in setter < length sites
       → Tells arms setter (slice_index_or sites (site_in setter) d)

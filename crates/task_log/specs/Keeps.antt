@@ -2,7 +2,7 @@
 use Rattle.std.specs.Prelude.{◌≡◌, ◌<◌, ◌≤◌, ℕ, List, length, vec_capacity, vec_len}
 use Rattle.slot_table.specs.declared.step.Step.{Step}
 use Rattle.slot_table.specs.declared.step.Step.TheVariants.{Remove, Tell}
-use Rattle.task_log.specs.Armings.{Counts}
+use Rattle.task_log.specs.Armings.{CountsBySite}
 use Rattle.task_log.specs.Arms.{arms_of, takes_of}
 use Rattle.task_log.specs.Counters.{Count}
 use Rattle.task_log.specs.Noted.{armed, became, last_of, named}
@@ -33,7 +33,7 @@ HasRoomToTell step log = Unit {0}
 pub record Keeps (accesses watches : ℕ) (own : List Noted) (log : TaskLog) : Type 0 where
   pub touches : length (touches_of own) ≤ accesses → log.touches.items ≡ touches_of own
   pub arms : length (arms_of own) ≤ watches → log.arms.items ≡ arms_of own
-  pub armings : Counts log.arms.items log.armings.sites.items
+  pub armings : CountsBySite log.arms.items log.armings.sites.items
   pub takes : length (takes_of own) ≤ watches → log.takes.items ≡ takes_of own
   pub latest : IsLatest own log.latest
   pub counts : Count own log.counters

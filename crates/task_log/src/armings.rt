@@ -3,7 +3,7 @@
 ghost use Rattle.std.specs.Prelude.{◌≡◌, ◌+◌, ◌<◌, ◌^◌, ◌++◌, ◌∷◌, [], List, IfOk, vec_capacity};
 ghost use Rattle.access_types.specs.Arms.{Arm};
 ghost use Rattle.access_types.specs.Ticket.{site_in};
-ghost use Rattle.task_log.specs.Armings.{Counts, armings_by};
+ghost use Rattle.task_log.specs.Armings.{CountsBySite, armings_by};
 
 use access_types::Arm;
 use std::alloc::{AllocError, Global};
@@ -44,7 +44,7 @@ fn counted(arms: &[Arm], setter: u32) -> u64
 impl Armings {
     /// No arming yet.
     pub(crate) fn new(alloc: Global) -> Result<Armings, AllocError>
-        ensures { IfOk result (λ armings. Counts [] armings.sites.items) }
+        ensures { IfOk result (λ armings. CountsBySite [] armings.sites.items) }
     {
         let none = Highest {
             setter: 0,
@@ -57,7 +57,7 @@ impl Armings {
 
     /// How many of these armings are by the access with this ticket.
     pub(crate) fn by(&self, arms: &[Arm], setter: u32) -> u64
-        ensures { Counts arms.now self.now.sites.items → result ≡ armings_by setter arms.now }
+        ensures { CountsBySite arms.now self.now.sites.items → result ≡ armings_by setter arms.now }
     {
         let place = place_of(setter);
         if place < self.sites.len() {
@@ -75,7 +75,7 @@ impl Armings {
     /// One more arming is noted, by the access with this ticket, after so many by it.
     pub(crate) fn note(&mut self, setter: u32, number: u64)
         ensures counts { (arms : List Arm) (arm : Arm) → arm.setter ≡ setter → number ≡ armings_by setter arms
-            → number + 1 < 2 ^ 64 → Counts arms self.old.sites.items → Counts (arms ++ arm ∷ []) self.new.sites.items }
+            → number + 1 < 2 ^ 64 → CountsBySite arms self.old.sites.items → CountsBySite (arms ++ arm ∷ []) self.new.sites.items }
         ensures room { vec_capacity self.new.sites ≡ vec_capacity self.old.sites }
     {
         let place = place_of(setter);

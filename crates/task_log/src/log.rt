@@ -1,7 +1,7 @@
 //! What a task keeps of its steps.
 
 ghost use Rattle.std.specs.Prelude.{◌≡◌, ◌<◌, ◌≤◌, ◌++◌, ◌∷◌, [], ℕ, List, IfOk, length, vec_capacity, vec_len};
-ghost use Rattle.task_log.specs.Armings.{Counts};
+ghost use Rattle.task_log.specs.Armings.{CountsBySite};
 ghost use Rattle.task_log.specs.Arms.{arm_removed, arms_at, arms_of, takes_at, takes_of};
 ghost use Rattle.task_log.specs.Counters.{Count};
 ghost use Rattle.task_log.specs.Keeps.{HasRoomToRemove, HasRoomToTell, IsLatest, Keeps, room_in};
@@ -65,10 +65,10 @@ impl TaskLog {
 
     /// An arming that is removed and a taking that is told are over.
     fn over(&mut self, noted: &Noted)
-        ensures arms { (own : List Noted) → IsLatest own self.old.latest → Counts self.old.arms.items self.old.armings.sites.items
+        ensures arms { (own : List Noted) → IsLatest own self.old.latest → CountsBySite self.old.arms.items self.old.armings.sites.items
             → HasRoomToRemove noted.now.step self.old → self.new.arms.items ≡ arms_at noted.now.step own self.old.arms.items }
-        ensures counts { Counts self.old.arms.items self.old.armings.sites.items
-            → Counts self.new.arms.items self.new.armings.sites.items }
+        ensures counts { CountsBySite self.old.arms.items self.old.armings.sites.items
+            → CountsBySite self.new.arms.items self.new.armings.sites.items }
         ensures takes { HasRoomToTell noted.now.step self.old
             → self.new.takes.items ≡ takes_at noted.now.step noted.now.outcome self.old.takes.items }
         ensures kept { self.new ≡ record self.old { arms = self.new.arms; armings = self.new.armings; takes = self.new.takes } }
@@ -85,11 +85,11 @@ impl TaskLog {
 
     /// The watchpoint that the task set up is removed.
     fn removes(&mut self, index: usize)
-        ensures arms { (own : List Noted) → IsLatest own self.old.latest → Counts self.old.arms.items self.old.armings.sites.items
+        ensures arms { (own : List Noted) → IsLatest own self.old.latest → CountsBySite self.old.arms.items self.old.armings.sites.items
             → vec_len self.old.arms < vec_capacity self.old.arms
             → self.new.arms.items ≡ self.old.arms.items ++ arm_removed index own self.old.arms.items ∷ [] }
-        ensures counts { Counts self.old.arms.items self.old.armings.sites.items
-            → Counts self.new.arms.items self.new.armings.sites.items }
+        ensures counts { CountsBySite self.old.arms.items self.old.armings.sites.items
+            → CountsBySite self.new.arms.items self.new.armings.sites.items }
         ensures kept { self.new ≡ record self.old { arms = self.new.arms; armings = self.new.armings } }
         ensures room_for_arms { vec_capacity self.new.arms ≡ vec_capacity self.old.arms }
         ensures room_for_sites { vec_capacity self.new.armings.sites ≡ vec_capacity self.old.armings.sites }
