@@ -1,6 +1,6 @@
 -- what one line more adds to what lines say
 use Rattle.std.proofs.Common.{◌≡◌, ◌∷◌, ◌++◌, ◌∙◌, ◌↔◌, ◌+◌, ◌<◌, ◌≤◌, ◌^◌, ◌-◌, ℕ, List, [], Bool, ap, append-nil, arith, length, map, refl, subst, sym}
-use Rattle.std.specs.Prelude.{All, count_by, nat_eq}
+use Rattle.std.specs.Prelude.{All, count_by}
 use Rattle.std.specs.List.{flat_map}
 use Rattle.std.proofs.lemmas.Grind.{flat_map-append}
 use Rattle.std.proofs.lemmas.List.{length-map, map-append}
@@ -22,7 +22,7 @@ use Rattle.report_text.specs.declared.line.Line.TheVariants as lines
 use Rattle.report_text.proofs.TrueLines.{accesses-append, arms-append, reports-append, takes-append}
 use Rattle.trace_lines.proofs.TrueBegins.{arms_within}
 use Rattle.trace_replay.specs.Accesses.{AreKept}
-use Rattle.trace_replay.specs.Counts.{AreCounts}
+use Rattle.trace_replay.specs.Armings.{AreArmings}
 use Rattle.trace_replay.specs.Story.{CountsLines, Knows, Tells}
 use Rattle.trace_replay.specs.Told.{HaveRoom, WereTold}
 use Rattle.trace_replay.specs.declared.story.Story.{Story}
@@ -133,8 +133,8 @@ knows_access all s old new h kept same =
     let reports : reports_of (all ++ lines.Access s ∷ []) ≡ reports_of all = reports-append all _ ∙ append-nil (reports_of all) in
     record {
       accesses = subst (λ xs. AreKept xs new.accesses) (sym (accesses-append all (lines.Access s ∷ []))) kept;
-      armings = subst (λ (n : Story). AreCounts nat_eq (map (λ a. a.setter) (arms_of (all ++ lines.Access s ∷ []))) n.armings) (sym same)
-          (subst (λ xs. AreCounts nat_eq (map (λ a. a.setter) xs) old.armings) (sym arms) h.armings);
+      armings = subst (λ (n : Story). AreArmings (map (λ a. a.setter) (arms_of (all ++ lines.Access s ∷ []))) n.armings) (sym same)
+          (subst (λ xs. AreArmings (map (λ a. a.setter) xs) old.armings) (sym arms) h.armings);
       by_arms = subst (λ (n : Story). WereTold (hits_in (arms_of (all ++ lines.Access s ∷ []))) (pairs_in (arms_of (all ++ lines.Access s ∷ [])))
           (origins_in (arms_of (all ++ lines.Access s ∷ []))) n.by_arms) (sym same)
           (subst (λ xs. WereTold (hits_in xs) (pairs_in xs) (origins_in xs) old.by_arms) (sym arms) h.by_arms);
@@ -150,7 +150,7 @@ knows_access all s old new h kept same =
     }
 
 pub knows_arm : (all : List Line) (a : Arm) (old new : Story) → Knows all old → new.accesses ≡ old.accesses
-    → AreCounts nat_eq (map (λ b. b.setter) (arms_of all) ++ a.setter ∷ []) new.armings
+    → AreArmings (map (λ b. b.setter) (arms_of all) ++ a.setter ∷ []) new.armings
     → WereTold (hits_in (arms_of all) ++ hit_in a.setter a.index a.outcome) (pairs_in (arms_of all) ++ pair_in a.setter a.outcome)
     (origins_in (arms_of all) ++ origin_of a.setter a.outcome) new.by_arms
     → new.by_others ≡ old.by_others → new.arms ≡ old.arms + 1 → new.takes ≡ old.takes → new.reports ≡ old.reports
@@ -163,7 +163,7 @@ knows_arm all a old new h accesses armings by_arms by_others counted takes_same 
     record {
       accesses = subst (AreKept (accesses_of (all ++ lines.Arm a ∷ []))) (sym accesses)
           (subst (λ xs. AreKept xs old.accesses) (sym there) h.accesses);
-      armings = subst (λ xs. AreCounts nat_eq xs new.armings) (sym (ap (map (λ b. b.setter)) arms ∙ map-append (λ b. b.setter) (arms_of all) (a ∷ []))) armings;
+      armings = subst (λ xs. AreArmings xs new.armings) (sym (ap (map (λ b. b.setter)) arms ∙ map-append (λ b. b.setter) (arms_of all) (a ∷ []))) armings;
       by_arms = subst (λ xs. WereTold xs (pairs_in (arms_of (all ++ lines.Arm a ∷ []))) (origins_in (arms_of (all ++ lines.Arm a ∷ []))) new.by_arms)
           (sym (ap hits_in arms ∙ flat_push (λ b. hit_in b.setter b.index b.outcome) (arms_of all) a))
           (subst (λ xs. WereTold (hits_in (arms_of all) ++ hit_in a.setter a.index a.outcome) xs (origins_in (arms_of (all ++ lines.Arm a ∷ []))) new.by_arms)
@@ -193,8 +193,8 @@ knows_take all t old new h accesses armings by_arms by_others arms_same counted 
     record {
       accesses = subst (AreKept (accesses_of (all ++ lines.Take t ∷ []))) (sym accesses)
           (subst (λ xs. AreKept xs old.accesses) (sym there) h.accesses);
-      armings = subst (AreCounts nat_eq (map (λ a. a.setter) (arms_of (all ++ lines.Take t ∷ [])))) (sym armings)
-          (subst (λ xs. AreCounts nat_eq (map (λ a. a.setter) xs) old.armings) (sym arms) h.armings);
+      armings = subst (AreArmings (map (λ a. a.setter) (arms_of (all ++ lines.Take t ∷ [])))) (sym armings)
+          (subst (λ xs. AreArmings (map (λ a. a.setter) xs) old.armings) (sym arms) h.armings);
       by_arms = subst (WereTold (hits_in (arms_of (all ++ lines.Take t ∷ []))) (pairs_in (arms_of (all ++ lines.Take t ∷ [])))
           (origins_in (arms_of (all ++ lines.Take t ∷ [])))) (sym by_arms)
           (subst (λ xs. WereTold (hits_in xs) (pairs_in xs) (origins_in xs) old.by_arms) (sym arms) h.by_arms);
@@ -219,8 +219,8 @@ knows_report all r old new h accesses armings by_arms by_others arms_same takes_
     record {
       accesses = subst (AreKept (accesses_of (all ++ lines.Report r ∷ []))) (sym accesses)
           (subst (λ xs. AreKept xs old.accesses) (sym there) h.accesses);
-      armings = subst (AreCounts nat_eq (map (λ a. a.setter) (arms_of (all ++ lines.Report r ∷ [])))) (sym armings)
-          (subst (λ xs. AreCounts nat_eq (map (λ a. a.setter) xs) old.armings) (sym arms) h.armings);
+      armings = subst (AreArmings (map (λ a. a.setter) (arms_of (all ++ lines.Report r ∷ [])))) (sym armings)
+          (subst (λ xs. AreArmings (map (λ a. a.setter) xs) old.armings) (sym arms) h.armings);
       by_arms = subst (WereTold (hits_in (arms_of (all ++ lines.Report r ∷ []))) (pairs_in (arms_of (all ++ lines.Report r ∷ [])))
           (origins_in (arms_of (all ++ lines.Report r ∷ [])))) (sym by_arms)
           (subst (λ xs. WereTold (hits_in xs) (pairs_in xs) (origins_in xs) old.by_arms) (sym arms) h.by_arms);

@@ -1,16 +1,12 @@
 -- What is kept of the accesses of a trace.
-use Rattle.std.specs.Prelude.{◌≡◌, ◌≢◌, ◌<◌, ◌==◌, ◌||◌, ℕ, List, All, Bool, Contains, map, nat_eq}
+use Rattle.std.specs.Prelude.{◌≡◌, ◌≢◌, ◌<◌, ◌+◌, ◌==◌, ◌||◌, ℕ, List, All, Bool, Contains, Some, slice_get}
 use Rattle.std.specs.List.{list_any}
-use Rattle.indexmap.specs.IndexMap.{IsUnique}
-use Rattle.indexmap.specs.IndexSet.{contains}
 use Rattle.access_types.specs.Stamped.{Stamped}
 use Rattle.access_types.specs.Ticket.{ticket_number}
 use Rattle.report_text.specs.Standing.{HaveOtherStamps}
+use Rattle.trace_replay.specs.Table.{value_at}
 use Rattle.trace_replay.specs.declared.accesses.Accesses.{Accesses}
-
--- an access with the ticket that names it
-abbrev pub with_ticket : Stamped → ℕ × Stamped
-with_ticket s = (ticket_number s.access, s)
+use Rattle.trace_replay.specs.declared.table.Table.{Table}
 
 -- the access began or ended at this stamp
 abbrev pub has_stamp : ℕ → Stamped → Bool
@@ -21,11 +17,17 @@ pub record IsNamed (all : List Stamped) (ticket : ℕ) (s : Stamped) : Type 0 wh
   pub stands : Contains all s
   pub ticket_is : ticket_number s.access ≡ ticket
 
--- these accesses are kept by their tickets, no two of which are one; so are their stamps; and each has bytes
+-- the place of each of these accesses is given by its ticket, as 1 more than it, and no other place is
+pub record ArePlaces (all : List Stamped) (places : Table ℕ) : Type 0 where
+  pub given : (place : ℕ) (s : Stamped) → slice_get all place ≡ Some s → value_at places (ticket_number s.access) ≡ place + 1
+  pub only : (ticket place : ℕ) → value_at places ticket ≡ place + 1
+      → (s : Stamped) × (slice_get all place ≡ Some s) × (ticket_number s.access ≡ ticket)
+
+-- these accesses are kept in order, with their places; so are their stamps; and each has bytes
 pub record AreKept (all : List Stamped) (kept : Accesses) : Type 0 where
-  pub entries : kept.by_ticket.entries ≡ map with_ticket all
-  pub unique : IsUnique nat_eq kept.by_ticket
-  pub stamps : (stamp : ℕ) → contains nat_eq kept.stamps stamp ≡ list_any (has_stamp stamp) all
+  pub list : kept.list.items ≡ all
+  pub places : ArePlaces all kept.places
+  pub stamps : (stamp : ℕ) → value_at kept.stamps stamp ≡ list_any (has_stamp stamp) all
   pub have_bytes : All (λ s. 0 < s.access.size) all
 
 -- neither the ticket nor a stamp of the access is that of one of these

@@ -1,4 +1,6 @@
 pub mod Counts
+pub mod Table
+pub mod Armings
 pub mod Accesses
 pub mod Told
 pub mod Story

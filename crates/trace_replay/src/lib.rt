@@ -3,10 +3,12 @@
 
 mod accepted;
 mod accesses;
+mod armings;
 mod counts;
 pub mod laws;
 mod pass;
 mod story;
+mod table;
 mod told;
 
 pub use accepted::{Accepted, TraceError};

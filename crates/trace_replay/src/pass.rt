@@ -54,7 +54,7 @@ fn replay_lines(alloc: Global, head: Head, bytes: &[u8]) -> Result<Accepted, Tra
     ensures refused { IfErr result (IsRefused (head_text (head_of head) ++ bytes.now)) }
 {
     plain_lines_stand();
-    let mut story = Story::new(alloc);
+    let mut story = Story::new(alloc, bytes.len() as u64);
     let mut rest = bytes;
     let mut number = first_number(head);
     while let Some((next, more)) = read_line(rest) {

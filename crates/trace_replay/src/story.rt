@@ -17,7 +17,7 @@ ghost use Rattle.trace_replay.specs.Story.{Knows, Tells};
 
 use crate::accepted::Accepted;
 use crate::accesses::Accesses;
-use crate::counts::Counts;
+use crate::armings::Armings;
 use crate::told::Told;
 use access_types::{Arm, ArmOutcome, Report, Stamped, Take};
 use report_text::Line;
@@ -33,7 +33,7 @@ pub struct Story {
     place: u32,
     accesses: Accesses,
     /// The armings of each access, by its ticket.
-    armings: Counts<u32>,
+    armings: Armings,
     /// What armings told of.
     by_arms: Told,
     /// What takings and reports told of.
@@ -56,14 +56,14 @@ fn place_of(line: &Line) -> u32
 }
 
 impl Story {
-    /// No line was read. What is kept takes its memory from this allocator.
-    pub fn new(alloc: Global) -> Story
+    /// No line was read. What is kept takes its memory from this allocator. The trace has so many bytes.
+    pub fn new(alloc: Global, len: u64) -> Story
         ensures { Tells [] result }
     {
         Story {
             place: 0,
-            accesses: Accesses::new(alloc),
-            armings: Counts::new(alloc),
+            accesses: Accesses::new(alloc, len),
+            armings: Armings::new(alloc),
             by_arms: Told::new(alloc),
             by_others: Told::new(alloc),
             arms: 0,

@@ -4,7 +4,7 @@ use Rattle.std.specs.Prelude.{nat_eq}
 use Rattle.access_types.specs.Arms.{Arm}
 use Rattle.report_text.specs.Standing.{arms_of}
 use Rattle.report_text.specs.Truth.{hits_in, origins_in, pairs_in}
-use Rattle.trace_replay.specs.Counts.{AreCounts}
+use Rattle.trace_replay.specs.Armings.{AreArmings}
 use Rattle.trace_replay.proofs.Bags.{on_ok}
 use Rattle.trace_replay.proofs.Lines.{count_fits, few_arms, few_setters, knows_arm, room_by_arms}
 use Rattle.trace_replay.proofs.story.Story.keep_arm.Goals as goal
@@ -28,7 +28,7 @@ arm-requires c = (
 
 pub returns-clause-knows : goal.returns-clause-knows
 returns-clause-knows c = λ all knows.
-    let armings = subst (λ n. AreCounts nat_eq (map (λ (a : Arm). a.setter) (arms_of all) ++ n ∷ []) c.add.new.self) c.setter.ensures
+    let armings = subst (λ n. AreArmings (map (λ (a : Arm). a.setter) (arms_of all) ++ n ∷ []) c.add.new.self) c.setter.ensures
     (c.in_ok-add.ensures (map (λ (a : Arm). a.setter) (arms_of all)) knows.armings) in
     on_ok c.arm.result
     (λ told. knows_arm all c.args.arm.now c.args.self.now _ knows refl armings told refl refl refl refl)
