@@ -101,32 +101,64 @@ pub enum Word {
     Foreign,
 }
 
-/// The words with their meanings.
-const WORDS: [(&str, Word); 57] = [
+/// The words of two bytes.
+const TWO: [(&str, Word); 2] = [("if", Word::If), ("do", Word::Foreign)];
+
+/// The words of three bytes.
+const THREE: [(&str, Word); 2] = [("int", Word::Type(VariableType::Int)), ("for", Word::For)];
+
+/// The words of four bytes.
+const FOUR: [(&str, Word); 5] = [
     ("char", Word::Type(VariableType::Char)),
-    ("short", Word::Type(VariableType::Short)),
-    ("int", Word::Type(VariableType::Int)),
     ("long", Word::Type(VariableType::Long)),
-    ("atomic_t", Word::Type(VariableType::Atomic)),
-    ("spinlock_t", Word::Type(VariableType::Lock)),
-    ("ATOMIC_INIT", Word::AtomicInit),
-    ("if", Word::If),
     ("else", Word::Else),
-    ("for", Word::For),
+    ("xchg", Word::Load(LoadWord::Exchange)),
+    ("true", Word::True),
+];
+
+/// The words of five bytes.
+const FIVE: [(&str, Word); 3] = [
+    ("short", Word::Type(VariableType::Short)),
+    ("false", Word::False),
+    ("while", Word::Foreign),
+];
+
+/// The words of six bytes.
+const SIX: [(&str, Word); 5] = [
+    ("smp_mb", Word::Call(CallWord::Barrier(Barrier::Full))),
+    ("exists", Word::Exists),
+    ("forall", Word::Forall),
+    ("filter", Word::Foreign),
+    ("struct", Word::Foreign),
+];
+
+/// The words of seven bytes.
+const SEVEN: [(&str, Word); 4] = [
+    ("cmpxchg", Word::Load(LoadWord::CompareExchange)),
+    ("smp_rmb", Word::Call(CallWord::Barrier(Barrier::Read))),
+    ("smp_wmb", Word::Call(CallWord::Barrier(Barrier::Write))),
+    ("_SCOPED", Word::Scoped),
+];
+
+/// The words of eight bytes.
+const EIGHT: [(&str, Word); 3] = [
+    ("atomic_t", Word::Type(VariableType::Atomic)),
+    ("unsigned", Word::Foreign),
+    ("volatile", Word::Foreign),
+];
+
+/// The words of nine bytes.
+const NINE: [(&str, Word); 4] = [
     ("data_race", Word::DataRace),
     ("READ_ONCE", Word::Load(LoadWord::Read(ReadForm::Once))),
-    (
-        "smp_load_acquire",
-        Word::Load(LoadWord::Read(ReadForm::Acquire)),
-    ),
-    ("atomic_read", Word::Load(LoadWord::Read(ReadForm::Atomic))),
-    ("xchg", Word::Load(LoadWord::Exchange)),
-    ("cmpxchg", Word::Load(LoadWord::CompareExchange)),
+    ("spin_lock", Word::Call(CallWord::Lock)),
+    ("locations", Word::Foreign),
+];
+
+/// The words of ten bytes.
+const TEN: [(&str, Word); 6] = [
+    ("spinlock_t", Word::Type(VariableType::Lock)),
     ("WRITE_ONCE", Word::Store(StoreWord::Write(WriteForm::Once))),
-    (
-        "smp_store_release",
-        Word::Store(StoreWord::Write(WriteForm::Release)),
-    ),
     (
         "atomic_set",
         Word::Store(StoreWord::Write(WriteForm::Atomic)),
@@ -134,9 +166,25 @@ const WORDS: [(&str, Word); 57] = [
     ("atomic_add", Word::Store(StoreWord::Add)),
     ("atomic_inc", Word::Store(StoreWord::Increment)),
     ("atomic_dec", Word::Store(StoreWord::Decrement)),
-    ("smp_mb", Word::Call(CallWord::Barrier(Barrier::Full))),
-    ("smp_rmb", Word::Call(CallWord::Barrier(Barrier::Read))),
-    ("smp_wmb", Word::Call(CallWord::Barrier(Barrier::Write))),
+];
+
+/// The words of eleven bytes.
+const ELEVEN: [(&str, Word); 3] = [
+    ("ATOMIC_INIT", Word::AtomicInit),
+    ("atomic_read", Word::Load(LoadWord::Read(ReadForm::Atomic))),
+    ("spin_unlock", Word::Call(CallWord::Unlock)),
+];
+
+/// The words of more bytes than eleven.
+const LONGER: [(&str, Word); 20] = [
+    (
+        "smp_load_acquire",
+        Word::Load(LoadWord::Read(ReadForm::Acquire)),
+    ),
+    (
+        "smp_store_release",
+        Word::Store(StoreWord::Write(WriteForm::Release)),
+    ),
     (
         "smp_mb__before_atomic",
         Word::Call(CallWord::Barrier(Barrier::BeforeAtomic)),
@@ -153,8 +201,6 @@ const WORDS: [(&str, Word); 57] = [
         "smp_mb__after_unlock_lock",
         Word::Call(CallWord::Barrier(Barrier::AfterUnlockLock)),
     ),
-    ("spin_lock", Word::Call(CallWord::Lock)),
-    ("spin_unlock", Word::Call(CallWord::Unlock)),
     (
         "ASSERT_EXCLUSIVE_WRITER",
         Word::Call(CallWord::AssertWriter { scoped: false }),
@@ -205,18 +251,6 @@ const WORDS: [(&str, Word); 57] = [
         "kcsan_check_write",
         Word::Call(CallWord::Check { write: true }),
     ),
-    ("exists", Word::Exists),
-    ("forall", Word::Forall),
-    ("true", Word::True),
-    ("false", Word::False),
-    ("_SCOPED", Word::Scoped),
-    ("while", Word::Foreign),
-    ("do", Word::Foreign),
-    ("filter", Word::Foreign),
-    ("locations", Word::Foreign),
-    ("struct", Word::Foreign),
-    ("unsigned", Word::Foreign),
-    ("volatile", Word::Foreign),
 ];
 
 /// The word that a name is, in a table.
@@ -232,9 +266,22 @@ fn look_up(mut table: &[(&str, Word)], name: &[u8]) -> Option<Word>
     None
 }
 
-/// The word that a name is.
+/// The word that a name is. Most names are no words, so a name is compared with those of its length alone.
 pub fn word_of(name: &[u8]) -> Option<Word>
     ensures { result ≡ words.word_of name.now }
 {
-    look_up(&WORDS, name)
+    match name.len() {
+        1 => None,
+        2 => look_up(&TWO, name),
+        3 => look_up(&THREE, name),
+        4 => look_up(&FOUR, name),
+        5 => look_up(&FIVE, name),
+        6 => look_up(&SIX, name),
+        7 => look_up(&SEVEN, name),
+        8 => look_up(&EIGHT, name),
+        9 => look_up(&NINE, name),
+        10 => look_up(&TEN, name),
+        11 => look_up(&ELEVEN, name),
+        _ => look_up(&LONGER, name),
+    }
 }
