@@ -1,5 +1,6 @@
 -- How deep the calls of readers go doesn't count where it suffices: each reader is given by the others.
-use Rattle.std.proofs.Common.{◌≡◌, ◌∙◌, ℕ, zero, suc, ◌+◌, ◌-◌, ◌*◌, ◌<◌, ◌≤◌, ◌==◌, List, Bool, true, false, cond, Option, Some, None, length, refl, sym, ap, arith}
+use Rattle.std.proofs.Common.{◌≡◌, ◌∙◌, ℕ, zero, suc, ◌+◌, ◌-◌, ◌*◌, ◌<◌, ◌≤◌, ◌==◌, List, Bool, true, false, cond, Option, Some, None, length, refl, sym, ap, subst, arith}
+use Rattle.std.specs.Option.{is_some}
 use Rattle.litmus_lex.specs.declared.sign.Sign.TheVariants.{OpenParen, CloseParen, Comma}
 use Rattle.litmus_syntax.specs.declared.expression.BinaryOperator.{BinaryOperator}
 use Rattle.litmus_syntax.specs.declared.expression.UnaryOperator.{UnaryOperator}
@@ -269,5 +270,49 @@ unfolding pure_at
 pure_unrolls t d s =
     let n = 20 * length s.symbols + 19 in
     (deep_agree (20 * length s.symbols + 20) (suc n)).pure t d s (omega arith) (omega arith) ∙ (step_readers n).pure t d s (omega arith) (omega arith)
+
+-- ---- a level is what the stronger one is, and what its own operators join to that
+
+level_next : (t d k : ℕ) (s : State) (r : Rest) → level_at t d (k + 1) s r ≡ (level_at t d k s r >>= λ x. more_at t d (k + 1) x.0 x.1 x.2)
+level_next t d k s r =
+    let some : (k + 1 == 0) ≡ false = grind arith in
+    let one_less : k + 1 - 1 ≡ k = omega arith in
+    level_unrolls t d (k + 1) s r
+    ∙ ap (λ (b : Bool). cond b (prefixed_at t d s r) (level_at t d (k + 1 - 1) s r >>= λ x. more_at t d (k + 1) x.0 x.1 x.2)) some
+    ∙ ap (λ (n : ℕ). level_at t d n s r >>= λ x. more_at t d (k + 1) x.0 x.1 x.2) one_less
+
+-- from a level to the next, where operators of that are joined, and where none is next
+pub level_joins : (t d k : ℕ) (s : State) (r : Rest) (x y : Found) → level_at t d k s r ≡ Some x → more_at t d (k + 1) x.0 x.1 x.2 ≡ Some y → level_at t d (k + 1) s r ≡ Some y
+level_joins t d k s r x y e joined = level_next t d k s r ∙ ap (λ (o : Option Found). o >>= λ z. more_at t d (k + 1) z.0 z.1 z.2) e ∙ joined
+
+pub no_operator : (o : Option BinaryOperator) → is_some o ≡ false → o ≡ None
+no_operator None e = refl
+no_operator (Some op) e = absurd cc
+
+pub level_stays : (t d k : ℕ) (s : State) (r : Rest) (x : Found) → level_at t d k s r ≡ Some x → of_level (k + 1) (binary_at (first x.1.symbols)) ≡ None → level_at t d (k + 1) s r ≡ Some x
+level_stays t d k s r x e none =
+    level_joins t d k s r x x e (more_unrolls t d (k + 1) x.0 x.1 x.2 ∙ ap (λ (o : Option BinaryOperator). more_with readers t d (k + 1) x.0 x.1 x.2 o) none)
+
+-- where a level can't be read, none of the weaker can
+level_fails_after : (t d j n : ℕ) (s : State) (r : Rest) → level_at t d j s r ≡ None → level_at t d (j + n) s r ≡ None
+level_fails_after t d j zero s r e =
+    let same : j ≡ j + 0 = omega arith in
+    subst (λ (k : ℕ). level_at t d k s r ≡ None) same e
+level_fails_after t d j (suc n) s r e =
+    let same : j + n + 1 ≡ j + suc n = omega arith in
+    let next = level_next t d (j + n) s r ∙ ap (λ (o : Option Found). o >>= λ y. more_at t d (j + n + 1) y.0 y.1 y.2) (level_fails_after t d j n s r e) in
+    subst (λ (k : ℕ). level_at t d k s r ≡ None) same next
+
+level_fails : (t d j k : ℕ) (s : State) (r : Rest) → j ≤ k → level_at t d j s r ≡ None → level_at t d k s r ≡ None
+level_fails t d j k s r le e =
+    let whole : j + (k - j) ≡ k = omega arith in
+    subst (λ (n : ℕ). level_at t d n s r ≡ None) whole (level_fails_after t d j (k - j) s r e)
+
+pub prefixed_fails : (t d k : ℕ) (s : State) (r : Rest) → prefixed_at t d s r ≡ None → level_at t d k s r ≡ None
+prefixed_fails t d k s r e = level_fails t d 0 k s r (omega arith) (level_unrolls t d 0 s r ∙ e)
+
+pub more_fails : (t d j k : ℕ) (s : State) (r : Rest) (x : Found) → level_at t d j s r ≡ Some x → more_at t d (j + 1) x.0 x.1 x.2 ≡ None → j < k → level_at t d k s r ≡ None
+more_fails t d j k s r x e none lt =
+    level_fails t d (j + 1) k s r (omega arith) (level_next t d j s r ∙ ap (λ (o : Option Found). o >>= λ z. more_at t d (j + 1) z.0 z.1 z.2) e ∙ none)
 
 pub ruleset unrolls = (level_unrolls, more_unrolls, prefixed_unrolls, operand_unrolls, loading_unrolls, load_unrolls, fetch_unrolls, arguments_unrolls, pure_unrolls)

@@ -241,10 +241,30 @@ impl<'a> Process<'a> {
         ensures moves { OnOk result (count_left self.new.cursor < count_left self.old.cursor) }
         ensures reads { Answers result (λ found. (expression_of found, state_of self.new, rest.new)) (reader.level_at around.now.turns around.now.depth level (state_of self.old) rest.old) }
     {
-        if level == 0 {
-            return self.prefixed(around, rest);
+        let mut left = self.prefixed(around, rest)?;
+        // No call is made for a level of which no operator follows, and that is most of them.
+        for stronger in 0..level {
+            if operator_at(self.cursor.token(), stronger + 1).is_some() {
+                left = self.more(stronger + 1, left, around, rest)?;
+            }
         }
-        let mut left = self.level(level - 1, around, rest)?;
+        Ok(left)
+    }
+
+    /// An operand and what the operators of the level behind it join to it, from the left.
+    #[cycle(expression)]
+    #[tactic(auto, using(crate::proofs::Unrolled::unrolls))]
+    fn more(
+        &mut self,
+        level: usize,
+        operand: Expression,
+        around: &Surroundings,
+        rest: &mut Rest,
+    ) -> Result<Expression, Refusal>
+        ensures moves { OnOk result (count_left self.new.cursor ≤ count_left self.old.cursor) }
+        ensures reads { Answers result (λ found. (expression_of found, state_of self.new, rest.new)) (reader.more_at around.now.turns around.now.depth level (expression_of operand) (state_of self.old) rest.old) }
+    {
+        let mut left = operand;
         while let Some(operator) = operator_at(self.cursor.token(), level) {
             let unsupported = self.cursor.unsupported();
             rest.take_operator()?;

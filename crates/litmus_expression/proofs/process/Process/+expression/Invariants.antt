@@ -1,5 +1,5 @@
 -- Tokens are taken, or the part that is read is nearer to an operand.
-use Rattle.std.proofs.Common.{◌≡◌, ◌+◌, ◌*◌, ◌<◌}
+use Rattle.std.proofs.Common.{◌≡◌, ◌+◌, ◌*◌, ◌<◌, ◌≤◌, Some}
 use Rattle.litmus_syntax.specs.Views.{expression_of}
 use Rattle.litmus_cursor.specs.Cursor.{count_left}
 use Rattle.litmus_expression.specs.ExpressionReader.{level_at, more_at}
@@ -30,12 +30,22 @@ decreases-level l = 20 * count_left l.self.now.cursor + 5 + l.level
 abbrev pub decreases-pure : goal.decreases-pure
 decreases-pure l = 20 * count_left l.self.now.cursor + 13
 
-abbrev pub invariant-level-loop-operator : goal.invariant-level-loop-operator
-invariant-level-loop-operator l = record {
+abbrev pub decreases-more : goal.decreases-more
+decreases-more l = 20 * count_left l.self.now.cursor + l.level
+
+abbrev pub invariant-level-loop-stronger : goal.invariant-level-loop-stronger
+invariant-level-loop-stronger l = record {
   moves : count_left l.self.cursor < count_left l.fn.self.cursor;
-  reads : level_at l.around.turns l.around.depth l.level (state_of l.fn.self) l.fn.rest
+  reads : level_at l.around.turns l.around.depth l.stronger (state_of l.fn.self) l.fn.rest
+      ≡ Some (expression_of l.left, state_of l.self, l.rest);
+}
+
+abbrev pub invariant-more-loop-operator : goal.invariant-more-loop-operator
+invariant-more-loop-operator l = record {
+  moves : count_left l.self.cursor ≤ count_left l.fn.self.cursor;
+  reads : more_at l.around.turns l.around.depth l.level (expression_of l.fn.operand) (state_of l.fn.self) l.fn.rest
       ≡ more_at l.around.turns l.around.depth l.level (expression_of l.left) (state_of l.self) l.rest;
 }
 
-abbrev pub decreases-level-loop-operator : goal.decreases-level-loop-operator
-decreases-level-loop-operator l = count_left l.self.cursor
+abbrev pub decreases-more-loop-operator : goal.decreases-more-loop-operator
+decreases-more-loop-operator l = count_left l.self.cursor
