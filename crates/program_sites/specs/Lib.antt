@@ -1,5 +1,6 @@
 pub mod Sites
 pub mod Errors
+pub mod Accesses
 pub mod Added
 pub mod Settings
 pub mod Prepared

@@ -2,6 +2,7 @@
 //! runs go by.
 #![tactic(auto)]
 
+pub mod accesses;
 pub mod error;
 pub mod laws;
 pub mod prepared;

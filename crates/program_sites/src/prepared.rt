@@ -18,6 +18,7 @@ ghost use Rattle.program_layout.specs.Places.{AreFit};
 ghost use Rattle.litmus_meaning.specs.Layout as layouts;
 ghost use Rattle.litmus_meaning.specs.Layout.{cells_at_first, cells_of};
 
+use crate::accesses::accesses_of;
 use crate::error::RunError;
 use crate::settings::Settings;
 use crate::sites::sites_of;
@@ -42,6 +43,8 @@ pub struct Prepared {
     pub words: Vec<u64>,
     /// The accesses that the program can make, by ticket.
     pub sites: Arc<Sites>,
+    /// How many accesses each task can begin.
+    pub accesses: Vec<usize>,
     /// What checks go by.
     pub rules: Rules,
 }
@@ -64,13 +67,21 @@ impl Prepared {
             return Err(RunError::BadSlots);
         }
         let sites = sites_of(alloc, program, places)?;
-        let prepared = Prepared::of(alloc, layout, sites, settings.rules())?;
+        let accesses = accesses_of(alloc, program)?;
+        let prepared = Prepared::of(alloc, layout, sites, accesses, settings.rules())?;
         Ok(prepared)
     }
 
-    /// What is made of a layout, of the accesses of its program and of rules.
-    fn of(alloc: Global, layout: Layout, sites: Sites, rules: Rules) -> Result<Prepared, AllocError>
+    /// What is made of a layout, of the accesses of its program, of how many each task can begin, and of rules.
+    fn of(
+        alloc: Global,
+        layout: Layout,
+        sites: Sites,
+        accesses: Vec<usize>,
+        rules: Rules,
+    ) -> Result<Prepared, AllocError>
         ensures parts { IfOk result (λ prepared. (arc_value prepared.layout ≡ layout) × (arc_value prepared.sites ≡ sites) × (prepared.rules ≡ rules)) }
+        ensures accesses { IfOk result (λ prepared. prepared.accesses.items ≡ accesses.items) }
         ensures laid { (places : List layouts.Place) (variables : List Variable) → Lays places variables layout
             → IfOk result (λ prepared. (prepared.locks ≡ count_by is_lock variables) × (prepared.cells.items ≡ cells_of places variables)
             × (prepared.words.items ≡ cells_at_first places variables)) }
@@ -86,6 +97,7 @@ impl Prepared {
             cells,
             words,
             sites,
+            accesses,
             rules,
         })
     }

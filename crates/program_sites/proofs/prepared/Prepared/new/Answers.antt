@@ -26,5 +26,6 @@ returns-clause-prepared c =
       cells = laid.1;
       words = laid.2;
       sites = subst (λ (sites : AccessMap). AreSitesOf (program_of program) places sites) (sym parts.1) are;
+      accesses = c.in_ok-prepared.ensures.accesses ∙ c.in_ok-accesses.ensures;
       rules = parts.2 ∙ c.rules.ensures.are;
     }
