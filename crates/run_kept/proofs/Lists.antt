@@ -1,12 +1,14 @@
 -- What is reported of a run is no more than the outcomes of its tasks.
-use Rattle.std.proofs.Common.{◌≡◌, ◌∙◌, ◌<◌, ◌≤◌, ◌+◌, ◌*◌, ◌++◌, ◌∷◌, [], inl, inr, ℕ, zero, suc, Bool, true, false, List, None, Option, Some, ap, arith, cond, count_by, length, refl, reverse}
+use Rattle.std.proofs.Common.{◌≡◌, ◌∙◌, ◌<◌, ◌≤◌, ◌+◌, ◌*◌, ◌++◌, ◌∷◌, [], inl, inr, ℕ, zero, suc, Bool, true, false, List, None, Option, Some, ap, arith, cond, count_by, length, refl, reverse, sum_by, take}
 use Rattle.std.specs.List.{cons_option, filter_map}
 use Rattle.std.proofs.lemmas.Bool.Decides.{eqb_tells}
 use Rattle.std.proofs.lemmas.List.{length-append, length-map, length-reverse}
 use Rattle.std.proofs.lemmas.List.Elements.{All-get_or}
+use Rattle.std.proofs.lemmas.List.Sums.{sum_by-take-le, sum_by_more}
 use Rattle.std.proofs.Math.Nat.{suc-mul}
 use Rattle.slot_table.specs.of_access_types_declared.report.Report.{Report}
-use Rattle.written_order.specs.of_litmus_syntax_Limits.{BodyKeepsLimits, KeepsLimits, TaskKeepsLimits}
+use Rattle.written_order.specs.of_litmus_syntax_Limits.{BodyKeepsLimits, KeepsLimits, TaskKeepsLimits, block_repeats}
+use Rattle.written_order.specs.of_litmus_syntax_Tree.{Task}
 use Rattle.run_lists.specs.Reports as lists
 use Rattle.run_lists.specs.Reports.{reports_of}
 use Rattle.run_lists.specs.Run.{Run, idle, task_of}
@@ -105,12 +107,45 @@ module _ (run : Run) (all : List Record) (list : RunList run all) where
       let product : suc task * most ≡ task * most + most = suc-mul task most in
       omega (arith, rest, one, own, few, product)
 
-  pub few_reports : (most : ℕ) → ((task : ℕ) → task < length run.program.tasks → length (list.tasks task).whole.end.outcomes ≤ most)
-      → length (reports_of list) ≤ length run.program.tasks * most
-  few_reports most each =
-      let few = few_below most each (length run.program.tasks) (omega arith) in
+  -- as many reports as have come of the tasks, at most
+  few_reports_of : (most : ℕ)
+      → count_by (λ (one : OutcomeAt). some_came (Some one.outcome)) (outcomes_below list (length run.program.tasks) all) ≤ most
+      → length (reports_of list) ≤ most
+  few_reports_of most few =
       let same : count_by (λ (one : OutcomeAt). some_came (Some one.outcome)) (outcomes_below list (length run.program.tasks) all)
       ≡ count_by (λ (one : OutcomeAt). some_came (Some one.outcome)) (outcomes_of list) =
       ap (λ (l : List OutcomeAt). count_by (λ (one : OutcomeAt). some_came (Some one.outcome)) l) (all_came run all list) in
       let size = all_counted (outcomes_of list) in
       let fewer = reports_fewer (outcomes_of list) in omega (arith, few, same, size, fewer)
+
+  pub few_reports : (most : ℕ) → ((task : ℕ) → task < length run.program.tasks → length (list.tasks task).whole.end.outcomes ≤ most)
+      → length (reports_of list) ≤ length run.program.tasks * most
+  few_reports most each = few_reports_of (length run.program.tasks * most) (few_below most each (length run.program.tasks) (omega arith))
+
+  -- nine for each access of each text
+  few_below_by_text : ((task : ℕ) → task < length run.program.tasks
+      → length (list.tasks task).whole.end.outcomes ≤ 9 * block_repeats 1 (task_of run task).body)
+      → (tasks : ℕ)
+      → tasks ≤ length run.program.tasks
+      → count_by (λ (one : OutcomeAt). some_came (Some one.outcome)) (outcomes_below list tasks all)
+      ≤ 9 * sum_by (λ (task : Task). block_repeats 1 task.body) (take tasks run.program.tasks)
+  few_below_by_text each zero within = let none = no_outcome_below some_came none_came run all list all in omega (arith, none)
+  few_below_by_text each (suc task) within =
+      let rest = few_below_by_text each task (omega (arith, within)) in
+      let one = one_task_came some_came none_came run all list task all in
+      let own = few_came task in
+      let few = each task (omega (arith, within)) in
+      let next : suc task ≡ task + 1 = omega arith in
+      let more : sum_by (λ (t : Task). block_repeats 1 t.body) (take (suc task) run.program.tasks)
+      ≡ sum_by (λ (t : Task). block_repeats 1 t.body) (take task run.program.tasks) + block_repeats 1 (task_of run task).body =
+      ap (λ (n : ℕ). sum_by (λ (t : Task). block_repeats 1 t.body) (take n run.program.tasks)) next
+      ∙ sum_by_more (λ (t : Task). block_repeats 1 t.body) run.program.tasks task idle (omega (arith, within)) in
+      omega (arith, rest, one, own, few, more)
+
+  pub few_reports_by_text : ((task : ℕ) → task < length run.program.tasks
+      → length (list.tasks task).whole.end.outcomes ≤ 9 * block_repeats 1 (task_of run task).body)
+      → length (reports_of list) ≤ 9 * sum_by (λ (task : Task). block_repeats 1 task.body) run.program.tasks
+  few_reports_by_text each =
+      let few = few_below_by_text each (length run.program.tasks) (omega arith) in
+      let most = sum_by-take-le (λ (t : Task). block_repeats 1 t.body) run.program.tasks (length run.program.tasks) in
+      few_reports_of (9 * sum_by (λ (t : Task). block_repeats 1 t.body) run.program.tasks) (omega (arith, few, most))

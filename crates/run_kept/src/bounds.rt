@@ -1,7 +1,8 @@
 //! What comes of a run of a program that keeps the limits, at most.
 
 ghost use Rattle.std.specs.Prelude.{◌*◌, ◌<◌, ◌≤◌, ℕ, List, length, reverse};
-ghost use Rattle.written_order.specs.of_litmus_syntax_Limits.{BodyKeepsLimits, KeepsLimits};
+ghost use Rattle.std.specs.List.{sum_by};
+ghost use Rattle.written_order.specs.of_litmus_syntax_Limits.{BodyKeepsLimits, KeepsLimits, block_repeats};
 ghost use Rattle.written_order.specs.of_litmus_syntax_Tree.{Block};
 ghost use Rattle.run_lists.specs.Reports.{reports_of};
 ghost use Rattle.run_lists.specs.Run.{Run};
@@ -16,28 +17,35 @@ ghost use Rattle.written_order.specs.WrittenOrder.{SpellsAll, WrittenOrder};
 
 use written_order::the_written_order_keeps_the_discipline;
 
-/// Law: of the checks of a task no more outcomes fall than 9,216 where its text keeps the limits: one for each access and
-/// one for each of the eight scoped assertions that may be in force.
+/// Law: of the checks of a task whose text keeps the limits no more outcomes fall than nine for each time that the loops
+/// of its text repeat an access: one for the access and one for each of the eight scoped assertions that may be in force.
+/// That is 9,216 at most.
 pub fn few_outcomes_fall()
-    ensures { (s : Setting) (registers : ℕ) (body : Block) (records : List Record) → BodyKeepsLimits body
+    ensures text { (s : Setting) (registers : ℕ) (body : Block) (records : List Record) → BodyKeepsLimits body
+        → (whole : SpellsAll s registers body records) → length whole.end.outcomes ≤ 9 * block_repeats 1 body }
+    ensures limits { (s : Setting) (registers : ℕ) (body : Block) (records : List Record) → BodyKeepsLimits body
         → (whole : SpellsAll s registers body records) → length whole.end.outcomes ≤ 9216 }
 {}
 
-/// Law: of a task whose text keeps the limits no more than 9,216 armings are over, and no more than 9,216 takings, and no
-/// more than 9,216 reports are made at its steps.
+/// Law: of a task whose text keeps the limits no more armings are over than nine for each time that the loops of its text
+/// repeat an access, and no more takings, and no more reports are made at its steps.
 pub fn few_watches_are_over()
     ensures arms { (s : Setting) (registers : ℕ) (body : Block) (records : List Record) (noted : List Noted) → BodyKeepsLimits body
-        → (written : WrittenOrder s registers body records) → AreNoted written (reverse records) noted → length (arms_of noted) ≤ 9216 }
+        → (written : WrittenOrder s registers body records) → AreNoted written (reverse records) noted
+        → length (arms_of noted) ≤ 9 * block_repeats 1 body }
     ensures takes { (s : Setting) (registers : ℕ) (body : Block) (records : List Record) (noted : List Noted) → BodyKeepsLimits body
-        → (written : WrittenOrder s registers body records) → AreNoted written (reverse records) noted → length (takes_of noted) ≤ 9216 }
+        → (written : WrittenOrder s registers body records) → AreNoted written (reverse records) noted
+        → length (takes_of noted) ≤ 9 * block_repeats 1 body }
     ensures reports { (s : Setting) (registers : ℕ) (body : Block) (records : List Record) (noted : List Noted) → BodyKeepsLimits body
-        → (written : WrittenOrder s registers body records) → AreNoted written (reverse records) noted → length (reported_in noted) ≤ 9216 }
+        → (written : WrittenOrder s registers body records) → AreNoted written (reverse records) noted
+        → length (reported_in noted) ≤ 9 * block_repeats 1 body }
 {
     few_outcomes_fall();
     the_written_order_keeps_the_discipline();
 }
 
-/// Law: so it is of each task of a run list whose program keeps the limits.
+/// Law: of each task of a run list whose program keeps the limits no more than 9,216 armings are over, and no more than
+/// 9,216 takings.
 pub fn few_watches_of_each_task_are_over()
     ensures arms { (run : Run) (records : List Record) (list : RunList run records) (task : ℕ) (noted : List Noted) → KeepsLimits run.program
         → task < length run.program.tasks → Notes list task noted → length (arms_of noted) ≤ 9216 }
@@ -47,9 +55,12 @@ pub fn few_watches_of_each_task_are_over()
     few_watches_are_over();
 }
 
-/// Law: a run list whose program keeps the limits reports no more than 9,216 times for each of its tasks.
+/// Law: a run list whose program keeps the limits reports no more than nine times for each time that the loops of a text
+/// of its tasks repeat an access, and so no more than 9,216 times for each of its tasks.
 pub fn few_are_reported()
-    ensures { (run : Run) (records : List Record) (list : RunList run records) → KeepsLimits run.program
+    ensures text { (run : Run) (records : List Record) (list : RunList run records) → KeepsLimits run.program
+        → length (reports_of list) ≤ 9 * sum_by (λ task. block_repeats 1 task.body) run.program.tasks }
+    ensures limits { (run : Run) (records : List Record) (list : RunList run records) → KeepsLimits run.program
         → length (reports_of list) ≤ length run.program.tasks * 9216 }
 {
     few_outcomes_fall();

@@ -23,7 +23,7 @@ returns-clause-parts c = λ run records list keeps some most ended accesses arms
     let once = c.heard_is_told.ensures.once run.rules.slots (locks_of run) (first_cells run) records rules in
     let takings = c.the_bags_are_equal.ensures.takings run records list arms takes ended are.arms_are are.takes_are in
     let tasks = keeps.tasks in
-    let reports = c.few_are_reported.ensures run records list keeps in
+    let reports = c.few_are_reported.ensures.limits run records list keeps in
     record {
       few_slots = some;
       slots_limit = most;

@@ -26,7 +26,7 @@ spelled s registers body records whole =
 pub returns-clause-arms : goal.returns-clause-arms
 returns-clause-arms c = λ s registers body records noted fits written are.
     let all : List Record = records ++ written.more in
-    let most = c.few_outcomes_fall.ensures s registers body all fits written.whole in
+    let most = c.few_outcomes_fall.ensures.text s registers body all fits written.whole in
     let keeps = kept_whole s.text.task all
     (c.the_written_order_keeps_the_discipline.ensures.keeps s registers body all (spelled s registers body all written.whole)) in
     let few = few_removes s.text.task all written.whole.end.outcomes (whole_falls s registers body all written.whole) keeps in
@@ -38,7 +38,7 @@ returns-clause-arms c = λ s registers body records noted fits written are.
 pub returns-clause-takes : goal.returns-clause-takes
 returns-clause-takes c = λ s registers body records noted fits written are.
     let all : List Record = records ++ written.more in
-    let most = c.few_outcomes_fall.ensures s registers body all fits written.whole in
+    let most = c.few_outcomes_fall.ensures.text s registers body all fits written.whole in
     let few = few_tells all written.whole.end.outcomes (whole_falls s registers body all written.whole) in
     let parts = counted_both (of_record is_tell) records written.more in
     let own = count_reverse is_tell records in
@@ -48,7 +48,7 @@ returns-clause-takes c = λ s registers body records noted fits written are.
 pub returns-clause-reports : goal.returns-clause-reports
 returns-clause-reports c = λ s registers body records noted fits written are.
     let all : List Record = records ++ written.more in
-    let most = c.few_outcomes_fall.ensures s registers body all fits written.whole in
+    let most = c.few_outcomes_fall.ensures.text s registers body all fits written.whole in
     let size : length all ≡ length records + length written.more = length-append records written.more in
     let turned : length (reverse records) ≡ length records = length-reverse records in
     let few = few_fell written (length (reverse records)) (omega (arith, size, turned)) in

@@ -1,5 +1,5 @@
 -- By the records of the task.
-use Rattle.std.proofs.Common.{ℕ, List, reverse, subst, sym}
+use Rattle.std.proofs.Common.{ℕ, List, arith, reverse, subst, sym}
 use Rattle.std.proofs.lemmas.List.{reverse-reverse}
 use Rattle.run_kept.proofs.Lists.{keeps_body}
 use Rattle.run_lists.specs.Run.{Run}
@@ -17,8 +17,12 @@ turned run records list task noted notes =
 
 pub returns-clause-arms : goal.returns-clause-arms
 returns-clause-arms c = λ run records list task noted keeps there notes.
-    c.few_watches_are_over.ensures.arms _ _ _ _ noted (keeps_body run keeps task there) (list.tasks task) (turned run records list task noted notes)
+    let fits = keeps_body run keeps task there in
+    let repeats = fits.repeats in
+    let few = c.few_watches_are_over.ensures.arms _ _ _ _ noted fits (list.tasks task) (turned run records list task noted notes) in omega (arith, few, repeats)
 
 pub returns-clause-takes : goal.returns-clause-takes
 returns-clause-takes c = λ run records list task noted keeps there notes.
-    c.few_watches_are_over.ensures.takes _ _ _ _ noted (keeps_body run keeps task there) (list.tasks task) (turned run records list task noted notes)
+    let fits = keeps_body run keeps task there in
+    let repeats = fits.repeats in
+    let few = c.few_watches_are_over.ensures.takes _ _ _ _ noted fits (list.tasks task) (turned run records list task noted notes) in omega (arith, few, repeats)

@@ -46,7 +46,7 @@ returns-clause-arms c = λ run records list arms keeps are.
     let s : Setting = task_setting run task in
     let turned : List Record = reverse (records_of task records) in
     let all : List Record = turned ++ (list.tasks task).more in
-    let most = c.few_outcomes_fall.ensures _ _ _ _ (keeps_body run keeps task there) (list.tasks task).whole in
+    let most = c.few_outcomes_fall.ensures.limits _ _ _ _ (keeps_body run keeps task there) (list.tasks task).whole in
     let kept = kept_whole s.text.task all (c.the_written_order_keeps_the_discipline.ensures.keeps _ _ _ all (spelled _ _ _ all (list.tasks task).whole)) in
     let few = few_removes s.text.task all (list.tasks task).whole.end.outcomes (whole_falls _ _ _ all (list.tasks task).whole) kept in
     let parts = counted_both (of_record is_remove) turned (list.tasks task).more in
@@ -58,7 +58,7 @@ returns-clause-takes c = λ run records list takes keeps are.
     by_tasks (AreTakesOf list) 9216 (length run.program.tasks) (λ task there own own_are.
     let turned : List Record = reverse (records_of task records) in
     let all : List Record = turned ++ (list.tasks task).more in
-    let most = c.few_outcomes_fall.ensures _ _ _ _ (keeps_body run keeps task there) (list.tasks task).whole in
+    let most = c.few_outcomes_fall.ensures.limits _ _ _ _ (keeps_body run keeps task there) (list.tasks task).whole in
     let few = few_tells all (list.tasks task).whole.end.outcomes (whole_falls _ _ _ all (list.tasks task).whole) in
     let parts = counted_both (of_record is_tell) turned (list.tasks task).more in
     let same = count_reverse is_tell (records_of task records) in
