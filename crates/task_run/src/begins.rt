@@ -56,6 +56,16 @@ impl<'a> Machine<'a> {
         }
     }
 
+    /// The stage becomes that of the next part. It stands apart from what takes an answer, so that those many answers on which
+    /// the stage stays need no room for another.
+    pub(crate) fn goes_on(&mut self, stage: &mut Stage<'a>)
+        ensures begins { (s : Setting) (before : List Record → Standing) → StandsBy s before self.old
+            → Begins s (WalkLeft s self.old.walk) before self.new stage.new }
+        ensures room { room_of self.new ≡ room_of self.old }
+    {
+        *stage = self.advance();
+    }
+
     /// What is due begins. It is over at once where there is no stage: it makes no step.
     pub(crate) fn begins(&mut self, due: Due<'a>) -> Option<Stage<'a>>
         requires form { IsOfForm due }

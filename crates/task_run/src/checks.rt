@@ -43,23 +43,30 @@ impl<'a> Machine<'a> {
         self.checker.outcomes().get(count).copied()
     }
 
+    /// The begin of the newest access is behind the task. Where it was before, nothing is written.
+    fn has_begun(&mut self)
+        ensures { self.new ≡ record self.old { begins = None } }
+    {
+        if self.begins.is_some() {
+            self.begins = None;
+        }
+    }
+
     /// An access that is under way takes the answer.
-    pub(crate) fn answers_access(&mut self, run: AccessRun, answer: Answer) -> AccessRun
-        requires { (step : Step) × AccessSays run self.old.checker step × Answers step answer }
+    pub(crate) fn answers_access(&mut self, run: &mut AccessRun, answer: Answer)
+        requires { (step : Step) × AccessSays run.old self.old.checker step × Answers step answer }
         ensures leads { (s : settings.Setting) (scopes : List Begun) (begun : Begun) (asked : ℕ) (operation : Option Operation)
             (records : List Record) (step : Step)
-            → s.sites ≡ arc_value self.old.sites → AccessLeads s scopes begun asked operation records run self.old.checker
-            → AccessSays run self.old.checker step
-            → AccessLeads s scopes begun asked operation (records ++ made s.task step answer ∷ []) result self.new.checker }
+            → s.sites ≡ arc_value self.old.sites → AccessLeads s scopes begun asked operation records run.old self.old.checker
+            → AccessSays run.old self.old.checker step
+            → AccessLeads s scopes begun asked operation (records ++ made s.task step answer ∷ []) run.new self.new.checker }
         ensures context { context_of self.new.checker ≡ context_of self.old.checker }
         ensures kept { self.new ≡ record self.old { checker = self.new.checker; begins = self.new.begins } }
         ensures begun { self.new.begins ≡ None }
         ensures room { room_of self.new ≡ room_of self.old }
     {
-        let mut run = run;
         run.answer(&mut self.checker, answer, &*self.sites);
-        self.begins = None;
-        run
+        self.has_begun();
     }
 
     /// The check that is under way takes the answer.
@@ -82,7 +89,7 @@ impl<'a> Machine<'a> {
     {
         let came = self.came();
         self.checker.answer(answer, &*self.sites);
-        self.begins = None;
+        self.has_begun();
         Came {
             over: self.checker.is_over(),
             fell: self.came_after(came),

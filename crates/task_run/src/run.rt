@@ -58,6 +58,8 @@ impl<'a> TaskRun<'a> {
     ghost use Rattle.setup_access.specs.Parts.{made};
     ghost use Rattle.slot_table.specs.declared.step.Answer.{Answer};
     ghost use Rattle.program_sites.specs.declared.error.RunError.TheVariants.{BadPlace, BadSlots};
+    ghost use Rattle.access_run.specs.declared.access.AccessRun as accesses;
+    ghost use Rattle.memory_operation.specs.declared.lock.LockWait as locks;
     ghost use Rattle.task_run.specs.declared.stage.Stage.TheVariants.{Closing, Locking, Making, Opening, Unlocking};
     ghost use Rattle.text_walk.specs.of_written_order_Standing.{Setting};
     ghost use Rattle.text_walk.specs.of_written_order_Waits as waits;
@@ -160,7 +162,7 @@ impl<'a> TaskRun<'a> {
             → IfSome result (λ step. (answer : Answer)
             → WithinTurns s.rules.turns (reverse (records ++ made s.text.task step answer ∷ []))) }
     {
-        match self.stage {
+        match &self.stage {
             Stage::Over => None,
             Stage::Stopped => None,
             Stage::Making(run, _) => run.next(&self.machine.checker),
@@ -168,7 +170,7 @@ impl<'a> TaskRun<'a> {
             Stage::Closing => self.machine.checker.next(),
             Stage::Locking(wait, _) => wait.next(self.machine.rules.turns),
             Stage::Unlocking(variable) => {
-                Some(Step::LockStore(self.machine.lock_number(variable)))
+                Some(Step::LockStore(self.machine.lock_number(*variable)))
             }
         }
     }
@@ -182,7 +184,7 @@ impl<'a> TaskRun<'a> {
             → WrittenOrder s registers body records → BlockScopes 0 body → block_rises body ≤ 2 ^ 32
             → (IsTrue result ↔ waits.IsStuck s registers body records) }
     {
-        match self.stage {
+        match &self.stage {
             Stage::Over => false,
             Stage::Stopped => false,
             Stage::Making(run, _) => run.stuck(&self.machine.checker),
@@ -206,7 +208,7 @@ impl<'a> TaskRun<'a> {
         ensures { (s : Setting) (registers : ℕ) (body : Block) (records : List Record) → (leads : Leads s registers body records self.now)
             → (later : List Record) → BeginsNext s leads.part (stands_at leads later) leads.mine result }
     {
-        match self.stage {
+        match &self.stage {
             Stage::Making(_, _) => self.machine.begins,
             Stage::Opening => self.machine.begins,
             Stage::Closing => None,
@@ -233,25 +235,25 @@ impl<'a> TaskRun<'a> {
         let latest = self.latest(step);
         match self.stage {
             Stage::Over | Stage::Stopped => unreachable!(),
-            Stage::Making(run, after) => {
-                let fell = self.answers_access(run, after, answer);
-                self.news = News { fell, latest };
+            Stage::Making(_, after) => {
+                let fell = self.answers_access(after, answer);
+                self.news.tell(fell, latest);
             }
             Stage::Opening => {
                 let fell = self.answers_open(answer);
-                self.news = News { fell, latest };
+                self.news.tell(fell, latest);
             }
             Stage::Closing => {
                 let fell = self.answers_close(answer);
-                self.news = News { fell, latest };
+                self.news.tell(fell, latest);
             }
-            Stage::Locking(wait, variable) => {
-                self.answers_lock(wait, variable, answer);
-                self.news = News { fell: None, latest };
+            Stage::Locking(_, _) => {
+                self.answers_lock(answer);
+                self.news.tell(None, latest);
             }
             Stage::Unlocking(variable) => {
                 self.answers_unlock(variable);
-                self.news = News { fell: None, latest };
+                self.news.tell(None, latest);
             }
         }
     }
@@ -290,21 +292,24 @@ impl<'a> TaskRun<'a> {
         self.news.latest.and(step, self.begins().is_some())
     }
 
-    /// An access takes the answer, and what fell is told. Once it is over, what follows on it is done.
-    fn answers_access(&mut self, run: AccessRun, after: Then<'a>, answer: Answer) -> Option<Outcome>
-        requires { (step : Step) × AccessSays run self.old.machine.checker step × Answers step answer }
-        ensures leads { self.old.stage ≡ Making run after.entry → LeadsOn self.old self.new answer }
-        ensures fell { self.old.stage ≡ Making run after.entry → FellAt self.old result answer }
+    /// An access takes the answer where it stands, and what fell is told. Once it is over, what follows on it is done.
+    fn answers_access(&mut self, after: Then<'a>, answer: Answer) -> Option<Outcome>
+        requires making { (run : accesses.AccessRun) × (self.old.stage ≡ Making run after) }
+        requires says { (step : Step) × Says self.old step × Answers step answer }
+        ensures leads { LeadsOn self.old self.new answer }
+        ensures fell { FellAt self.old result answer }
+        ensures news { self.new.news ≡ self.old.news }
         ensures room { room_of self.new.machine ≡ room_of self.old.machine }
     {
+        let Stage::Making(run, _) = &mut self.stage else {
+            unreachable!()
+        };
         let came = self.machine.came();
-        let run = self.machine.answers_access(run, answer);
+        self.machine.answers_access(run, answer);
         let fell = self.machine.came_after(came);
         if run.is_over() {
             self.machine.follows(after, run.effect());
-            self.stage = self.machine.advance();
-        } else {
-            self.stage = Stage::Making(run, after);
+            self.machine.goes_on(&mut self.stage);
         }
         fell
     }
@@ -320,7 +325,7 @@ impl<'a> TaskRun<'a> {
         let came = self.machine.answers_check(answer);
         if came.over {
             self.machine.opened();
-            self.stage = self.machine.advance();
+            self.machine.goes_on(&mut self.stage);
         }
         came.fell
     }
@@ -335,24 +340,26 @@ impl<'a> TaskRun<'a> {
         let came = self.machine.answers_check(answer);
         if came.over {
             self.machine.closed();
-            self.stage = self.machine.advance();
+            self.machine.goes_on(&mut self.stage);
         }
         came.fell
     }
 
-    /// The wait for a lock takes the answer. Once it is over, the task has the lock.
-    fn answers_lock(&mut self, wait: LockWait, variable: usize, answer: Answer)
-        requires { (step : Step) × LockSays wait step × Answers step answer }
-        ensures leads { self.old.stage ≡ Locking wait variable → LeadsOn self.old self.new answer }
+    /// The wait for a lock takes the answer where it stands. Once it is over, the task has the lock.
+    fn answers_lock(&mut self, answer: Answer)
+        requires locking { (wait : locks.LockWait) × (variable : ℕ) × (self.old.stage ≡ Locking wait variable) }
+        requires says { (step : Step) × Says self.old step × Answers step answer }
+        ensures leads { LeadsOn self.old self.new answer }
+        ensures news { self.new.news ≡ self.old.news }
         ensures room { room_of self.new.machine ≡ room_of self.old.machine }
     {
-        let mut wait = wait;
+        let Stage::Locking(wait, variable) = &mut self.stage else {
+            unreachable!()
+        };
         wait.answer(answer);
         if wait.is_taken() {
-            self.machine.progress.set_lock(variable, true);
-            self.stage = self.machine.advance();
-        } else {
-            self.stage = Stage::Locking(wait, variable);
+            self.machine.progress.set_lock(*variable, true);
+            self.machine.goes_on(&mut self.stage);
         }
     }
 
@@ -362,7 +369,7 @@ impl<'a> TaskRun<'a> {
         ensures room { room_of self.new.machine ≡ room_of self.old.machine }
     {
         self.machine.progress.set_lock(variable, false);
-        self.stage = self.machine.advance();
+        self.machine.goes_on(&mut self.stage);
     }
 
     /// The values of the task's registers, by number.

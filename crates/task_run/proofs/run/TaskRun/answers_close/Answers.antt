@@ -23,8 +23,8 @@ returns-then-came-clause-leads c = λ is s registers body records step leads say
     (λ scopes what asked so_far l. c.answers_check-came.ensures.complete (checks_of s) scopes what asked so_far l
     ((c.answers_check-came.ensures.over (checks_of s) scopes what asked so_far l).0 c.if-came.true))
     _
-    (λ before stands. subst (λ w. Begins s (WalkLeft s w) before c.advance-self.new.self c.advance-self.result) (ap (λ m. m.walk) c.closed.ensures)
-    (c.advance-self.ensures.begins s before (λ later. subst (λ m. Stands s (before later) m) (sym c.closed.ensures) (stands later))))
+    (λ before stands. subst (λ w. Begins s (WalkLeft s w) before c.goes_on.new.self c.goes_on.new.stage) (ap (λ m. m.walk) c.closed.ensures)
+    (c.goes_on.ensures.begins s before (λ later. subst (λ m. Stands s (before later) m) (sym c.closed.ensures) (stands later))))
 
 pub returns-else-came-clause-leads : goal.returns-else-came-clause-leads
 returns-else-came-clause-leads c = λ is s registers body records step leads says.
