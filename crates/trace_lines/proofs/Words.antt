@@ -1,10 +1,8 @@
 -- the text at the front of bytes, and what is behind it
-use Rattle.std.proofs.Common.{◌≡◌, ◌≢◌, ◌∙◌, ℕ, List, [], ◌∷◌, ◌++◌, Bool, true, false, cond, Option, Some, None, refl, sym, ap, eq-eqb, ◌==◌}
-use Rattle.std.proofs.lemmas.Bool.{eqb-true}
-use Rattle.std.specs.Prelude.{MatchOption}
-use Rattle.std.specs.Borrow.{Bor}
+use Rattle.std.proofs.Common.{◌≡◌, ◌≢◌, ◌∙◌, ◌+◌, ◌<◌, ◌≤◌, ℕ, List, [], ◌∷◌, ◌++◌, Bool, true, false, cond, Option, Some, None, refl, add-one, ap, arith, drop, drop-cons, eq-eqb, get_or, length, ◌==◌}
+use Rattle.std.proofs.lemmas.Bool.{eqb-true, ne_eqb}
+use Rattle.std.proofs.lemmas.List.{drop_all}
 use Rattle.trace_lines.specs.FieldReaders.{◌>>=◌, past}
-use Rattle.trace_lines.specs.Reading.{seen_rest}
 
 pub past_there : (text rest : List ℕ) → past text (text ++ rest) ≡ Some rest
 unfolding past
@@ -22,17 +20,49 @@ past_is (c ∷ text) (b ∷ bytes) rest e = by (c == b) refl e (past_is text byt
     by true p e more = let same = eqb-true c b p in let tail = more e in cc
     by false p e more = absurd cc
 
-none_by : (text bytes : List ℕ) (found : Option (List ℕ)) → past text bytes ≡ found
-    → ((rest : List ℕ) → bytes ≢ text ++ rest) → None ≡ past text bytes
-none_by text bytes None e nowhere = sym e
-none_by text bytes (Some rest) e nowhere = absurd (nowhere rest (past_is text bytes rest e))
+-- ---- the text and the bytes are compared one by one
 
--- what `strip_prefix` answers
-pub past_by : (text bytes : List ℕ) (found : Option (Bor (List ℕ)))
-    → MatchOption found ((rest : List ℕ) → bytes ≢ text ++ rest) (λ rest. bytes ≡ text ++ rest.now)
-    → seen_rest found ≡ past text bytes
-past_by text bytes None cases = none_by text bytes (past text bytes) refl cases
-past_by text bytes (Some rest) cases = sym (ap (past text) cases ∙ past_there text rest.now)
+-- too few bytes are there
+pub past_short : (text bytes : List ℕ) → length bytes < length text → past text bytes ≡ None
+unfolding past
+past_short [] bytes short = absurd (omega (arith, short))
+past_short (c ∷ text) [] short = refl
+past_short (c ∷ text) (b ∷ bytes) short = by (c == b) (past_short text bytes (omega (arith, short)))
+  where
+    by : (t : Bool) → past text bytes ≡ None → cond t (past text bytes) None ≡ None
+    by true e = e
+    by false e = refl
+
+-- what is left of both begins with these
+begins : (text bytes : List ℕ) (i : ℕ) → i < length text → i < length bytes
+    → past (drop i text) (drop i bytes) ≡ past (get_or text i 0 ∷ drop (i + 1) text) (get_or bytes i 0 ∷ drop (i + 1) bytes)
+begins text bytes i below within =
+    rw (add-one, drop-cons text i 0 below, drop-cons bytes i 0 within)
+
+same_byte : (c b : ℕ) (text bytes : List ℕ) → c ≡ b → past (c ∷ text) (b ∷ bytes) ≡ past text bytes
+unfolding past
+same_byte c b text bytes e = ap (λ t. cond t (past text bytes) None) (eq-eqb c b e)
+
+other_byte : (c b : ℕ) (text bytes : List ℕ) → c ≢ b → past (c ∷ text) (b ∷ bytes) ≡ None
+unfolding past
+other_byte c b text bytes e = ap (λ t. cond t (past text bytes) None) (ne_eqb c b e)
+
+-- one byte more is the same
+pub past_step : (text bytes : List ℕ) (i : ℕ) → i < length text → i < length bytes → get_or text i 0 ≡ get_or bytes i 0
+    → past (drop i text) (drop i bytes) ≡ past (drop (i + 1) text) (drop (i + 1) bytes)
+past_step text bytes i below within e = begins text bytes i below within
+    ∙ same_byte (get_or text i 0) (get_or bytes i 0) (drop (i + 1) text) (drop (i + 1) bytes) e
+
+-- one byte is another
+pub past_other : (text bytes : List ℕ) (i : ℕ) → i < length text → i < length bytes → get_or text i 0 ≢ get_or bytes i 0
+    → past (drop i text) (drop i bytes) ≡ None
+past_other text bytes i below within e = begins text bytes i below within
+    ∙ other_byte (get_or text i 0) (get_or bytes i 0) (drop (i + 1) text) (drop (i + 1) bytes) e
+
+-- no byte of the text is left
+pub past_end : (text bytes : List ℕ) (i : ℕ) → length text ≤ i → past (drop i text) bytes ≡ Some bytes
+unfolding past
+past_end text bytes i over = ap (λ xs. past xs bytes) (drop_all i text over)
 
 -- ---- one reader behind another
 

@@ -23,11 +23,19 @@ pub(crate) struct AccessLetters {
     pub(crate) silenced: bool,
 }
 
-/// The bytes behind the word, where it stands at the front.
+/// The bytes behind the word, where it stands at the front. Words are short, and so compared byte by byte.
 pub(crate) fn past<'a>(bytes: &'a [u8], word: &[u8]) -> Option<&'a [u8]>
     ensures { seen_rest result ≡ past word.now bytes.now }
 {
-    bytes.strip_prefix(word)
+    if bytes.len() < word.len() {
+        return None;
+    }
+    for i in 0..word.len() {
+        if bytes[i] != word[i] {
+            return None;
+        }
+    }
+    Some(&bytes[word.len()..])
 }
 
 /// A blank.

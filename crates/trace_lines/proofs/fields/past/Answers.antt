@@ -1,11 +1,23 @@
--- `strip_prefix` answers what is behind the word
-use Rattle.std.proofs.Common.{eq-eqb}
-use Rattle.std.proofs.lemmas.Bool.{eqb-true}
-use Rattle.std.proofs.lemmas.Slice.Eq.{strip_prefix_is}
-use Rattle.trace_lines.proofs.Words.{past_by}
+-- the word stands at the front, or a byte of it doesn't
+use Rattle.std.proofs.Common.{◌≡◌, ◌∙◌, ◌-◌, Some, ap, arith, drop, length, length-drop, sym, take_all}
+use Rattle.trace_lines.proofs.Words.{past_end, past_other, past_short, past_step}
 use Rattle.trace_lines.proofs.fields.past.Goals as goal
 
+pub returns-then-bytes-word : goal.returns-then-bytes-word
+returns-then-bytes-word c = sym (past_short c.args.word.now c.args.bytes.now (omega arith))
+
+pub returns-then-bytes-i : goal.returns-then-bytes-i
+returns-then-bytes-i c = sym (c.loop-i.invariant
+    ∙ past_other c.args.word.now c.args.bytes.now c.loop-i.i c.loop-i-test.true (omega arith) (λ e. c.if-bytes-i.true (sym e)))
+
+pub loop-i-preserved : goal.loop-i-preserved
+loop-i-preserved c = c.loop-i.invariant
+    ∙ past_step c.args.word.now c.args.bytes.now c.loop-i.i c.loop-i-test.true (omega arith) (sym c.if-bytes-i.false)
+
 pub returns : goal.returns
-returns c = past_by c.args.word.now c.args.bytes.now c.strip_prefix.result
-    (strip_prefix_is (λ a b. (eqb-true a b, eq-eqb a b)) c.args.bytes.now c.args.word.now c.strip_prefix.result
-    c.strip_prefix.ensures.cases)
+returns c =
+    let all : c.loop-i.i ≡ length c.args.word.now = omega arith in
+    let behind = drop (length c.args.word.now) c.args.bytes.now in
+    ap Some (take_all (length c.args.bytes.now - length c.args.word.now) behind (omega (arith, length-drop (length c.args.word.now) c.args.bytes.now)))
+    ∙ ap (λ n. Some (drop n c.args.bytes.now)) (sym all)
+    ∙ sym (c.loop-i.invariant ∙ past_end c.args.word.now (drop c.loop-i.i c.args.bytes.now) c.loop-i.i (omega arith))
