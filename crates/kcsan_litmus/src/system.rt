@@ -1,16 +1,17 @@
 //! The desk of the system: the process's standard output and standard error, and its files.
 
-ghost use Rattle.std.specs.Prelude.{None};
+ghost use Rattle.std.specs.Prelude.{◌≡◌, None};
 ghost use Rattle.report_text.specs.Sink.{CountsFailure};
 
 use litmus_command::Progress;
+use litmus_command::complaint::Complaint;
 use litmus_command::desk::{Desk, ReadFault};
 use litmus_lex::{ReadError, Source, SourceFault, read_all};
 use report_text::{Sink, SinkFault, WriteError, write_all};
 use std::alloc::Global;
+use std::fs;
 use std::fs::File;
 use std::io::{IsTerminal, Read};
-use std::{fmt, fs};
 
 /// An open file, which can't say what it will give.
 #[derive(Drop)]
@@ -70,6 +71,8 @@ impl Sink for Output {
 #[derive(Drop)]
 pub struct System {
     output: Output,
+    /// How often the read of a file has failed.
+    faults: u64,
 }
 
 impl System {
@@ -77,7 +80,18 @@ impl System {
     pub fn new(rt: HostRuntime) -> System {
         System {
             output: Output { rt, failures: 0 },
+            faults: 0,
         }
+    }
+
+    /// Counts the read of a file that failed, short of 2^64.
+    fn fault(&mut self) -> ReadFault
+        ensures fault { result ≡ ReadFault.CannotRead }
+        ensures counts { CountsFailure self.old.faults self.new.faults }
+        ensures output { self.new.output ≡ self.old.output }
+    {
+        self.faults = self.faults.saturating_add(1);
+        ReadFault::CannotRead
     }
 }
 
@@ -109,18 +123,22 @@ impl Desk for System {
 
     ghost files = { λ _. None };
 
+    ghost told = { λ _. None };
+
+    ghost faults = { λ system. system.faults };
+
     fn print(&mut self, text: &[u8]) -> Result<(), WriteError> {
         write_all(&mut self.output, text)
     }
 
     fn read_file(&mut self, alloc: Global, path: &str, limit: usize) -> Result<Vec<u8>, ReadFault> {
         let Ok(file) = File::open(&self.output.rt, path) else {
-            return Err(ReadFault::CannotRead);
+            return Err(self.fault());
         };
         match read_all(alloc, &mut OpenFile { file, failures: 0 }, limit) {
             Ok(bytes) => Ok(bytes),
             Err(ReadError::OutOfMemory) => Err(ReadFault::OutOfMemory),
-            Err(ReadError::SourceFailed) => Err(ReadFault::CannotRead),
+            Err(ReadError::SourceFailed) => Err(self.fault()),
         }
     }
 
@@ -132,7 +150,7 @@ impl Desk for System {
         Ok(())
     }
 
-    fn complain<T: fmt::Display + Drop>(&mut self, text: T) {
-        let _ = self.output.rt.eprint(text);
+    fn complain(&mut self, complaint: Complaint) {
+        let _ = self.output.rt.eprint(complaint);
     }
 }

@@ -3,7 +3,7 @@ use Rattle.std.proofs.Common.{◌<◌, Bool, OnErr, OnOk, ap, ◌≢◌, ◌≤�
 use Rattle.std.proofs.Common.{refl, subst, sym, Vec}
 use Rattle.std.specs.Global.{Global}
 use Rattle.std.specs.Prelude.{IsErrAnd}
-use Rattle.litmus_command.specs.Command.{EndsAs, IsOfFile, NothingIsWritten, State, engine_status_of, read_failure, run_status_of, status_of, text_status_of, trace_status_of}
+use Rattle.litmus_command.specs.Command.{EndsAs, IsOfFile, NothingIsWritten, Reads, SpellsNone, State, engine_status_of, read_failure, run_status_of, status_of, text_status_of, trace_status_of}
 use Rattle.litmus_command.specs.declared.command.Failure.{Failure}
 use Rattle.litmus_command.specs.declared.command.Failure.TheVariants as failure
 use Rattle.litmus_command.specs.declared.desk.ReadFault.{ReadFault}
@@ -21,7 +21,9 @@ use Rattle.trace_replay.specs.declared.accepted.TraceError.{TraceError}
 use Rattle.trace_replay.specs.declared.accepted.TraceError.TheVariants as trace
 use Rattle.command_words.specs.declared.request.RunOptions.{RunOptions}
 use Rattle.litmus_command.specs.Command.{FileIsRun, FileIsRunInPart, IsGiven, IsGivenInPart, once_read, trace_path}
-use Rattle.litmus_command.specs.Engine.{IsRefused, Stops, StopsRun}
+use Rattle.litmus_command.specs.Engine.{IsRefused, Stops, StopsReady, StopsRun}
+use Rattle.run_tally.specs.Errors as tally
+use Rattle.run_tally.specs.Errors.{IsNotRead}
 use Rattle.litmus_command.specs.Files.{FileEvent, Gave, noted}
 use Rattle.litmus_parse.specs.Read.{IsReadAs}
 use Rattle.litmus_parse.specs.Text.{file_bytes}
@@ -97,6 +99,32 @@ run_is_no_sink run.OutOfMemory is = omega (arith, is)
 run_is_no_sink (run.Stuck task) is = omega (arith, is)
 run_is_no_sink run.BadSchedule is = omega (arith, is)
 run_is_no_sink run.NoThread is = omega (arith, is)
+
+run_is_no_text : (error : RunError) → run_status_of error ≡ 65 → ⊥
+run_is_no_text run.BadSlots is = omega (arith, is)
+run_is_no_text run.BadPlace is = omega (arith, is)
+run_is_no_text run.OutOfMemory is = omega (arith, is)
+run_is_no_text (run.Stuck task) is = omega (arith, is)
+run_is_no_text run.BadSchedule is = omega (arith, is)
+run_is_no_text run.NoThread is = omega (arith, is)
+
+-- a text that is refused spells no program
+unread_spells_none : (text : List ℕ) (error : ParseError) → IsNotRead text error → text_status_of error ≡ 65 → SpellsNone text
+unread_spells_none text error unread is program spells =
+    let memory : text_status_of error ≡ 71 = ap text_status_of (unread program spells) in
+    omega (arith, is, memory)
+
+pub spells_none : (text : List ℕ) (settings : Settings) (entries : List Entry) (error : EngineError)
+    → IsRefused text settings entries error → engine_status_of error ≡ 65 → SpellsNone text
+spells_none text settings entries (engine.Text error) refused is = unread_spells_none text error refused is
+spells_none text settings entries (engine.Run error) refused is = absurd (run_is_no_text error is)
+spells_none text settings entries engine.SinkFailed refused is = absurd refused
+
+pub spells_none_often : (counted : Bool) (text : List ℕ) (settings : Settings) (error : EngineError)
+    → tally.IsRefused counted text settings error → engine_status_of error ≡ 65 → SpellsNone text
+spells_none_often counted text settings (engine.Text error) refused is = unread_spells_none text error refused is
+spells_none_often counted text settings (engine.Run error) refused is = absurd (run_is_no_text error is)
+spells_none_often counted text settings engine.SinkFailed refused is = absurd refused
 
 -- where no sink failed the status is not that of one
 pub writes_no_sink : (error : EngineError) → (error ≡ engine.SinkFailed → ⊥) → engine_status_of error ≡ 74 → ⊥
@@ -190,11 +218,23 @@ preparing_stops program settings entries (run.Stuck task) of slots place = absur
 preparing_stops program settings entries run.BadSchedule of slots place = absurd of
 preparing_stops program settings entries run.NoThread of slots place = absurd of
 
+-- what stops a program that is made ready stops it
+pub ready_stops : (program : Program) (settings : Settings) (entries : List Entry) (error : EngineError)
+    → StopsReady program settings entries error → Stops program settings entries error
+ready_stops program settings entries (engine.Text error) stops = absurd stops
+ready_stops program settings entries (engine.Run run.BadSlots) stops = absurd stops
+ready_stops program settings entries (engine.Run run.BadPlace) stops = absurd stops
+ready_stops program settings entries (engine.Run run.OutOfMemory) stops = tt
+ready_stops program settings entries (engine.Run (run.Stuck task)) stops = stops
+ready_stops program settings entries (engine.Run run.BadSchedule) stops = stops
+ready_stops program settings entries (engine.Run run.NoThread) stops = absurd stops
+ready_stops program settings entries engine.SinkFailed stops = absurd stops
+
 -- where the run of a program has no output, its text has none
 pub refused_of : {X : Type 0} (text : List ℕ) (program : Program) (settings : Settings) (entries : List Entry) (result : Result X EngineError)
     → IsReadAs text program → IfErr result (Stops program settings entries) → IfErr result (IsRefused text settings entries)
 refused_of text program settings entries (Ok x) read stops = tt
-refused_of text program settings entries (Err (engine.Text error)) read stops = tt
+refused_of text program settings entries (Err (engine.Text error)) read stops = absurd stops
 refused_of text program settings entries (Err (engine.Run error)) read stops = (program, read, stops)
 refused_of text program settings entries (Err engine.SinkFailed) read stops = stops
 
@@ -267,3 +307,12 @@ pub failed_of_no_file : (result : Result Bool Failure) (Counts : Type 0) (Refuse
     → IfErr result (λ failure. IsOfFile (status_of failure) → Refused (status_of failure))
 failed_of_no_file (Ok found) Counts Refused failed = tt
 failed_of_no_file (Err failure) Counts Refused failed = λ of_file. absurd (no_file (status_of failure) failed.0 of_file)
+
+pub failed_reads : (result : Result Bool Failure) (Counts : Type 0) (first middle last : ℕ) → middle ≡ first → last ≡ middle
+    → IfErr result (λ failure. (status_of failure ≡ 74) × Counts)
+    → IfErr result (λ failure. Reads (status_of failure) first last)
+failed_reads (Ok found) Counts first middle last read given failed = tt
+failed_reads (Err failure) Counts first middle last read given failed = record {
+  fails = λ unread. absurd (let no : 74 ≡ 66 = sym failed.0 ∙ unread in omega (arith, no));
+  works = λ readable. given ∙ read;
+}

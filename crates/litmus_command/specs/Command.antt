@@ -1,16 +1,20 @@
 -- What the program does for what it is asked, and what each status says.
 use Rattle.std.specs.Global.{Global}
-use Rattle.std.specs.Prelude.{◌≡◌, ◌≤◌, ◌⊎◌, ℕ, List, Option, Some, None, Vec, Bool, true, false, is_some, not}
+use Rattle.std.specs.Prelude.{◌≡◌, ◌≢◌, ◌<◌, ◌≤◌, ◌⊎◌, ℕ, List, Option, Some, None, Vec, Bool, true, false, is_some, not}
 use Rattle.std.specs.Option.{option_map}
 use Rattle.command_words.specs.Bounds.{KeepsBounds, MayBeAsked}
-use Rattle.command_words.specs.Words.{Ask, AskForHelp}
+use Rattle.clap.specs.Words.{kind_of}
+use Rattle.clap.specs.declared.error.Error.{Error}
+use Rattle.command_words.specs.Words.{Ask, AskForHelp, MayFail}
 use Rattle.command_words.specs.declared.request.ReplayRequest.{ReplayRequest}
 use Rattle.command_words.specs.declared.request.Request.{Request}
 use Rattle.command_words.specs.declared.request.Request.TheVariants as requests
 use Rattle.command_words.specs.declared.request.RunOptions.{RunOptions}
 use Rattle.command_words.specs.declared.request.RunRequest.{RunRequest}
 use Rattle.command_words.specs.declared.request.StepRequest.{StepRequest}
+use Rattle.litmus_parse.specs.Grammar.{SpellsProgram}
 use Rattle.litmus_parse.specs.Text.{file_bytes}
+use Rattle.litmus_syntax.specs.Tree as tree
 use Rattle.place_list.specs.Spelling as places
 use Rattle.program_layout.specs.declared.place.Place.{Place}
 use Rattle.report_text.specs.Faults.{size_limit}
@@ -31,8 +35,11 @@ use Rattle.trace_replay.specs.declared.accepted.TraceError.TheVariants as trace
 use Rattle.litmus_command.specs.Engine.{IsRefused, TextLeaves}
 use Rattle.litmus_command.specs.Files.{FileEvent, Gave, Has, OnlyRead, noted}
 use Rattle.litmus_command.specs.Replay.{IsLineOf}
+use Rattle.litmus_command.specs.Told.{heard}
 use Rattle.litmus_command.specs.declared.command.Failure.{Failure}
 use Rattle.litmus_command.specs.declared.command.Failure.TheVariants as failure
+use Rattle.litmus_command.specs.declared.complaint.Complaint.{Complaint}
+use Rattle.litmus_command.specs.declared.complaint.Complaint.TheVariants as complaint
 use Rattle.litmus_command.specs.declared.desk.ReadFault.{ReadFault}
 use Rattle.litmus_command.specs.declared.desk.ReadFault.TheVariants as fault
 use Rattle.run_output.specs.declared.error.EngineError.{EngineError}
@@ -76,6 +83,11 @@ status_of failure.CannotWrite = 74
 status_of failure.OutOfMemory = 71
 status_of (failure.Engine error) = engine_status_of error
 status_of (failure.Trace error) = trace_status_of error
+
+-- the status that a complaint comes with
+abbrev pub complaint_status_of : Complaint → ℕ
+complaint_status_of (complaint.Usage error) = 64
+complaint_status_of (complaint.Failure error) = status_of error
 
 -- what a file that gives no bytes means
 abbrev pub read_failure : ReadFault → Failure
@@ -190,12 +202,18 @@ pub record FileIsRunInPart (file : List ℕ) (options : RunOptions) (Left : List
   pub left : Left text raced output trace
   pub given : IsGivenInPart (trace_path options) output trace (once_read file text before) after
 
--- The file that is asked for was read, and its text has no output, for a reason that ends with this status. Nothing was written.
+-- the text spells no program
+abbrev pub SpellsNone : List ℕ → Type 0
+SpellsNone text = (program : tree.Program) → SpellsProgram text program → ⊥
+
+-- The file that is asked for was read, and its text has no output, for a reason that ends with this status: 65 only where the text spells
+-- no program. Nothing was written.
 pub record FileIsRefused (file : List ℕ) (Refuses : List ℕ → EngineError → Type 0) (status : ℕ) (before after : State) : Type 0 where
   pub text : List ℕ
   pub error : EngineError
   pub refused : Refuses text error
   pub status_is : status ≡ engine_status_of error
+  pub spells_none : status ≡ 65 → SpellsNone text
   pub files : after.files ≡ noted before.files (Gave file file_bytes text)
 
 -- under the settings and the schedule that are asked for, the text has no output, for this reason
@@ -257,6 +275,45 @@ abbrev pub IsRefusedOf : Request → (status : ℕ) → State → State → Type
 IsRefusedOf (requests.Step request) status before after = FileIsRefused request.file.now (StepRefuses request) status before after
 IsRefusedOf (requests.Run request) status before after = FileIsRefused request.file.now (RunRefuses request) status before after
 IsRefusedOf (requests.Replay request) status before after = ReplayIsRefused request status before after
+
+-- the text spells no places, or no schedule
+abbrev pub SpellsNoPlaces : List ℕ → Type 0
+SpellsNoPlaces text = (given : List Place) → places.Spells text given → ⊥
+
+abbrev pub SpellsNoSchedule : List ℕ → Type 0
+SpellsNoSchedule text = (entries : List Entry) → schedules.Spells text entries → ⊥
+
+-- the schedule or the place list that is asked for doesn't read
+abbrev pub DoesNotRead : Request → Type 0
+DoesNotRead (requests.Step request) = SpellsNoSchedule request.schedule.now ⊎ SpellsNoPlaces request.options.places.now
+DoesNotRead (requests.Run request) = SpellsNoPlaces request.options.places.now
+DoesNotRead (requests.Replay request) = ⊥
+
+-- Schedule or place list don't read, and no file was touched; or the file that is asked for was read, and they don't suit its program.
+abbrev pub IsMisused : Request → State → State → Type 0
+IsMisused request before after = (DoesNotRead request × (after.files ≡ before.files)) ⊎ IsRefusedOf request 64 before after
+
+-- the schedule and the place list that are asked for do read
+abbrev pub DoesRead : Request → Type 0
+DoesRead (requests.Step request) = (settings : Settings) × (entries : List Entry) × AsksFor request settings entries
+DoesRead (requests.Run request) = (settings : Settings) × AskSettings request.options settings
+DoesRead (requests.Replay request) = Unit {0}
+
+-- the read of a file failed where the status is 66, and nowhere else
+pub record Reads (status : ℕ) (before after : ℕ) : Type 0 where
+  pub fails : status ≡ 66 → CountsFailure before after
+  pub works : status ≢ 66 → after ≡ before
+
+-- standard error was told nothing below 64, and from there on one thing, which comes with this status
+pub record Tells (status : ℕ) (before after : Option (List Complaint)) : Type 0 where
+  pub quiet : status < 64 → after ≡ before
+  pub told : 64 ≤ status → (said : Complaint) × (complaint_status_of said ≡ status) × (after ≡ heard before said)
+
+-- the words are at fault, and that was told, as it may be said of them
+pub record UsageIsTold (words : List (List ℕ)) (before after : Option (List Complaint)) : Type 0 where
+  pub error : Error
+  pub may : MayFail words (kind_of error)
+  pub told : after ≡ heard before (complaint.Usage error)
 
 -- the status says that a file is refused, or that a task is stuck
 abbrev pub IsOfFile : ℕ → Type 0

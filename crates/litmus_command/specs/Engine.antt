@@ -7,6 +7,7 @@ use Rattle.litmus_step.specs.of_program_sites_declared.error.RunError.{RunError}
 use Rattle.litmus_step.specs.of_program_sites_declared.error.RunError.TheVariants.{BadPlace, BadSchedule, BadSlots, NoThread, OutOfMemory, Stuck}
 use Rattle.run_output.specs.Output.{IsOutput}
 use Rattle.run_output.specs.Traces.{IsToBeAccepted, IsTraceOf}
+use Rattle.run_tally.specs.Errors.{IsNotRead}
 use Rattle.run_output.specs.declared.error.EngineError.{EngineError}
 use Rattle.run_output.specs.declared.error.EngineError.TheVariants.{Run, SinkFailed, Text}
 use Rattle.litmus_step.specs.Runs.{HasEnded, IsStuck, run_of, tasks_of}
@@ -101,6 +102,25 @@ pub record GetsStuck (program : Program) (settings : Settings) (entries : List E
   pub there : task < tasks_of (run_of program settings sites)
   pub stuck : IsStuck (run_of program settings sites) task records
 
+-- the tasks of the program were asked for steps under these settings in the order of the schedule, and then all had ended
+pub record ComesToEnd (program : Program) (settings : Settings) (entries : List Entry) : Type 0 where
+  pub sites : AccessMap
+  pub records : List Record
+  pub stepped : AreStepped (run_of program settings sites) entries records
+  pub over : AllHaveEnded (run_of program settings sites) records
+
+-- why a program that is made ready, and has made no step, leaves nothing: its schedule names a task that isn't there, a task gets stuck,
+-- or, once all tasks have ended, there is no room for what is written. So a task that gets stuck is never told as want of memory.
+abbrev pub StopsReady : Program → Settings → List Entry → EngineError → Type 0
+StopsReady program settings entries (Text error) = ⊥
+StopsReady program settings entries (Run BadSlots) = ⊥
+StopsReady program settings entries (Run BadPlace) = ⊥
+StopsReady program settings entries (Run OutOfMemory) = ComesToEnd program settings entries
+StopsReady program settings entries (Run (Stuck task)) = GetsStuck program settings entries task
+StopsReady program settings entries (Run BadSchedule) = IsTrue (names_stranger (length program.tasks) entries)
+StopsReady program settings entries (Run NoThread) = ⊥
+StopsReady program settings entries SinkFailed = ⊥
+
 -- why the run of a program has no output: want of memory, too few slots or too many, places that don't suit its variables, a
 -- schedule that names a task that isn't there, or a task that is stuck
 abbrev pub StopsRun : Program → Settings → List Entry → RunError → Type 0
@@ -118,6 +138,6 @@ Stops program settings entries SinkFailed = ⊥
 
 -- why a text has no output: it is not read as a program, or the program's run has none. Of a sink that fails other clauses speak.
 abbrev pub IsRefused : (text : List ℕ) → Settings → List Entry → EngineError → Type 0
-IsRefused text settings entries (Text error) = Unit {0}
+IsRefused text settings entries (Text error) = IsNotRead text error
 IsRefused text settings entries (Run error) = (program : Program) × IsReadAs text program × StopsRun program settings entries error
 IsRefused text settings entries SinkFailed = ⊥

@@ -1,4 +1,5 @@
 pub mod Engine
 pub mod Files
+pub mod Told
 pub mod Replay
 pub mod Command

@@ -6,14 +6,17 @@ ghost use Rattle.command_words.specs.Words.{AskForHelp, MayFail};
 ghost use Rattle.clap.specs.Words.{kind_of};
 ghost use Rattle.litmus_command.specs.Command.{AreLeft, AskForOne, AskSettings, AsksFor, EndsAs, FileIsRefused, FileIsRun, FileIsRunInPart};
 ghost use Rattle.litmus_command.specs.Command.{HelpIsCut, HelpIsGiven, IsCut, IsDone, IsGiven, IsGivenInPart, IsLeft, IsOfFile, IsRefusedOf};
-ghost use Rattle.litmus_command.specs.Command.{NothingIsWritten, ReplayIsCut, ReplayIsRefused, RunRefuses, StepRefuses};
+ghost use Rattle.litmus_command.specs.Command.{DoesNotRead, DoesRead, IsMisused, NothingIsWritten, Reads, ReplayIsCut, ReplayIsRefused, RunRefuses};
+ghost use Rattle.litmus_command.specs.Command.{SpellsNoPlaces, StepRefuses, Tells, UsageIsTold};
 ghost use Rattle.litmus_command.specs.Command.{engine_status_of, read_failure, run_status_of, settings_of, state_of, status_of, text_status_of};
 ghost use Rattle.litmus_command.specs.Command.{times_of, trace_status_of, with_trace};
+ghost use Rattle.litmus_command.specs.Told.{heard};
 ghost use Rattle.litmus_command.specs.declared.command.Failure.TheVariants.{Engine, OutOfMemory, Trace};
 ghost use Rattle.report_text.specs.Sink.{CountsFailure};
 ghost use Rattle.std.specs.Option.{option_map};
 ghost use Rattle.step_schedule.specs.Schedule.{entries_of};
 
+use crate::complaint::Complaint;
 use crate::desk::{Desk, ReadFault};
 use crate::engine::run_text;
 use crate::replay::replayed;
@@ -59,7 +62,7 @@ const UNWRITABLE: u8 = 74;
 
 /// Why the program does not end well. Its text goes to standard error.
 #[derive(Clone, Copy, Debug, PartialEq, Eq, Error)]
-enum Failure {
+pub enum Failure {
     #[error("bad schedule")]
     BadSchedule,
     #[error("bad place")]
@@ -202,6 +205,13 @@ pub fn command<R: Threads + Wait + Sync, S: AsStr, D: Desk>(
     ensures refused { IsOfFile result → AskForOne (map S.text words.now) (λ request.
         IsRefusedOf request result (state_of D.written D.failures D.files desk.old)
         (state_of D.written D.failures D.files desk.new)) }
+    ensures misused { result ≡ 64 → AskForOne (map S.text words.now) (λ request.
+        IsMisused request (state_of D.written D.failures D.files desk.old)
+        (state_of D.written D.failures D.files desk.new))
+        ⊎ UsageIsTold (map S.text words.now) (D.told desk.old) (D.told desk.new) }
+    ensures unread { result ≡ 66 → AskForOne (map S.text words.now) DoesRead }
+    ensures reads { Reads result (D.faults desk.old) (D.faults desk.new) }
+    ensures tells { Tells result (D.told desk.old) (D.told desk.new) }
     ensures ends { EndsAs result (state_of D.written D.failures D.files desk.old)
         (state_of D.written D.failures D.files desk.new) }
 {
@@ -227,6 +237,11 @@ pub fn carry_out<R: Threads + Wait + Sync, D: Desk>(
         (state_of D.written D.failures D.files desk.new) }
     ensures refused { IsOfFile result → IsRefusedOf request.now result (state_of D.written D.failures D.files desk.old)
         (state_of D.written D.failures D.files desk.new) }
+    ensures misused { result ≡ 64 → IsMisused request.now (state_of D.written D.failures D.files desk.old)
+        (state_of D.written D.failures D.files desk.new) }
+    ensures unread { result ≡ 66 → DoesRead request.now }
+    ensures reads { Reads result (D.faults desk.old) (D.faults desk.new) }
+    ensures tells { Tells result (D.told desk.old) (D.told desk.new) }
     ensures ends { EndsAs result (state_of D.written D.failures D.files desk.old)
         (state_of D.written D.failures D.files desk.new) }
 {
@@ -247,8 +262,10 @@ fn fail<D: Desk>(failure: Failure, desk: &mut D) -> u8
     ensures status { result ≡ status_of failure }
     ensures known { ((64 ≤ result) × (result ≤ 66)) ⊎ ((result ≡ 70) ⊎ ((result ≡ 71) ⊎ (result ≡ 74))) }
     ensures stays { state_of D.written D.failures D.files desk.new ≡ state_of D.written D.failures D.files desk.old }
+    ensures told { D.told desk.new ≡ heard (D.told desk.old) (Complaint.Failure failure) }
+    ensures faults { D.faults desk.new ≡ D.faults desk.old }
 {
-    desk.complain(format_args!("kcsan_litmus: {failure}\n"));
+    desk.complain(Complaint::Failure(failure));
     failure.status()
 }
 
@@ -273,6 +290,7 @@ fn settings(options: &RunOptions<'_>, places: Vec<Place>) -> Settings
 fn settings_for(alloc: Global, options: &RunOptions<'_>) -> Result<Settings, Failure>
     requires { KeepsBounds options.now }
     ensures asks { IfOk result (AskSettings options.now) }
+    ensures misused { IfErr result (λ failure. status_of failure ≡ 64 → SpellsNoPlaces options.now.places.now) }
     ensures early { IfErr result (λ failure. (status_of failure ≡ 64) ⊎ (status_of failure ≡ 71)) }
 {
     match parse_places(alloc, options.places)? {
@@ -285,6 +303,7 @@ fn settings_for(alloc: Global, options: &RunOptions<'_>) -> Result<Settings, Fai
 fn asked_for(alloc: Global, request: &StepRequest<'_>) -> Result<(Settings, Schedule), Failure>
     requires { KeepsBounds request.now.options }
     ensures asks { IfOk result (λ run. AsksFor request.now run.0 (entries_of run.1)) }
+    ensures misused { IfErr result (λ failure. status_of failure ≡ 64 → DoesNotRead (Request.Step request.now)) }
     ensures early { IfErr result (λ failure. (status_of failure ≡ 64) ⊎ (status_of failure ≡ 71)) }
 {
     let Some(schedule) = Schedule::parse(alloc, request.schedule)? else {
@@ -306,6 +325,8 @@ fn keep_trace<D: Desk>(
         (status_of failure ≡ 74) × CountsFailure (D.failures desk.old) (D.failures desk.new)) }
     ensures works { OnOk result (D.failures desk.new ≡ D.failures desk.old) }
     ensures there { OnErr result (is_some trace.now ≡ true) }
+    ensures told { D.told desk.new ≡ D.told desk.old }
+    ensures faults { D.faults desk.new ≡ D.faults desk.old }
 {
     match path {
         None => Ok(()),
@@ -330,6 +351,8 @@ fn give<D: Desk>(path: Option<&str>, written: &Written, desk: &mut D) -> Result<
     ensures part { OnErr result (IsGivenInPart (option_map (λ path. path.now) path.entry) written.now.output.items
         (option_map (λ bytes. bytes.items) written.now.trace) (state_of D.written D.failures D.files desk.old)
         (state_of D.written D.failures D.files desk.new)) }
+    ensures told { D.told desk.new ≡ D.told desk.old }
+    ensures faults { D.faults desk.new ≡ D.faults desk.old }
 {
     keep_trace(path, &written.trace, desk)?;
     match desk.print(written.output.as_slice()) {
@@ -351,6 +374,12 @@ fn step<D: Desk>(alloc: Global, request: &StepRequest<'_>, desk: &mut D) -> Resu
         → FileIsRunInPart request.now.file.now request.now.options (IsLeft request.now) (state_of D.written D.failures D.files desk.old) (state_of D.written D.failures D.files desk.new)) }
     ensures refused { IfErr result (λ failure. IsOfFile (status_of failure) → FileIsRefused request.now.file.now (StepRefuses request.now) (status_of failure)
         (state_of D.written D.failures D.files desk.old) (state_of D.written D.failures D.files desk.new)) }
+    ensures misused { IfErr result (λ failure. status_of failure ≡ 64 → IsMisused (Request.Step request.now)
+        (state_of D.written D.failures D.files desk.old) (state_of D.written D.failures D.files desk.new)) }
+    ensures unread { IfErr result (λ failure. status_of failure ≡ 66 → DoesRead (Request.Step request.now)) }
+    ensures reads { IfErr result (λ failure. Reads (status_of failure) (D.faults desk.old) (D.faults desk.new)) }
+    ensures faults { OnOk result (D.faults desk.new ≡ D.faults desk.old) }
+    ensures told { D.told desk.new ≡ D.told desk.old }
 {
     let (settings, schedule) = asked_for(alloc, request)?;
     let text = desk.read_file(alloc, request.file, FILE_BYTES)?;
@@ -390,6 +419,12 @@ fn run<R: Threads + Wait + Sync, D: Desk>(
         → FileIsRunInPart request.now.file.now request.now.options (AreLeft request.now) (state_of D.written D.failures D.files desk.old) (state_of D.written D.failures D.files desk.new)) }
     ensures refused { IfErr result (λ failure. IsOfFile (status_of failure) → FileIsRefused request.now.file.now (RunRefuses request.now) (status_of failure)
         (state_of D.written D.failures D.files desk.old) (state_of D.written D.failures D.files desk.new)) }
+    ensures misused { IfErr result (λ failure. status_of failure ≡ 64 → IsMisused (Request.Run request.now)
+        (state_of D.written D.failures D.files desk.old) (state_of D.written D.failures D.files desk.new)) }
+    ensures unread { IfErr result (λ failure. status_of failure ≡ 66 → DoesRead (Request.Run request.now)) }
+    ensures reads { IfErr result (λ failure. Reads (status_of failure) (D.faults desk.old) (D.faults desk.new)) }
+    ensures faults { OnOk result (D.faults desk.new ≡ D.faults desk.old) }
+    ensures told { D.told desk.new ≡ D.told desk.old }
 {
     let settings = settings_for(alloc, &request.options)?;
     let text = desk.read_file(alloc, request.file, FILE_BYTES)?;
@@ -415,6 +450,12 @@ fn replay<D: Desk>(
         → ReplayIsCut request.now (state_of D.written D.failures D.files desk.old) (state_of D.written D.failures D.files desk.new)) }
     ensures refused { IfErr result (λ failure. IsOfFile (status_of failure) → ReplayIsRefused request.now (status_of failure)
         (state_of D.written D.failures D.files desk.old) (state_of D.written D.failures D.files desk.new)) }
+    ensures misused { IfErr result (λ failure. status_of failure ≡ 64 → IsMisused (Request.Replay request.now)
+        (state_of D.written D.failures D.files desk.old) (state_of D.written D.failures D.files desk.new)) }
+    ensures unread { IfErr result (λ failure. status_of failure ≡ 66 → DoesRead (Request.Replay request.now)) }
+    ensures reads { IfErr result (λ failure. Reads (status_of failure) (D.faults desk.old) (D.faults desk.new)) }
+    ensures faults { OnOk result (D.faults desk.new ≡ D.faults desk.old) }
+    ensures told { D.told desk.new ≡ D.told desk.old }
 {
     let bytes = desk.read_file(alloc, request.trace, SIZE_LIMIT)?;
     let line = replayed(alloc, &bytes)?;
@@ -434,6 +475,10 @@ fn explain<D: Desk>(alloc: Global, error: clap::Error, desk: &mut D) -> u8
     ensures unwritten { (words : List (List ℕ)) → MayFail words (kind_of error) → result ≡ 74
         → HelpIsCut words (state_of D.written D.failures D.files desk.old)
         (state_of D.written D.failures D.files desk.new) }
+    ensures usage { result ≡ 64 → D.told desk.new ≡ heard (D.told desk.old) (Complaint.Usage error) }
+    ensures readable { result ≢ 66 }
+    ensures faults { D.faults desk.new ≡ D.faults desk.old }
+    ensures tells { Tells result (D.told desk.old) (D.told desk.new) }
     ensures ends { EndsAs result (state_of D.written D.failures D.files desk.old)
         (state_of D.written D.failures D.files desk.new) }
 {
@@ -441,7 +486,7 @@ fn explain<D: Desk>(alloc: Global, error: clap::Error, desk: &mut D) -> u8
         ErrorKind::OutOfMemory => fail(Failure::OutOfMemory, desk),
         ErrorKind::DisplayHelp => help(alloc, error, desk),
         _ => {
-            desk.complain(error);
+            desk.complain(Complaint::Usage(error));
             USAGE
         }
     }
@@ -457,6 +502,10 @@ fn help<D: Desk>(alloc: Global, help: clap::Error, desk: &mut D) -> u8
     ensures unwritten { (words : List (List ℕ)) → AskForHelp words → result ≡ 74
         → HelpIsCut words (state_of D.written D.failures D.files desk.old)
         (state_of D.written D.failures D.files desk.new) }
+    ensures usage { result ≢ 64 }
+    ensures readable { result ≢ 66 }
+    ensures faults { D.faults desk.new ≡ D.faults desk.old }
+    ensures tells { Tells result (D.told desk.old) (D.told desk.new) }
     ensures ends { EndsAs result (state_of D.written D.failures D.files desk.old)
         (state_of D.written D.failures D.files desk.new) }
 {

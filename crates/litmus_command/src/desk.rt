@@ -1,13 +1,16 @@
 //! What the program stands on.
 
-ghost use Rattle.std.specs.Prelude.{◌≡◌, ◌≤◌, ◌+◌, List, Option, ℕ, IfOk, OnErr, OnOk, vec_len};
+ghost use Rattle.std.specs.Prelude.{◌≡◌, ◌≤◌, ◌+◌, List, Option, ℕ, IfOk, IsErrOf, OnErr, OnOk, vec_len};
 ghost use Rattle.litmus_command.specs.Files.{FileEvent, Gave, Has, noted};
+ghost use Rattle.litmus_command.specs.Told.{heard};
+ghost use Rattle.litmus_command.specs.declared.complaint.Complaint.{Complaint};
+ghost use Rattle.litmus_command.specs.declared.desk.ReadFault.TheVariants.{CannotRead};
 ghost use Rattle.report_text.specs.Sink.{CountsFailure, Writes};
 
+use crate::complaint::Complaint;
 use report_text::WriteError;
 use run_tally::Progress;
 use std::alloc::Global;
-use std::fmt;
 
 /// Why a file gives no bytes.
 #[derive(Clone, Copy, Debug, PartialEq, Eq)]
@@ -27,30 +30,47 @@ pub trait Desk: Progress {
     /// What was done with files, in order, or None, which claims nothing, where it can't say.
     ghost files: { Self → Option (List FileEvent) };
 
+    /// What standard error was told, in order, or None, which claims nothing, where it can't say.
+    ghost told: { Self → Option (List Complaint) };
+
+    /// How often the read of a file has failed.
+    ghost faults: { Self → ℕ };
+
     /// Writes a text to standard output.
     ///
     /// `SinkFailed`: it failed in this call, and has a beginning of the text.
     fn print(&mut self, text: &[u8]) -> Result<(), WriteError>
         ensures writes { Writes written failures result text.now self.old self.new }
-        ensures files { files self.new ≡ files self.old };
+        ensures files { files self.new ≡ files self.old }
+        ensures told { told self.new ≡ told self.old }
+        ensures faults { faults self.new ≡ faults self.old };
 
     /// The bytes of a named file, or `limit` + 1 of them, which say that it has more than `limit`.
+    ///
+    /// `CannotRead`: the read failed in this call.
     fn read_file(&mut self, alloc: Global, path: &str, limit: usize) -> Result<Vec<u8>, ReadFault>
         ensures gave { IfOk result (λ bytes. files self.new ≡ noted (files self.old) (Gave path.now limit bytes.items)) }
         ensures within { IfOk result (λ bytes. vec_len bytes ≤ limit + 1) }
         ensures refused { OnErr result (files self.new ≡ files self.old) }
+        ensures failed { IsErrOf result CannotRead → CountsFailure (faults self.old) (faults self.new) }
+        ensures works { (IsErrOf result CannotRead → ⊥) → faults self.new ≡ faults self.old }
         ensures written { written self.new ≡ written self.old }
-        ensures failures { failures self.new ≡ failures self.old };
+        ensures failures { failures self.new ≡ failures self.old }
+        ensures told { told self.new ≡ told self.old };
 
     /// Writes a named file, which then has these bytes and no others.
     fn write_file(&mut self, path: &str, bytes: &[u8]) -> Result<(), WriteError>
         ensures has { OnOk result (files self.new ≡ noted (files self.old) (Has path.now bytes.now)) }
         ensures works { OnOk result (failures self.new ≡ failures self.old) }
         ensures failed { OnErr result (CountsFailure (failures self.old) (failures self.new)) }
-        ensures written { written self.new ≡ written self.old };
+        ensures written { written self.new ≡ written self.old }
+        ensures told { told self.new ≡ told self.old }
+        ensures faults { faults self.new ≡ faults self.old };
 
-    /// Takes a text for standard error.
-    fn complain<T: fmt::Display + Drop>(&mut self, text: T)
+    /// Tells standard error.
+    fn complain(&mut self, complaint: Complaint)
+        ensures told { told self.new ≡ heard (told self.old) complaint }
+        ensures faults { faults self.new ≡ faults self.old }
         ensures files { files self.new ≡ files self.old }
         ensures written { written self.new ≡ written self.old }
         ensures failures { failures self.new ≡ failures self.old };

@@ -1,8 +1,8 @@
 //! The engine: a litmus text, stepped under a schedule, and what is found written to a sink.
 
-ghost use Rattle.std.specs.Prelude.{◌≡◌, ◌≤◌, ◌<◌, ◌==◌, ◌↔◌, List, Any, IfErr, IfOk, IfSome, IsErr, IsErrOf, OnOk, is_some, length, not};
+ghost use Rattle.std.specs.Prelude.{◌≡◌, ◌≤◌, ◌<◌, ◌==◌, ◌↔◌, [], List, Any, IfErr, IfOk, IfSome, IsErr, IsErrOf, OnOk, is_some, length, not};
 ghost use Rattle.std.specs.Option.{option_map};
-ghost use Rattle.litmus_command.specs.Engine.{HoldsBeginningOfOutput, HoldsOutput, HoldsTrueReports, IsRefused, Leaves, Stops, TextLeaves};
+ghost use Rattle.litmus_command.specs.Engine.{HoldsBeginningOfOutput, HoldsOutput, HoldsTrueReports, IsRefused, Leaves, Stops, StopsReady, TextLeaves};
 ghost use Rattle.litmus_parse.specs.Text.{IsTextByte, file_bytes};
 ghost use Rattle.litmus_step.specs.of_program_sites_Prepared.{IsPrepared};
 ghost use Rattle.litmus_step.specs.Runs.{run_of};
@@ -105,8 +105,34 @@ fn run_program(
 {
     let prepared = Prepared::new(alloc, program, settings)?;
     let mut world = World::prepared(alloc, program, &prepared)?;
+    run_ready(
+        alloc, program, settings, &prepared, &mut world, schedule, traced,
+    )
+}
+
+/// Steps a program that is made ready, from its first step on, under a schedule to its end, and keeps what is written of the run: its trace
+/// only where that is wanted.
+///
+/// `OutOfMemory`: all tasks have ended, and there is no room for what is written.
+fn run_ready(
+    alloc: Global,
+    program: &Program,
+    settings: &Settings,
+    prepared: &Prepared,
+    world: &mut World<'_>,
+    schedule: &Schedule,
+    traced: bool,
+) -> Result<Written, EngineError>
+    requires limits { KeepsLimits (program_of program.now) }
+    requires ready { IsPrepared program.now settings.now prepared.now }
+    requires begins { LeadsTo (run_of program.now settings.now (sites_in prepared.now)) [] world.old }
+    ensures leaves { IfOk result (λ written. Leaves program.now settings.now (entries_of schedule.now) written.raced
+        written.output.items (option_map (λ trace. trace.items) written.trace)) }
+    ensures traced { IfOk result (λ written. is_some written.trace ≡ traced) }
+    ensures stops { IfErr result (StopsReady program.now settings.now (entries_of schedule.now)) }
+{
     world.run(schedule)?;
-    let written = left_of(alloc, program, settings, &prepared, &world, traced)?;
+    let written = left_of(alloc, program, settings, prepared, world, traced)?;
     Ok(written)
 }
 

@@ -3,6 +3,7 @@
 #![tactic(auto)]
 
 pub mod command;
+pub mod complaint;
 pub mod desk;
 pub mod engine;
 pub mod replay;

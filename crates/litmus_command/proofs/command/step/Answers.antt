@@ -1,11 +1,12 @@
 -- what was asked for was run, and what is left of it was given
-use Rattle.std.proofs.Common.{◌≡◌, ◌∙◌, ℕ, Bool, Err, List, Option, ap, is_some, refl, rules, subst}
+use Rattle.std.proofs.Common.{◌≡◌, ◌∙◌, ℕ, Bool, Err, List, Ok, Option, ap, arith, inr, is_some, refl, rules, subst, sym}
 use Rattle.std.specs.Option.{option_map}
-use Rattle.litmus_command.proofs.ResultLemmas.{err_holds, failed_counts, failed_of_no_file, failed_silent, given_done, given_in_part, is_once_read}
-use Rattle.litmus_command.proofs.ResultLemmas.{reads_no_sink, some_items, writes_no_sink}
+use Rattle.litmus_command.proofs.ResultLemmas.{err_holds, failed_counts, failed_of_no_file, failed_reads, failed_silent, given_done, given_in_part, is_once_read}
+use Rattle.litmus_command.proofs.ResultLemmas.{reads_no_sink, some_items, spells_none, writes_no_sink}
 use Rattle.litmus_command.proofs.command.step.Goals as goal
 use Rattle.litmus_command.specs.Command.{FileIsRefused, IsLeft, StepRefuses, once_read, read_failure, state_of}
 use Rattle.litmus_command.specs.declared.command.Failure.TheVariants.{Engine}
+use Rattle.litmus_command.specs.declared.desk.ReadFault.TheVariants as fault
 use Rattle.report_text.specs.Sink.{CountsFailure}
 use Rattle.litmus_command.specs.Engine.{IsRefused, TextLeaves}
 use Rattle.step_schedule.specs.Schedule.{entries_of}
@@ -106,5 +107,42 @@ returns-in_err-written-clause-refused g c =
         refused = refused;
       };
       status_is = refl;
+      spells_none = spells_none c.in_ok-text.text.items c.in_ok-settings.settings (entries_of c.in_ok-settings.schedule) error refused;
       files = c.in_ok-text.ensures.gave;
     })
+
+pub returns-in_err-written-clause-misused : goal.returns-in_err-written-clause-misused
+returns-in_err-written-clause-misused g c =
+    let error = c.in_err-written.field-0.0 in
+    let refused = subst (λ text. IsRefused text c.in_ok-settings.settings (entries_of c.in_ok-settings.schedule) error) c.deref.ensures.value
+    c.in_err-written.ensures.refused in
+    err_holds _ c.from_residual-in_err-written.result (Engine error) c.from_residual-in_err-written.ensures.1
+    (λ is. inr (record {
+      text = c.in_ok-text.text.items;
+      error = error;
+      refused = record {
+        settings = c.in_ok-settings.settings;
+        entries = entries_of c.in_ok-settings.schedule;
+        asks = c.in_ok-settings.ensures.asks;
+        refused = refused;
+      };
+      status_is = sym is;
+      spells_none = λ no. absurd (omega (arith, no));
+      files = c.in_ok-text.ensures.gave;
+    }))
+
+pub returns-in_err-text-clause-unread : goal.returns-in_err-text-clause-unread
+returns-in_err-text-clause-unread g c =
+    err_holds _ c.from_residual-in_err-text.result (read_failure c.in_err-text.field-0.0) c.from_residual-in_err-text.ensures.1
+    (λ unread. (c.in_ok-settings.settings, entries_of c.in_ok-settings.schedule, c.in_ok-settings.ensures.asks))
+
+pub returns-in_err-written-clause-unread : goal.returns-in_err-written-clause-unread
+returns-in_err-written-clause-unread g c =
+    err_holds _ c.from_residual-in_err-written.result (Engine c.in_err-written.field-0.0) c.from_residual-in_err-written.ensures.1
+    (λ unread. (c.in_ok-settings.settings, entries_of c.in_ok-settings.schedule, c.in_ok-settings.ensures.asks))
+
+pub returns-clause-reads : goal.returns-clause-reads
+returns-clause-reads g c =
+    failed_reads c.give.result (CountsFailure (g.D.Desk.failures c.read_file.new.self) (g.D.Desk.failures c.give.new.desk))
+    (g.D.Desk.faults c.args.desk.now) (g.D.Desk.faults c.read_file.new.self) (g.D.Desk.faults c.give.new.desk)
+    (c.in_ok-text.ensures.works (λ h. let no : Ok c.in_ok-text.text ≡ Err fault.CannotRead = h in cc)) c.give.ensures.faults c.give.ensures.failed

@@ -1,58 +1,22 @@
--- the run that was made is the one that is left
-use Rattle.std.proofs.Common.{◌≡◌, ◌<◌, ◌⊎◌, ◌∙◌, [], Err, IsTrue, List, ap, arith, inl, inr, length, refl, subst, sym}
-use Rattle.std.proofs.lemmas.List.{length-map}
-use Rattle.litmus_command.proofs.AskedLemmas.{seen_so}
-use Rattle.litmus_command.proofs.ResultLemmas.{err_holds, items_if_some, no_error, preparing_stops, stuck_is_other}
+-- a program that is made ready begins its run
+use Rattle.std.proofs.Common.{◌≡◌, [], Err, ap, subst}
+use Rattle.litmus_command.proofs.ResultLemmas.{err_holds, map_err, preparing_stops, ready_stops}
 use Rattle.litmus_command.proofs.engine.run_program.Goals as goal
-use Rattle.litmus_command.specs.Engine.{GetsStuck, Stops, StopsRun, tasks_known}
-use Rattle.litmus_step.specs.Runs.{run_of, tasks_of}
-use Rattle.litmus_step.specs.Steps.{LeadsTo, tasks_in}
-use Rattle.litmus_step.specs.Turns.{known_of, point}
-use Rattle.litmus_syntax.specs.Views.{task_of}
-use Rattle.litmus_step.specs.of_program_sites_Prepared.{sites_in}
-use Rattle.litmus_step.specs.of_program_sites_declared.error.RunError.{RunError}
-use Rattle.litmus_step.specs.of_program_sites_declared.error.RunError.TheVariants.{BadSchedule, Stuck}
+use Rattle.litmus_command.specs.Engine.{Stops}
+use Rattle.litmus_step.specs.Runs.{run_of}
+use Rattle.litmus_step.specs.Steps.{LeadsTo}
 use Rattle.run_output.specs.declared.error.EngineError.TheVariants.{Run}
-use Rattle.step_schedule.specs.Order.{IsOrder}
-use Rattle.step_schedule.specs.Schedule.{entries_of, names_stranger}
+use Rattle.step_schedule.specs.Schedule.{entries_of}
 
-pub returns-clause-leaves : goal.returns-clause-leaves
-returns-clause-leaves c =
-    let ready = c.in_ok-prepared.ensures.prepared in
-    let first = c.in_ok-world.world in
-    let last = c.run.new.self in
-    let sites = sites_in c.in_ok-prepared.prepared in
-    let run = run_of c.args.program.now c.args.settings.now sites in
-    let begins : LeadsTo run [] first =
-    subst (λ found. LeadsTo (run_of c.args.program.now c.args.settings.now found) [] first) c.in_ok-world.ensures.sites
-    (c.in_ok-world.ensures.leads c.args.settings.now ready) in
-    let all = begins.tasks.all in
-    let same : tasks_in first ≡ tasks_of run = omega (arith, all) in
-    let runs = c.run.ensures.runs (λ bad. no_error _ _ _ c.in_ok-run.was bad) in
-    let asked = runs.asked run [] begins in
-    let leads = asked.1 in
-    let over = c.in_ok-run.ensures.over run asked.0 leads in
-    let written = c.in_ok-written.ensures in
-    let trace = c.in_ok-written.written.trace in
-    record {
-      sites = sites;
-      records = asked.0;
-      stepped = record {
-        list = leads.list;
-        order = runs.order;
-        in_order = subst (λ tasks. IsOrder (entries_of c.args.schedule.now) tasks runs.order) same runs.in_order;
-        asked = seen_so (known_of run) (tasks_known run) (λ at. at.records)
-            (λ task before after made. (made.0, made.1, made.2, made.3.list))
-            (λ task at. ((λ ended. ended), (λ ended. ended))) (λ task at stuck. stuck) (tasks_of run) (point [] first) runs.order
-            (point asked.0 last) asked.2;
-      };
-      over = over;
-      output_is = written.output asked.0 leads;
-      trace_is = items_if_some _ trace (written.trace run asked.0 leads);
-      accepted = items_if_some _ trace (written.accepted run asked.0 leads over refl refl ready.few_slots);
-      raced_is = written.raced run asked.0 leads;
-      headline = c.run.ensures.headline run asked.0 leads;
-    }
+pub run_ready-requires-clause-begins : goal.run_ready-requires-clause-begins
+run_ready-requires-clause-begins c =
+    subst (λ found. LeadsTo (run_of c.args.program.now c.args.settings.now found) [] c.in_ok-world.world) c.in_ok-world.ensures.sites
+    (c.in_ok-world.ensures.leads c.args.settings.now c.in_ok-prepared.ensures.prepared)
+
+pub returns-clause-stops : goal.returns-clause-stops
+returns-clause-stops c =
+    map_err c.run_ready.result (ready_stops c.args.program.now c.args.settings.now (entries_of c.args.schedule.now))
+    c.run_ready.ensures.stops
 
 pub returns-in_err-prepared-clause-stops : goal.returns-in_err-prepared-clause-stops
 returns-in_err-prepared-clause-stops c =
@@ -63,48 +27,3 @@ returns-in_err-prepared-clause-stops c =
     err_holds (Stops program settings entries) c.from_residual.result (Run error) c.from_residual.ensures.1
     (preparing_stops program settings entries error c.in_err-prepared.ensures.errors
     (λ is. c.in_err-prepared.ensures.bad_slots (ap Err is)) (λ is. c.in_err-prepared.ensures.bad_place.0 (ap Err is)))
-
-pub returns-in_err-run-clause-stops : goal.returns-in_err-run-clause-stops
-returns-in_err-run-clause-stops c =
-    let error = c.in_err-run.field-0.0 in
-    let program = c.args.program.now in
-    let settings = c.args.settings.now in
-    let entries = entries_of c.args.schedule.now in
-    let ready = c.in_ok-prepared.ensures.prepared in
-    let first = c.in_ok-world.world in
-    let last = c.run.new.self in
-    let sites = sites_in c.in_ok-prepared.prepared in
-    let run = run_of program settings sites in
-    let begins : LeadsTo run [] first =
-    subst (λ found. LeadsTo (run_of program settings found) [] first) c.in_ok-world.ensures.sites
-    (c.in_ok-world.ensures.leads settings ready) in
-    let all = begins.tasks.all in
-    let same : tasks_in first ≡ tasks_of run = omega (arith, all) in
-    let many : tasks_in first ≡ length program.tasks = same ∙ length-map program.tasks task_of in
-    let schedule : error ≡ BadSchedule → StopsRun program settings entries error = λ is.
-    let bad = c.run.ensures.bad_schedule.0 (c.in_err-run.was ∙ ap Err is) in
-    subst (StopsRun program settings entries) (sym is) (subst (λ tasks. IsTrue (names_stranger tasks entries)) many bad) in
-    let stuck : (task : _) × (error ≡ Stuck task) → StopsRun program settings entries error = λ is.
-    let is_stuck = c.in_err-run.was ∙ ap Err is.1 in
-    let runs = c.run.ensures.runs (λ bad. stuck_is_other _ _ is_stuck bad) in
-    let asked = runs.asked run [] begins in
-    let leads = asked.1 in
-    let at = c.run.ensures.stuck _ is_stuck in
-    let held : GetsStuck program settings entries is.0 = record {
-      sites = sites;
-      records = asked.0;
-      stepped = record {
-        list = leads.list;
-        order = runs.order;
-        in_order = subst (λ tasks. IsOrder entries tasks runs.order) same runs.in_order;
-        asked = seen_so (known_of run) (tasks_known run) (λ at. at.records)
-            (λ task before after made. (made.0, made.1, made.2, made.3.list))
-            (λ task at. ((λ ended. ended), (λ ended. ended))) (λ task at stuck. stuck) (tasks_of run) (point [] first) runs.order
-            (point asked.0 last) asked.2;
-      };
-      there = (let here = leads.tasks.all in let below = at.0 in omega (arith, here, below));
-      stuck = at.1 run asked.0 leads;
-    } in
-    subst (StopsRun program settings entries) (sym is.1) held in
-    err_holds (Stops program settings entries) c.from_residual-in_err-run.result (Run error) c.from_residual-in_err-run.ensures.1
-    (elim c.in_err-run.ensures.errors [ inl is ↦ schedule is | inr is ↦ stuck is ])

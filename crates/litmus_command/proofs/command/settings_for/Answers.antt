@@ -1,0 +1,11 @@
+-- Where no place list is read, the text spells none.
+use Rattle.std.proofs.Common.{◌≡◌, List, None, Option, Some, ap, sym, ◌∙◌}
+use Rattle.std.specs.Option.{option_map}
+use Rattle.program_layout.specs.declared.place.Place.{Place}
+use Rattle.litmus_command.proofs.command.settings_for.Goals as goal
+
+pub returns-in-None-clause-misused : goal.returns-in-None-clause-misused
+returns-in-None-clause-misused c = λ is given spells.
+    let read : option_map (λ list. list.items) c.in_ok-places.field-0 ≡ Some given = (c.in_ok-places.ensures given).0 spells in
+    let none : option_map (λ list. list.items) c.in_ok-places.field-0 ≡ None = ap (option_map (λ list. list.items)) c.in-None.is in
+    let no : None ≡ Some given = sym none ∙ read in cc
