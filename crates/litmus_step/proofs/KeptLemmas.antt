@@ -104,7 +104,7 @@ kept_more one_more others_noted reported_more run latest earlier one other logs 
     (record { later = told.later; reported = told.reported; full = told.full })
     (reported_more run latest earlier so_far.noted noted one other so_far.notes is_noted
     ∙ ap (λ (r : Option Report). reports_of one ++ option_to_list r)
-    (sym (in_log.reported accesses_kept watches_kept so_far.noted so_far.keeps)))
+    (sym (in_log.reported (accesses_kept run latest.task) (watches_kept run latest.task) so_far.noted so_far.keeps)))
     added in
     record {
       logs_are = record {
@@ -113,7 +113,7 @@ kept_more one_more others_noted reported_more run latest earlier one other logs 
             (λ l is. subst (IsKept other latest.task) (same_some after l (sym (set_here logs latest.task after there) ∙ is)) (record {
               noted = noted ∷ so_far.noted;
               notes = one_more run latest earlier so_far.noted noted one other so_far.notes is_noted;
-              keeps = in_log.keeps accesses_kept watches_kept so_far.noted so_far.keeps;
+              keeps = in_log.keeps (accesses_kept run latest.task) (watches_kept run latest.task) so_far.noted so_far.keeps;
             }))
             (λ t apart l is.
             let old = kept.logs_are.each t l (sym (set_other logs latest.task t after apart) ∙ is) in

@@ -10,3 +10,4 @@ pub mod KeptLemmas
 pub mod ReaderLemmas
 pub mod PointLemmas
 pub mod RoomLemmas
+pub mod AccessLemmas

@@ -1,5 +1,5 @@
 -- A world after one step more, by what is changed in it.
-use Rattle.std.proofs.Common.{Option, ap, inl, inr, ◌∙◌, ◌≡◌, ◌<◌, ◌≤◌, ◌+◌, ◌*◌, ◌∷◌, [], ℕ, List, Some, length, vec_capacity, arith}
+use Rattle.std.proofs.Common.{Option, ap, inl, inr, ◌∙◌, ◌≡◌, ◌<◌, ◌≤◌, ◌+◌, ◌∷◌, [], ℕ, List, Some, length, vec_capacity, arith}
 use Rattle.std.proofs.Common.{get_or, refl, set, slice_get, subst, sym}
 use Rattle.step_bounds.specs.of_run_lists_Run.{Run, first_words, task_setting}
 use Rattle.step_bounds.specs.of_run_lists_RunList.{RunList}
@@ -13,7 +13,7 @@ use Rattle.slot_table.specs.declared.step.Step.{Step}
 use Rattle.litmus_step.proofs.TurnLemmas.{same_machine}
 use Rattle.access_types.specs.declared.report.Report.{Report}
 use Rattle.run_kept.specs.Noted.{Notes}
-use Rattle.litmus_step.specs.Kept.{Added, AreKept, IsNotedIn, accesses_kept, watches_kept}
+use Rattle.litmus_step.specs.Kept.{Added, AreKept, IsNotedIn, accesses_kept, reports_kept, watches_kept}
 use Rattle.litmus_step.specs.Leads.{AreAtPoints, LeadsTask, LeadsTasks, LeadsToAll, MakesNextIn}
 use Rattle.litmus_step.specs.Runs.{CanBeMade, tasks_of}
 use Rattle.task_log.specs.Keeps.{Keeps}
@@ -91,8 +91,8 @@ first_points none run list machines each = λ task machine stands.
 -- before the first step nothing is kept
 pub first_kept : ((run : Run) (list : RunList run []) → (task : ℕ) → Notes list task []) → (run : Run) (list : RunList run [])
     (logs : List TaskLog) (reports : List Report) (room : ℕ) → length logs ≡ tasks_of run
-    → ((task : ℕ) (log : TaskLog) → slice_get logs task ≡ Some log → Keeps accesses_kept watches_kept [] log)
-    → reports ≡ [] → tasks_of run * watches_kept ≤ room → AreKept list logs reports room
+    → ((task : ℕ) (log : TaskLog) → slice_get logs task ≡ Some log → Keeps (accesses_kept run task) (watches_kept run task) [] log)
+    → reports ≡ [] → reports_kept run ≤ room → AreKept list logs reports room
 first_kept none run list logs reports room all each empty space = record {
   logs_are = record {
     all = all;

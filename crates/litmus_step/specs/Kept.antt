@@ -1,8 +1,10 @@
 -- What is kept of the steps of a run, by the list.
 use Rattle.std.specs.Prelude.{◌≡◌, ◌⊎◌, ◌*◌, ◌≤◌, ◌++◌, ◌<◌, ◌∷◌, [], ℕ, List, Option, None, Some, length, map, slice_get}
+use Rattle.std.specs.List.{sum_by}
 use Rattle.access_types.specs.declared.report.Report.{Report}
 use Rattle.step_bounds.specs.of_run_lists_Reports.{reports_of}
-use Rattle.step_bounds.specs.of_run_lists_Run.{Run}
+use Rattle.litmus_syntax.specs.Limits.{block_repeats}
+use Rattle.step_bounds.specs.of_run_lists_Run.{Run, task_of}
 use Rattle.step_bounds.specs.of_run_lists_RunList.{RunList}
 use Rattle.run_kept.specs.Noted.{Notes}
 use Rattle.slot_table.specs.declared.records.Record.{Record}
@@ -12,19 +14,24 @@ use Rattle.task_log.specs.Reports as logs
 use Rattle.task_log.specs.declared.log.TaskLog.{TaskLog}
 use Rattle.task_log.specs.declared.noted.Noted.{Noted}
 
--- there is room for so many accesses of a task, and at these for so many watchpoints that are set up or taken
-abbrev pub accesses_kept : ℕ
-accesses_kept = 1024
+-- There is room for as many accesses of a task as its text can begin: as often as its loops repeat them. At each of
+-- these there is room for nine watchpoints that are set up or taken: its check's own and those of eight assertions.
+abbrev pub accesses_kept : Run → ℕ → ℕ
+accesses_kept run task = block_repeats 1 (task_of run task).body
 
-abbrev pub watches_kept : ℕ
-watches_kept = 9216
+abbrev pub watches_kept : Run → ℕ → ℕ
+watches_kept run task = 9 * accesses_kept run task
+
+-- there is room for as many reports of all tasks
+abbrev pub reports_kept : Run → ℕ
+reports_kept run = 9 * sum_by (λ task. block_repeats 1 task.body) run.program.tasks
 
 -- what is kept of a task's steps is what the list notes of them
 pub record IsKept {run : Run} {records : List Record} (list : RunList run records) (task : ℕ) (log : TaskLog) :
     Type 0 where
   pub noted : List Noted
   pub notes : Notes list task noted
-  pub keeps : Keeps accesses_kept watches_kept noted log
+  pub keeps : Keeps (accesses_kept run task) (watches_kept run task) noted log
 
 -- so it is of each task
 pub record AreLogs {run : Run} {records : List Record} (list : RunList run records) (logs : List TaskLog) : Type 0 where
@@ -37,14 +44,14 @@ pub record AreFirst (reports : List Report) (room : ℕ) (all : List Report) : T
   pub reported : reports ++ later ≡ all
   pub full : (later ≡ []) ⊎ (room ≤ length reports)
 
--- The reports are the first of those that the list reports: all, as long as there is room, which there is for each
--- watchpoint.
+-- The reports are the first of those that the list reports: all, as long as there is room, which there is for nine at
+-- each access.
 pub record AreReported {run : Run} {records : List Record} (list : RunList run records) (reports : List Report)
     (room : ℕ) : Type 0 where
   pub later : List Report
   pub reported : reports ++ later ≡ reports_of list
   pub full : (later ≡ []) ⊎ (room ≤ length reports)
-  pub space : tasks_of run * watches_kept ≤ room
+  pub space : reports_kept run ≤ room
 
 -- what is kept of all tasks
 pub record AreKept {run : Run} {records : List Record} (list : RunList run records) (logs : List TaskLog)

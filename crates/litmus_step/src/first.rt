@@ -1,11 +1,10 @@
 //! The words and the tasks of a program before its first step.
 
-ghost use Rattle.std.specs.Prelude.{◌≡◌, ◌<◌, [], ℕ, IfOk, Some, length, slice_get};
+ghost use Rattle.std.specs.Prelude.{◌≡◌, ◌<◌, ◌≤◌, ◌*◌, [], ℕ, All, IfOk, Some, length, slice_get, slice_index_or, sum, vec_capacity};
 ghost use Rattle.access_types.specs.Sites.{AccessMap};
 ghost use Rattle.litmus_syntax.specs.Limits.{KeepsLimits};
 ghost use Rattle.litmus_syntax.specs.Views.{program_of};
 ghost use Rattle.step_bounds.specs.of_run_lists_Run.{first_words};
-ghost use Rattle.litmus_step.specs.Kept.{accesses_kept, watches_kept};
 ghost use Rattle.litmus_step.specs.Leads.{LeadsTask, LeadsTasks};
 ghost use Rattle.program_sites.specs.Prepared.{IsPrepared, IsReady, sites_in};
 ghost use Rattle.litmus_step.specs.Runs.{run_of};
@@ -15,6 +14,7 @@ ghost use Rattle.task_log.specs.declared.log.TaskLog.{TaskLog};
 ghost use Rattle.task_run.specs.Points.{HasMade};
 ghost use Rattle.task_run.specs.declared.run.TaskRun.{TaskRun};
 
+use access_types::Report;
 use litmus_syntax::Program;
 use program_sites::Prepared;
 use slot_table::{BoardError, PlainBoard, Shape};
@@ -22,12 +22,9 @@ use std::alloc::{AllocError, Global};
 use task_log::TaskLog;
 use task_run::TaskRun;
 
-/// A task begins at most so many accesses.
-pub const ACCESSES: usize = 1024;
-
-/// At so many accesses at most so many watchpoints are set up, and as many taken: by the check of each, and those of
-/// the scoped assertions in force, of which there are 8 at most.
-pub const WATCHES: usize = 9216;
+/// At an access at most so many watchpoints are set up, and as many taken, and so much is reported: by its own check, and
+/// by those of the scoped assertions in force, of which there are 8 at most.
+pub const WATCHES: usize = 9;
 
 /// The words before the first step of a program that is made ready.
 pub fn first_board(
@@ -93,15 +90,47 @@ pub fn first_tasks<'a>(
     Ok(machines)
 }
 
-/// What is kept of the steps of so many tasks before their first.
-pub fn first_logs(alloc: Global, tasks: usize) -> Result<Vec<TaskLog>, AllocError>
-    ensures all { IfOk result (λ logs. length logs.items ≡ tasks) }
-    ensures each { IfOk result (λ logs. (task : ℕ) (log : TaskLog)
-        → slice_get logs.items task ≡ Some log → Keeps accesses_kept watches_kept [] log) }
+/// What is kept of the steps of a task that can begin so many accesses, before its first.
+pub fn first_log(alloc: Global, accesses: usize) -> Result<TaskLog, AllocError>
+    requires { accesses ≤ 1024 }
+    ensures { IfOk result (Keeps accesses (9 * accesses) []) }
 {
-    let mut logs = Vec::with_capacity(alloc, tasks)?;
-    for _ in 0..tasks {
-        logs.push_reserved(TaskLog::new(alloc, ACCESSES, WATCHES)?);
+    TaskLog::new(alloc, accesses, WATCHES * accesses)
+}
+
+/// The same of tasks each of which can begin so many accesses.
+pub fn first_logs(alloc: Global, accesses: &[usize]) -> Result<Vec<TaskLog>, AllocError>
+    requires { All (λ one. one ≤ 1024) accesses.now }
+    ensures all { IfOk result (λ logs. length logs.items ≡ length accesses.now) }
+    ensures each { IfOk result (λ logs. (task : ℕ) (log : TaskLog) → slice_get logs.items task ≡ Some log
+        → Keeps (slice_index_or accesses.now task 0) (9 * slice_index_or accesses.now task 0) [] log) }
+{
+    let mut logs = Vec::with_capacity(alloc, accesses.len())?;
+    for one in accesses {
+        logs.push_reserved(first_log(alloc, *one)?);
     }
     Ok(logs)
+}
+
+/// Room for what is reported of a task that can begin so many accesses.
+pub fn first_reports(alloc: Global, accesses: usize) -> Result<Vec<Report>, AllocError>
+    requires { accesses ≤ 16384 }
+    ensures empty { IfOk result (λ reports. reports.items ≡ []) }
+    ensures room { IfOk result (λ reports. 9 * accesses ≤ vec_capacity reports) }
+{
+    Vec::with_capacity(alloc, WATCHES * accesses)
+}
+
+/// How many accesses tasks can begin, each of which can begin so many.
+pub fn all_accesses(accesses: &[usize]) -> usize
+    requires few { length accesses.now ≤ 16 }
+    requires each { All (λ one. one ≤ 1024) accesses.now }
+    ensures is { result ≡ sum accesses.now }
+    ensures few { result ≤ 16384 }
+{
+    let mut all = 0;
+    for one in accesses {
+        all += *one;
+    }
+    all
 }

@@ -26,7 +26,7 @@ ghost use Rattle.slot_table.specs.Words.{Words};
 ghost use Rattle.slot_table.specs.declared.records.Record.{Record};
 ghost use Rattle.slot_table.specs.declared.step.Answer.{Answer};
 ghost use Rattle.slot_table.specs.declared.step.Step.{Step};
-ghost use Rattle.litmus_step.specs.Kept.{Added, AreKept, IsKept, IsNotedIn, watches_kept};
+ghost use Rattle.litmus_step.specs.Kept.{Added, AreKept, IsKept, IsNotedIn, reports_kept};
 ghost use Rattle.litmus_step.specs.Leads.{AreAtPoints, LeadsTask, LeadsToAll, MakesNextIn};
 ghost use Rattle.litmus_step.specs.Readers.{IsMeant};
 ghost use Rattle.litmus_step.specs.Runs.{CanBeMade, HasEnded, tasks_of};
@@ -166,7 +166,7 @@ pub fn logs_give_what_the_list_has()
 /// Law: there is room for what a run list reports.
 pub fn reports_have_room()
     ensures { (run : Run) (records : List Record) → (list : RunList run records) → KeepsLimits run.program
-        → length (reports_of list) ≤ tasks_of run * watches_kept }
+        → length (reports_of list) ≤ reports_kept run }
 {
     few_are_reported();
 }

@@ -18,7 +18,7 @@ ghost use Rattle.program_sites.specs.Errors.{IsOfPreparing};
 ghost use Rattle.program_sites.specs.declared.settings.Settings.{Settings};
 ghost use Rattle.task_run.specs.declared.run.TaskRun.{TaskRun};
 
-use crate::first::{WATCHES, first_board, first_logs, first_tasks};
+use crate::first::{all_accesses, first_board, first_logs, first_reports, first_tasks};
 use crate::laws::{runs_begin, steps_are_kept, steps_lead_on};
 use crate::logs::note;
 use access_types::{Report, Sites};
@@ -109,9 +109,9 @@ impl<'a> World<'a> {
         steps_are_kept();
         let board = first_board(alloc, program, prepared)?;
         let tasks = first_tasks(alloc, program, prepared)?;
-        let count = program.tasks.as_slice().len();
-        let logs = first_logs(alloc, count)?;
-        let reports = Vec::with_capacity(alloc, count * WATCHES)?;
+        let accesses = prepared.accesses.as_slice();
+        let logs = first_logs(alloc, accesses)?;
+        let reports = first_reports(alloc, all_accesses(accesses))?;
         let sites = Arc::try_clone(&prepared.sites)?;
         Ok(World {
             board,

@@ -130,7 +130,7 @@ module _ (leads_on : AnAnswerLeadsOn) (names : StepsNameWords) (keeps : KeepsDis
       noted = noted ∷ led.noted;
       notes = noted_so s registers body (reverse own ++ latest ∷ []) (reverse (latest ∷ own)) (latest ∷ own) (noted ∷ led.noted) turned
           (ap reverse (sym turned) ∙ reverse-reverse (latest ∷ own)) is_written are_noted;
-      keeps = in_log.keeps accesses_kept watches_kept led.noted led.keeps;
+      keeps = in_log.keeps (accesses_kept run task) (watches_kept run task) led.noted led.keeps;
       reported = more_reports report room reports reports_after (reported_in led.noted) (reported_in (noted ∷ led.noted)) led.reported
-          (ap (λ (r : Option Report). reported_in led.noted ++ option_to_list r) (sym (in_log.reported accesses_kept watches_kept led.noted led.keeps))) added;
+          (ap (λ (r : Option Report). reported_in led.noted ++ option_to_list r) (sym (in_log.reported (accesses_kept run task) (watches_kept run task) led.noted led.keeps))) added;
     }

@@ -50,7 +50,7 @@ HeadlineHolds = (run : Run) (records : List Record) → (list : RunList run reco
 record Tells (run : Run) (task : ℕ) (own : List Record) (written : InWrittenOrder run task own) (one : Found) : Type 0 where
   noted : List Noted
   notes : AreNoted written own noted
-  keeps : Keeps accesses_kept watches_kept noted one.log
+  keeps : Keeps (accesses_kept run task) (watches_kept run task) noted one.log
   reported : one.reports.items ≡ reported_in noted
   registers : one.registers.items ≡ (stands_after written).progress.registers
   unbalanced : one.unbalanced ≡ up_to_last (stands_after written).unbalanced
@@ -181,7 +181,7 @@ module _ (run : Run) (opened : Opened) (found : List Found) (records : List Reco
               let same : log ≡ there.0.log =
               sym (get_or_from_slice_get logs task log log stands)
               ∙ (ap (λ (all : List TaskLog). get_or all task log) is_map ∙ at_map (λ (f : Found). f.log) found task there.0 log there.2) in
-              record { noted = it.noted; notes = it.notes; keeps = subst (Keeps accesses_kept watches_kept it.noted) (sym same) it.keeps }
+              record { noted = it.noted; notes = it.notes; keeps = subst (Keeps (accesses_kept run task) (watches_kept run task) it.noted) (sym same) it.keeps }
           | inr beyond ↦
               let below : task < length logs = slice_get_within logs task log stands in
               let long : length logs ≡ length found = ap length is_map ∙ length-map found (λ (f : Found). f.log) in

@@ -1,12 +1,12 @@
 -- A task at its seat: one step more, and what is found of it once it makes none.
-use Rattle.std.proofs.Common.{◌≡◌, ◌<◌, ◌≤◌, ◌+◌, ◌^◌, ◌++◌, ◌∙◌, ◌∷◌, [], ℕ, suc, List, Option, ap, arith, inl, inr, length, reverse, subst, sym}
+use Rattle.std.proofs.Common.{◌≡◌, ◌<◌, ◌≤◌, ◌+◌, ◌*◌, ◌^◌, ◌++◌, ◌∙◌, ◌∷◌, [], ℕ, suc, List, Option, ap, arith, inl, inr, length, reverse, subst, sym}
 use Rattle.std.proofs.lemmas.List.{append-nil, length-append, reverse-reverse}
 use Rattle.access_types.specs.declared.report.Report.{Report}
 use Rattle.litmus_step.specs.Kept.{Added, IsNotedIn, watches_kept}
 use Rattle.litmus_step.specs.Leads.{MakesNext}
 use Rattle.litmus_step.specs.Runs.{CanBeMade, tasks_of}
 use Rattle.litmus_step.specs.Steps.{Reaches}
-use Rattle.litmus_syntax.specs.Limits.{BlockScopes, BodyKeepsLimits, TaskKeepsLimits, block_rises}
+use Rattle.litmus_syntax.specs.Limits.{BlockScopes, BodyKeepsLimits, TaskKeepsLimits, block_repeats, block_rises}
 use Rattle.litmus_syntax.specs.Tree.{Block}
 use Rattle.run_lists.specs.Run.{Run, first_words, idle, task_of, task_setting}
 use Rattle.run_kept.specs.Noted.{AreNoted}
@@ -64,7 +64,8 @@ NoTaskStops = (s : Setting) (registers : ℕ) (body : Block) (records : List Rec
 
 abbrev pub FewAreReported : Type 0
 FewAreReported = (s : Setting) (registers : ℕ) (body : Block) (records : List Record) (noted : List Noted) → BodyKeepsLimits body
-    → (written : WrittenOrder s registers body records) → AreNoted written (reverse records) noted → length (reported_in noted) ≤ 9216
+    → (written : WrittenOrder s registers body records) → AreNoted written (reverse records) noted
+    → length (reported_in noted) ≤ 9 * block_repeats 1 body
 
 abbrev pub RegistersAreTold : Type 0
 RegistersAreTold = (s : Setting) (registers : ℕ) (body : Block) (records : List Record) (machine : TaskRun)
@@ -153,7 +154,7 @@ all_kept reports all room first few =
 pub is_found : NoTaskStops → FewAreReported → RegistersAreTold → CallsAreTold
     → (run : Run) (opened : Opened) (task : ℕ) (found : Found) (machine : TaskRun) (room : ℕ) → CanBeMade run → task < tasks_of run
     → found.seat.table ≡ opened → found.seat.task ≡ task → IsLed run task found.seat.records machine found.log found.reports.items room
-    → watches_kept ≤ room
+    → watches_kept run task ≤ room
     → SpellsAll (task_setting run task) (length (task_of run task).registers) (task_of run task).body (reverse found.seat.records)
     → HasRegisters machine found.registers.items → HasCalls machine found.unbalanced → IsFound run opened task found
 is_found stops few registers_told calls_told run opened task found machine room can below at own led space whole registers calls =

@@ -34,7 +34,7 @@ seats_are opened tasks = length-map (range_with_len 0 tasks) (new_seat opened) �
 
 -- a task that has made no step is led to by no record
 pub first_led : (run : Run) (task : ℕ) (machine : TaskRun) (log : TaskLog) (room : ℕ) → RunList run [] → LeadsTask run task [] machine
-    → Keeps accesses_kept watches_kept [] log → IsLed run task [] machine log [] room
+    → Keeps (accesses_kept run task) (watches_kept run task) [] log → IsLed run task [] machine log [] room
 first_led run task machine log room list leads keeps = record {
   written = list.tasks task;
   within = list.within task;

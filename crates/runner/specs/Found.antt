@@ -28,7 +28,7 @@ pub record IsFound (run : Run) (opened : Opened) (task : ℕ) (found : Found) : 
   pub whole : SpellsAll (task_setting run task) (length (task_of run task).registers) (task_of run task).body (reverse found.seat.records)
   pub noted : List Noted
   pub notes : AreNoted written found.seat.records noted
-  pub keeps : Keeps accesses_kept watches_kept noted found.log
+  pub keeps : Keeps (accesses_kept run task) (watches_kept run task) noted found.log
   pub reported : found.reports.items ≡ reported_in noted
   pub registers : found.registers.items ≡ (stands_after written).progress.registers
   pub unbalanced : found.unbalanced ≡ up_to_last (stands_after written).unbalanced

@@ -24,5 +24,5 @@ pub record IsLed (run : Run) (task : ℕ) (own : List Record) (machine : TaskRun
   pub leads : Leads (task_setting run task) (length (task_of run task).registers) (task_of run task).body (reverse own) machine
   pub noted : List Noted
   pub notes : AreNoted written own noted
-  pub keeps : Keeps accesses_kept watches_kept noted log
+  pub keeps : Keeps (accesses_kept run task) (watches_kept run task) noted log
   pub reported : AreFirst reports room (reported_in noted)

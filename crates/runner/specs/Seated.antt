@@ -14,4 +14,4 @@ pub record IsSeated (terms : Terms) (task : ℕ) (seated : SeatedTask) : Type 0 
   pub table : seated.seat.table ≡ terms.table.now
   pub own : seated.seat.task ≡ task
   pub led : IsLed (run_by terms) task seated.seat.records seated.run seated.log seated.reports.items (vec_capacity seated.reports)
-  pub room : watches_kept ≤ vec_capacity seated.reports
+  pub room : watches_kept (run_by terms) task ≤ vec_capacity seated.reports

@@ -1,6 +1,5 @@
 -- Tasks before their first steps, and what comes of them.
-use Rattle.std.specs.Prelude.{◌≡◌, ◌≤◌, ◌<◌, ◌⊎◌, [], ℕ, IfErr, IfOk, IsErrOf, List, Result, Some, length, slice_get, vec_capacity}
-use Rattle.litmus_step.specs.Kept.{accesses_kept, watches_kept}
+use Rattle.std.specs.Prelude.{◌≡◌, ◌<◌, ◌⊎◌, [], ℕ, IfErr, IfOk, IsErrOf, List, Result, Some, length, slice_get}
 use Rattle.run_lists.specs.Run.{Run}
 use Rattle.runner.specs.Found.{IsFound, IsInVain}
 use Rattle.program_sites.specs.declared.error.RunError.{RunError}
@@ -8,18 +7,13 @@ use Rattle.program_sites.specs.declared.error.RunError.TheVariants.{OutOfMemory,
 use Rattle.runner.specs.declared.first.TaskStart.{TaskStart}
 use Rattle.runner.specs.declared.seated.Found.{Found}
 use Rattle.shared_table.specs.Seats.{Opened}
-use Rattle.task_log.specs.Keeps.{Keeps}
 
--- The task of a number is before its first step: its seat is at this table and has no record, nothing is kept or reported yet, and there
--- is room for what will be.
+-- the task of a number is before its first step: its seat is at this table and has no record
 pub record IsStart (opened : Opened) (task : ℕ) (start : TaskStart) : Type 0 where
   pub number : start.number ≡ task
   pub table : start.seat.table ≡ opened
   pub own : start.seat.task ≡ task
   pub no_record : start.seat.records ≡ []
-  pub keeps : Keeps accesses_kept watches_kept [] start.log
-  pub no_report : start.reports.items ≡ []
-  pub room : watches_kept ≤ vec_capacity start.reports
 
 -- so it is of each task of the table, in the order of their numbers
 pub record AreStarts (opened : Opened) (starts : List TaskStart) : Type 0 where

@@ -16,15 +16,13 @@ ghost use Rattle.shared_table.specs.Seats.{Opened, new_seats};
 use crate::hooks::{Gate, Stall};
 use crate::seated::{Found, SeatedTask};
 use crate::terms::Terms;
-use access_types::Report;
-use litmus_step::first::{ACCESSES, WATCHES, first_task};
+use litmus_step::first::{first_log, first_reports, first_task};
 use litmus_step::{Prepared, RunError};
 use litmus_syntax::Program;
 use shared_table::{SharedTable, TaskSeat};
 use slot_table::{BoardError, Shape};
 use std::alloc::{AllocError, Global};
 use std::sync::Wait;
-use task_log::TaskLog;
 
 /// The shared words of a program that is made ready before its first step, and a seat for each task.
 pub(crate) fn first_table(
@@ -53,29 +51,26 @@ pub(crate) fn first_table(
     }
 }
 
-/// A task before its first step: its seat before the shared words, and room for what is kept of its steps.
+/// A task before its first step, and its seat before the shared words.
 #[derive(Drop)]
 pub(crate) struct TaskStart {
     pub(crate) number: u32,
     pub(crate) seat: TaskSeat,
-    pub(crate) log: TaskLog,
-    pub(crate) reports: Vec<Report>,
 }
 
 impl TaskStart {
     /// The task of a seat, which has made no step.
-    fn new(alloc: Global, seat: TaskSeat) -> Result<TaskStart, AllocError>
-        ensures { seat.records ≡ [] → IfOk result (IsStart seat.table seat.task) }
+    fn new(seat: TaskSeat) -> TaskStart
+        ensures { seat.records ≡ [] → IsStart seat.table seat.task result }
     {
-        Ok(TaskStart {
+        TaskStart {
             number: seat.task(),
             seat,
-            log: TaskLog::new(alloc, ACCESSES, WATCHES)?,
-            reports: Vec::with_capacity(alloc, WATCHES)?,
-        })
+        }
     }
 
-    /// Makes the task's steps, from its first to its last, and says what is found of it then.
+    /// Takes room for what is kept of the task's steps, makes these, from its first to its last, and says what is found
+    /// of it then.
     ///
     /// `Stuck`: a wait of it had as many vain tries as are allowed.
     pub(crate) fn found<'t, R: Wait, S: Stall, G: Gate>(
@@ -92,12 +87,10 @@ impl TaskStart {
         ensures { IsOutcome (run_by terms.entry) terms.entry.table.now self.number result }
     {
         let run = first_task(alloc, terms.program, terms.prepared, self.number)?;
-        let TaskStart {
-            number,
-            seat,
-            log,
-            reports,
-        } = self;
+        let accesses = terms.prepared.accesses[self.number as usize];
+        let log = first_log(alloc, accesses)?;
+        let reports = first_reports(alloc, accesses)?;
+        let TaskStart { number, seat } = self;
         let seated = SeatedTask {
             number,
             run,
@@ -119,7 +112,7 @@ pub(crate) fn first_starts(
 {
     let mut starts = Vec::with_capacity(alloc, seats.len())?;
     for seat in seats {
-        starts.push_reserved(TaskStart::new(alloc, seat)?);
+        starts.push_reserved(TaskStart::new(seat));
     }
     Ok(starts)
 }

@@ -8,7 +8,7 @@ returns-clause-none c = c.counters_of_tasks_add_up.ensures.none
 pub returns-clause-more : goal.returns-clause-more
 returns-clause-more c = λ run records list task log some one both kept so_far count add.
     c.counters_of_tasks_add_up.ensures.more run records list task kept.noted some one both so_far kept.notes
-    (count accesses_kept watches_kept kept.noted kept.keeps) add
+    (count (accesses_kept run task) (watches_kept run task) kept.noted kept.keeps) add
 
 pub returns-clause-all : goal.returns-clause-all
 returns-clause-all c = c.counters_of_tasks_add_up.ensures.all

@@ -9,10 +9,9 @@ use Rattle.slot_table.specs.Records.{records_of}
 
 pub returns-clause-accesses : goal.returns-clause-accesses
 returns-clause-accesses c = λ run records list task log given limits kept gives.
-    let few = c.few_accesses_are_noted.ensures.limits (task_setting run task) (length (task_of run task).registers) (task_of run task).body
-    (reverse (records_of task records)) kept.noted (list.tasks task) (noted_along run records list task kept.noted kept.notes)
-    (body_keeps run task limits) in
-    subst (AreAccessesOf list task) (sym (gives accesses_kept watches_kept kept.noted kept.keeps few))
+    let few = c.few_accesses_are_noted.ensures.text (task_setting run task) (length (task_of run task).registers) (task_of run task).body
+    (reverse (records_of task records)) kept.noted (list.tasks task) (noted_along run records list task kept.noted kept.notes) in
+    subst (AreAccessesOf list task) (sym (gives (accesses_kept run task) (watches_kept run task) kept.noted kept.keeps few))
     (c.a_log_keeps_just_the_accesses.ensures run records list task kept.noted limits kept.notes)
 
 pub returns-clause-arms : goal.returns-clause-arms
@@ -20,7 +19,7 @@ returns-clause-arms c = λ run records list task log given limits kept gives.
     let few = c.few_watches_are_over.ensures.arms (task_setting run task) (length (task_of run task).registers) (task_of run task).body
     (reverse (records_of task records)) kept.noted (body_keeps run task limits) (list.tasks task)
     (noted_along run records list task kept.noted kept.notes) in
-    subst (AreArmsOf list task) (sym (gives accesses_kept watches_kept kept.noted kept.keeps few))
+    subst (AreArmsOf list task) (sym (gives (accesses_kept run task) (watches_kept run task) kept.noted kept.keeps few))
     (c.a_log_keeps_just_the_arms.ensures run records list task kept.noted kept.notes)
 
 pub returns-clause-takes : goal.returns-clause-takes
@@ -28,5 +27,5 @@ returns-clause-takes c = λ run records list task log given limits kept gives.
     let few = c.few_watches_are_over.ensures.takes (task_setting run task) (length (task_of run task).registers) (task_of run task).body
     (reverse (records_of task records)) kept.noted (body_keeps run task limits) (list.tasks task)
     (noted_along run records list task kept.noted kept.notes) in
-    subst (AreTakesOf list task) (sym (gives accesses_kept watches_kept kept.noted kept.keeps few))
+    subst (AreTakesOf list task) (sym (gives (accesses_kept run task) (watches_kept run task) kept.noted kept.keeps few))
     (c.a_log_keeps_just_the_takes.ensures run records list task kept.noted kept.notes)

@@ -2,4 +2,4 @@
 use Rattle.litmus_step.proofs.laws.reports_have_room.Goals as goal
 
 pub returns : goal.returns
-returns c = c.few_are_reported.ensures
+returns c = c.few_are_reported.ensures.text

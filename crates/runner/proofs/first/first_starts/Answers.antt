@@ -37,9 +37,9 @@ loop-seat-preserved c =
           let seat = seats_of opened opened.given.tasks done c.in-Some.seat here in
           subst (λ (all : List TaskStart). (task : ℕ) (start : TaskStart) → slice_get all task ≡ Some start → IsStart opened task start)
           (sym pushed.items)
-          (each_push (λ task start. IsStart opened task start) c.loop-seat.starts.items c.in_ok-new.field-0 (was.each opened are)
-          (subst (λ (s : Sitting). IsStart s.table s.task c.in_ok-new.field-0) seat
-          (c.in_ok-new.ensures (ap (λ (s : Sitting). s.records) seat))));
+          (each_push (λ task start. IsStart opened task start) c.loop-seat.starts.items c.new.result (was.each opened are)
+          (subst (λ (s : Sitting). IsStart s.table s.task c.new.result) seat
+          (c.new.ensures (ap (λ (s : Sitting). s.records) seat))));
     }
 
 pub returns : goal.returns

@@ -1,25 +1,38 @@
 -- The list without a step leads to the words and the machines that are made first, and nothing is kept yet.
-use Rattle.std.proofs.Common.{◌≡◌, ◌∙◌, ◌*◌, ◌≤◌, [], ap, arith, length, refl, subst, sym, vec_capacity}
+use Rattle.std.proofs.Common.{◌∙◌, [], refl, subst, sym, vec_capacity}
 use Rattle.std.proofs.lemmas.Grind.{merely}
-use Rattle.std.proofs.lemmas.List.{length-map}
 use Rattle.access_types.specs.Sites.{AccessMap}
-use Rattle.litmus_syntax.specs.Views.{task_of}
+use Rattle.litmus_syntax.specs.Views.{program_of}
+use Rattle.litmus_step.proofs.AccessLemmas.{all_begun, each_kept, few_begun, few_tasks, room_for}
 use Rattle.litmus_step.proofs.MakeLemmas.{first_kept, first_points, first_world}
 use Rattle.litmus_step.proofs.world.World.prepared.Goals as goal
-use Rattle.litmus_step.specs.Kept.{watches_kept}
 use Rattle.litmus_step.specs.Leads.{LeadsToAll}
 use Rattle.program_sites.specs.Prepared.{sites_in}
-use Rattle.litmus_step.specs.Runs.{run_of, tasks_of}
+use Rattle.litmus_step.specs.Runs.{run_of}
+
+pub first_logs-requires : goal.first_logs-requires
+first_logs-requires c =
+    few_begun (program_of c.args.program.now) c.as_slice-accesses.result.now c.requires.limits
+    (c.as_slice-accesses.ensures.value ∙ c.requires.ready.1.accesses)
+
+pub all_accesses-requires-clause-few : goal.all_accesses-requires-clause-few
+all_accesses-requires-clause-few c =
+    few_tasks (program_of c.args.program.now) c.as_slice-accesses.result.now c.requires.limits
+    (c.as_slice-accesses.ensures.value ∙ c.requires.ready.1.accesses)
+
+pub all_accesses-requires-clause-each : goal.all_accesses-requires-clause-each
+all_accesses-requires-clause-each c =
+    few_begun (program_of c.args.program.now) c.as_slice-accesses.result.now c.requires.limits
+    (c.as_slice-accesses.ensures.value ∙ c.requires.ready.1.accesses)
 
 pub returns-clause-leads : goal.returns-clause-leads
 returns-clause-leads c = λ settings prepared.
     let run = run_of c.args.program.now settings (sites_in c.args.prepared.now) in
     let can = c.runs_begin.ensures.can run settings.places.items c.requires.limits refl prepared.fit prepared.some_slots prepared.turns in
     let list = c.runs_begin.ensures.list run can prepared.sites in
-    let count : length c.as_slice-count.result.now ≡ tasks_of run =
-    ap length c.as_slice-count.ensures ∙ sym (length-map c.args.program.now.tasks task_of) in
-    let space : tasks_of run * watches_kept ≤ vec_capacity c.in_ok-reports.reports =
-    omega (arith, count, c.in_ok-reports.ensures.capacity) in
+    let are = c.as_slice-accesses.ensures.value ∙ prepared.accesses in
+    let space = room_for run c.as_slice-accesses.result.now are c.all_accesses.result (vec_capacity c.in_ok-reports.reports)
+    c.all_accesses.ensures.is c.in_ok-reports.ensures.room in
     subst (λ (sites : AccessMap). LeadsToAll (run_of c.args.program.now settings sites) [] c.in_ok-board.board c.in_ok-tasks.tasks.items 0
     c.in_ok-logs.logs.items c.in_ok-reports.reports.items (vec_capacity c.in_ok-reports.reports)) (sym c.in_ok-sites.ensures)
     (first_world run c.in_ok-board.board c.in_ok-tasks.tasks.items c.in_ok-logs.logs.items c.in_ok-reports.reports.items
@@ -27,7 +40,8 @@ returns-clause-leads c = λ settings prepared.
     can list (c.in_ok-board.ensures settings (sites_in c.args.prepared.now) prepared) (c.in_ok-tasks.ensures.led settings prepared)
     (first_kept c.steps_are_kept.ensures.none run list c.in_ok-logs.logs.items c.in_ok-reports.reports.items
     (vec_capacity c.in_ok-reports.reports)
-    (c.in_ok-logs.ensures.all ∙ count) c.in_ok-logs.ensures.each c.in_ok-reports.ensures.items space)
+    (c.in_ok-logs.ensures.all ∙ all_begun run c.as_slice-accesses.result.now are)
+    (each_kept run c.as_slice-accesses.result.now are c.in_ok-logs.logs.items c.in_ok-logs.ensures.each) c.in_ok-reports.ensures.empty space)
     (first_points c.steps_are_kept.ensures.none run list c.in_ok-tasks.tasks.items c.in_ok-tasks.ensures.points))
 
 pub invariant_of-result : goal.invariant_of-result
@@ -37,10 +51,9 @@ invariant_of-result c =
     let run = run_of c.args.program.now settings (sites_in c.args.prepared.now) in
     let can = c.runs_begin.ensures.can run settings.places.items c.requires.limits refl prepared.fit prepared.some_slots prepared.turns in
     let list = c.runs_begin.ensures.list run can prepared.sites in
-    let count : length c.as_slice-count.result.now ≡ tasks_of run =
-    ap length c.as_slice-count.ensures ∙ sym (length-map c.args.program.now.tasks task_of) in
-    let space : tasks_of run * watches_kept ≤ vec_capacity c.in_ok-reports.reports =
-    omega (arith, count, c.in_ok-reports.ensures.capacity) in
+    let are = c.as_slice-accesses.ensures.value ∙ prepared.accesses in
+    let space = room_for run c.as_slice-accesses.result.now are c.all_accesses.result (vec_capacity c.in_ok-reports.reports)
+    c.all_accesses.ensures.is c.in_ok-reports.ensures.room in
     record {
       led = merely (record {
         run = run;
@@ -50,7 +63,8 @@ invariant_of-result c =
             can list (c.in_ok-board.ensures settings (sites_in c.args.prepared.now) prepared) (c.in_ok-tasks.ensures.led settings prepared)
             (first_kept c.steps_are_kept.ensures.none run list c.in_ok-logs.logs.items c.in_ok-reports.reports.items
             (vec_capacity c.in_ok-reports.reports)
-            (c.in_ok-logs.ensures.all ∙ count) c.in_ok-logs.ensures.each c.in_ok-reports.ensures.items space)
+            (c.in_ok-logs.ensures.all ∙ all_begun run c.as_slice-accesses.result.now are)
+            (each_kept run c.as_slice-accesses.result.now are c.in_ok-logs.logs.items c.in_ok-logs.ensures.each) c.in_ok-reports.ensures.empty space)
             (first_points c.steps_are_kept.ensures.none run list c.in_ok-tasks.tasks.items c.in_ok-tasks.ensures.points);
       });
     }

@@ -1,16 +1,15 @@
 -- They are the first of those that the list reports, and there is room for all.
-use Rattle.std.proofs.Common.{◌*◌, vec_capacity}
+use Rattle.std.proofs.Common.{vec_capacity}
 use Rattle.litmus_step.proofs.KeptLemmas.{all_of_front, all_reported}
 use Rattle.litmus_step.proofs.world.World.reports.Goals as goal
-use Rattle.litmus_step.specs.Kept.{watches_kept}
-use Rattle.litmus_step.specs.Runs.{tasks_of}
+use Rattle.litmus_step.specs.Kept.{reports_kept}
 use Rattle.run_headline.specs.Reported.{IsTrueReport}
 use Rattle.step_bounds.specs.of_run_lists_Reports.{reports_of}
 
 pub returns-clause-told : goal.returns-clause-told
 returns-clause-told c = λ run records leads.
     let told = leads.kept.reports_are in
-    rw c.as_slice.ensures.value (all_reported c.args.self.now.reports.items told.later (reports_of leads.list) (tasks_of run * watches_kept)
+    rw c.as_slice.ensures.value (all_reported c.args.self.now.reports.items told.later (reports_of leads.list) (reports_kept run)
     (vec_capacity c.args.self.now.reports) told.reported told.full told.space
     (c.reports_have_room.ensures run records leads.list leads.can.limits))
 

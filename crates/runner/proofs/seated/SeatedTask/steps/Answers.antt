@@ -42,7 +42,7 @@ loop-preserved g c =
           c.requires.terms.can c.requires.seated.there c.loop.invariant.own c.loop.invariant.led next c.step-answer.ensures.kind
           c.step-answer.ensures.made c.answer.ensures.leads c.begins-begins.ensures c.answer.ensures.fell c.fell.ensures
           c.note.ensures.noted c.note.ensures.room;
-      room = subst (λ n. watches_kept ≤ n) (sym c.note.ensures.room) c.loop.invariant.room;
+      room = subst (λ n. watches_kept (run_by c.args.terms) c.args.self.number ≤ n) (sym c.note.ensures.room) c.loop.invariant.room;
     }
 
 pub returns-clause-seated : goal.returns-clause-seated

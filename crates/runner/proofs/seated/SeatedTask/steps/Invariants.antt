@@ -10,5 +10,5 @@ invariant-loop g l = record {
   table : l.board.table ≡ l.terms.table.now;
   own : l.board.task ≡ l.number;
   led : IsLed (run_by l.terms) l.number l.board.records l.run l.log l.reports.items (vec_capacity l.reports);
-  room : watches_kept ≤ vec_capacity l.reports;
+  room : watches_kept (run_by l.terms) l.number ≤ vec_capacity l.reports;
 }
