@@ -5,6 +5,8 @@ use Rattle.std.specs.Option.{option_map}
 use Rattle.command_words.specs.Bounds.{KeepsBounds, MayBeAsked}
 use Rattle.clap.specs.Words.{kind_of}
 use Rattle.clap.specs.declared.error.Error.{Error}
+use Rattle.clap.specs.declared.error.kind.ErrorKind.{ErrorKind}
+use Rattle.clap.specs.declared.error.kind.ErrorKind.TheVariants as kinds
 use Rattle.command_words.specs.Words.{Ask, AskForHelp, MayFail}
 use Rattle.command_words.specs.declared.request.ReplayRequest.{ReplayRequest}
 use Rattle.command_words.specs.declared.request.Request.{Request}
@@ -309,10 +311,15 @@ pub record Tells (status : ℕ) (before after : Option (List Complaint)) : Type 
   pub quiet : status < 64 → after ≡ before
   pub told : 64 ≤ status → (said : Complaint) × (complaint_status_of said ≡ status) × (after ≡ heard before said)
 
+-- an error of the words themselves: neither want of memory nor help
+abbrev pub IsFault : ErrorKind → Type 0
+IsFault kind = (kind ≢ kinds.OutOfMemory) × (kind ≢ kinds.DisplayHelp)
+
 -- the words are at fault, and that was told, as it may be said of them
 pub record UsageIsTold (words : List (List ℕ)) (before after : Option (List Complaint)) : Type 0 where
   pub error : Error
   pub may : MayFail words (kind_of error)
+  pub fault : IsFault (kind_of error)
   pub told : after ≡ heard before (complaint.Usage error)
 
 -- the status says that a file is refused, or that a task is stuck

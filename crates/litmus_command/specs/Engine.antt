@@ -1,5 +1,5 @@
 -- What is left of the run of a litmus text, and why there is none.
-use Rattle.std.specs.Prelude.{◌≡◌, ◌<◌, ◌==◌, ◌↔◌, ◌⊎◌, ◌++◌, ◌∷◌, ℕ, List, [], Option, Bool, IfSome, IsTrue, length, not}
+use Rattle.std.specs.Prelude.{◌≡◌, ◌<◌, ◌==◌, ◌↔◌, ◌⊎◌, ◌++◌, ◌∷◌, ℕ, List, [], Option, Bool, IfSome, IsTrue, false, length, not}
 use Rattle.std.specs.List.{flat_map}
 use Rattle.litmus_syntax.specs.of_access_types_Sites.{AccessMap}
 use Rattle.litmus_parse.specs.Read.{IsReadAs}
@@ -46,6 +46,8 @@ pub record AreStepped (run : lists.Run) (entries : List Entry) (records : List R
 -- there is one, which `replay` accepts. There was a race if there is a report. And of that run the headline holds.
 pub record Leaves (program : Program) (settings : Settings) (entries : List Entry) (raced : Bool) (output : List ℕ)
     (trace : Option (List ℕ)) : Type 0 where
+  pub fit : AreFit program.variables settings.places.items
+  pub known : names_stranger (length program.tasks) entries ≡ false
   pub sites : AccessMap
   pub records : List Record
   pub stepped : AreStepped (run_of program settings sites) entries records

@@ -6,7 +6,7 @@ ghost use Rattle.command_words.specs.Words.{AskForHelp, MayFail};
 ghost use Rattle.clap.specs.Words.{kind_of};
 ghost use Rattle.litmus_command.specs.Command.{AreLeft, AskForOne, AskSettings, AsksFor, EndsAs, FileIsRefused, FileIsRun, FileIsRunInPart};
 ghost use Rattle.litmus_command.specs.Command.{HelpIsCut, HelpIsGiven, IsCut, IsDone, IsGiven, IsGivenInPart, IsLeft, IsOfFile, IsRefusedOf};
-ghost use Rattle.litmus_command.specs.Command.{DoesNotRead, DoesRead, IsMisused, NothingIsWritten, Reads, ReplayIsCut, ReplayIsRefused, RunRefuses};
+ghost use Rattle.litmus_command.specs.Command.{DoesNotRead, DoesRead, IsFault, IsMisused, NothingIsWritten, Reads, ReplayIsCut, ReplayIsRefused, RunRefuses};
 ghost use Rattle.litmus_command.specs.Command.{SpellsNoPlaces, StepRefuses, Tells, UsageIsTold};
 ghost use Rattle.litmus_command.specs.Command.{engine_status_of, read_failure, run_status_of, settings_of, state_of, status_of, text_status_of};
 ghost use Rattle.litmus_command.specs.Command.{times_of, trace_status_of, with_trace};
@@ -475,7 +475,7 @@ fn explain<D: Desk>(alloc: Global, error: clap::Error, desk: &mut D) -> u8
     ensures unwritten { (words : List (List ℕ)) → MayFail words (kind_of error) → result ≡ 74
         → HelpIsCut words (state_of D.written D.failures D.files desk.old)
         (state_of D.written D.failures D.files desk.new) }
-    ensures usage { result ≡ 64 → D.told desk.new ≡ heard (D.told desk.old) (Complaint.Usage error) }
+    ensures usage { result ≡ 64 → IsFault (kind_of error) × (D.told desk.new ≡ heard (D.told desk.old) (Complaint.Usage error)) }
     ensures readable { result ≢ 66 }
     ensures faults { D.faults desk.new ≡ D.faults desk.old }
     ensures tells { Tells result (D.told desk.old) (D.told desk.new) }

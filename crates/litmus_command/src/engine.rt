@@ -114,7 +114,7 @@ fn run_program(
 /// only where that is wanted.
 ///
 /// `OutOfMemory`: all tasks have ended, and there is no room for what is written.
-fn run_ready(
+pub fn run_ready(
     alloc: Global,
     program: &Program,
     settings: &Settings,

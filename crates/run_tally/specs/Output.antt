@@ -6,7 +6,7 @@ use Rattle.access_types.specs.declared.report.Report.{Report}
 use Rattle.program_sites.specs.declared.settings.Settings.{Settings}
 use Rattle.litmus_syntax.specs.Views.{program_of}
 use Rattle.litmus_syntax.specs.declared.program.Program.{Program}
-use Rattle.program_sites.specs.of_program_layout_Places.{places_of}
+use Rattle.program_sites.specs.of_program_layout_Places.{AreFit, places_of}
 use Rattle.program_sites.specs.Sites.{AreSitesOf}
 use Rattle.report_text.specs.Groups.{AreGroupsOf, Group, group_text}
 use Rattle.report_text.specs.ReportOf.{report_text}
@@ -96,6 +96,7 @@ pub record AreAsMany {program : Program} {settings : Settings} (times : Times) (
 -- and the trace of the last run that ended, where one is wanted and there is such a run.
 pub record Leave (program : Program) (settings : Settings) (times : Times) (traced : Bool) (raced : Bool) (output : List ℕ)
     (trace : Option (List ℕ)) : Type 0 where
+  pub fit : AreFit program.variables settings.places.items
   pub runs : List (OneRun program settings)
   pub stuck : List (StuckRun program settings)
   pub many_are : AreAsMany times runs stuck

@@ -1,5 +1,5 @@
 -- the run that was made is the one that is left
-use Rattle.std.proofs.Common.{◌≡◌, ◌<◌, ◌⊎◌, ◌∙◌, [], Err, IsTrue, List, ap, arith, inl, inr, length, refl, subst, sym}
+use Rattle.std.proofs.Common.{◌≡◌, ◌<◌, ◌⊎◌, ◌∙◌, [], Bool, Err, IsTrue, List, ap, arith, false, inl, inr, length, refl, subst, sym, true}
 use Rattle.std.proofs.lemmas.List.{length-map}
 use Rattle.litmus_command.proofs.AskedLemmas.{seen_so}
 use Rattle.litmus_command.proofs.ResultLemmas.{err_holds, items_if_some, no_error, stuck_is_other}
@@ -16,6 +16,10 @@ use Rattle.run_output.specs.declared.error.EngineError.TheVariants.{Run}
 use Rattle.step_schedule.specs.Order.{IsOrder}
 use Rattle.step_schedule.specs.Schedule.{entries_of, names_stranger}
 
+is_false : (said : Bool) → (IsTrue said → ⊥) → said ≡ false
+is_false true isnt = absurd (isnt refl)
+is_false false isnt = refl
+
 pub returns-clause-leaves : goal.returns-clause-leaves
 returns-clause-leaves c =
     let first = c.args.world.now in
@@ -31,7 +35,12 @@ returns-clause-leaves c =
     let over = c.in_ok-run.ensures.over run asked.0 leads in
     let written = c.in_ok-written.ensures in
     let trace = c.in_ok-written.written.trace in
+    let many : tasks_in first ≡ length c.args.program.now.tasks = same ∙ length-map c.args.program.now.tasks task_of in
     record {
+      fit = c.requires.ready.fit;
+      known = subst (λ tasks. names_stranger tasks (entries_of c.args.schedule.now) ≡ false) many
+          (is_false (names_stranger (tasks_in first) (entries_of c.args.schedule.now))
+          (λ named. no_error _ _ _ c.in_ok-run.was (c.run.ensures.bad_schedule.1 named)));
       sites = sites;
       records = asked.0;
       stepped = record {

@@ -12,6 +12,7 @@ returns-clause-leaves g c =
     let last = subst (IsLast made.runs) (sym c.last.ensures) made.made_are.last_is in
     let trace = c.in_ok-trace_if.field-0 in
     record {
+      fit = ready.fit;
       runs = made.runs;
       stuck = made.stuck;
       many_are = made.many_are;
