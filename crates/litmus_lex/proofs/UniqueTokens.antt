@@ -1,5 +1,6 @@
 -- A list of bytes has one first token, and so at most one list of tokens.
-use Rattle.std.proofs.Common.{◌≡◌, ◌↔◌, ℕ, ◌+◌, ◌<◌, List, [], ◌∷◌, ◌++◌, ◌∙◌, Option, Some, None, true, false, if◌then◌else◌, ap, append-nil, arith, inl, inr, length, lit<, refl, subst, sym, take, ◌==◌}
+use Rattle.std.proofs.Common.{◌≡◌, ◌↔◌, ℕ, ◌+◌, ◌<◌, List, [], ◌∷◌, ◌++◌, ◌∙◌, Option, Some, None, true, false, if◌then◌else◌, ap, append-nil, arith}
+use Rattle.std.proofs.Common.{inl, inr, length, lit<, refl, subst, sym, take, ◌==◌}
 use Rattle.std.proofs.lemmas.Bool.Decides.{nat_tests}
 use Rattle.std.proofs.lemmas.List.{append_cancel_left, take_at}
 use Rattle.std.specs.Str.Parse.{digits_value}

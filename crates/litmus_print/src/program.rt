@@ -3,7 +3,9 @@
 ghost use Rattle.std.specs.Prelude.{◌≡◌, ◌++◌, IfErr, IfOk, OnOk, map, slice_get};
 ghost use Rattle.std.specs.Option.{option_copied};
 ghost use Rattle.std.specs.String.{string_bytes};
-ghost use Rattle.litmus_syntax.specs.PrintedForm.{condition_line, continued, declaration, declarations, initial_text, initialization_line, item_text, items_text, listed, name_line, parameter_text, parameter_texts, printed, proposition_text, task_text, tasks_text};
+ghost use Rattle.litmus_syntax.specs.PrintedForm.{condition_line, continued, declaration, declarations, initial_text, initialization_line, item_text};
+ghost use Rattle.litmus_syntax.specs.PrintedForm.{items_text, listed, name_line, parameter_text, parameter_texts, printed, proposition_text, task_text};
+ghost use Rattle.litmus_syntax.specs.PrintedForm.{tasks_text};
 ghost use Rattle.litmus_syntax.specs.PrintedForm as spec;
 ghost use Rattle.litmus_syntax.specs.Views.{program_of, proposition_of, task_of};
 
