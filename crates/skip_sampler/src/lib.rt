@@ -53,6 +53,21 @@ impl Sampler {
         }
     }
 
+    /// A second sampler, which gives the same answers from here on. Asking one leaves the other as it is.
+    pub fn copy(&self) -> Sampler
+        ensures { result ≡ self.now }
+    {
+        let Ok(generator) = self.generator.clone() else {
+            unreachable!()
+        };
+        Sampler {
+            skip: self.skip,
+            randomize: self.randomize,
+            counter: self.counter,
+            generator,
+        }
+    }
+
     /// Whether the access that asks now is watched.
     pub fn should_watch(&mut self) -> bool
         ensures watched { (skip : ℕ) (randomize : Bool) (seed askings : ℕ)
