@@ -9,6 +9,7 @@ pub mod StageLemmas
 pub mod WaitLemmas
 pub mod VainLemmas
 pub mod LeadsLemmas
+pub mod Copies
 pub mod NextLemmas
 pub mod LawLemmas
 pub mod DisciplineLemmas

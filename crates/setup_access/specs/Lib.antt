@@ -20,6 +20,7 @@ pub mod Waiting
 pub mod Due
 pub mod Lending
 pub mod Shown
+pub mod Copies
 pub mod MadeOfChecks
 pub use Rattle.access_types.specs.Access as of_access_types_Access
 pub use Rattle.access_types.specs.History as of_access_types_History

@@ -34,6 +34,15 @@ impl Outcomes {
         }
     }
 
+    pub(crate) fn copy(&self) -> Outcomes
+        ensures { result ≡ self.now }
+    {
+        let mut copy = Outcomes::new();
+        copy.outcomes.copy_from_slice(&self.outcomes);
+        copy.count = self.count;
+        copy
+    }
+
     /// None yet: room and what stands in it stay, so a check that begins writes one number.
     pub(crate) fn clear(&mut self)
         ensures { self.new ≡ [] }
