@@ -3,6 +3,7 @@ pub mod PartFronts
 pub mod CheckFronts
 pub mod WholeLemmas
 pub mod LeadsLemmas
+pub mod Copies
 pub mod Decisions
 pub mod CheckEnds
 pub mod AccessEnds
