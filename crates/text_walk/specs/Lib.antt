@@ -2,6 +2,7 @@ pub mod Depth
 pub mod Cost
 pub mod Room
 pub mod Capacity
+pub mod Copies
 pub mod Left
 pub mod Form
 pub use Rattle.written_order.specs.Access as of_written_order_Access
