@@ -11,6 +11,7 @@ ghost use Rattle.task_plan.specs.Room.{room_of};
 ghost use Rattle.written_order.specs.Standing.{Standing, counting, doing, registered};
 ghost use Rattle.written_order.specs.WrittenOrder.{at_first};
 
+use list_copy::copied;
 use std::alloc::{AllocError, Global};
 
 /// A task has no more sites than this, and tickets tell so many accesses at one apart.
@@ -40,6 +41,20 @@ impl Progress {
             begun: vec![in alloc; 0; SITES]?,
             held: vec![in alloc; false; variables]?,
             unbalanced: 0,
+        })
+    }
+
+    /// The same for a second task that did the same, with as much room. A step of one leaves the other; without memory
+    /// for it there is an error.
+    pub fn copy(&self, alloc: Global) -> Result<Progress, AllocError>
+        ensures keeps { (variables : ℕ) (before : Standing) → Keeps variables before self.now → IfOk result (Keeps variables before) }
+        ensures room { IfOk result (λ copy. room_of copy ≡ room_of self.now) }
+    {
+        Ok(Progress {
+            registers: copied(alloc, &self.registers)?,
+            begun: copied(alloc, &self.begun)?,
+            held: copied(alloc, &self.held)?,
+            unbalanced: self.unbalanced,
         })
     }
 
