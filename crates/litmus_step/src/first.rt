@@ -24,7 +24,7 @@ use task_run::TaskRun;
 
 /// At an access at most so many watchpoints are set up, and as many taken, and so much is reported: by its own check, and
 /// by those of the scoped assertions in force, of which there are 8 at most.
-pub const WATCHES: usize = 9;
+const WATCHES: usize = 9;
 
 /// The words before the first step of a program that is made ready.
 pub fn first_board(
