@@ -51,14 +51,14 @@ pub placed : (arms : List Arm) (arm : Arm) (sites : List Highest) (place : ℕ) 
     → now.setter ≡ arm.setter → now.number ≡ armings_by arm.setter arms + 1
     → CountsBySite arms sites → CountsBySite (arms ++ arm ∷ []) (set sites place now)
 placed arms arm sites place was now here inside at under named number counts = record {
-  each = λ setter d within.
-      let still : site_in setter < length sites = subst (λ n. site_in setter < n) (length-set sites place now) within in
+  places = length-set sites place now ∙ counts.places;
+  each = λ setter d.
       elim (cases_eq (site_in setter) place) [
         | inl same ↦ subst (Tells (arms ++ arm ∷ []) setter) (sym (get_or-set_at sites place (site_in setter) now d same inside))
             (tells_new arms arm setter was now under named number
-            (subst (Tells arms setter) (ap (λ n. get_or sites n was) same ∙ sym at) (counts.each setter was still)))
+            (subst (Tells arms setter) (ap (λ n. get_or sites n was) same ∙ sym at) (counts.each setter was)))
         | inr other ↦ subst (Tells (arms ++ arm ∷ []) setter) (sym (get_or-set_other sites place (site_in setter) now d other))
             (tells_other arms arm setter (get_or sites (site_in setter) d) (λ is. other (ap site_in (sym is) ∙ sym here))
-            (counts.each setter d still))
+            (counts.each setter d))
       ];
 }

@@ -13,7 +13,7 @@ pub record Tells (arms : List Arm) (setter : ℕ) (highest : Highest) : Type 0 w
   pub above : highest.setter < setter → armings_by setter arms ≡ 0
   pub same : highest.setter ≡ setter → highest.number ≡ armings_by setter arms
 
--- each site that has a place tells of its setters
+-- the table has a place for each of the 256 sites, which tells of the setters there
 pub record CountsBySite (arms : List Arm) (sites : List Highest) : Type 0 where
-  pub each : (setter : ℕ) (d : Highest) → site_in setter < length sites
-      → Tells arms setter (slice_index_or sites (site_in setter) d)
+  pub places : length sites ≡ 256
+  pub each : (setter : ℕ) (d : Highest) → Tells arms setter (slice_index_or sites (site_in setter) d)
