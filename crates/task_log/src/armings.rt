@@ -5,6 +5,7 @@ ghost use Rattle.access_types.specs.Arms.{Arm};
 ghost use Rattle.access_types.specs.Ticket.{site_in};
 ghost use Rattle.task_log.specs.Armings.{CountsBySite, armings_by};
 
+use crate::copies::copied;
 use access_types::Arm;
 use std::alloc::{AllocError, Global};
 
@@ -53,6 +54,16 @@ impl Armings {
         let mut sites = Vec::with_capacity(alloc, SITES)?;
         sites.resize(SITES, none)?;
         Ok(Armings { sites })
+    }
+
+    /// The same again, with as much room.
+    pub(crate) fn copy(&self, alloc: Global) -> Result<Armings, AllocError>
+        ensures sites { IfOk result (λ copy. copy.sites.items ≡ self.now.sites.items) }
+        ensures room { IfOk result (λ copy. vec_capacity copy.sites ≡ vec_capacity self.now.sites) }
+    {
+        Ok(Armings {
+            sites: copied(alloc, &self.sites)?,
+        })
     }
 
     /// How many of these armings are by the access with this ticket.

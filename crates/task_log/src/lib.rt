@@ -3,6 +3,7 @@
 #![tactic(auto)]
 
 pub mod armings;
+pub mod copies;
 pub mod counters;
 pub mod latest;
 pub mod log;

@@ -10,6 +10,7 @@ ghost use Rattle.task_log.specs.Touches.{accesses_of, touches_of};
 ghost use Rattle.task_log.specs.declared.noted.Noted.{Noted};
 
 use crate::armings::Armings;
+use crate::copies::copied;
 use crate::counters::Counters;
 use crate::latest::Latest;
 use crate::noted::Noted;
@@ -43,6 +44,23 @@ impl TaskLog {
             takes: Vec::with_capacity(alloc, watches)?,
             latest: Latest::new(),
             counters: Counters::new(),
+        })
+    }
+
+    /// What is kept, once more and with as much room, so that steps can be noted in both. It errs where there is no
+    /// memory for it.
+    pub fn copy(&self, alloc: Global) -> Result<TaskLog, AllocError>
+        ensures keeps { (accesses watches : ℕ) (own : List Noted) → Keeps accesses watches own self.now
+            → IfOk result (Keeps accesses watches own) }
+        ensures room { IfOk result (λ copy. room_in copy ≡ room_in self.now) }
+    {
+        Ok(TaskLog {
+            touches: copied(alloc, &self.touches)?,
+            arms: copied(alloc, &self.arms)?,
+            armings: self.armings.copy(alloc)?,
+            takes: copied(alloc, &self.takes)?,
+            latest: self.latest,
+            counters: self.counters,
         })
     }
 
