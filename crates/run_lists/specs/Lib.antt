@@ -1,4 +1,5 @@
 pub mod Run
+pub mod Ended
 pub mod RunList
 pub mod Told
 pub mod Reports

@@ -2,9 +2,10 @@
 use Rattle.std.specs.Prelude.{ℕ, List, length, reverse}
 use Rattle.slot_table.specs.Records.{Legal, records_of}
 use Rattle.slot_table.specs.declared.records.Record.{Record}
+use Rattle.run_lists.specs.Ended.{HasEnded}
 use Rattle.run_lists.specs.Run.{AreItsSites, Run, first_words, task_of, task_setting}
 use Rattle.written_order.specs.Waits.{WithinTurns}
-use Rattle.written_order.specs.WrittenOrder.{SpellsAll, WrittenOrder}
+use Rattle.written_order.specs.WrittenOrder.{WrittenOrder}
 
 -- a task's own records, the latest first, are in the written order of its text
 abbrev pub InWrittenOrder : Run → ℕ → List Record → Type 0
@@ -23,7 +24,4 @@ pub record RunList (run : Run) (records : List Record) : Type 0 where
 
 -- each task has made the steps of its whole text
 abbrev pub AllHaveEnded : Run → List Record → Type 0
-AllHaveEnded run records =
-    (task : ℕ)
-    → SpellsAll (task_setting run task) (length (task_of run task).registers) (task_of run task).body
-    (reverse (records_of task records))
+AllHaveEnded run records = (task : ℕ) → HasEnded run task records

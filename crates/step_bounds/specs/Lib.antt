@@ -1,3 +1,4 @@
+pub use Rattle.run_lists.specs.Ended as of_run_lists_Ended
 pub use Rattle.run_lists.specs.Reports as of_run_lists_Reports
 pub use Rattle.run_lists.specs.Run as of_run_lists_Run
 pub use Rattle.run_lists.specs.RunList as of_run_lists_RunList
