@@ -11,3 +11,5 @@ pub mod ReaderLemmas
 pub mod PointLemmas
 pub mod RoomLemmas
 pub mod AccessLemmas
+pub mod NextLemmas
+pub mod CopyLemmas

@@ -32,7 +32,7 @@ use Rattle.task_run.specs.Part.{Part, closes, locks, makes, opens, over, stops, 
 use Rattle.task_run.specs.Points.{HasMade, Stepped, next_is}
 use Rattle.task_run.specs.Says.{Says}
 use Rattle.task_run.specs.declared.machine.Machine.{Machine}
-use Rattle.task_run.specs.declared.points.Before.{Before}
+use Rattle.task_run.specs.of_task_points_declared.points.Before.{Before}
 use Rattle.task_run.specs.declared.run.TaskRun.{TaskRun}
 use Rattle.task_run.specs.declared.stage.Stage.{Stage}
 use Rattle.written_tellings.specs.of_written_order_Standing.{Setting, Standing}

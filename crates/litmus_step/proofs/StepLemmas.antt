@@ -19,10 +19,10 @@ use Rattle.slot_table.specs.declared.records.Record.{Record}
 use Rattle.slot_table.specs.declared.step.Answer.{Answer}
 use Rattle.slot_table.specs.declared.step.Step.{Step}
 use Rattle.task_laws.specs.Fits.{ArePlaced}
-use Rattle.litmus_step.proofs.NameLemmas.{after_as_many, last_of_all, names_as_many, some_answer}
+use Rattle.litmus_step.proofs.NameLemmas.{after_as_many, answered, last_of_all, names_as_many, some_answer}
 use Rattle.access_types.specs.declared.report.Report.{Report}
 use Rattle.litmus_step.specs.Kept.{AreKept}
-use Rattle.litmus_step.specs.Leads.{AreAtPoints, LeadsTask, LeadsToAll, MakesNextIn}
+use Rattle.litmus_step.specs.Leads.{AreAtPoints, GoesOnWith, LeadsTask, LeadsToAll, MakesNextIn}
 use Rattle.task_log.specs.declared.log.TaskLog.{TaskLog}
 use Rattle.litmus_step.specs.Runs.{CanBeMade, tasks_of}
 use Rattle.task_laws.specs.of_task_plan_Counts.{up_to_last}
@@ -130,22 +130,15 @@ module _ (leads_on : AnAnswerLeadsOn) (names : StepsNameWords) where
       subst (λ (w : Words). Names w step) (sym leads.leaves)
       (named run records task step leads.can below (leads.list.tasks task) only)
 
-  -- followed by the record of the step and its answer it leads on
-  pub leads_more : (run : Run) (records : List Record) (words : Words) (machines : List TaskRun) (steps : ℕ)
-      (logs more_logs : List TaskLog) (reports more_reports : List Report) (room more_room task : ℕ)
-      (step : Step) (answer : Answer) (after : TaskRun)
-      → LeadsToAll run records words machines steps logs reports room → (next : MakesNextIn machines task step) → Answers step answer
-      → answer ≡ (step_line words step).answer → LeadsOn next.machine after answer
-      → ((list : RunList run (made task step answer ∷ records)) → AreKept list more_logs more_reports more_room)
-      → ((list : RunList run (made task step answer ∷ records)) → AreAtPoints list (set machines task after))
-      → LeadsToAll run (made task step answer ∷ records) (step_line words step).after (set machines task after)
-      (up_to_last (steps + 1)) more_logs more_reports more_room
-  leads_more run records words machines steps logs more_logs reports more_reports room more_room task step answer after leads next
-      answers is on keeps points =
+  -- followed by the record of the step, with the answer that the words give, it is a run list
+  pub list_more : (run : Run) (records : List Record) (words : Words) (machines : List TaskRun) (steps : ℕ) (logs : List TaskLog)
+      (reports : List Report) (room task : ℕ) (step : Step) (answer : Answer)
+      → LeadsToAll run records words machines steps logs reports room → MakesNextIn machines task step → Answers step answer
+      → answer ≡ (step_line words step).answer → RunList run (made task step answer ∷ records)
+  list_more run records words machines steps logs reports room task step answer leads next answers is =
       let latest = made task step answer in
       let there : task < length machines = slice_get_within machines task next.machine next.stands in
       let below : task < tasks_of run = subst (λ n. task < n) leads.tasks.all there in
-      let own = reverse (records_of task records) in
       let led = leads.tasks.each task next.machine next.stands in
       let only = next.makes.only _ _ _ _ led in
       let earlier = records_of task records in
@@ -153,8 +146,7 @@ module _ (leads_on : AnAnswerLeadsOn) (names : StepsNameWords) where
       subst (WithinTurns run.rules.turns) (ap reverse (sym (reversed latest earlier)) ∙ reverse-reverse (latest ∷ earlier))
       (next.makes.within _ _ _ _ led
       (subst (WithinTurns run.rules.turns) (sym (reverse-reverse earlier)) (leads.list.within task)) answer) in
-      let word = ap (λ (w : Words). (step_line w step).after) leads.leaves in
-      let list : RunList run (latest ∷ records) = record {
+      record {
         legal = (
           leads.list.legal,
           record {
@@ -171,7 +163,36 @@ module _ (leads_on : AnAnswerLeadsOn) (names : StepsNameWords) where
             (subst (WithinTurns run.rules.turns) (sym (own_first task latest records refl)) still)
             (λ other apart. subst (WithinTurns run.rules.turns) (sym (others_first other latest records apart)) (leads.list.within other));
         sites = leads.list.sites;
-      } in
+      }
+
+  -- with its step a task goes on, and with no other
+  pub goes_on_with : (run : Run) (records : List Record) (words : Words) (machines : List TaskRun) (steps : ℕ) (logs : List TaskLog)
+      (reports : List Report) (room task : ℕ) (step : Step)
+      → LeadsToAll run records words machines steps logs reports room → MakesNextIn machines task step → GoesOnWith run task records step
+  goes_on_with run records words machines steps logs reports room task step leads next = record {
+    only = next.makes.only _ _ _ _ (leads.tasks.each task next.machine next.stands);
+    answer = (step_line words step).answer;
+    list = list_more run records words machines steps logs reports room task step (step_line words step).answer leads next
+        (answered words step) refl;
+  }
+
+  -- followed by the record of the step and its answer it leads on
+  pub leads_more : (run : Run) (records : List Record) (words : Words) (machines : List TaskRun) (steps : ℕ)
+      (logs more_logs : List TaskLog) (reports more_reports : List Report) (room more_room task : ℕ)
+      (step : Step) (answer : Answer) (after : TaskRun)
+      → LeadsToAll run records words machines steps logs reports room → (next : MakesNextIn machines task step) → Answers step answer
+      → answer ≡ (step_line words step).answer → LeadsOn next.machine after answer
+      → ((list : RunList run (made task step answer ∷ records)) → AreKept list more_logs more_reports more_room)
+      → ((list : RunList run (made task step answer ∷ records)) → AreAtPoints list (set machines task after))
+      → LeadsToAll run (made task step answer ∷ records) (step_line words step).after (set machines task after)
+      (up_to_last (steps + 1)) more_logs more_reports more_room
+  leads_more run records words machines steps logs more_logs reports more_reports room more_room task step answer after leads next
+      answers is on keeps points =
+      let latest = made task step answer in
+      let there : task < length machines = slice_get_within machines task next.machine next.stands in
+      let led = leads.tasks.each task next.machine next.stands in
+      let word = ap (λ (w : Words). (step_line w step).after) leads.leaves in
+      let list = list_more run records words machines steps logs reports room task step answer leads next answers is in
       record {
         can = leads.can;
         list = list;

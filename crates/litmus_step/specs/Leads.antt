@@ -86,3 +86,10 @@ pub record MakesNextIn (machines : List TaskRun) (task : ℕ) (step : Step) : Ty
   pub machine : TaskRun
   pub stands : slice_get machines task ≡ Some machine
   pub makes : MakesNext machine step
+
+-- the text of the task goes on with this step and no other, and with its answer the list is one of the run
+pub record GoesOnWith (run : Run) (task : ℕ) (records : List Record) (step : Step) : Type 0 where
+  pub only : OnlyStep (task_setting run task) (length (task_of run task).registers) (task_of run task).body
+      (reverse (records_of task records)) step
+  pub answer : Answer
+  pub list : RunList run (made task step answer ∷ records)

@@ -1,6 +1,7 @@
 pub mod Runs
 pub mod Kept
 pub mod Leads
+pub mod Copies
 pub mod Steps
 pub mod Turns
 pub mod Readers

@@ -15,8 +15,8 @@ use Rattle.slot_table.specs.declared.records.Record.{Record}
 use Rattle.slot_table.specs.declared.step.Answer.{Answer}
 use Rattle.slot_table.specs.declared.step.Step.{Step}
 use Rattle.task_run.specs.Points.{Stepped, next_is}
-use Rattle.task_run.specs.declared.points.Before.{Before}
-use Rattle.task_run.specs.declared.points.Before.TheVariants.{Other}
+use Rattle.task_run.specs.of_task_points_declared.points.Before.{Before}
+use Rattle.task_run.specs.of_task_points_declared.points.Before.TheVariants.{Other}
 use Rattle.written_tellings.specs.of_written_order_Standing.{Setting}
 use Rattle.written_tellings.specs.of_written_order_Told.{did_next}
 use Rattle.written_tellings.specs.of_written_order_WrittenOrder.{WrittenOrder, at_first, stands_after}

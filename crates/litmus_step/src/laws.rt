@@ -27,10 +27,10 @@ ghost use Rattle.slot_table.specs.declared.records.Record.{Record};
 ghost use Rattle.slot_table.specs.declared.step.Answer.{Answer};
 ghost use Rattle.slot_table.specs.declared.step.Step.{Step};
 ghost use Rattle.litmus_step.specs.Kept.{Added, AreKept, IsKept, IsNotedIn, reports_kept};
-ghost use Rattle.litmus_step.specs.Leads.{AreAtPoints, LeadsTask, LeadsToAll, MakesNextIn};
+ghost use Rattle.litmus_step.specs.Leads.{AreAtPoints, GoesOnWith, LeadsTask, LeadsToAll, MakesNextIn};
 ghost use Rattle.litmus_step.specs.Readers.{IsMeant};
 ghost use Rattle.litmus_step.specs.Runs.{CanBeMade, HasEnded, tasks_of};
-ghost use Rattle.litmus_step.specs.Steps.{LeadsTo};
+ghost use Rattle.litmus_step.specs.Steps.{LeadsTo, tasks_in};
 ghost use Rattle.litmus_step.specs.declared.world.World.{World};
 ghost use Rattle.task_log.specs.Arms.{arms_of, takes_of};
 ghost use Rattle.task_log.specs.Counters.{Count};
@@ -78,6 +78,9 @@ pub fn steps_lead_on()
     ensures names { (run : Run) (records : List Record) (words : Words) (machines : List TaskRun) (steps : ℕ) (logs : List TaskLog)
         (reports : List Report) (room task : ℕ) (step : Step) → LeadsToAll run records words machines steps logs reports room
         → MakesNextIn machines task step → Names words step }
+    ensures goes { (run : Run) (records : List Record) (words : Words) (machines : List TaskRun) (steps : ℕ) (logs : List TaskLog)
+        (reports : List Report) (room task : ℕ) (step : Step) → LeadsToAll run records words machines steps logs reports room
+        → MakesNextIn machines task step → GoesOnWith run task records step }
     ensures leads { (run : Run) (records : List Record) (words : Words) (machines : List TaskRun) (steps : ℕ)
         (logs more_logs : List TaskLog)
         (reports more_reports : List Report) (room more_room task : ℕ) (step : Step)
@@ -123,6 +126,11 @@ pub fn steps_are_kept()
     a_machine_says_what_is_noted();
     a_log_reports_what_the_list_does();
 }
+
+/// Law: a world has the tasks of the run of whose list it comes.
+pub fn a_world_has_all_tasks()
+    ensures { (run : Run) (records : List Record) (world : World) → LeadsTo run records world → tasks_in world ≡ tasks_of run }
+{}
 
 /// Law: the counters of a world's logs, added one after the other, are those of each list that leads to it.
 pub fn logs_count_the_list()

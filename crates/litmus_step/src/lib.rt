@@ -1,6 +1,7 @@
 //! A whole litmus program, one step at a time: its tasks take turns on the words that they share.
 #![tactic(auto)]
 
+mod copies;
 pub mod first;
 pub mod laws;
 pub mod logs;

@@ -1,6 +1,6 @@
 //! The world: all tasks of a program over one board.
 
-ghost use Rattle.std.specs.Prelude.{◌≡◌, ◌≢◌, ◌<◌, ◌≤◌, ◌↔◌, ◌⊎◌, [], ℕ, List, Option, Some, IfErr, IfOk, IsErrOf, slice_get, slice_set};
+ghost use Rattle.std.specs.Prelude.{◌≡◌, ◌≢◌, ◌<◌, ◌≤◌, ◌↔◌, ◌⊎◌, ◌∷◌, [], ℕ, List, Option, Some, IfErr, IfOk, IsErrOf, slice_get, slice_set};
 ghost use Rattle.std.specs.Prelude.{vec_capacity, vec_len};
 ghost use Rattle.std.specs.Arc.{arc_value};
 ghost use Rattle.litmus_syntax.specs.Limits.{KeepsLimits};
@@ -8,6 +8,7 @@ ghost use Rattle.litmus_syntax.specs.Views.{program_of};
 ghost use Rattle.program_layout.specs.Places.{AreFit};
 ghost use Rattle.run_headline.specs.Headline.{Headline};
 ghost use Rattle.step_bounds.specs.of_run_lists_Run.{Run};
+ghost use Rattle.setup_access.specs.Parts.{made};
 ghost use Rattle.slot_table.specs.declared.records.Record.{Record};
 ghost use Rattle.litmus_step.specs.Leads.{IsLedTo, MakesNextIn};
 ghost use Rattle.litmus_step.specs.Kept.{Added, IsNotedIn, rooms_of};
@@ -25,7 +26,7 @@ use access_types::{Report, Sites};
 use litmus_syntax::Program;
 use program_sites::{Prepared, RunError, Settings};
 use run_headline::laws::the_headline_holds;
-use slot_table::{Board, PlainBoard, Step};
+use slot_table::{Answer, Board, PlainBoard, Step};
 use std::alloc::{AllocError, Global};
 use std::sync::Arc;
 use task_log::{Noted, TaskLog};
@@ -70,7 +71,7 @@ fn note_in(logs: &mut Vec<TaskLog>, reports: &mut Vec<Report>, task: usize, note
 }
 
 impl<'a> World<'a> {
-    ghost use Rattle.litmus_step.specs.Steps.{IsMachine, LeadsTo, MovesOn, StepsOn, Tells, room_in, tasks_in};
+    ghost use Rattle.litmus_step.specs.Steps.{IsMachine, LeadsTo, StepsOn, Tells, room_in, tasks_in};
 
     /// A program before its first step. It takes all its room, and `step` and `run` take no memory.
     ///
@@ -146,11 +147,12 @@ impl<'a> World<'a> {
         self.state(task)
     }
 
-    /// A task makes this step, which is its next.
-    fn make(&mut self, task: usize, step: Step)
+    /// A task makes this step, which is its next: what it is answered.
+    pub fn make(&mut self, task: usize, step: Step) -> Answer
         requires there { task < tasks_in self.old }
         requires next { MakesNextIn self.old.tasks.items task step }
-        ensures moves { (run : Run) (records : List Record) → LeadsTo run records self.old → MovesOn run records task self.new }
+        ensures moves { (run : Run) (records : List Record) → LeadsTo run records self.old
+            → LeadsTo run (made task step result ∷ records) self.new }
         ensures others { (other : ℕ) → task ≢ other → slice_get self.new.tasks.items other ≡ slice_get self.old.tasks.items other }
         ensures tasks { tasks_in self.new ≡ tasks_in self.old }
         ensures sites { self.new.sites ≡ self.old.sites }
@@ -170,6 +172,7 @@ impl<'a> World<'a> {
             outcome,
         };
         note_in(&mut self.logs, &mut self.reports, task, &noted);
+        answer
     }
 
     /// What a task is now.

@@ -34,6 +34,7 @@ module _ (checker copy : Checker) (same : IsCopy checker copy) where
     last = sym same.last;
     stage = sym same.stage;
     outcomes = sym same.outcomes;
+    room = sym same.room;
   }
 
   pub copies_have_context : context_of copy ≡ context_of checker
@@ -51,6 +52,7 @@ module _ (checker copy : Checker) (same : IsCopy checker copy) where
     last = same.last;
     stage = same.stage;
     outcomes = same.outcomes;
+    room = same.room;
   }
 
   pub copies_rest : (s : spec.Setting) (scopes : List Begun) (asked : ℕ) (last : Option Begun)

@@ -1,6 +1,7 @@
-ghost use Rattle.std.specs.Prelude.{◌≡◌, ◌≤◌, IfOk};
+ghost use Rattle.std.specs.Prelude.{◌≡◌, ◌≤◌, IfOk, vec_capacity};
 
 use crate::rules::Rules;
+use list_copy::copied;
 use std::alloc::{AllocError, Global};
 
 /// What a task's checks go by: whose they are, the rules of the run, and the addresses of the cells.
@@ -18,14 +19,15 @@ impl Setting {
     ghost use Rattle.access_types.specs.Sites.{AccessMap};
     ghost use Rattle.setup_access.specs.Kept.{setting_with};
 
-    /// The same, with a list of its own.
+    /// The same, with a list of its own of as much room.
     pub(crate) fn copy(&self, alloc: Global) -> Result<Setting, AllocError>
-        ensures { IfOk result (λ copy. (sites : AccessMap) → setting_with copy sites ≡ setting_with self.now sites) }
+        ensures same { IfOk result (λ copy. (sites : AccessMap) → setting_with copy sites ≡ setting_with self.now sites) }
+        ensures room { IfOk result (λ copy. vec_capacity copy.cells ≡ vec_capacity self.now.cells) }
     {
         Ok(Setting {
             task: self.task,
             rules: self.rules,
-            cells: self.cells.to_vec(alloc)?,
+            cells: copied(alloc, &self.cells)?,
         })
     }
 }

@@ -3,7 +3,6 @@
 #![tactic(auto)]
 
 pub mod armings;
-pub mod copies;
 pub mod counters;
 pub mod latest;
 pub mod log;

@@ -10,12 +10,12 @@ ghost use Rattle.task_log.specs.Touches.{accesses_of, touches_of};
 ghost use Rattle.task_log.specs.declared.noted.Noted.{Noted};
 
 use crate::armings::Armings;
-use crate::copies::copied;
 use crate::counters::Counters;
 use crate::latest::Latest;
 use crate::noted::Noted;
 use crate::touches::{self, Touch};
 use access_types::{Arm, ArmOutcome, Report, Stamped, Take};
+use list_copy::copied;
 use setup_access::Outcome;
 use slot_table::Step;
 use std::alloc::{AllocError, Global};

@@ -28,4 +28,4 @@ pub mod TellLemmas
 pub mod FellLemmas
 pub mod ComeLemmas
 pub mod NewsLemmas
-pub mod PointLemmas
+pub mod CopyLemmas

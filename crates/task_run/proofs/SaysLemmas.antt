@@ -1,5 +1,5 @@
 -- A machine is before one step at most.
-use Rattle.std.proofs.Common.{◌≡◌, ◌∙◌, [], Some, sym}
+use Rattle.std.proofs.Common.{◌≡◌, ◌∙◌, ◌⊎◌, [], Some, inl, inr, subst, sym}
 use Rattle.access_run.specs.Leads as accesses
 use Rattle.access_run.specs.declared.stage.Stage as access_stages
 use Rattle.access_run.specs.declared.stage.Stage.TheVariants.{Check, End, Operate, Over}
@@ -7,7 +7,7 @@ use Rattle.access_types.specs.Sites.{map_of}
 use Rattle.setup_access.specs.Leads as checks
 use Rattle.setup_access.specs.declared.checker.Checker.{Checker}
 use Rattle.slot_table.specs.declared.step.Step.{Step}
-use Rattle.task_run.specs.Says.{StageSays}
+use Rattle.task_run.specs.Says.{Says, StageSays}
 use Rattle.task_run.specs.declared.run.TaskRun.{TaskRun}
 use Rattle.task_run.specs.declared.stage.Stage.{Stage}
 use Rattle.task_run.specs.declared.stage.Stage.TheVariants as stages
@@ -33,3 +33,9 @@ one_says run stages.Opening one other h k = check_says run.machine.checker one o
 one_says run stages.Closing one other h k = check_says run.machine.checker one other h k
 one_says run (stages.Locking wait variable) one other h k = h.1 ∙ sym k.1
 one_says run (stages.Unlocking variable) one other h k = h ∙ sym k
+
+-- in a check of a scoped assertion it is before the step of its checker
+pub says_as_check : (run : TaskRun) (step : Step) → (run.stage ≡ stages.Opening) ⊎ (run.stage ≡ stages.Closing) → Says run step
+    → checks.Says run.machine.checker step
+says_as_check run step (inl is) says = subst (λ (stage : Stage). StageSays stage run step) is says
+says_as_check run step (inr is) says = subst (λ (stage : Stage). StageSays stage run step) is says

@@ -11,7 +11,7 @@ use Rattle.litmus_syntax.specs.Tree.{Block}
 use Rattle.task_run.specs.Leads.{BeginsNext, Leads}
 use Rattle.task_run.specs.Part.{Part, closes, locks, makes, opens, over, stops, unlocks}
 use Rattle.task_run.specs.declared.machine.Machine.{Machine}
-use Rattle.task_run.specs.declared.points.News.{News}
+use Rattle.task_run.specs.declared.news.News.{News}
 use Rattle.task_run.specs.declared.run.TaskRun.{TaskRun}
 use Rattle.task_run.specs.declared.stage.Stage.{Stage}
 use Rattle.task_run.specs.declared.stage.Stage.TheVariants as stages

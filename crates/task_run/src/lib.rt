@@ -4,14 +4,15 @@
 
 mod begins;
 mod checks;
+mod copies;
 mod follows;
 pub mod laws;
 mod machine;
 mod marks;
-pub mod points;
+mod news;
 pub mod run;
 mod stage;
 
 pub use laws::{no_task_stops, one_step_is_next, too_long_a_wait_is_told_by_the_records};
-pub use points::{After, Before};
 pub use run::TaskRun;
+pub use task_points::{After, Before};

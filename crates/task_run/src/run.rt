@@ -5,7 +5,7 @@ ghost use Rattle.std.specs.Prelude.{IfErr, IfOk, IfSome, IsErrOf, IsNone, IsTrue
 ghost use Rattle.access_types.specs.Sites.{AccessMap};
 
 use crate::machine::Machine;
-use crate::points::{After, Before, Latest, News};
+use crate::news::News;
 use crate::stage::Stage;
 use access_run::AccessRun;
 use litmus_syntax::Program;
@@ -16,6 +16,7 @@ use slot_table::{Answer, Step};
 use std::alloc::{AllocError, Global};
 use std::sync::Arc;
 use task_plan::{Progress, Then};
+use task_points::{After, Before, Latest};
 use text_walk::Walk;
 
 /// A task of a program, from its first statement to its last: the step that it makes next, and what it
@@ -39,15 +40,12 @@ impl<'a> TaskRun<'a> {
     ghost use Rattle.program_sites.specs.Sites.{AreSitesOf};
     ghost use Rattle.program_sites.specs.declared.settings.Settings.{Settings};
     ghost use Rattle.task_run.specs.First.{setting_of};
-    ghost use Rattle.memory_operation.specs.LockLeads.{LockSays};
-    ghost use Rattle.setup_access.specs.Leads as checks;
     ghost use Rattle.slot_table.specs.Answer.{Answers};
     ghost use Rattle.slot_table.specs.declared.records.Record.{Record};
     ghost use Rattle.slot_table.specs.declared.step.Answer.TheVariants.{Done};
     ghost use Rattle.slot_table.specs.declared.step.Step.{Step};
     ghost use Rattle.task_run.specs.Leads.{BeginsNext, IsStuck, Leads, LeadsOn, stands_at};
     ghost use Rattle.task_plan.specs.Counts.{up_to_last};
-    ghost use Rattle.access_run.specs.Leads.{AccessSays};
     ghost use Rattle.task_run.specs.Says.{IsGoing, IsStopped, Says};
     ghost use Rattle.task_run.specs.Fell.{FellAt, fell_of};
     ghost use Rattle.std.specs.Option.{is_some};
@@ -239,12 +237,8 @@ impl<'a> TaskRun<'a> {
                 let fell = self.answers_access(after, answer);
                 self.news.tell(fell, latest);
             }
-            Stage::Opening => {
-                let fell = self.answers_open(answer);
-                self.news.tell(fell, latest);
-            }
-            Stage::Closing => {
-                let fell = self.answers_close(answer);
+            Stage::Opening | Stage::Closing => {
+                let fell = self.answers_check(answer);
                 self.news.tell(fell, latest);
             }
             Stage::Locking(_, _) => {
@@ -314,32 +308,21 @@ impl<'a> TaskRun<'a> {
         fell
     }
 
-    /// The check of a scoped assertion takes the answer, and what fell is told. Once it is over, the
-    /// assertion is in force.
-    fn answers_open(&mut self, answer: Answer) -> Option<Outcome>
-        requires { (step : Step) × checks.Says self.old.machine.checker step × Answers step answer }
-        ensures leads { self.old.stage ≡ Opening → LeadsOn self.old self.new answer }
-        ensures fell { self.old.stage ≡ Opening → FellAt self.old result answer }
+    /// The check of a scoped assertion takes the answer, and what fell is told. Once it is over, the assertion is in force, or no
+    /// longer.
+    fn answers_check(&mut self, answer: Answer) -> Option<Outcome>
+        requires checking { (self.old.stage ≡ Opening) ⊎ (self.old.stage ≡ Closing) }
+        requires says { (step : Step) × Says self.old step × Answers step answer }
+        ensures leads { LeadsOn self.old self.new answer }
+        ensures fell { FellAt self.old result answer }
         ensures room { room_of self.new.machine ≡ room_of self.old.machine }
     {
         let came = self.machine.answers_check(answer);
         if came.over {
-            self.machine.opened();
-            self.machine.goes_on(&mut self.stage);
-        }
-        came.fell
-    }
-
-    /// The last check of a scoped assertion takes the answer, and what fell is told.
-    fn answers_close(&mut self, answer: Answer) -> Option<Outcome>
-        requires { (step : Step) × checks.Says self.old.machine.checker step × Answers step answer }
-        ensures leads { self.old.stage ≡ Closing → LeadsOn self.old self.new answer }
-        ensures fell { self.old.stage ≡ Closing → FellAt self.old result answer }
-        ensures room { room_of self.new.machine ≡ room_of self.old.machine }
-    {
-        let came = self.machine.answers_check(answer);
-        if came.over {
-            self.machine.closed();
+            match self.stage {
+                Stage::Opening => self.machine.opened(),
+                _ => self.machine.closed(),
+            }
             self.machine.goes_on(&mut self.stage);
         }
         came.fell

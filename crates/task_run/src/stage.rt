@@ -1,5 +1,7 @@
 //! The part of its text that a task is in.
 
+ghost use Rattle.std.specs.Prelude.{◌≡◌};
+
 use access_run::AccessRun;
 use memory_operation::LockWait;
 use task_plan::Then;
@@ -22,4 +24,21 @@ pub(crate) enum Stage<'a> {
     Locking(LockWait, usize),
     /// The step that gives a lock back, by the number of its variable.
     Unlocking(usize),
+}
+
+impl<'a> Stage<'a> {
+    /// The same once more.
+    pub(crate) fn copy(&self) -> Stage<'a>
+        ensures { result ≡ self.now }
+    {
+        match self {
+            Stage::Over => Stage::Over,
+            Stage::Stopped => Stage::Stopped,
+            Stage::Making(run, after) => Stage::Making(*run, *after),
+            Stage::Opening => Stage::Opening,
+            Stage::Closing => Stage::Closing,
+            Stage::Locking(wait, variable) => Stage::Locking(*wait, *variable),
+            Stage::Unlocking(variable) => Stage::Unlocking(*variable),
+        }
+    }
 }

@@ -90,25 +90,22 @@ returns-clause-moves c =
     let fallen = fell_in c.args.self.now.tasks.items c.args.task c.requires.next.machine c.index_mut.result.now c.answer.new.self
     c.index-2.result.now c.fell-outcome.result c.step-answer.result there same_mut c.index-2.ensures c.fell-outcome.ensures
     c.answer.ensures.fell in
-    λ run records leads. record {
-      made = made c.args.task c.args.step c.step-answer.result;
-      own = refl;
-      leads = (world_leads c.steps_lead_on.ensures.leads c.args.self.now c.args.task c.args.step c.step-answer.result c.index_mut.result.now
-          c.answer.new.self c.step-answer.new.self c.saturating_add-self.result c.note_in.new.logs.items c.note_in.new.reports.items
-          (vec_capacity c.note_in.new.reports) c.requires.next c.requires.there c.index_mut.ensures.value
-          c.step-answer.ensures.kind c.step-answer.ensures.answer c.step-answer.ensures.after c.saturating_add-self.ensures
-          c.answer.ensures.leads run records leads
-          (noted_more c.steps_are_kept.ensures.more c.args.self.now c.args.task c.args.step c.step-answer.result c.requires.next.machine
-          c.begins-begins.result
-          c.fell-outcome.result c.note_in.new.logs.items c.note_in.new.reports.items
-          (vec_capacity c.note_in.new.reports) c.requires.there c.requires.next.stands
-          c.requires.next.makes.says begun fallen
-          c.note_in.ensures.noted c.note_in.ensures.room run records leads)
-          (world_points c.steps_are_kept.ensures.points c.args.self.now c.args.task c.args.step c.step-answer.result
-          c.requires.next.machine c.index_mut.result.now c.answer.new.self c.begins-begins.result c.fell-outcome.result
-          c.requires.next.stands same_mut c.requires.next.makes.says begun fallen c.answer.ensures.points
-          run records leads));
-    }
+    λ run records leads.
+    (world_leads c.steps_lead_on.ensures.leads c.args.self.now c.args.task c.args.step c.step-answer.result c.index_mut.result.now
+    c.answer.new.self c.step-answer.new.self c.saturating_add-self.result c.note_in.new.logs.items c.note_in.new.reports.items
+    (vec_capacity c.note_in.new.reports) c.requires.next c.requires.there c.index_mut.ensures.value
+    c.step-answer.ensures.kind c.step-answer.ensures.answer c.step-answer.ensures.after c.saturating_add-self.ensures
+    c.answer.ensures.leads run records leads
+    (noted_more c.steps_are_kept.ensures.more c.args.self.now c.args.task c.args.step c.step-answer.result c.requires.next.machine
+    c.begins-begins.result
+    c.fell-outcome.result c.note_in.new.logs.items c.note_in.new.reports.items
+    (vec_capacity c.note_in.new.reports) c.requires.there c.requires.next.stands
+    c.requires.next.makes.says begun fallen
+    c.note_in.ensures.noted c.note_in.ensures.room run records leads)
+    (world_points c.steps_are_kept.ensures.points c.args.self.now c.args.task c.args.step c.step-answer.result
+    c.requires.next.machine c.index_mut.result.now c.answer.new.self c.begins-begins.result c.fell-outcome.result
+    c.requires.next.stands same_mut c.requires.next.makes.says begun fallen c.answer.ensures.points
+    run records leads))
 
 pub returns-clause-others : goal.returns-clause-others
 returns-clause-others c = λ other apart. set_other c.args.self.now.tasks.items c.args.task other c.answer.new.self apart

@@ -3,6 +3,7 @@ use Rattle.std.proofs.Common.{◌<◌, ap, arith, inl, inr, is_some, refl}
 use Rattle.litmus_step.proofs.TurnLemmas.{machine_at, reaches, some_machine, tells_ended, tells_stuck}
 use Rattle.litmus_step.proofs.world.World.step.Goals as goal
 use Rattle.litmus_step.specs.Steps.{tasks_in}
+use Rattle.setup_access.specs.Parts.{made}
 
 pub returns-in_default-clause-steps : goal.returns-in_default-clause-steps
 returns-in_default-clause-steps c = λ run records leads.
@@ -35,7 +36,11 @@ returns-clause-steps c = λ run records leads.
     let reach = reaches run records c.args.self.now c.args.task c.index.result.now leads stands in
     inr (
       (λ over. let none = (c.in-Some.ensures.over _ _ _ _ reach.leads reach.written reach.scopes reach.rises).1 over in cc),
-      c.make.ensures.moves run records leads,
+      record {
+        made = made c.args.task c.in-Some.step c.make.result;
+        own = refl;
+        leads = c.make.ensures.moves run records leads;
+      },
     )
 
 pub returns-clause-ended : goal.returns-clause-ended

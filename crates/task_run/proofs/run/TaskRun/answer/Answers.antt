@@ -24,23 +24,13 @@ returns-in-Making-clause-fell c = λ s registers body records step leads says la
 
 pub returns-in-Opening-clause-leads : goal.returns-in-Opening-clause-leads
 returns-in-Opening-clause-leads c = λ s registers body records step leads says.
-    keeping s registers body (records ++ made s.text.task step c.args.answer ∷ []) c.answers_open-fell.new.self _
-    (c.answers_open-fell.ensures.leads c.in-Opening.is s registers body records step leads says)
+    keeping s registers body (records ++ made s.text.task step c.args.answer ∷ []) c.answers_check-fell.new.self _
+    (c.answers_check-fell.ensures.leads s registers body records step leads says)
 
 pub returns-in-Opening-clause-fell : goal.returns-in-Opening-clause-fell
 returns-in-Opening-clause-fell c = λ s registers body records step leads says later. subst (λ (o : Option Outcome). FallsInPart s leads.part (leads.now (leads.mine ++ made s.text.task step c.args.answer ∷ later))
     (leads.mine ++ made s.text.task step c.args.answer ∷ later) later o) (sym c.tell-in-Opening.ensures.fell)
-    (c.answers_open-fell.ensures.fell c.in-Opening.is s registers body records step leads says later)
-
-pub returns-in-Closing-clause-leads : goal.returns-in-Closing-clause-leads
-returns-in-Closing-clause-leads c = λ s registers body records step leads says.
-    keeping s registers body (records ++ made s.text.task step c.args.answer ∷ []) c.answers_close-fell.new.self _
-    (c.answers_close-fell.ensures.leads c.in-Closing.is s registers body records step leads says)
-
-pub returns-in-Closing-clause-fell : goal.returns-in-Closing-clause-fell
-returns-in-Closing-clause-fell c = λ s registers body records step leads says later. subst (λ (o : Option Outcome). FallsInPart s leads.part (leads.now (leads.mine ++ made s.text.task step c.args.answer ∷ later))
-    (leads.mine ++ made s.text.task step c.args.answer ∷ later) later o) (sym c.tell-in-Closing.ensures.fell)
-    (c.answers_close-fell.ensures.fell c.in-Closing.is s registers body records step leads says later)
+    (c.answers_check-fell.ensures.fell s registers body records step leads says later)
 
 pub returns-in-Locking-clause-leads : goal.returns-in-Locking-clause-leads
 returns-in-Locking-clause-leads c = λ s registers body records step leads says.
@@ -76,10 +66,6 @@ returns-in-Making-clause-points c = λ s registers body records leads begins ste
 pub returns-in-Opening-clause-points : goal.returns-in-Opening-clause-points
 returns-in-Opening-clause-points c = λ s registers body records leads begins steps next so_far.
     c.tell-in-Opening.ensures.latest ∙ c.latest-latest.ensures s registers body records leads begins steps next so_far
-
-pub returns-in-Closing-clause-points : goal.returns-in-Closing-clause-points
-returns-in-Closing-clause-points c = λ s registers body records leads begins steps next so_far.
-    c.tell-in-Closing.ensures.latest ∙ c.latest-latest.ensures s registers body records leads begins steps next so_far
 
 pub returns-in-Locking-clause-points : goal.returns-in-Locking-clause-points
 returns-in-Locking-clause-points c = λ s registers body records leads begins steps next so_far.

@@ -13,7 +13,7 @@ use Rattle.task_run.proofs.run.TaskRun.prepared.Goals as goal
 use Rattle.task_run.specs.First.{setting_of}
 use Rattle.task_run.specs.Leads.{Leads}
 use Rattle.task_run.specs.declared.machine.Machine.{Machine}
-use Rattle.task_run.specs.declared.points.Latest.TheVariants.{Other}
+use Rattle.task_points.specs.declared.points.Latest.TheVariants.{Other}
 use Rattle.task_run.specs.declared.run.TaskRun.{TaskRun}
 use Rattle.text_walk.specs.of_written_order_Standing.{Setting}
 

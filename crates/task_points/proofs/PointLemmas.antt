@@ -2,8 +2,8 @@
 use Rattle.std.proofs.Common.{◌≡◌, ℕ, Bool, true, false, List, [], ◌∷◌, None, Option, Some, refl}
 use Rattle.slot_table.specs.declared.step.Step.{Step}
 use Rattle.slot_table.specs.declared.step.Step.TheVariants.{CellExchange, CellLoad, Clear, Clock, Consume, Insert, Load, LockStore, LockTry, Name, PairLoad, Remove, Tell, TryConsume}
-use Rattle.task_run.specs.Points.{Stepped, after_of, kept_by, kept_of, last_was, name_in, name_of, named_at, read_at, read_in, read_of, read_then, step_was}
-use Rattle.task_run.specs.declared.points.After.TheVariants as afters
+use Rattle.task_points.specs.Points.{Stepped, after_of, kept_by, kept_of, last_was, name_in, name_of, named_at, read_at, read_in, read_of, read_then, step_was}
+use Rattle.task_points.specs.declared.points.After.TheVariants as afters
 
 read_after : (named : Option ℕ) → after_of (read_then named) ≡ afters.Other
 read_after None = refl
