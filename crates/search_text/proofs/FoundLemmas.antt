@@ -1,0 +1,74 @@
+-- What is found of lists, with one list more.
+use Rattle.std.proofs.Common.{◌≡◌, ◌+◌, ◌<◌, ◌++◌, ◌∷◌, ◌∙◌, ◌==◌, ◌||◌, ℕ, List, [], Bool, Option, None, Some, true, false, ap, arith, fold, inl, inr, length, length-append, map, not, refl, sym, if◌then◌else◌}
+use Rattle.std.specs.List.{flat_map, list_any}
+use Rattle.std.proofs.lemmas.Bool.Decides.{eqb_tells}
+use Rattle.std.proofs.lemmas.Cmp.{nat_list_eq_equiv}
+use Rattle.std.proofs.lemmas.List.{length-map}
+use Rattle.report_text.specs.Groups.{first_seen, is_text, one_more}
+use Rattle.search_text.proofs.SightingLemmas.{count_on, counted_more, seen_on, sightings_on}
+use Rattle.search_text.proofs.TextLists.{any_fold}
+use Rattle.search_text.specs.Found.{Finds, Searched, ends_so, fails, is_deadlocked, is_none, meets, option_again, resting, sightings_in, state_in, states_of, texts_of_all}
+use Rattle.search_text.specs.Seen.{sighted}
+use Rattle.search_text.specs.Texts.{End}
+use Rattle.search_text.specs.Write.{found_text, search_text, text_found}
+use Rattle.search_text.specs.declared.found.Found.{Found}
+
+-- a final state is one text
+one_state : (ending : Option End) → first_seen (state_in ending) ≡ state_in ending
+one_state None = refl
+one_state (Some end) = refl
+
+pub finds_on : (lists : List Searched) (one : Searched) (old new : Found) → Finds lists old
+    → new.reports ≡ fold (sighted one.schedule) old.reports (first_seen one.texts)
+    → new.stuck ≡ (if is_none one.ending then option_again one.schedule old.stuck else old.stuck)
+    → new.states ≡ fold (sighted one.schedule) old.states (state_in one.ending)
+    → new.searched ≡ one_more old.searched
+    → new.held ≡ (if ends_so true one.ending then one_more old.held else old.held)
+    → new.failed ≡ (if ends_so false one.ending then one_more old.failed else old.failed)
+    → Finds (lists ++ one ∷ []) new
+finds_on lists one old new finds reports stuck states searched held failed = record {
+  reports = reports ∙ ap (λ all. fold (sighted one.schedule) all (first_seen one.texts)) finds.reports
+      ∙ sightings_on (λ list. list.texts) lists one;
+  stuck = stuck ∙ ap (λ before. if is_none one.ending then option_again one.schedule before else before) finds.stuck
+      ∙ sym (seen_on is_deadlocked lists one);
+  states = states ∙ ap (λ all. fold (sighted one.schedule) all (state_in one.ending)) finds.states
+      ∙ ap (λ own. fold (sighted one.schedule) (sightings_in states_of lists) own) (sym (one_state one.ending))
+      ∙ sightings_on states_of lists one;
+  searched = searched ∙ ap one_more finds.searched ∙ counted_more (length lists)
+      ∙ ap resting (sym (length-append lists (one ∷ [])));
+  held = held ∙ ap (λ n. if ends_so true one.ending then one_more n else n) finds.held ∙ sym (count_on meets lists one);
+  failed = failed ∙ ap (λ n. if ends_so false one.ending then one_more n else n) finds.failed ∙ sym (count_on fails lists one);
+}
+
+not_zero : (n : ℕ) → 0 < n → (n == 0) ≡ false
+not_zero n above = elim (eqb_tells n 0) [
+  | inl none ↦ let is = none.1 in absurd (omega (arith, above, is))
+  | inr differs ↦ differs.0
+]
+
+-- there are texts once each where there are texts
+some_kept : (texts : List (List ℕ)) → (length (first_seen texts) == 0) ≡ (length texts == 0)
+some_kept [] = refl
+some_kept (text ∷ texts) = by (first_seen (text ∷ texts)) refl ∙ sym (not_zero (length (text ∷ texts)) (omega arith))
+  where
+    by : (kept : List (List ℕ)) → first_seen (text ∷ texts) ≡ kept → (length (first_seen (text ∷ texts)) == 0) ≡ false
+    by [] e =
+        let there : list_any (is_text text) (first_seen (text ∷ texts)) ≡ true =
+        any_fold text [] (text ∷ texts) ∙ ap (λ b. b || list_any (is_text text) texts) (nat_list_eq_equiv.refl text) in
+        let none : list_any (is_text text) (first_seen (text ∷ texts)) ≡ false = ap (list_any (is_text text)) e in
+        let no : false ≡ true = sym none ∙ there in
+        cc
+    by (first ∷ kept) e = ap (λ all. length all == 0) e ∙ not_zero (length (first ∷ kept)) (omega arith)
+
+pub reports_kept : (lists : List Searched) (found : Found) → Finds lists found
+    → not (length found.reports == 0) ≡ not (length (texts_of_all lists) == 0)
+reports_kept lists found finds =
+    ap (λ all. not (length all == 0)) finds.reports
+    ∙ ap (λ n. not (n == 0)) (length-map (first_seen (texts_of_all lists)) _)
+    ∙ ap not (some_kept (texts_of_all lists))
+
+-- what is found is what is written
+pub text_found_is : (name : List ℕ) (switches : ℕ) (stopped : Bool) (lists : List Searched) (found : Found) → Finds lists found
+    → text_found name switches stopped found ≡ search_text name switches stopped lists
+text_found_is name switches stopped lists found finds =
+    rw (finds.reports, finds.stuck, finds.states, finds.searched, finds.held, finds.failed)

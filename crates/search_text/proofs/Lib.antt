@@ -1,0 +1,6 @@
+pub mod TextLists
+pub mod SightingLemmas
+pub mod FoundLemmas
+pub mod Shown
+pub mod VecTexts
+pub mod ReadBack

@@ -1,0 +1,85 @@
+-- What a search writes.
+use Rattle.std.specs.Prelude.{◌++◌, ◌==◌, ◌∷◌, [], ℕ, Bool, List, Option, None, Some, codes, count_by, if◌then◌else◌, length, false, true}
+use Rattle.std.specs.Fmt.{decimal}
+use Rattle.std.specs.List.{flat_map}
+use Rattle.access_types.specs.ReportText.{line}
+use Rattle.search_text.specs.Found.{Searched, fails, is_deadlocked, meets, resting, seen_in, sightings_in, states_of}
+use Rattle.search_text.specs.Schedules.{schedule_text}
+use Rattle.search_text.specs.Times.{Sighting, Times}
+use Rattle.search_text.specs.declared.found.Found.{Found}
+
+-- in how many schedules something was, behind this word
+unfoldable pub times_head : List ℕ → ℕ → List ℕ
+times_head word times = word ++ codes " in " ++ decimal times ++ codes " schedules, first with --schedule "
+
+-- the same, and the first of them
+abbrev pub times_line : List ℕ → Times → List ℕ
+times_line word times = times_head word times.0 ++ (schedule_text times.1 ++ codes "\n")
+
+-- the text of a report, and in how many schedules it was seen
+abbrev pub sighting_text : Sighting → List ℕ
+sighting_text sighting = sighting.0 ++ times_line (codes "seen") sighting.1
+
+-- in how many schedules not all tasks ended, if there are any
+abbrev pub stuck_text : Option Times → List ℕ
+stuck_text None = []
+stuck_text (Some times) = times_line (codes "stuck") times
+
+-- how many schedules were searched
+unfoldable pub searched_line : (searched switches : ℕ) → List ℕ
+searched_line searched switches =
+    line (codes "searched " ++ decimal searched ++ codes " schedules with at most " ++ decimal switches ++ codes " switches")
+
+-- the search was stopped after so many schedules
+unfoldable pub stopped_line : ℕ → List ℕ
+stopped_line searched = line (codes "stopped after " ++ decimal searched ++ codes " schedules: others remain")
+
+abbrev pub stopped_text : (stopped : Bool) → ℕ → List ℕ
+stopped_text true searched = stopped_line searched
+stopped_text false searched = []
+
+-- how many final states there are
+unfoldable pub states_line : ℕ → List ℕ
+states_line states = line (codes "States " ++ decimal states)
+
+-- a final state, and how many schedules end so
+abbrev pub state_line : Sighting → List ℕ
+state_line sighting = (decimal sighting.1.0 ++ codes ">") ++ (sighting.0 ++ codes "\n")
+
+-- in which of so many and so many whole lists the proposition holds, and doesn't
+abbrev pub word_of : (held failed : ℕ) → List ℕ
+word_of held failed = if held == 0 then codes "Never" else if failed == 0 then codes "Always" else codes "Sometimes"
+
+unfoldable pub observed : (held failed : ℕ) → List ℕ
+observed held failed = line (codes " " ++ word_of held failed ++ codes " " ++ decimal held ++ codes " " ++ decimal failed)
+
+-- the same, of the test of this name
+abbrev pub observation_line : List ℕ → (held failed : ℕ) → List ℕ
+observation_line name held failed = codes "Observation " ++ (name ++ observed held failed)
+
+-- how many schedules were searched, of those with at most so many switches, and that others remain, if they do
+abbrev pub bounds_text : (searched switches : ℕ) → (stopped : Bool) → List ℕ
+bounds_text searched switches stopped = searched_line searched switches ++ stopped_text stopped searched
+
+-- how whole lists end: how many final states there are, each of them, and in how many the proposition of the condition holds, and doesn't
+abbrev pub endings_text : (name : List ℕ) → (states : List Sighting) → (held failed : ℕ) → List ℕ
+endings_text name states held failed =
+    states_line (length states) ++ (flat_map state_line states ++ observation_line name held failed)
+
+-- What a search over the schedules of the test of this name writes, with at most so many switches, stopped at its limit or not: each
+-- distinct report and in how many lists it was seen; in how many not all tasks ended; how many lists were searched; and how the others end.
+abbrev pub found_text : (name : List ℕ) → (switches : ℕ) → (stopped : Bool) → (reports : List Sighting) → (stuck : Option Times)
+    → (states : List Sighting) → (searched held failed : ℕ) → List ℕ
+found_text name switches stopped reports stuck states searched held failed =
+    flat_map sighting_text reports
+    ++ (stuck_text stuck ++ (bounds_text searched switches stopped ++ endings_text name states held failed))
+
+abbrev pub text_found : (name : List ℕ) → (switches : ℕ) → (stopped : Bool) → Found → List ℕ
+text_found name switches stopped found =
+    found_text name switches stopped found.reports found.stuck found.states found.searched found.held found.failed
+
+-- so it is of these lists
+abbrev pub search_text : (name : List ℕ) → (switches : ℕ) → (stopped : Bool) → List Searched → List ℕ
+search_text name switches stopped lists =
+    found_text name switches stopped (sightings_in (λ one. one.texts) lists) (seen_in is_deadlocked lists) (sightings_in states_of lists)
+    (resting (length lists)) (resting (count_by meets lists)) (resting (count_by fails lists))

@@ -1,0 +1,135 @@
+//! What is found of the lists that were searched.
+
+ghost use Rattle.std.specs.Prelude.{◌≡◌, ◌==◌, ◌++◌, ◌∷◌, [], IfOk, List, OnOk, fold, length, map, not};
+ghost use Rattle.report_text.specs.ReportOf.{report_text};
+ghost use Rattle.search_text.specs.Found.{EndsAdded, Finds, Searched, option_again, texts_of_all};
+ghost use Rattle.search_text.specs.Seen.{sighted};
+ghost use Rattle.search_text.specs.Texts.{ending_of, texts_in};
+
+use crate::seen::{Seen, Sightings};
+use crate::texts::texts_of;
+use access_types::{Report, Sites};
+use std::alloc::{AllocError, Global};
+use step_schedule::Entry;
+
+/// How a list ends after which all tasks have ended.
+#[derive(Drop)]
+pub struct Ending {
+    /// The final state as text.
+    pub state: Vec<u8>,
+    /// Whether the proposition of the condition holds there.
+    pub held: bool,
+}
+
+/// What is found of the lists that were searched so far. Each count rests at 2^64 - 1.
+#[derive(Drop)]
+pub struct Found {
+    pub(crate) reports: Sightings,
+    pub(crate) stuck: Option<Seen>,
+    pub(crate) states: Sightings,
+    pub(crate) searched: u64,
+    pub(crate) held: u64,
+    pub(crate) failed: u64,
+}
+
+/// Adds texts of the list of this schedule, each once.
+fn add_texts(
+    alloc: Global,
+    sightings: &mut Sightings,
+    texts: Vec<Vec<u8>>,
+    schedule: &[Entry],
+) -> Result<(), AllocError>
+    ensures { OnOk result (sightings.new ≡ fold (sighted schedule.now) sightings.old (texts_in texts.items)) }
+{
+    for text in texts {
+        sightings.add(alloc, text, schedule)?;
+    }
+    Ok(())
+}
+
+/// Adds that something is seen in the list of this schedule.
+fn add_seen(alloc: Global, seen: &mut Option<Seen>, schedule: &[Entry]) -> Result<(), AllocError>
+    ensures { OnOk result (seen.new ≡ option_again schedule.now seen.old) }
+{
+    match seen {
+        Some(seen) => seen.again(),
+        None => *seen = Some(Seen::once(alloc, schedule)?),
+    }
+    Ok(())
+}
+
+impl Found {
+    /// Of no list.
+    pub fn new(alloc: Global) -> Found
+        ensures { Finds [] result }
+    {
+        Found {
+            reports: Sightings::new(alloc),
+            stuck: None,
+            states: Sightings::new(alloc),
+            searched: 0,
+            held: 0,
+            failed: 0,
+        }
+    }
+
+    /// How many lists were searched.
+    pub fn searched(&self) -> u64
+        ensures { result ≡ self.now.searched }
+    {
+        self.searched
+    }
+
+    /// Whether there is a report in one of them.
+    pub fn has_report(&self) -> bool
+        ensures { (lists : List Searched) → Finds lists self.now → result ≡ not (length (texts_of_all lists) == 0) }
+    {
+        self.reports.len() != 0
+    }
+
+    /// Counts how a list of this schedule ended, or that not all its tasks did.
+    fn add_ending(
+        &mut self,
+        alloc: Global,
+        schedule: &[Entry],
+        ending: Option<Ending>,
+    ) -> Result<(), AllocError>
+        ensures { OnOk result (EndsAdded schedule.now (ending_of ending) self.old self.new) }
+    {
+        match ending {
+            Some(ending) => {
+                self.states.add(alloc, ending.state, schedule)?;
+                if ending.held {
+                    self.held = self.held.saturating_add(1);
+                } else {
+                    self.failed = self.failed.saturating_add(1);
+                }
+            }
+            None => add_seen(alloc, &mut self.stuck, schedule)?,
+        }
+        Ok(())
+    }
+
+    /// Adds one list more: its reports, of the accesses that their tickets name among the sites, its schedule, and how it ended, if all
+    /// tasks did.
+    ///
+    /// The only error is want of memory, after which what is found is of no use.
+    pub fn add(
+        &mut self,
+        alloc: Global,
+        reports: &[Report],
+        sites: &Sites,
+        schedule: &[Entry],
+        ending: Option<Ending>,
+    ) -> Result<(), AllocError>
+        ensures { (lists : List Searched) (one : Searched) → Finds lists self.old
+            → one.texts ≡ map (report_text sites.now) reports.now → one.schedule ≡ schedule.now → one.ending ≡ ending_of ending
+            → OnOk result (Finds (lists ++ one ∷ []) self.new) }
+    {
+        let texts = texts_of(alloc, reports, sites)?;
+        add_texts(alloc, &mut self.reports, texts, schedule)?;
+        self.add_ending(alloc, schedule, ending)?;
+        self.searched = self.searched.saturating_add(1);
+        Ok(())
+    }
+}

@@ -1,0 +1,21 @@
+//! The text that a search over schedules leaves: what is counted of the lists that were searched, and how it is written.
+#![tactic(auto)]
+
+pub mod found;
+pub mod laws;
+pub mod locations;
+pub mod schedules;
+pub mod seen;
+pub mod states;
+pub mod texts;
+pub mod write;
+
+pub use found::{Ending, Found};
+pub use locations::{Location, locations_of};
+pub use report_text::{MemorySink, Sink, WriteError};
+pub use states::state_of;
+pub use step_schedule::Entry;
+pub use write::{Asked, write_search};
+
+#[cfg(test)]
+mod tests;

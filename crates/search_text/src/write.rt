@@ -1,0 +1,273 @@
+//! What a search writes.
+
+ghost use Rattle.std.specs.Prelude.{◌≡◌, ◌++◌, List, codes, decimal, length};
+ghost use Rattle.std.specs.List.{flat_map};
+ghost use Rattle.report_text.specs.Sink.{Writes};
+ghost use Rattle.step_schedule.specs.declared.schedule.Entry as entries;
+ghost use Rattle.search_text.specs.Found.{Finds, Searched};
+ghost use Rattle.search_text.specs.Write.{bounds_text, endings_text, observation_line, observed, search_text, searched_line, sighting_text, state_line};
+ghost use Rattle.search_text.specs.Write.{states_line, stopped_line, stopped_text, stuck_text, text_found, times_head, times_line, word_of};
+
+use crate::found::Found;
+use crate::schedules::write_schedule;
+use crate::seen::{Seen, Sightings};
+use report_text::pieces::{Piece, write_pieces};
+use report_text::{Sink, WriteError, write_all};
+use step_schedule::Entry;
+
+/// Which schedules were searched: those with at most so many switches, all of them or as many as there may be at most.
+#[derive(Clone, Copy, Debug, PartialEq, Eq)]
+pub struct Asked {
+    pub switches: u64,
+    /// The search was stopped at its limit, and other schedules remain.
+    pub stopped: bool,
+}
+
+/// Writes in how many schedules something was, behind this word.
+#[tactic(auto, unfolding(crate::specs::Write::times_head))]
+fn write_times_head<K: Sink>(sink: &mut K, word: &'static str, times: u64) -> Result<(), WriteError>
+    ensures { Writes K.written K.failures result (times_head word.now times) sink.old sink.new }
+{
+    write_pieces(
+        sink,
+        &[
+            Piece::Text(word),
+            Piece::Text(" in "),
+            Piece::Decimal(times),
+            Piece::Text(" schedules, first with --schedule "),
+        ],
+    )
+}
+
+/// Writes in how many schedules something was, behind this word, and the first of them.
+fn write_times<K: Sink>(
+    sink: &mut K,
+    word: &'static str,
+    times: u64,
+    first: &[Entry],
+) -> Result<(), WriteError>
+    ensures { Writes K.written K.failures result (times_line word.now (times, first.now)) sink.old sink.new }
+{
+    write_times_head(sink, word, times)?;
+    write_schedule(sink, first)?;
+    write_all(sink, b"\n")
+}
+
+/// Writes the text of a report, and in how many schedules it was seen.
+fn write_sighting<K: Sink>(
+    sink: &mut K,
+    text: &[u8],
+    times: u64,
+    first: &[Entry],
+) -> Result<(), WriteError>
+    ensures { Writes K.written K.failures result (sighting_text (text.now, (times, first.now))) sink.old sink.new }
+{
+    write_all(sink, text)?;
+    write_times(sink, "seen", times, first)
+}
+
+/// Writes how many schedules end in a state.
+fn write_ends<K: Sink>(sink: &mut K, times: u64) -> Result<(), WriteError>
+    ensures { Writes K.written K.failures result (decimal times ++ codes ">") sink.old sink.new }
+{
+    write_pieces(sink, &[Piece::Decimal(times), Piece::Text(">")])
+}
+
+/// Writes a final state, and how many schedules end so.
+fn write_state<K: Sink>(sink: &mut K, state: &[u8], times: u64) -> Result<(), WriteError>
+    ensures { (first : List entries.Entry) → Writes K.written K.failures result (state_line (state.now, (times, first))) sink.old sink.new }
+{
+    write_ends(sink, times)?;
+    write_all(sink, state)?;
+    write_all(sink, b"\n")
+}
+
+impl Sightings {
+    /// Writes the text of each report, and in how many schedules it was seen.
+    fn write_reports<K: Sink>(&self, sink: &mut K) -> Result<(), WriteError>
+        ensures { Writes K.written K.failures result (flat_map sighting_text self.now) sink.old sink.new }
+    {
+        for (text, seen) in self.seen.iter() {
+            write_sighting(sink, text.as_slice(), seen.times(), seen.first())?;
+        }
+        Ok(())
+    }
+
+    /// Writes each final state, and how many schedules end so.
+    fn write_states<K: Sink>(&self, sink: &mut K) -> Result<(), WriteError>
+        ensures { Writes K.written K.failures result (flat_map state_line self.now) sink.old sink.new }
+    {
+        for (text, seen) in self.seen.iter() {
+            write_state(sink, text.as_slice(), seen.times())?;
+        }
+        Ok(())
+    }
+}
+
+/// Writes in how many schedules not all tasks ended, if there are any.
+fn write_stuck<K: Sink>(sink: &mut K, stuck: &Option<Seen>) -> Result<(), WriteError>
+    ensures { Writes K.written K.failures result (stuck_text stuck.now) sink.old sink.new }
+{
+    match stuck {
+        Some(seen) => write_times(sink, "stuck", seen.times(), seen.first()),
+        None => Ok(()),
+    }
+}
+
+/// Writes how many schedules were searched.
+#[tactic(auto, unfolding(crate::specs::Write::searched_line))]
+fn write_searched<K: Sink>(sink: &mut K, searched: u64, switches: u64) -> Result<(), WriteError>
+    ensures { Writes K.written K.failures result (searched_line searched switches) sink.old sink.new }
+{
+    write_pieces(
+        sink,
+        &[
+            Piece::Text("searched "),
+            Piece::Decimal(searched),
+            Piece::Text(" schedules with at most "),
+            Piece::Decimal(switches),
+            Piece::Text(" switches\n"),
+        ],
+    )
+}
+
+/// Writes that the search was stopped after so many schedules.
+#[tactic(auto, unfolding(crate::specs::Write::stopped_line))]
+fn write_stopped_line<K: Sink>(sink: &mut K, searched: u64) -> Result<(), WriteError>
+    ensures { Writes K.written K.failures result (stopped_line searched) sink.old sink.new }
+{
+    write_pieces(
+        sink,
+        &[
+            Piece::Text("stopped after "),
+            Piece::Decimal(searched),
+            Piece::Text(" schedules: others remain\n"),
+        ],
+    )
+}
+
+/// Writes that the search was stopped after so many schedules, if it was.
+fn write_stopped<K: Sink>(sink: &mut K, stopped: bool, searched: u64) -> Result<(), WriteError>
+    ensures { Writes K.written K.failures result (stopped_text stopped searched) sink.old sink.new }
+{
+    match stopped {
+        true => write_stopped_line(sink, searched),
+        false => Ok(()),
+    }
+}
+
+/// Writes that there are so many final states.
+#[tactic(auto, unfolding(crate::specs::Write::states_line))]
+fn write_number<K: Sink>(sink: &mut K, states: u64) -> Result<(), WriteError>
+    ensures { Writes K.written K.failures result (states_line states) sink.old sink.new }
+{
+    write_pieces(
+        sink,
+        &[
+            Piece::Text("States "),
+            Piece::Decimal(states),
+            Piece::Text("\n"),
+        ],
+    )
+}
+
+/// Writes how many final states there are.
+fn write_count<K: Sink>(sink: &mut K, states: &Sightings) -> Result<(), WriteError>
+    ensures { Writes K.written K.failures result (states_line (length states.now)) sink.old sink.new }
+{
+    write_number(sink, states.len() as u64)
+}
+
+/// In which whole lists a proposition holds that holds in so many of them, and in so many doesn't.
+fn word(held: u64, failed: u64) -> &'static str
+    ensures { result.now ≡ word_of held failed }
+{
+    if held == 0 {
+        "Never"
+    } else if failed == 0 {
+        "Always"
+    } else {
+        "Sometimes"
+    }
+}
+
+/// Writes in how many whole lists a proposition holds, and in how many it doesn't.
+#[tactic(auto, unfolding(crate::specs::Write::observed))]
+fn write_observed<K: Sink>(sink: &mut K, held: u64, failed: u64) -> Result<(), WriteError>
+    ensures { Writes K.written K.failures result (observed held failed) sink.old sink.new }
+{
+    write_pieces(
+        sink,
+        &[
+            Piece::Text(" "),
+            Piece::Text(word(held, failed)),
+            Piece::Text(" "),
+            Piece::Decimal(held),
+            Piece::Text(" "),
+            Piece::Decimal(failed),
+            Piece::Text("\n"),
+        ],
+    )
+}
+
+/// Writes in how many whole lists the proposition of the test of this name holds, and in how many it doesn't.
+fn write_observation<K: Sink>(
+    sink: &mut K,
+    name: &str,
+    held: u64,
+    failed: u64,
+) -> Result<(), WriteError>
+    ensures { Writes K.written K.failures result (observation_line name.now held failed) sink.old sink.new }
+{
+    write_all(sink, b"Observation ")?;
+    write_all(sink, name.as_bytes())?;
+    write_observed(sink, held, failed)
+}
+
+/// Writes how many lists were searched, of those with at most so many switches, and that others remain, if they do.
+fn write_bounds<K: Sink>(sink: &mut K, searched: u64, asked: Asked) -> Result<(), WriteError>
+    ensures { Writes K.written K.failures result (bounds_text searched asked.switches asked.stopped) sink.old sink.new }
+{
+    write_searched(sink, searched, asked.switches)?;
+    write_stopped(sink, asked.stopped, searched)
+}
+
+/// Writes how whole lists end: how many final states there are, each of them, and whether a proposition holds there.
+fn write_ending<K: Sink>(sink: &mut K, found: &Found, name: &str) -> Result<(), WriteError>
+    ensures { Writes K.written K.failures result (endings_text name.now found.now.states found.now.held found.now.failed)
+        sink.old sink.new }
+{
+    write_count(sink, &found.states)?;
+    found.states.write_states(sink)?;
+    write_observation(sink, name, found.held, found.failed)
+}
+
+/// Writes what is found, of the test of this name.
+fn write_found<K: Sink>(
+    found: &Found,
+    name: &str,
+    asked: Asked,
+    sink: &mut K,
+) -> Result<(), WriteError>
+    ensures { Writes K.written K.failures result (text_found name.now asked.switches asked.stopped found.now) sink.old sink.new }
+{
+    found.reports.write_reports(sink)?;
+    write_stuck(sink, &found.stuck)?;
+    write_bounds(sink, found.searched, asked)?;
+    write_ending(sink, found, name)
+}
+
+/// Writes what is found of the lists that were searched, of the test of this name.
+///
+/// `SinkFailed`: the sink failed in this call, and holds a beginning of the text.
+pub fn write_search<K: Sink>(
+    found: &Found,
+    name: &str,
+    asked: Asked,
+    sink: &mut K,
+) -> Result<(), WriteError>
+    ensures { (lists : List Searched) → Finds lists found.now
+        → Writes K.written K.failures result (search_text name.now asked.switches asked.stopped lists) sink.old sink.new }
+{
+    write_found(found, name, asked, sink)
+}
