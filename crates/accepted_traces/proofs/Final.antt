@@ -21,14 +21,14 @@ use Rattle.watch_word.specs.of_access_types_declared.kind.Kind.TheVariants as ki
 use Rattle.litmus_meaning.specs.RunOfProgram.{setting_of}
 use Rattle.litmus_meaning.specs.TextSites.{FitsTickets, block_sites}
 use Rattle.trace_replay.specs.of_report_text_Truth.{AreOneBag, IsIndexOf, hit_in, hits_in, is_take}
-use Rattle.run_lists.specs.Run.{Run, first_cells, locks_of, task_of, task_setting}
-use Rattle.run_lists.specs.RunList.{RunList}
-use Rattle.run_lists.specs.Told.{OutcomeAt, history_of, made_by, outcomes_of}
-use Rattle.run_lists.proofs.OwnLasts.{one_arming, own_latest, stands_later}
+use Rattle.run_kept.specs.of_run_lists_Run.{Run, first_cells, locks_of, task_of, task_setting}
+use Rattle.run_kept.specs.of_run_lists_RunList.{RunList}
+use Rattle.run_kept.specs.of_run_lists_Told.{OutcomeAt, history_of, made_by, outcomes_of}
+use Rattle.run_kept.proofs.of_run_lists_OwnLasts.{one_arming, own_latest, stands_later}
 use Rattle.run_kept.specs.Lists.{AreAccesses, AreArms, AreArmsBy, AreArmsOf, ByTask, verdicts_by}
-use Rattle.run_headline.specs.Events.{AreMarks, EachDoesItsEvent}
-use Rattle.run_headline.specs.Joined.{IfAnswersBoth}
-use Rattle.run_headline.specs.Watches.{IfVerdict, IsOfWatch, IsWatch}
+use Rattle.run_kept.specs.of_run_headline_Events.{AreMarks, EachDoesItsEvent}
+use Rattle.run_kept.specs.of_run_headline_Joined.{IfAnswersBoth}
+use Rattle.run_kept.specs.of_run_headline_Watches.{IfVerdict, IsOfWatch, IsWatch}
 use Rattle.slot_table.specs.Armings.{Arming}
 use Rattle.slot_table.specs.Hearings.{IsArming, SomeRecord}
 use Rattle.slot_table.specs.Meetings.{finders_told, numbers_met}
@@ -43,8 +43,8 @@ use Rattle.watch_word.specs.declared.layout.Layout.{Layout}
 use Rattle.watch_word.specs.declared.layout.Layout.TheVariants.{W64, W32}
 use Rattle.run_kept.specs.Stamps.{stamps_in}
 use Rattle.run_kept.specs.Watched.{FitsItsTask, IfTold, IfWatched}
-use Rattle.run_lists.specs.of_written_order_Standing.{checks_of}
-use Rattle.run_lists.specs.of_written_order_Told.{did_by}
+use Rattle.run_kept.specs.of_written_order_Standing.{checks_of}
+use Rattle.run_kept.specs.of_written_order_Told.{did_by}
 use Rattle.accepted_traces.specs.Parts.{ArmFits, OfNamed, OutcomeFits, TakeFits}
 use Rattle.accepted_traces.proofs.Arms as arming
 use Rattle.accepted_traces.proofs.Arms.{arming_of}

@@ -15,19 +15,19 @@ use Rattle.watch_word.specs.of_access_types_declared.history.Happening.TheVarian
 use Rattle.litmus_meaning.specs.RunOfProgram.{setting_of}
 use Rattle.litmus_meaning.specs.TextSites.{FitsTickets, block_sites}
 use Rattle.litmus_meaning.proofs.TicketLemmas.{own_tickets}
-use Rattle.run_lists.specs.Run.{Run, task_of, task_setting}
-use Rattle.run_lists.specs.RunList.{RunList}
-use Rattle.run_lists.specs.Told.{OutcomeAt, armed_by, came_next, made_by, outcome_at}
-use Rattle.run_lists.proofs.Histories.{front_of}
-use Rattle.run_lists.proofs.OwnLasts.{own_latest}
+use Rattle.run_kept.specs.of_run_lists_Run.{Run, task_of, task_setting}
+use Rattle.run_kept.specs.of_run_lists_RunList.{RunList}
+use Rattle.run_kept.specs.of_run_lists_Told.{OutcomeAt, armed_by, came_next, made_by, outcome_at}
+use Rattle.run_kept.proofs.of_run_lists_Histories.{front_of}
+use Rattle.run_kept.proofs.of_run_lists_OwnLasts.{own_latest}
 use Rattle.run_kept.specs.Lists.{verdicts_by}
-use Rattle.run_headline.specs.Watches.{is_verdict}
-use Rattle.run_lists.specs.of_setup_access_Check.{Fallen}
+use Rattle.run_kept.specs.of_run_headline_Watches.{is_verdict}
+use Rattle.run_kept.specs.of_setup_access_Check.{Fallen}
 use Rattle.slot_table.specs.Records.{records_of}
 use Rattle.slot_table.specs.declared.records.Record.{Record}
 use Rattle.run_kept.proofs.Once.{begins_with, few_verdicts, is_verdict_of}
-use Rattle.run_lists.specs.of_written_order_Told.{fell_next, to_come}
-use Rattle.run_lists.proofs.of_written_order_MeaningLemmas.{whole_means}
+use Rattle.run_kept.specs.of_written_order_Told.{fell_next, to_come}
+use Rattle.run_kept.proofs.of_written_order_MeaningLemmas.{whole_means}
 
 -- ---- counts
 

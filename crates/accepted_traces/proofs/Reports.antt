@@ -19,32 +19,32 @@ use Rattle.watch_word.specs.of_access_types_declared.report.Report.TheVariants a
 use Rattle.litmus_meaning.specs.Layout.{initial_values, memory_at_first}
 use Rattle.litmus_meaning.specs.RunOfProgram.{setting_of}
 use Rattle.litmus_meaning.specs.TextSites.{FitsTickets, block_sites}
-use Rattle.run_lists.proofs.of_memory_operation_WordLemmas.{range_is}
+use Rattle.run_kept.proofs.of_memory_operation_WordLemmas.{range_is}
 use Rattle.trace_replay.specs.of_report_text_Truth.{IsLoadable, MaySee, RaceByStamps}
-use Rattle.run_headline.specs.Reported.{IsOfOutcome}
-use Rattle.run_headline.specs.Watched.{ChangedInWatch, IfUnknownInWatch, NamesWatched}
-use Rattle.run_headline.proofs.Memories.{HoldsBytes, first_bytes}
-use Rattle.run_lists.specs.Reports.{reported, reports_of}
-use Rattle.run_lists.specs.Run.{Run, task_of, task_setting}
-use Rattle.run_lists.specs.RunList.{RunList}
-use Rattle.run_lists.specs.Told.{OutcomeAt, history_of, outcomes_of}
-use Rattle.run_lists.specs.TwoSides.{IfTwoSided, NamesBoth, NamesTwoSides}
+use Rattle.run_kept.specs.of_run_headline_Reported.{IsOfOutcome}
+use Rattle.run_kept.specs.of_run_headline_Watched.{ChangedInWatch, IfUnknownInWatch, NamesWatched}
+use Rattle.run_kept.proofs.of_run_headline_Memories.{HoldsBytes, first_bytes}
+use Rattle.run_kept.specs.of_run_lists_Reports.{reported, reports_of}
+use Rattle.run_kept.specs.of_run_lists_Run.{Run, task_of, task_setting}
+use Rattle.run_kept.specs.of_run_lists_RunList.{RunList}
+use Rattle.run_kept.specs.of_run_lists_Told.{OutcomeAt, history_of, outcomes_of}
+use Rattle.run_kept.specs.of_run_lists_TwoSides.{IfTwoSided, NamesBoth, NamesTwoSides}
 use Rattle.run_kept.specs.Lists.{AreAccesses}
-use Rattle.run_headline.specs.Events.{AreMarks, EachDoesItsEvent}
-use Rattle.run_headline.specs.Watches.{is_verdict}
-use Rattle.run_lists.specs.of_setup_access_Setting as checks
-use Rattle.run_lists.specs.of_setup_access_Values.{has_value, source_of}
-use Rattle.run_lists.specs.of_setup_access_declared.outcome.Outcome.{Outcome}
-use Rattle.run_lists.specs.of_setup_access_declared.outcome.Outcome.TheVariants as outcomes
-use Rattle.run_lists.specs.of_setup_access_declared.source.Source.{Source}
+use Rattle.run_kept.specs.of_run_headline_Events.{AreMarks, EachDoesItsEvent}
+use Rattle.run_kept.specs.of_run_headline_Watches.{is_verdict}
+use Rattle.run_kept.specs.of_setup_access_Setting as checks
+use Rattle.run_kept.specs.of_setup_access_Values.{has_value, source_of}
+use Rattle.run_kept.specs.of_setup_access_declared.outcome.Outcome.{Outcome}
+use Rattle.run_kept.specs.of_setup_access_declared.outcome.Outcome.TheVariants as outcomes
+use Rattle.run_kept.specs.of_setup_access_declared.source.Source.{Source}
 use Rattle.slot_table.specs.of_slot_Pair.{Halves}
 use Rattle.slot_table.specs.declared.records.Record.{Record}
 use Rattle.slot_table.specs.declared.step.Answer.TheVariants as answers
 use Rattle.slot_table.specs.declared.step.Step.TheVariants as steps
 use Rattle.run_kept.specs.Stamps.{stamps_in}
 use Rattle.run_kept.specs.Watched.{IfWatched}
-use Rattle.run_lists.specs.of_written_order_Standing.{checks_of}
-use Rattle.run_lists.specs.of_written_order_Told.{did_by}
+use Rattle.run_kept.specs.of_written_order_Standing.{checks_of}
+use Rattle.run_kept.specs.of_written_order_Told.{did_by}
 use Rattle.accepted_traces.specs.Parts.{OfNamed, ReportFits}
 use Rattle.accepted_traces.proofs.Ended as ended
 use Rattle.accepted_traces.proofs.Hits as hits

@@ -4,17 +4,17 @@ use Rattle.std.proofs.lemmas.Bool.{eq-eqb}
 use Rattle.watch_word.specs.of_access_types_Access.{Access}
 use Rattle.watch_word.specs.of_access_types_Ticket.{ticket_number}
 use Rattle.trace_replay.specs.of_report_text_Truth.{IsIndexOf}
-use Rattle.run_lists.proofs.CheckFacts.{back}
-use Rattle.run_lists.specs.of_setup_access_Find.{LooksUp}
-use Rattle.run_lists.specs.of_setup_access_Found.{Hears, finder_half}
-use Rattle.run_lists.specs.of_setup_access_Parts.{made}
-use Rattle.run_lists.specs.of_setup_access_Setting.{Setting, look_order, slot_of, try_order}
-use Rattle.run_lists.specs.of_setup_access_Setup.{Arms, Judged, Judges, SetsUp, TriesInsert, WatchesAt}
-use Rattle.run_lists.specs.of_setup_access_Values.{LoadsFrom, both_values, source_of}
-use Rattle.run_lists.specs.of_setup_access_declared.outcome.Outcome.{Outcome}
-use Rattle.run_lists.specs.of_setup_access_declared.outcome.Watchpoint.{Watchpoint}
-use Rattle.run_lists.specs.of_setup_access_declared.source.Source.{Source}
-use Rattle.run_lists.proofs.of_setup_access_DisciplineLemmas.{on_flag, on_halves, on_word, record_is}
+use Rattle.run_kept.proofs.of_run_lists_CheckFacts.{back}
+use Rattle.run_kept.specs.of_setup_access_Find.{LooksUp}
+use Rattle.run_kept.specs.of_setup_access_Found.{Hears, finder_half}
+use Rattle.run_kept.specs.of_setup_access_Parts.{made}
+use Rattle.run_kept.specs.of_setup_access_Setting.{Setting, look_order, slot_of, try_order}
+use Rattle.run_kept.specs.of_setup_access_Setup.{Arms, Judged, Judges, SetsUp, TriesInsert, WatchesAt}
+use Rattle.run_kept.specs.of_setup_access_Values.{LoadsFrom, both_values, source_of}
+use Rattle.run_kept.specs.of_setup_access_declared.outcome.Outcome.{Outcome}
+use Rattle.run_kept.specs.of_setup_access_declared.outcome.Watchpoint.{Watchpoint}
+use Rattle.run_kept.specs.of_setup_access_declared.source.Source.{Source}
+use Rattle.run_kept.proofs.of_setup_access_DisciplineLemmas.{on_flag, on_halves, on_word, record_is}
 use Rattle.slot_table.specs.of_slot_Pair.{Halves}
 use Rattle.slot_table.specs.Armings.{last_arming}
 use Rattle.slot_table.specs.Discipline.{in_hand}

@@ -1,5 +1,5 @@
 -- What is read of the values of options.
-use Rattle.std.proofs.Common.{◌≡◌, ◌∙◌, ◌<◌, ◌^◌, ℕ, Bool, true, false, List, Option, None, Some, Result, Ok, Err, IfErr, IfSome, ap, ap₂, arith, is_some, length}
+use Rattle.std.proofs.Common.{◌≡◌, ◌∙◌, ◌<◌, ◌^◌, ℕ, Bool, true, false, List, Option, None, Some, Result, Ok, Err, IfErr, IfSome, ap, ap₂, arith, get_or, is_some, length}
 use Rattle.std.proofs.Common.{not, option_map, refl, subst, sym, Bor, ◌&&◌}
 use Rattle.std.proofs.lemmas.Option.{same_Some}
 use Rattle.std.specs.Prelude.{IsErrAnd, codes}
@@ -132,6 +132,8 @@ asked_replay name values (requests.Step request) is asks =
     absurd (let long : 4 ≡ 6 = ap (λ (text : Text). length text) (sym asks.0 ∙ is) in omega (arith, long))
 asked_replay name values (requests.Run request) is asks =
     absurd (let long : 3 ≡ 6 = ap (λ (text : Text). length text) (sym asks.0 ∙ is) in omega (arith, long))
+asked_replay name values (requests.Search request) is asks =
+    absurd (let first : 115 ≡ 114 = ap (λ (text : Text). get_or text 0 0) (sym asks.0 ∙ is) in omega (arith, first))
 asked_replay name values (requests.Replay request) is asks = (request.trace.now, asks.1)
 
 -- the words ask for what the command that they call asks for

@@ -4,6 +4,7 @@ use Rattle.command_words.specs.declared.request.RunOptions.{RunOptions}
 use Rattle.command_words.specs.declared.request.Request.{Request}
 use Rattle.command_words.specs.declared.request.Request.TheVariants as requests
 use Rattle.command_words.specs.declared.request.RunRequest.{RunRequest}
+use Rattle.command_words.specs.declared.request.SearchRequest.{SearchRequest}
 
 -- from 3 to 1,024 page slots, at most 1,000,000 accesses skipped, and from 1 to 1,000,000,000 vain tries of a wait
 pub record KeepsBounds (options : RunOptions) : Type 0 where
@@ -22,8 +23,16 @@ pub record KeepsRunBounds (request : RunRequest) : Type 0 where
   pub jobs_to : request.jobs ≤ 64
   pub options : KeepsBounds request.options
 
+-- and at most 16 switches, in from 1 to 1,000,000,000 schedules
+pub record KeepsSearchBounds (request : SearchRequest) : Type 0 where
+  pub switches : request.switches ≤ 16
+  pub limit : 1 ≤ request.limit
+  pub limit_to : request.limit ≤ 1000000000
+  pub options : KeepsBounds request.options
+
 -- what may be asked: numbers within their bounds
 abbrev pub MayBeAsked : Request → Type 0
 MayBeAsked (requests.Step request) = KeepsBounds request.options
 MayBeAsked (requests.Run request) = KeepsRunBounds request
+MayBeAsked (requests.Search request) = KeepsSearchBounds request
 MayBeAsked (requests.Replay request) = Unit {0}

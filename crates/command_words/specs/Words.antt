@@ -18,6 +18,7 @@ use Rattle.command_words.specs.declared.request.ReplayRequest.{ReplayRequest}
 use Rattle.command_words.specs.declared.request.Request.{Request}
 use Rattle.command_words.specs.declared.request.Request.TheVariants as requests
 use Rattle.command_words.specs.declared.request.RunRequest.{RunRequest}
+use Rattle.command_words.specs.declared.request.SearchRequest.{SearchRequest}
 use Rattle.command_words.specs.declared.request.StepRequest.{StepRequest}
 use Rattle.watch_word.specs.declared.layout.Layout.{Layout}
 use Rattle.watch_word.specs.declared.layout.Layout.TheVariants as layouts
@@ -46,7 +47,7 @@ flag_rule name = record (new_rule name) { long = Some name; action = Some SetTru
 abbrev pub name_rule : Text → Bor (List (Bor Text)) → (text : Text) → Rule
 name_rule name names text = record (default_rule name text) { parser = Some (values.Names names) }
 
--- a command, also with the options that `step` and `run` both have; its `--word` takes one of these names
+-- a command, also with the options that `step`, `run` and `search` all have; its `--word` takes one of these names
 abbrev pub with_options : App → Bor (List (Bor Text)) → App
 with_options app sizes =
     with_rule (with_rule (with_rule (with_rule (with_rule (with_rule (with_rule (with_rule (with_rule app
@@ -78,6 +79,14 @@ run_app sizes =
     (flag_rule (codes "stop-at-first")))
     (flag_rule (codes "keep-going"))) sizes
 
+-- `search`, with its file, how many switches a schedule has at most, after how many schedules the search stops, and those options
+abbrev pub search_app : Bor (List (Bor Text)) → App
+search_app sizes =
+    with_options (with_rule (with_rule (with_rule (new_app (codes "search"))
+    (word_rule (codes "FILE")))
+    (number_rule (codes "switches") 0 16 (codes "2")))
+    (number_rule (codes "limit") 1 1000000000 (codes "1000000"))) sizes
+
 -- `replay`, with its file
 abbrev pub replay_app : App
 replay_app = with_rule (new_app (codes "replay")) (word_rule (codes "TRACE"))
@@ -85,9 +94,9 @@ replay_app = with_rule (new_app (codes "replay")) (word_rule (codes "TRACE"))
 -- the program, one of whose commands has to be named
 abbrev pub program_app : Bor (List (Bor Text)) → App
 program_app sizes =
-    with_subcommand (with_subcommand (with_subcommand
+    with_subcommand (with_subcommand (with_subcommand (with_subcommand
     (on_top (λ shape. record shape { subcommand_required = true }) (new_app (codes "kcsan_litmus")))
-    (step_app sizes).top) (run_app sizes).top) replay_app.top
+    (step_app sizes).top) (run_app sizes).top) (search_app sizes).top) replay_app.top
 
 -- an argument goes by a rule, and is of its own command alone
 pub record IsArg (rule : Rule) (arg : Arg) : Type 0 where
@@ -130,7 +139,7 @@ pub record IsLayout (values : List Row) (option : Text) (layout : Layout) : Type
   pub given : first_of option values ≡ Some bits
   pub is : layout ≡ (if bytes_eq bits (codes "32") then layouts.W32 else layouts.W64)
 
--- the values ask for this of what `step` and `run` both have
+-- the values ask for this of what `step`, `run` and `search` all have
 pub record AskOptions (values : List Row) (options : RunOptions) : Type 0 where
   pub places : first_of (codes "place") values ≡ Some options.places.now
   pub trace : first_of (codes "trace") values ≡ option_map (λ path. path.now) options.trace
@@ -158,6 +167,13 @@ pub record AskRun (values : List Row) (request : RunRequest) : Type 0 where
   pub keep_going : IsFlag values (codes "keep-going") request.keep_going
   pub options : AskOptions values request.options
 
+-- the values of `search` ask for this
+pub record AskSearch (values : List Row) (request : SearchRequest) : Type 0 where
+  pub file : first_of (codes "FILE") values ≡ Some request.file.now
+  pub switches : IsNumber values (codes "switches") request.switches
+  pub limit : IsNumber values (codes "limit") request.limit
+  pub options : AskOptions values request.options
+
 -- the values of `replay` ask for this
 abbrev pub AskReplay : List Row → ReplayRequest → Type 0
 AskReplay values request = first_of (codes "TRACE") values ≡ Some request.trace.now
@@ -166,6 +182,7 @@ AskReplay values request = first_of (codes "TRACE") values ≡ Some request.trac
 abbrev pub IsAskedBy : Text → List Row → Request → Type 0
 IsAskedBy name values (requests.Step request) = (name ≡ codes "step") × AskStep values request
 IsAskedBy name values (requests.Run request) = (name ≡ codes "run") × AskRun values request
+IsAskedBy name values (requests.Search request) = (name ≡ codes "search") × AskSearch values request
 IsAskedBy name values (requests.Replay request) = (name ≡ codes "replay") × AskReplay values request
 
 -- the command that was called, with its values, if there is one, asks for this

@@ -156,3 +156,51 @@ pub const STOP_AT_FIRST: &str = "Ends after the first run with a report";
 
 /// What `--keep-going` does.
 pub const KEEP_GOING: &str = "Counts runs in which a task gets stuck, and goes on";
+
+/// What `search` does.
+pub const SEARCH: &str =
+    "Steps the program of a litmus file under every schedule with few switches from task to task";
+
+/// What follows the options of `search`.
+pub const AFTER_SEARCH: &str = "\
+    A schedule has a switch wherever a step of one task follows one of another, but for where\n\
+    that other has ended by it, or only tried in vain, as for a lock that was not free. The\n\
+    program is stepped under every schedule with at most so many switches, each from the start,\n\
+    with the same settings; and no task tries anew in vain before another has done something.\n\
+    With each switch more there are many more schedules. For example\n\
+    \n\
+    \x20\x20\x20\x20kcsan_litmus search race.litmus\n\
+    \n\
+    finds the race of race.litmus without being told a schedule,\n\
+    \n\
+    \x20\x20\x20\x20kcsan_litmus search race.litmus --switches 3 --limit 1000\n\
+    \n\
+    tries those with three switches too, and stops after a thousand if others remain, and\n\
+    \n\
+    \x20\x20\x20\x20kcsan_litmus search race.litmus --switches 1 --trace race.trace\n\
+    \n\
+    keeps the trace of the first schedule that gives the first report; where there is no report,\n\
+    no file is written.\n\
+    \n\
+    Each distinct report is printed once, in the order in which they were first seen, with how\n\
+    many schedules give it, and the first of them, under which 'kcsan_litmus step' gives it too.\n\
+    Where no task can go on and not all have ended, a line says in how many schedules. Then come\n\
+    the number of schedules, whether others remain, what the registers and variables of the\n\
+    condition hold where all tasks have ended, as herd7 writes it, and in how many of these the\n\
+    proposition holds. While the search goes on, a line on standard error counts the schedules,\n\
+    where that is a terminal.\n\
+    \n\
+    'kcsan_litmus step --help' says what a schedule and a place list are.\n\
+    \n\
+    Exit status: 0 no report under any of these schedules; 2 a report; 64 usage, or a place list\n\
+    that doesn't read or doesn't suit the file; 65 the file is refused; 66 it can't be read; 71\n\
+    out of memory; 74 output can't be written; 75 no report, but the search stopped at --limit.\n\
+    From 64 to 74 standard error says why, and up to 71 nothing goes to standard output or to the\n\
+    trace's file.";
+
+/// What `--switches` says.
+pub const SWITCHES: &str =
+    "How many switches a schedule has at most, 0 to 16; there is no search without this bound yet";
+
+/// What `--limit` says.
+pub const LIMIT: &str = "After how many schedules the search stops, 1 to 1000000000";

@@ -4,4 +4,6 @@
 pub mod help;
 pub mod request;
 
-pub use request::{ReplayRequest, Request, RunOptions, RunRequest, StepRequest, asked};
+pub use request::{
+    ReplayRequest, Request, RunOptions, RunRequest, SearchRequest, StepRequest, asked,
+};

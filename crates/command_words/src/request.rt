@@ -1,9 +1,10 @@
 //! What the words ask for.
 
 ghost use Rattle.std.specs.Prelude.{◌≡◌, ◌≤◌, ◌<◌, ℕ, IfErr, IfOk, IfSome, IsSome, codes, map};
-ghost use Rattle.command_words.specs.Bounds.{KeepsBounds, KeepsRunBounds, MayBeAsked};
-ghost use Rattle.command_words.specs.Words.{AreSizes, Ask, AskOptions, AskRun, AskStep, IsArg, IsAskedOf, IsLayout, IsNumber, IsProgram, MayFail};
-ghost use Rattle.command_words.specs.Words.{flag_rule, number_rule, replay_app, run_app, step_app, text_rule, with_options, word_rule};
+ghost use Rattle.command_words.specs.Bounds.{KeepsBounds, KeepsRunBounds, KeepsSearchBounds, MayBeAsked};
+ghost use Rattle.command_words.specs.Words.{AreSizes, Ask, AskOptions, AskRun, AskSearch, AskStep};
+ghost use Rattle.command_words.specs.Words.{IsArg, IsAskedOf, IsLayout, IsNumber, IsProgram, MayFail};
+ghost use Rattle.command_words.specs.Words.{flag_rule, number_rule, replay_app, run_app, search_app, step_app, text_rule, with_options, word_rule};
 ghost use Rattle.clap.specs.Words.{app_of, found_of, kind_of, rows_of, subcommand_rows_of};
 
 use crate::help;
@@ -22,6 +23,12 @@ const DELAY: (u64, u64) = (0, 1_000_000);
 
 /// The fewest and the most runs side by side.
 const JOBS: (u64, u64) = (1, 64);
+
+/// The fewest and the most switches from task to task.
+const SWITCHES: (u64, u64) = (0, 16);
+
+/// The fewest and the most schedules that a search may go through.
+const LIMIT: (u64, u64) = (1, 1_000_000_000);
 
 /// The fewest and the most page slots.
 const SLOTS: (u64, u64) = (3, 1024);
@@ -42,6 +49,8 @@ pub enum Request<'a> {
     Step(StepRequest<'a>),
     /// To run the program of a litmus file on threads.
     Run(RunRequest<'a>),
+    /// To step the program of a litmus file under every schedule with few switches.
+    Search(SearchRequest<'a>),
     /// To check a trace.
     Replay(ReplayRequest<'a>),
 }
@@ -83,7 +92,20 @@ pub struct RunRequest<'a> {
     pub options: RunOptions<'a>,
 }
 
-/// The options that `step` and `run` both have.
+/// What `search` is asked to do.
+#[derive(Clone, Copy, Debug, PartialEq, Eq)]
+pub struct SearchRequest<'a> {
+    /// The name of the litmus file.
+    pub file: &'a str,
+    /// How often a schedule may switch from task to task.
+    pub switches: u64,
+    /// After how many schedules the search stops, though others remain.
+    pub limit: u64,
+    /// What `step` could be given as well.
+    pub options: RunOptions<'a>,
+}
+
+/// The options that `step`, `run` and `search` all have.
 #[derive(Clone, Copy, Debug, PartialEq, Eq)]
 pub struct RunOptions<'a> {
     /// The text of the place list.
@@ -128,6 +150,7 @@ fn request_of<'a>(matches: &ArgMatches<'a>) -> Option<Request<'a>>
     match matches.subcommand()? {
         ("step", step) => Some(Request::Step(step_request(step)?)),
         ("run", run) => Some(Request::Run(run_request(run)?)),
+        ("search", search) => Some(Request::Search(search_request(search)?)),
         ("replay", replay) => Some(Request::Replay(ReplayRequest {
             trace: replay.get_str("TRACE")?,
         })),
@@ -166,7 +189,22 @@ fn run_request<'a>(run: &ArgMatches<'a>) -> Option<RunRequest<'a>>
     })
 }
 
-/// The options that `step` and `run` both have, by their values.
+/// What `search` is asked to do, by the values of its options.
+fn search_request<'a>(search: &ArgMatches<'a>) -> Option<SearchRequest<'a>>
+    ensures bounds { IfSome result KeepsSearchBounds }
+    ensures asked { IfSome result (AskSearch (rows_of (found_of search.now))) }
+    ensures complete { (request : SearchRequest) → KeepsSearchBounds request → AskSearch (rows_of (found_of search.now)) request
+        → IsSome result }
+{
+    Some(SearchRequest {
+        file: search.get_str("FILE")?,
+        switches: number(search, "switches", SWITCHES)?,
+        limit: number(search, "limit", LIMIT)?,
+        options: options(search)?,
+    })
+}
+
+/// The options that `step`, `run` and `search` all have, by their values.
 fn options<'a>(matches: &ArgMatches<'a>) -> Option<RunOptions<'a>>
     ensures bounds { IfSome result KeepsBounds }
     ensures asked { IfSome result (AskOptions (rows_of (found_of matches.now))) }
@@ -221,6 +259,7 @@ fn program<'a>(alloc: Global) -> Result<Command<'a>, AllocError>
         .subcommand_required(true)
         .subcommand(step_command(alloc, sizes)?)?
         .subcommand(run_command(alloc, sizes)?)?
+        .subcommand(search_command(alloc, sizes)?)?
         .subcommand(replay_command(alloc)?)
 }
 
@@ -275,7 +314,23 @@ fn run_command<'a>(alloc: Global, sizes: &'static [&'static str]) -> Result<Comm
     with_shared(alloc, command, sizes)
 }
 
-/// A command with the options that `step` and `run` both have.
+/// `search`, with its file and its options; its `--word` takes one of these names.
+fn search_command<'a>(
+    alloc: Global,
+    sizes: &'static [&'static str],
+) -> Result<Command<'a>, AllocError>
+    ensures { IfOk result (λ command. app_of command ≡ search_app sizes.entry) }
+{
+    let command = Command::new(alloc, "search")
+        .about(help::SEARCH)
+        .after_help(help::AFTER_SEARCH)
+        .arg(file(alloc, "FILE", help::FILE))?
+        .arg(number_option(alloc, "switches", help::SWITCHES, SWITCHES, "2"))?
+        .arg(number_option(alloc, "limit", help::LIMIT, LIMIT, "1000000"))?;
+    with_shared(alloc, command, sizes)
+}
+
+/// A command with the options that `step`, `run` and `search` all have.
 fn with_shared<'a>(
     alloc: Global,
     command: Command<'a>,

@@ -3,9 +3,9 @@
 ghost use Rattle.std.specs.Prelude.{◌≡◌, None};
 ghost use Rattle.report_text.specs.Sink.{CountsFailure};
 
-use litmus_command::Progress;
 use litmus_command::complaint::Complaint;
 use litmus_command::desk::{Desk, ReadFault};
+use litmus_command::{Progress, SearchProgress};
 use litmus_lex::{ReadError, Source, SourceFault, read_all};
 use report_text::{Sink, SinkFault, WriteError, write_all};
 use std::alloc::Global;
@@ -109,6 +109,26 @@ impl Progress for System {
     }
 
     fn over(&self) {
+        let rt = &self.output.rt;
+        if rt.stderr().is_terminal() {
+            let _ = rt.eprint("\x1b[K");
+        }
+    }
+}
+
+/// After so many schedules the line of progress is written again.
+const SCHEDULES: u64 = 10_000;
+
+impl SearchProgress for System {
+    /// Where standard error is a terminal, a line there counts the schedules. What is written next goes over it.
+    fn searched(&self, schedules: u64) {
+        let rt = &self.output.rt;
+        if schedules.is_multiple_of(SCHEDULES) && rt.stderr().is_terminal() {
+            let _ = rt.eprint(format_args!("searched {schedules} schedules\x1b[K\r"));
+        }
+    }
+
+    fn search_over(&self) {
         let rt = &self.output.rt;
         if rt.stderr().is_terminal() {
             let _ = rt.eprint("\x1b[K");

@@ -1,6 +1,6 @@
 -- What holds where a call succeeds, and where it fails.
 use Rattle.std.proofs.Common.{◌<◌, Bool, OnErr, OnOk, ap, ◌≢◌, ◌≤◌, ◌⊎◌, arith, inl, inr, ◌≡◌, ◌∙◌, ℕ, List, Option, None, Some, Result, Ok, Err, IfOk, IfErr, IfSome, MatchResult, is_some}
-use Rattle.std.proofs.Common.{refl, subst, sym, Vec}
+use Rattle.std.proofs.Common.{false, refl, subst, sym, true, Vec}
 use Rattle.std.specs.Global.{Global}
 use Rattle.std.specs.Prelude.{IsErrAnd}
 use Rattle.litmus_command.specs.Command.{EndsAs, IsOfFile, NothingIsWritten, Reads, SpellsNone, State, engine_status_of, read_failure, run_status_of, status_of, text_status_of, trace_status_of}
@@ -8,29 +8,35 @@ use Rattle.litmus_command.specs.declared.command.Failure.{Failure}
 use Rattle.litmus_command.specs.declared.command.Failure.TheVariants as failure
 use Rattle.litmus_command.specs.declared.desk.ReadFault.{ReadFault}
 use Rattle.litmus_command.specs.declared.desk.ReadFault.TheVariants as fault
-use Rattle.run_output.specs.declared.error.EngineError.{EngineError}
-use Rattle.run_output.specs.declared.error.EngineError.TheVariants as engine
+use Rattle.run_tally.specs.of_run_output_declared.error.EngineError.{EngineError}
+use Rattle.run_tally.specs.of_run_output_declared.error.EngineError.TheVariants as engine
 use Rattle.std.specs.Option.{option_map}
-use Rattle.litmus_step.specs.of_program_sites_declared.error.RunError.{RunError}
+use Rattle.run_tally.specs.of_program_sites_declared.error.RunError.{RunError}
 use Rattle.litmus_syntax.specs.declared.error.ParseError.{ParseError}
 use Rattle.litmus_syntax.specs.declared.error.ParseError.TheVariants as parse
 use Rattle.report_text.specs.Sink.{CountsFailure}
-use Rattle.litmus_step.specs.of_program_sites_declared.error.RunError.{RunError}
-use Rattle.litmus_step.specs.of_program_sites_declared.error.RunError.TheVariants as run
-use Rattle.trace_replay.specs.declared.accepted.TraceError.{TraceError}
-use Rattle.trace_replay.specs.declared.accepted.TraceError.TheVariants as trace
+use Rattle.run_tally.specs.of_program_sites_declared.error.RunError.{RunError}
+use Rattle.run_tally.specs.of_program_sites_declared.error.RunError.TheVariants as run
+use Rattle.run_tally.specs.of_trace_replay_declared.accepted.TraceError.{TraceError}
+use Rattle.run_tally.specs.of_trace_replay_declared.accepted.TraceError.TheVariants as trace
 use Rattle.command_words.specs.declared.request.RunOptions.{RunOptions}
 use Rattle.litmus_command.specs.Command.{FileIsRun, FileIsRunInPart, IsGiven, IsGivenInPart, once_read, trace_path}
 use Rattle.litmus_command.specs.Engine.{IsRefused, Stops, StopsReady, StopsRun}
 use Rattle.run_tally.specs.Errors as tally
+use Rattle.search_run.specs.Texts as search
+use Rattle.command_words.specs.declared.request.SearchRequest.{SearchRequest}
+use Rattle.litmus_command.specs.Command.{IsFound, SearchEnds, SearchIsDone, Tells, search_status_of}
+use Rattle.litmus_command.specs.Told.{heard}
+use Rattle.litmus_command.specs.declared.complaint.Complaint.{Complaint}
+use Rattle.litmus_command.specs.declared.complaint.Complaint.TheVariants as complaint
 use Rattle.run_tally.specs.Errors.{IsNotRead}
 use Rattle.litmus_command.specs.Files.{FileEvent, Gave, noted}
-use Rattle.litmus_parse.specs.Read.{IsReadAs}
-use Rattle.litmus_parse.specs.Text.{file_bytes}
+use Rattle.run_tally.specs.of_litmus_parse_Read.{IsReadAs}
+use Rattle.run_tally.specs.of_litmus_parse_Text.{file_bytes}
 use Rattle.litmus_syntax.specs.declared.program.Program.{Program}
-use Rattle.program_layout.specs.Places.{AreFit}
-use Rattle.litmus_step.specs.of_program_sites_Errors.{IsOfPreparing}
-use Rattle.litmus_step.specs.of_program_sites_declared.settings.Settings.{Settings}
+use Rattle.place_list.specs.of_program_layout_Places.{AreFit}
+use Rattle.run_tally.specs.of_program_sites_Errors.{IsOfPreparing}
+use Rattle.run_tally.specs.of_program_sites_declared.settings.Settings.{Settings}
 use Rattle.step_schedule.specs.declared.schedule.Entry.{Entry}
 
 -- a status that a failure can end with
@@ -126,6 +132,12 @@ spells_none_often counted text settings (engine.Text error) refused is = unread_
 spells_none_often counted text settings (engine.Run error) refused is = absurd (run_is_no_text error is)
 spells_none_often counted text settings engine.SinkFailed refused is = absurd refused
 
+pub spells_none_searched : (text : List ℕ) (settings : Settings) (error : EngineError)
+    → search.IsRefused text settings error → engine_status_of error ≡ 65 → SpellsNone text
+spells_none_searched text settings (engine.Text error) refused is = unread_spells_none text error refused is
+spells_none_searched text settings (engine.Run error) refused is = absurd (run_is_no_text error is)
+spells_none_searched text settings engine.SinkFailed refused is = absurd refused
+
 -- where no sink failed the status is not that of one
 pub writes_no_sink : (error : EngineError) → (error ≡ engine.SinkFailed → ⊥) → engine_status_of error ≡ 74 → ⊥
 writes_no_sink (engine.Text error) other is = text_is_no_sink error is
@@ -179,11 +191,75 @@ known_above status (inr (inr (inl is))) = omega (arith, is)
 known_above status (inr (inr (inr is))) = omega (arith, is)
 
 pub known_so : (status : ℕ) → IsKnown status → (status ≡ 0) ⊎ (status ≡ 2) ⊎ ((64 ≤ status) × (status ≤ 66))
-    ⊎ (status ≡ 70) ⊎ (status ≡ 71) ⊎ (status ≡ 74)
+    ⊎ (status ≡ 70) ⊎ (status ≡ 71) ⊎ (status ≡ 74) ⊎ (status ≡ 75)
 known_so status (inl few) = inr (inr (inl few))
 known_so status (inr (inl is)) = inr (inr (inr (inl is)))
 known_so status (inr (inr (inl is))) = inr (inr (inr (inr (inl is))))
-known_so status (inr (inr (inr is))) = inr (inr (inr (inr (inr is))))
+known_so status (inr (inr (inr is))) = inr (inr (inr (inr (inr (inl is)))))
+
+-- nor 75
+pub known_below : (status : ℕ) → IsKnown status → status ≤ 74
+known_below status (inl few) = let up = few.1 in omega (arith, up)
+known_below status (inr (inl is)) = omega (arith, is)
+known_below status (inr (inr (inl is))) = omega (arith, is)
+known_below status (inr (inr (inr is))) = omega (arith, is)
+
+-- what standard error is told where there is a failure
+pub tells_so : (failure : Failure) (status : ℕ) (before after : Option (List Complaint)) → status ≡ status_of failure → IsKnown status
+    → after ≡ heard before (complaint.Failure failure) → Tells status before after
+tells_so failure status before after is known told = record {
+  quiet = λ low. let above = known_above status known in absurd (omega (arith, low, above));
+  stopped = λ stops. let below = known_below status known in absurd (omega (arith, stops, below));
+  told = λ from to. (complaint.Failure failure, sym is, told);
+}
+
+-- how a search ends: by a status that no failure has
+pub ends_at : (raced stopped : Bool) → (search_status_of raced stopped ≡ 0) ⊎ ((search_status_of raced stopped ≡ 2) ⊎ (search_status_of raced stopped ≡ 75))
+ends_at true stopped = inr (inl refl)
+ends_at false true = inr (inr refl)
+ends_at false false = inl refl
+
+pub ends_reported : (request : SearchRequest) (status : ℕ) (before after : State) → SearchEnds request status before after → status ≡ 2
+    → (stopped : Bool) × SearchIsDone request true stopped before after
+ends_reported request status before after ends is = go ends.raced ends.stopped (sym ends.status_is ∙ is) ends.done
+  where
+    go : (raced stopped : Bool) → search_status_of raced stopped ≡ 2 → SearchIsDone request raced stopped before after
+        → (stopped : Bool) × SearchIsDone request true stopped before after
+    go true stopped is done = (stopped, done)
+    go false true is done = absurd (omega (arith, is))
+    go false false is done = absurd (omega (arith, is))
+
+pub ends_unreported : (request : SearchRequest) (status : ℕ) (before after : State) → SearchEnds request status before after → status ≡ 0
+    → SearchIsDone request false false before after
+ends_unreported request status before after ends is = go ends.raced ends.stopped (sym ends.status_is ∙ is) ends.done
+  where
+    go : (raced stopped : Bool) → search_status_of raced stopped ≡ 0 → SearchIsDone request raced stopped before after
+        → SearchIsDone request false false before after
+    go true stopped is done = absurd (omega (arith, is))
+    go false true is done = absurd (omega (arith, is))
+    go false false is done = done
+
+pub ends_stopped : (request : SearchRequest) (status : ℕ) (before after : State) → SearchEnds request status before after → status ≡ 75
+    → SearchIsDone request false true before after
+ends_stopped request status before after ends is = go ends.raced ends.stopped (sym ends.status_is ∙ is) ends.done
+  where
+    go : (raced stopped : Bool) → search_status_of raced stopped ≡ 75 → SearchIsDone request raced stopped before after
+        → SearchIsDone request false true before after
+    go true stopped is done = absurd (omega (arith, is))
+    go false true is done = done
+    go false false is done = absurd (omega (arith, is))
+
+-- that is none of the others
+pub ends_beside : (status other : ℕ) → (status ≡ 0) ⊎ ((status ≡ 2) ⊎ (status ≡ 75)) → status ≡ other → 64 ≤ other → other ≤ 74 → ⊥
+ends_beside status other (inl end) is from to = omega (arith, end, is, from, to)
+ends_beside status other (inr (inl end)) is from to = omega (arith, end, is, from, to)
+ends_beside status other (inr (inr end)) is from to = omega (arith, end, is, from, to)
+
+pub end_known : (status : ℕ) → (status ≡ 0) ⊎ ((status ≡ 2) ⊎ (status ≡ 75)) → (status ≡ 0) ⊎ (status ≡ 2)
+    ⊎ ((64 ≤ status) × (status ≤ 66)) ⊎ (status ≡ 70) ⊎ (status ≡ 71) ⊎ (status ≡ 74) ⊎ (status ≡ 75)
+end_known status (inl end) = inl end
+end_known status (inr (inl end)) = inr (inl end)
+end_known status (inr (inr end)) = inr (inr (inr (inr (inr (inr end)))))
 
 -- what holds of the error of a call holds of this one, if it is the error
 pub err_at : {X : Type 0} (P : Failure → Type 0) (result : Result X Failure) (failure : Failure) → result ≡ Err failure → IfErr result P
@@ -290,25 +366,25 @@ module _ (file : List ℕ) (options : RunOptions) (Left : List ℕ → Bool → 
       }
 
 -- what fails there is a write
-pub failed_silent : (result : Result Bool Failure) (Counts : Type 0) (before after : State)
+pub failed_silent : {X : Type 0} (result : Result X Failure) (Counts : Type 0) (before after : State)
     → IfErr result (λ failure. (status_of failure ≡ 74) × Counts)
     → IfErr result (λ failure. status_of failure ≢ 74 → NothingIsWritten before after)
 failed_silent (Ok found) Counts before after failed = tt
 failed_silent (Err failure) Counts before after failed = λ other. absurd (other failed.0)
 
-pub failed_counts : (result : Result Bool Failure) (first middle last : ℕ) → middle ≡ first
+pub failed_counts : {X : Type 0} (result : Result X Failure) (first middle last : ℕ) → middle ≡ first
     → IfErr result (λ failure. (status_of failure ≡ 74) × CountsFailure middle last)
     → IfErr result (λ failure. status_of failure ≡ 74 → CountsFailure first last)
 failed_counts (Ok found) first middle last same failed = tt
 failed_counts (Err failure) first middle last same failed = λ unwritten. subst (λ n. CountsFailure n last) same failed.1
 
-pub failed_of_no_file : (result : Result Bool Failure) (Counts : Type 0) (Refused : ℕ → Type 0)
+pub failed_of_no_file : {X : Type 0} (result : Result X Failure) (Counts : Type 0) (Refused : ℕ → Type 0)
     → IfErr result (λ failure. (status_of failure ≡ 74) × Counts)
     → IfErr result (λ failure. IsOfFile (status_of failure) → Refused (status_of failure))
 failed_of_no_file (Ok found) Counts Refused failed = tt
 failed_of_no_file (Err failure) Counts Refused failed = λ of_file. absurd (no_file (status_of failure) failed.0 of_file)
 
-pub failed_reads : (result : Result Bool Failure) (Counts : Type 0) (first middle last : ℕ) → middle ≡ first → last ≡ middle
+pub failed_reads : {X : Type 0} (result : Result X Failure) (Counts : Type 0) (first middle last : ℕ) → middle ≡ first → last ≡ middle
     → IfErr result (λ failure. (status_of failure ≡ 74) × Counts)
     → IfErr result (λ failure. Reads (status_of failure) first last)
 failed_reads (Ok found) Counts first middle last read given failed = tt
@@ -316,3 +392,49 @@ failed_reads (Err failure) Counts first middle last read given failed = record {
   fails = λ unread. absurd (let no : 74 ≡ 66 = sym failed.0 ∙ unread in omega (arith, no));
   works = λ readable. given ∙ read;
 }
+
+-- what a search leaves is given, where its file was read so
+module _ (request : SearchRequest) (text output : List ℕ) (raced stopped : Bool) (trace : Option (List ℕ))
+    (found : IsFound request stopped text raced output trace) (result : Result ℕ Failure) (before middle after : State)
+    (is_read : middle ≡ once_read request.file.now text before) where
+  pub found_done : IfOk result (λ status. status ≡ search_status_of raced stopped)
+      → OnOk result (IsGiven (trace_path request.options) output trace middle after)
+      → IfOk result (λ status. SearchEnds request status before after)
+  found_done told given = both result told given
+    where
+      both : (r : Result ℕ Failure) → IfOk r (λ status. status ≡ search_status_of raced stopped)
+          → OnOk r (IsGiven (trace_path request.options) output trace middle after) → IfOk r (λ status. SearchEnds request status before after)
+      both (Ok status) is given = record {
+        raced = raced;
+        stopped = stopped;
+        status_is = is;
+        done = record {
+          text = text;
+          output = output;
+          trace = trace;
+          left = found;
+          given = subst (λ m. IsGiven (trace_path request.options) output trace m after) is_read given;
+        };
+      }
+      both (Err failure) is given = tt
+
+  pub found_in_part : OnErr result (IsGivenInPart (trace_path request.options) output trace middle after)
+      → IfErr result (λ failure. status_of failure ≡ 74
+      → (stopped : Bool) × FileIsRunInPart request.file.now request.options (IsFound request stopped) before after)
+  found_in_part part = both result part
+    where
+      both : (r : Result ℕ Failure) → OnErr r (IsGivenInPart (trace_path request.options) output trace middle after)
+          → IfErr r (λ failure. status_of failure ≡ 74
+          → (stopped : Bool) × FileIsRunInPart request.file.now request.options (IsFound request stopped) before after)
+      both (Ok status) part = tt
+      both (Err failure) part = λ unwritten. (
+        stopped,
+        record {
+          text = text;
+          raced = raced;
+          output = output;
+          trace = trace;
+          left = found;
+          given = subst (λ m. IsGivenInPart (trace_path request.options) output trace m after) is_read part;
+        },
+      )

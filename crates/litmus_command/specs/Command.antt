@@ -13,12 +13,13 @@ use Rattle.command_words.specs.declared.request.Request.{Request}
 use Rattle.command_words.specs.declared.request.Request.TheVariants as requests
 use Rattle.command_words.specs.declared.request.RunOptions.{RunOptions}
 use Rattle.command_words.specs.declared.request.RunRequest.{RunRequest}
+use Rattle.command_words.specs.declared.request.SearchRequest.{SearchRequest}
 use Rattle.command_words.specs.declared.request.StepRequest.{StepRequest}
-use Rattle.litmus_parse.specs.Grammar.{SpellsProgram}
-use Rattle.litmus_parse.specs.Text.{file_bytes}
+use Rattle.run_tally.specs.of_litmus_parse_Grammar.{SpellsProgram}
+use Rattle.run_tally.specs.of_litmus_parse_Text.{file_bytes}
 use Rattle.litmus_syntax.specs.Tree as tree
 use Rattle.place_list.specs.Spelling as places
-use Rattle.program_layout.specs.declared.place.Place.{Place}
+use Rattle.place_list.specs.of_program_layout_declared.place.Place.{Place}
 use Rattle.report_text.specs.Faults.{size_limit}
 use Rattle.report_text.specs.Sink.{CountsFailure, HoldsBeginning, appended}
 use Rattle.litmus_syntax.specs.declared.error.ParseError.{ParseError}
@@ -26,14 +27,16 @@ use Rattle.litmus_syntax.specs.declared.error.ParseError.TheVariants as parse
 use Rattle.run_tally.specs.Errors as tally
 use Rattle.run_tally.specs.Output as tally_output
 use Rattle.run_tally.specs.declared.times.Times.{Times}
-use Rattle.litmus_step.specs.of_program_sites_declared.error.RunError.{RunError}
-use Rattle.litmus_step.specs.of_program_sites_declared.error.RunError.TheVariants as run
+use Rattle.run_tally.specs.of_program_sites_declared.error.RunError.{RunError}
+use Rattle.run_tally.specs.of_program_sites_declared.error.RunError.TheVariants as run
 use Rattle.step_schedule.specs.Spelling as schedules
 use Rattle.step_schedule.specs.declared.schedule.Entry.{Entry}
-use Rattle.litmus_step.specs.of_program_sites_declared.settings.Settings.{Settings}
-use Rattle.trace_replay.specs.Answer as answers
-use Rattle.trace_replay.specs.declared.accepted.TraceError.{TraceError}
-use Rattle.trace_replay.specs.declared.accepted.TraceError.TheVariants as trace
+use Rattle.run_tally.specs.of_program_sites_declared.settings.Settings.{Settings}
+use Rattle.search_run.specs.Texts as search
+use Rattle.search_run.specs.declared.wanted.Wanted.{Wanted}
+use Rattle.run_tally.specs.of_trace_replay_Answer as answers
+use Rattle.run_tally.specs.of_trace_replay_declared.accepted.TraceError.{TraceError}
+use Rattle.run_tally.specs.of_trace_replay_declared.accepted.TraceError.TheVariants as trace
 use Rattle.litmus_command.specs.Engine.{IsRefused, TextLeaves}
 use Rattle.litmus_command.specs.Files.{FileEvent, Gave, Has, OnlyRead, noted}
 use Rattle.litmus_command.specs.Replay.{IsLineOf}
@@ -44,8 +47,8 @@ use Rattle.litmus_command.specs.declared.complaint.Complaint.{Complaint}
 use Rattle.litmus_command.specs.declared.complaint.Complaint.TheVariants as complaint
 use Rattle.litmus_command.specs.declared.desk.ReadFault.{ReadFault}
 use Rattle.litmus_command.specs.declared.desk.ReadFault.TheVariants as fault
-use Rattle.run_output.specs.declared.error.EngineError.{EngineError}
-use Rattle.run_output.specs.declared.error.EngineError.TheVariants as engine
+use Rattle.run_tally.specs.of_run_output_declared.error.EngineError.{EngineError}
+use Rattle.run_tally.specs.of_run_output_declared.error.EngineError.TheVariants as engine
 
 -- the status for a litmus text that is refused
 abbrev pub text_status_of : ParseError → ℕ
@@ -165,6 +168,18 @@ pub record AreLeft (request : RunRequest) (text : List ℕ) (raced : Bool) (outp
   pub asks : AskSettings request.options settings
   pub leaves : tally_output.TextLeaves text settings (times_of request) (is_some request.options.trace) raced output trace
 
+-- what is wanted of a search, as it is asked for
+abbrev pub wanted_of : SearchRequest → Wanted
+wanted_of request = record { switches = request.switches; limit = request.limit; traced = is_some request.options.trace }
+
+-- This is left of a search over the program that a text spells, within the bounds and under the settings that are asked for: whether there
+-- was a report, whether others remain, the output, and the trace of the first list with a report, if it is asked for and there is one.
+pub record IsFound (request : SearchRequest) (stopped : Bool) (text : List ℕ) (raced : Bool) (output : List ℕ) (trace : Option (List ℕ)) :
+    Type 0 where
+  pub settings : Settings
+  pub asks : AskSettings request.options settings
+  pub found : search.TextIsSearched text settings (wanted_of request) raced stopped output trace
+
 -- What is left of runs was given: standard output took the output, and the trace was written, if it is asked for and there is one.
 pub record IsGiven (path : Option (List ℕ)) (output : List ℕ) (trace : Option (List ℕ)) (before after : State) : Type 0 where
   pub written : after.written ≡ appended before.written output
@@ -231,6 +246,12 @@ pub record RunRefuses (request : RunRequest) (text : List ℕ) (error : EngineEr
   pub asks : AskSettings request.options settings
   pub refused : tally.IsRefused request.keep_going text settings error
 
+-- and so of a search
+pub record SearchRefuses (request : SearchRequest) (text : List ℕ) (error : EngineError) : Type 0 where
+  pub settings : Settings
+  pub asks : AskSettings request.options settings
+  pub refused : search.IsRefused text settings error
+
 -- the file that is asked for was read, and is no true trace, for a reason that ends with this status
 pub record ReplayIsRefused (request : ReplayRequest) (status : ℕ) (before after : State) : Type 0 where
   pub bytes : List ℕ
@@ -258,24 +279,53 @@ pub record ReplayIsCut (request : ReplayRequest) (before after : State) : Type 0
   pub said : IsSaid request bytes line before after
   pub begun : HoldsBeginning line before.written after.written
 
--- what is asked was done, with a report or without one
+-- what a search was asked to find was found, with a report or without one, and others remain or none
+abbrev pub SearchIsDone : SearchRequest → (raced stopped : Bool) → State → State → Type 0
+SearchIsDone request raced stopped before after = FileIsRun request.file.now request.options (IsFound request stopped) raced before after
+
+-- the status that a search ends with
+abbrev pub search_status_of : (raced stopped : Bool) → ℕ
+search_status_of true stopped = 2
+search_status_of false true = 75
+search_status_of false false = 0
+
+-- a search was done, and this is its status
+pub record SearchEnds (request : SearchRequest) (status : ℕ) (before after : State) : Type 0 where
+  pub raced : Bool
+  pub stopped : Bool
+  pub status_is : status ≡ search_status_of raced stopped
+  pub done : SearchIsDone request raced stopped before after
+
+-- what is asked was done, with a report or without one; without one in none of all lists, where it is a search
 abbrev pub IsDone : Request → Bool → State → State → Type 0
 IsDone (requests.Step request) raced before after =
     FileIsRun request.file.now request.options (IsLeft request) raced before after
 IsDone (requests.Run request) raced before after = FileIsRun request.file.now request.options (AreLeft request) raced before after
+IsDone (requests.Search request) true before after = (stopped : Bool) × SearchIsDone request true stopped before after
+IsDone (requests.Search request) false before after = SearchIsDone request false false before after
 IsDone (requests.Replay request) true before after = ⊥
 IsDone (requests.Replay request) false before after = ReplayIsDone request before after
+
+-- a search that is asked for was stopped at its limit, with no report so far
+abbrev pub IsStopped : Request → State → State → Type 0
+IsStopped (requests.Step request) before after = ⊥
+IsStopped (requests.Run request) before after = ⊥
+IsStopped (requests.Search request) before after = SearchIsDone request false true before after
+IsStopped (requests.Replay request) before after = ⊥
 
 -- what is asked was done, and not all of it could be written
 abbrev pub IsCut : Request → State → State → Type 0
 IsCut (requests.Step request) before after = FileIsRunInPart request.file.now request.options (IsLeft request) before after
 IsCut (requests.Run request) before after = FileIsRunInPart request.file.now request.options (AreLeft request) before after
+IsCut (requests.Search request) before after =
+    (stopped : Bool) × FileIsRunInPart request.file.now request.options (IsFound request stopped) before after
 IsCut (requests.Replay request) before after = ReplayIsCut request before after
 
 -- what is asked was refused of the file that it is about
 abbrev pub IsRefusedOf : Request → (status : ℕ) → State → State → Type 0
 IsRefusedOf (requests.Step request) status before after = FileIsRefused request.file.now (StepRefuses request) status before after
 IsRefusedOf (requests.Run request) status before after = FileIsRefused request.file.now (RunRefuses request) status before after
+IsRefusedOf (requests.Search request) status before after = FileIsRefused request.file.now (SearchRefuses request) status before after
 IsRefusedOf (requests.Replay request) status before after = ReplayIsRefused request status before after
 
 -- the text spells no places, or no schedule
@@ -289,6 +339,7 @@ SpellsNoSchedule text = (entries : List Entry) → schedules.Spells text entries
 abbrev pub DoesNotRead : Request → Type 0
 DoesNotRead (requests.Step request) = SpellsNoSchedule request.schedule.now ⊎ SpellsNoPlaces request.options.places.now
 DoesNotRead (requests.Run request) = SpellsNoPlaces request.options.places.now
+DoesNotRead (requests.Search request) = SpellsNoPlaces request.options.places.now
 DoesNotRead (requests.Replay request) = ⊥
 
 -- Schedule or place list don't read, and no file was touched; or the file that is asked for was read, and they don't suit its program.
@@ -299,6 +350,7 @@ IsMisused request before after = (DoesNotRead request × (after.files ≡ before
 abbrev pub DoesRead : Request → Type 0
 DoesRead (requests.Step request) = (settings : Settings) × (entries : List Entry) × AsksFor request settings entries
 DoesRead (requests.Run request) = (settings : Settings) × AskSettings request.options settings
+DoesRead (requests.Search request) = (settings : Settings) × AskSettings request.options settings
 DoesRead (requests.Replay request) = Unit {0}
 
 -- the read of a file failed where the status is 66, and nowhere else
@@ -306,10 +358,11 @@ pub record Reads (status : ℕ) (before after : ℕ) : Type 0 where
   pub fails : status ≡ 66 → CountsFailure before after
   pub works : status ≢ 66 → after ≡ before
 
--- standard error was told nothing below 64, and from there on one thing, which comes with this status
+-- standard error was told nothing below 64 and at 75, and from 64 to 74 one thing, which comes with this status
 pub record Tells (status : ℕ) (before after : Option (List Complaint)) : Type 0 where
   pub quiet : status < 64 → after ≡ before
-  pub told : 64 ≤ status → (said : Complaint) × (complaint_status_of said ≡ status) × (after ≡ heard before said)
+  pub stopped : status ≡ 75 → after ≡ before
+  pub told : 64 ≤ status → status ≤ 74 → (said : Complaint) × (complaint_status_of said ≡ status) × (after ≡ heard before said)
 
 -- an error of the words themselves: neither want of memory nor help
 abbrev pub IsFault : ErrorKind → Type 0
@@ -349,7 +402,7 @@ pub record NothingIsWritten (before after : State) : Type 0 where
   pub written : after.written ≡ before.written
   pub files : OnlyRead before.files after.files
 
--- what each status from 64 on says, and which statuses there are
+-- what each status from 64 to 74 says, and which statuses there are
 pub record EndsAs (status : ℕ) (before after : State) : Type 0 where
   -- from 64 to 71, nothing was written
   pub silent : 64 ≤ status → status ≤ 71 → NothingIsWritten before after
@@ -357,4 +410,4 @@ pub record EndsAs (status : ℕ) (before after : State) : Type 0 where
   pub failed : status ≡ 74 → CountsFailure before.failures after.failures
   -- no other status
   pub known : (status ≡ 0) ⊎ (status ≡ 2) ⊎ ((64 ≤ status) × (status ≤ 66))
-      ⊎ (status ≡ 70) ⊎ (status ≡ 71) ⊎ (status ≡ 74)
+      ⊎ (status ≡ 70) ⊎ (status ≡ 71) ⊎ (status ≡ 74) ⊎ (status ≡ 75)

@@ -1,15 +1,15 @@
 //! The command line: what the words ask for is done, and the status that the program ends with.
 
 ghost use Rattle.std.specs.Prelude.{◌≡◌, ◌≢◌, ◌≤◌, ◌⊎◌, ℕ, List, IfErr, IfOk, OnErr, OnOk, is_some, true, false, map};
-ghost use Rattle.command_words.specs.Bounds.{KeepsBounds, KeepsRunBounds, MayBeAsked};
+ghost use Rattle.command_words.specs.Bounds.{KeepsBounds, KeepsRunBounds, KeepsSearchBounds, MayBeAsked};
 ghost use Rattle.command_words.specs.Words.{AskForHelp, MayFail};
 ghost use Rattle.clap.specs.Words.{kind_of};
 ghost use Rattle.litmus_command.specs.Command.{AreLeft, AskForOne, AskSettings, AsksFor, EndsAs, FileIsRefused, FileIsRun, FileIsRunInPart};
-ghost use Rattle.litmus_command.specs.Command.{HelpIsCut, HelpIsGiven, IsCut, IsDone, IsGiven, IsGivenInPart, IsLeft, IsOfFile, IsRefusedOf};
+ghost use Rattle.litmus_command.specs.Command.{HelpIsCut, HelpIsGiven, IsCut, IsDone, IsGiven, IsGivenInPart, IsLeft, IsOfFile, IsRefusedOf, IsStopped};
 ghost use Rattle.litmus_command.specs.Command.{DoesNotRead, DoesRead, IsFault, IsMisused, NothingIsWritten, Reads, ReplayIsCut, ReplayIsRefused, RunRefuses};
-ghost use Rattle.litmus_command.specs.Command.{SpellsNoPlaces, StepRefuses, Tells, UsageIsTold};
+ghost use Rattle.litmus_command.specs.Command.{SearchEnds, SearchRefuses, SpellsNoPlaces, StepRefuses, Tells, UsageIsTold};
 ghost use Rattle.litmus_command.specs.Command.{engine_status_of, read_failure, run_status_of, settings_of, state_of, status_of, text_status_of};
-ghost use Rattle.litmus_command.specs.Command.{times_of, trace_status_of, with_trace};
+ghost use Rattle.litmus_command.specs.Command.{search_status_of, times_of, trace_status_of, wanted_of, with_trace};
 ghost use Rattle.litmus_command.specs.Told.{heard};
 ghost use Rattle.litmus_command.specs.declared.command.Failure.TheVariants.{Engine, OutOfMemory, Trace};
 ghost use Rattle.report_text.specs.Sink.{CountsFailure};
@@ -21,20 +21,23 @@ use crate::desk::{Desk, ReadFault};
 use crate::engine::run_text;
 use crate::replay::replayed;
 use clap::error::ErrorKind;
-use command_words::{ReplayRequest, Request, RunOptions, RunRequest, StepRequest, asked};
-use litmus_parse::{FILE_BYTES, ParseError};
-use litmus_step::{RunError, Settings};
+use command_words::{
+    ReplayRequest, Request, RunOptions, RunRequest, SearchRequest, StepRequest, asked,
+};
 use place_list::parse_places;
-use program_layout::Place;
-use run_output::{EngineError, Written};
+use place_list::program_layout::Place;
+use run_tally::litmus_parse::{FILE_BYTES, ParseError};
+use run_tally::litmus_step::{RunError, Settings};
+use run_tally::run_output::{EngineError, Written};
+use run_tally::trace_replay::{SIZE_LIMIT, TraceError};
 use run_tally::{Times, run_text_often};
+use search_run::{SearchText, Wanted, search_text};
 use std::alloc::{AllocError, Global};
 use std::convert::AsStr;
 use std::sync::Wait;
 use std::thread::Threads;
 use step_schedule::Schedule;
 use thiserror::Error;
-use trace_replay::{SIZE_LIMIT, TraceError};
 
 /// The program ran, and there was no report.
 const NO_REPORT: u8 = 0;
@@ -59,6 +62,9 @@ pub const OUT_OF_MEMORY: u8 = 71;
 
 /// Output can't be written.
 const UNWRITABLE: u8 = 74;
+
+/// A search was stopped at its limit, and there was no report so far.
+const STOPPED: u8 = 75;
 
 /// Why the program does not end well. Its text goes to standard error.
 #[derive(Clone, Copy, Debug, PartialEq, Eq, Error)]
@@ -180,9 +186,9 @@ fn trace_status(error: TraceError) -> u8
 ///
 /// 0: no report, a trace that is accepted, or help. 2: a report. 64: usage, a schedule that doesn't read or names a task
 /// that isn't there, or a place that doesn't read or doesn't suit. 65: the file is refused. 66: it can't be read. 70: a task
-/// is stuck. 71: out of memory, or a thread couldn't be started. 74: output can't be written. At 64 to 71 nothing goes to
-/// standard output, and no trace is written. At 74 standard output has what it had, or a beginning of what should have gone
-/// there.
+/// is stuck. 71: out of memory, or a thread couldn't be started. 74: output can't be written. 75: a search was stopped at its
+/// limit, and no list that it went over has a report. At 64 to 71 nothing goes to standard output, and no trace is written. At 74
+/// standard output has what it had, or a beginning of what should have gone there.
 pub fn command<R: Threads + Wait + Sync, S: AsStr, D: Desk>(
     rt: &R,
     alloc: Global,
@@ -197,6 +203,9 @@ pub fn command<R: Threads + Wait + Sync, S: AsStr, D: Desk>(
         (state_of D.written D.failures D.files desk.new))
         ⊎ HelpIsGiven (map S.text words.now) (state_of D.written D.failures D.files desk.old)
         (state_of D.written D.failures D.files desk.new) }
+    ensures stopped { result ≡ 75 → AskForOne (map S.text words.now) (λ request.
+        IsStopped request (state_of D.written D.failures D.files desk.old)
+        (state_of D.written D.failures D.files desk.new)) }
     ensures unwritten { result ≡ 74 → AskForOne (map S.text words.now) (λ request.
         IsCut request (state_of D.written D.failures D.files desk.old)
         (state_of D.written D.failures D.files desk.new))
@@ -233,6 +242,8 @@ pub fn carry_out<R: Threads + Wait + Sync, D: Desk>(
         (state_of D.written D.failures D.files desk.new) }
     ensures unreported { result ≡ 0 → IsDone request.now false (state_of D.written D.failures D.files desk.old)
         (state_of D.written D.failures D.files desk.new) }
+    ensures stopped { result ≡ 75 → IsStopped request.now (state_of D.written D.failures D.files desk.old)
+        (state_of D.written D.failures D.files desk.new) }
     ensures unwritten { result ≡ 74 → IsCut request.now (state_of D.written D.failures D.files desk.old)
         (state_of D.written D.failures D.files desk.new) }
     ensures refused { IsOfFile result → IsRefusedOf request.now result (state_of D.written D.failures D.files desk.old)
@@ -248,11 +259,39 @@ pub fn carry_out<R: Threads + Wait + Sync, D: Desk>(
     let done = match request {
         Request::Step(request) => step(alloc, request, desk),
         Request::Run(request) => run(rt, alloc, request, desk),
+        Request::Search(request) => return carry_search(alloc, request, desk),
         Request::Replay(request) => replay(alloc, request, desk),
     };
     match done {
         Ok(true) => REPORTED,
         Ok(false) => NO_REPORT,
+        Err(failure) => fail(failure, desk),
+    }
+}
+
+/// Searches a file, and answers the status that the program ends with.
+fn carry_search<D: Desk>(alloc: Global, request: &SearchRequest<'_>, desk: &mut D) -> u8
+    requires { KeepsSearchBounds request.now }
+    ensures reported { result ≡ 2 → IsDone (Request.Search request.now) true (state_of D.written D.failures D.files desk.old)
+        (state_of D.written D.failures D.files desk.new) }
+    ensures unreported { result ≡ 0 → IsDone (Request.Search request.now) false (state_of D.written D.failures D.files desk.old)
+        (state_of D.written D.failures D.files desk.new) }
+    ensures stopped { result ≡ 75 → IsStopped (Request.Search request.now) (state_of D.written D.failures D.files desk.old)
+        (state_of D.written D.failures D.files desk.new) }
+    ensures unwritten { result ≡ 74 → IsCut (Request.Search request.now) (state_of D.written D.failures D.files desk.old)
+        (state_of D.written D.failures D.files desk.new) }
+    ensures refused { IsOfFile result → IsRefusedOf (Request.Search request.now) result (state_of D.written D.failures D.files desk.old)
+        (state_of D.written D.failures D.files desk.new) }
+    ensures misused { result ≡ 64 → IsMisused (Request.Search request.now) (state_of D.written D.failures D.files desk.old)
+        (state_of D.written D.failures D.files desk.new) }
+    ensures unread { result ≡ 66 → DoesRead (Request.Search request.now) }
+    ensures reads { Reads result (D.faults desk.old) (D.faults desk.new) }
+    ensures tells { Tells result (D.told desk.old) (D.told desk.new) }
+    ensures ends { EndsAs result (state_of D.written D.failures D.files desk.old)
+        (state_of D.written D.failures D.files desk.new) }
+{
+    match search(alloc, request, desk) {
+        Ok(status) => status,
         Err(failure) => fail(failure, desk),
     }
 }
@@ -434,6 +473,75 @@ fn run<R: Threads + Wait + Sync, D: Desk>(
     give(request.options.trace, &written, desk)
 }
 
+/// The status that a search ends with.
+fn search_status(raced: bool, stopped: bool) -> u8
+    ensures { result ≡ search_status_of raced stopped }
+{
+    if raced {
+        REPORTED
+    } else if stopped {
+        STOPPED
+    } else {
+        NO_REPORT
+    }
+}
+
+/// What is wanted of a search, as it is asked for.
+fn wanted_for(request: &SearchRequest<'_>) -> Wanted
+    ensures { result ≡ wanted_of request.now }
+{
+    Wanted {
+        switches: request.switches,
+        limit: request.limit,
+        traced: request.options.trace.is_some(),
+    }
+}
+
+/// Gives what a search leaves: the trace, if it is asked for and there is one, and then the output. The status that the search ends with.
+fn give_found<D: Desk>(path: Option<&str>, found: &SearchText, desk: &mut D) -> Result<u8, Failure>
+    ensures status { IfOk result (λ status. status ≡ search_status_of found.now.written.raced found.now.stopped) }
+    ensures given { OnOk result (IsGiven (option_map (λ path. path.now) path.entry) found.now.written.output.items
+        (option_map (λ bytes. bytes.items) found.now.written.trace) (state_of D.written D.failures D.files desk.old)
+        (state_of D.written D.failures D.files desk.new)) }
+    ensures failed { IfErr result (λ failure.
+        (status_of failure ≡ 74) × CountsFailure (D.failures desk.old) (D.failures desk.new)) }
+    ensures part { OnErr result (IsGivenInPart (option_map (λ path. path.now) path.entry) found.now.written.output.items
+        (option_map (λ bytes. bytes.items) found.now.written.trace) (state_of D.written D.failures D.files desk.old)
+        (state_of D.written D.failures D.files desk.new)) }
+    ensures told { D.told desk.new ≡ D.told desk.old }
+    ensures faults { D.faults desk.new ≡ D.faults desk.old }
+{
+    let raced = give(path, &found.written, desk)?;
+    Ok(search_status(raced, found.stopped))
+}
+
+/// Searches a file, and gives what is left of that. The status that the program ends with.
+fn search<D: Desk>(alloc: Global, request: &SearchRequest<'_>, desk: &mut D) -> Result<u8, Failure>
+    requires { KeepsSearchBounds request.now }
+    ensures done { IfOk result (λ status. SearchEnds request.now status (state_of D.written D.failures D.files desk.old)
+        (state_of D.written D.failures D.files desk.new)) }
+    ensures silent { IfErr result (λ failure. status_of failure ≢ 74
+        → NothingIsWritten (state_of D.written D.failures D.files desk.old) (state_of D.written D.failures D.files desk.new)) }
+    ensures failed { IfErr result (λ failure.
+        status_of failure ≡ 74 → CountsFailure (D.failures desk.old) (D.failures desk.new)) }
+    ensures cut { IfErr result (λ failure. status_of failure ≡ 74 → IsCut (Request.Search request.now)
+        (state_of D.written D.failures D.files desk.old) (state_of D.written D.failures D.files desk.new)) }
+    ensures refused { IfErr result (λ failure. IsOfFile (status_of failure) → FileIsRefused request.now.file.now (SearchRefuses request.now) (status_of failure)
+        (state_of D.written D.failures D.files desk.old) (state_of D.written D.failures D.files desk.new)) }
+    ensures misused { IfErr result (λ failure. status_of failure ≡ 64 → IsMisused (Request.Search request.now)
+        (state_of D.written D.failures D.files desk.old) (state_of D.written D.failures D.files desk.new)) }
+    ensures unread { IfErr result (λ failure. status_of failure ≡ 66 → DoesRead (Request.Search request.now)) }
+    ensures reads { IfErr result (λ failure. Reads (status_of failure) (D.faults desk.old) (D.faults desk.new)) }
+    ensures faults { OnOk result (D.faults desk.new ≡ D.faults desk.old) }
+    ensures told { D.told desk.new ≡ D.told desk.old }
+{
+    let settings = settings_for(alloc, &request.options)?;
+    let text = desk.read_file(alloc, request.file, FILE_BYTES)?;
+    let wanted = wanted_for(request);
+    let found = search_text(alloc, &text, &settings, wanted, &*desk)?;
+    give_found(request.options.trace, &found, desk)
+}
+
 /// Checks a trace, and writes what is said of one that is accepted. No report is told of.
 fn replay<D: Desk>(
     alloc: Global,
@@ -471,6 +579,7 @@ fn explain<D: Desk>(alloc: Global, error: clap::Error, desk: &mut D) -> u8
         → HelpIsGiven words (state_of D.written D.failures D.files desk.old)
         (state_of D.written D.failures D.files desk.new) }
     ensures unreported { result ≢ 2 }
+    ensures unstopped { result ≢ 75 }
     ensures of_words { ¬ IsOfFile result }
     ensures unwritten { (words : List (List ℕ)) → MayFail words (kind_of error) → result ≡ 74
         → HelpIsCut words (state_of D.written D.failures D.files desk.old)
@@ -498,6 +607,7 @@ fn help<D: Desk>(alloc: Global, help: clap::Error, desk: &mut D) -> u8
         → HelpIsGiven words (state_of D.written D.failures D.files desk.old)
         (state_of D.written D.failures D.files desk.new) }
     ensures unreported { result ≢ 2 }
+    ensures unstopped { result ≢ 75 }
     ensures of_words { ¬ IsOfFile result }
     ensures unwritten { (words : List (List ℕ)) → AskForHelp words → result ≡ 74
         → HelpIsCut words (state_of D.written D.failures D.files desk.old)

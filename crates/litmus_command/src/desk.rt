@@ -10,6 +10,7 @@ ghost use Rattle.report_text.specs.Sink.{CountsFailure, Writes};
 use crate::complaint::Complaint;
 use report_text::WriteError;
 use run_tally::Progress;
+use search_run::SearchProgress;
 use std::alloc::Global;
 
 /// Why a file gives no bytes.
@@ -19,8 +20,8 @@ pub enum ReadFault {
     CannotRead,
 }
 
-/// What a program stands on: standard output, standard error and named files. It is told how far runs on threads have come.
-pub trait Desk: Progress {
+/// What a program stands on: standard output, standard error and named files. It is told how far runs on threads and searches have come.
+pub trait Desk: Progress + SearchProgress {
     /// What standard output has taken, or None, which claims nothing, where it can't say.
     ghost written: { Self → Option (List ℕ) };
 

@@ -1,5 +1,5 @@
-//! The command line of `kcsan_litmus` over any desk: what is asked, the run of a litmus text, the check of a trace, and what is
-//! written of them.
+//! The command line of `kcsan_litmus` over any desk: what is asked, the run of a litmus text, the search over its schedules, the check
+//! of a trace, and what is written of them.
 #![tactic(auto)]
 
 pub mod command;
@@ -8,5 +8,6 @@ pub mod desk;
 pub mod engine;
 pub mod replay;
 
-pub use run_output::EngineError;
-pub use run_tally::Progress;
+pub use run_tally::run_output::EngineError;
+pub use run_tally::{Progress, litmus_step};
+pub use search_run::SearchProgress;

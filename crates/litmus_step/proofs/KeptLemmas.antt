@@ -13,9 +13,9 @@ use Rattle.run_kept.specs.Noted.{IsNoted, Notes}
 use Rattle.slot_table.specs.declared.records.Record.{Record}
 use Rattle.litmus_step.proofs.StepLemmas.{by_task, same_some, set_here, set_other}
 use Rattle.litmus_step.specs.Kept.{Added, AreFirst, AreKept, IsKept, IsNotedIn, accesses_kept, watches_kept}
-use Rattle.task_log.specs.Reports.{reported}
-use Rattle.task_log.specs.declared.log.TaskLog.{TaskLog}
-use Rattle.task_log.specs.declared.noted.Noted.{Noted}
+use Rattle.run_kept.specs.of_task_log_Reports.{reported}
+use Rattle.run_kept.specs.of_task_log_declared.log.TaskLog.{TaskLog}
+use Rattle.run_kept.specs.of_task_log_declared.noted.Noted.{Noted}
 
 abbrev pub OneMoreIsNoted : Type 0
 OneMoreIsNoted = (run : Run) (latest : Record) (earlier : List Record) (before : List Noted) (noted : Noted)

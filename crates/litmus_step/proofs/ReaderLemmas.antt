@@ -12,9 +12,9 @@ use Rattle.run_kept.specs.Noted.{AreNoted, Notes}
 use Rattle.run_kept.specs.Totals.{unbalanced_below}
 use Rattle.slot_table.specs.Records.{records_of}
 use Rattle.slot_table.specs.declared.records.Record.{Record}
-use Rattle.task_log.specs.declared.noted.Noted.{Noted}
+use Rattle.run_kept.specs.of_task_log_declared.noted.Noted.{Noted}
 use Rattle.task_laws.specs.of_task_plan_Counts.{up_to_last}
-use Rattle.written_tellings.specs.of_written_order_WrittenOrder.{stands_after}
+use Rattle.step_bounds.specs.of_written_order_WrittenOrder.{stands_after}
 
 -- those of one task more follow on those of the tasks before it
 pub by_one_more : {X : Type 0} (Of : ℕ → List X → Type 0) (tasks : ℕ) (some one all : List X) → ByTask Of tasks some → Of tasks one

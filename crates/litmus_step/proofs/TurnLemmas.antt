@@ -18,8 +18,8 @@ use Rattle.slot_table.specs.Records.{records_of}
 use Rattle.slot_table.specs.declared.records.Record.{Record}
 use Rattle.step_schedule.specs.Order as order
 use Rattle.step_schedule.specs.Order.{AreAsked, IsAsked}
-use Rattle.task_run.specs.declared.run.TaskRun.{TaskRun}
-use Rattle.written_tellings.specs.of_written_order_WrittenOrder.{SpellsAll}
+use Rattle.run_kept.specs.of_task_run_declared.run.TaskRun.{TaskRun}
+use Rattle.step_bounds.specs.of_written_order_WrittenOrder.{SpellsAll}
 
 -- the records of a task reach its machine
 pub reaches : (run : Run) (records : List Record) (world : World) (task : ℕ) (machine : TaskRun)

@@ -9,10 +9,10 @@ use Rattle.step_bounds.specs.of_run_lists_RunList.{RunList}
 use Rattle.run_kept.specs.Noted.{Notes}
 use Rattle.slot_table.specs.declared.records.Record.{Record}
 use Rattle.litmus_step.specs.Runs.{tasks_of}
-use Rattle.task_log.specs.Keeps.{Keeps, Room, room_in}
-use Rattle.task_log.specs.Reports as logs
-use Rattle.task_log.specs.declared.log.TaskLog.{TaskLog}
-use Rattle.task_log.specs.declared.noted.Noted.{Noted}
+use Rattle.run_kept.specs.of_task_log_Keeps.{Keeps, Room, room_in}
+use Rattle.run_kept.specs.of_task_log_Reports as logs
+use Rattle.run_kept.specs.of_task_log_declared.log.TaskLog.{TaskLog}
+use Rattle.run_kept.specs.of_task_log_declared.noted.Noted.{Noted}
 
 -- There is room for as many accesses of a task as its text can begin: as often as its loops repeat them. At each of
 -- these there is room for nine watchpoints that are set up or taken: its check's own and those of eight assertions.

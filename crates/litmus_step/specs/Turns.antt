@@ -7,10 +7,10 @@ use Rattle.step_schedule.specs.Order.{AreAsked, IsOrder, Tasks}
 use Rattle.step_schedule.specs.declared.schedule.Entry.{Entry}
 use Rattle.litmus_step.specs.Runs.{HasEnded, IsStuck, tasks_of}
 use Rattle.litmus_step.specs.Steps.{IsFree, IsMachine, LeadsTo, tasks_in}
-use Rattle.program_sites.specs.declared.error.RunError.{RunError}
-use Rattle.program_sites.specs.declared.error.RunError.TheVariants as errors
+use Rattle.run_kept.specs.of_program_sites_declared.error.RunError.{RunError}
+use Rattle.run_kept.specs.of_program_sites_declared.error.RunError.TheVariants as errors
 use Rattle.litmus_step.specs.declared.world.World.{World}
-use Rattle.task_run.specs.declared.run.TaskRun.{TaskRun}
+use Rattle.run_kept.specs.of_task_run_declared.run.TaskRun.{TaskRun}
 
 -- a list of steps, the latest record first, and the world that it leads to
 pub record Point : Type 0 where

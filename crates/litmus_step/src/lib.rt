@@ -10,6 +10,7 @@ mod readers;
 mod schedules;
 pub mod world;
 
-pub use program_sites::{Prepared, RunError, Settings};
 pub use ran::Ran;
+pub use run_kept::program_sites::{Prepared, RunError, Settings};
+pub use task_laws;
 pub use world::{Stepped, World};

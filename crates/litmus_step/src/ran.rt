@@ -13,8 +13,8 @@ ghost use Rattle.step_bounds.specs.of_run_lists_Run.{Run, first_words};
 ghost use Rattle.step_bounds.specs.of_run_lists_RunList.{RunList};
 
 use access_types::{Arm, Report, Stamped, Take};
+use run_kept::task_log::Counters;
 use std::alloc::{AllocError, Global};
-use task_log::Counters;
 
 /// What came of the steps of a run: a world, or what threads leave. What is read of it is what the list of these steps gives. The latest
 /// record of a list stands first.

@@ -4,6 +4,7 @@
 pub mod places;
 
 pub use places::parse_places;
+pub use program_layout;
 
 #[cfg(test)]
 mod tests;

@@ -5,3 +5,4 @@ mod back;
 pub mod laws;
 
 pub use back::read_back;
+pub use litmus_parse;

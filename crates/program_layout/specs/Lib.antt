@@ -11,7 +11,6 @@ pub use Rattle.access_types.specs.declared as of_access_types_declared
 pub use Rattle.litmus_syntax.specs.Limits as of_litmus_syntax_Limits
 pub use Rattle.litmus_syntax.specs.Sites as of_litmus_syntax_Sites
 pub use Rattle.litmus_syntax.specs.Tree as of_litmus_syntax_Tree
-pub use Rattle.litmus_syntax.specs.Views as of_litmus_syntax_Views
 pub use Rattle.litmus_syntax.specs.declared as of_litmus_syntax_declared
 pub use Rattle.litmus_meaning.specs.Assignments as of_litmus_meaning_Assignments
 pub use Rattle.litmus_meaning.specs.Calls as of_litmus_meaning_Calls
@@ -21,5 +20,4 @@ pub use Rattle.litmus_meaning.specs.Loads as of_litmus_meaning_Loads
 pub use Rattle.litmus_meaning.specs.Meaning as of_litmus_meaning_Meaning
 pub use Rattle.litmus_meaning.specs.RunOfProgram as of_litmus_meaning_RunOfProgram
 pub use Rattle.litmus_meaning.specs.Task as of_litmus_meaning_Task
-pub use Rattle.litmus_meaning.specs.TextSites as of_litmus_meaning_TextSites
 pub use Rattle.litmus_meaning.specs.Values as of_litmus_meaning_Values

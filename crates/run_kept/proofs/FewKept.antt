@@ -8,11 +8,11 @@ use Rattle.slot_table.specs.of_access_types_Arms.{Arm}
 use Rattle.slot_table.specs.of_access_types_Takes.{Take}
 use Rattle.slot_table.specs.of_access_types_declared.history.Happening.{Happening}
 use Rattle.slot_table.specs.of_access_types_declared.history.Happening.TheVariants as happenings
-use Rattle.run_lists.specs.Run.{Run, task_of, task_setting}
-use Rattle.run_lists.specs.RunList.{RunList}
-use Rattle.run_lists.specs.Told.{made_by}
-use Rattle.run_lists.proofs.Histories.{did_of_all}
-use Rattle.run_lists.proofs.OwnLasts.{own_latest}
+use Rattle.run_headline.specs.of_run_lists_Run.{Run, task_of, task_setting}
+use Rattle.run_headline.specs.of_run_lists_RunList.{RunList}
+use Rattle.run_headline.specs.of_run_lists_Told.{made_by}
+use Rattle.run_headline.proofs.of_run_lists_Histories.{did_of_all}
+use Rattle.run_headline.proofs.of_run_lists_OwnLasts.{own_latest}
 use Rattle.run_kept.specs.Lists.{AreArmsAt, AreArmsBy, ByTask, take_of, takes_by}
 use Rattle.run_kept.specs.Spans.{is_end}
 use Rattle.run_kept.proofs.Balance.{Runs, runs_split, whole_runs}
@@ -27,7 +27,7 @@ use Rattle.slot_table.specs.declared.records.Record.{Record}
 use Rattle.slot_table.specs.declared.step.Answer.{Answer}
 use Rattle.slot_table.specs.declared.step.Step.{Step}
 use Rattle.slot_table.specs.declared.step.Step.TheVariants as steps
-use Rattle.written_order.specs.Told.{did_by}
+use Rattle.written_tellings.specs.of_written_order_Told.{did_by}
 use Rattle.written_tellings.specs.Begins.{begins_in, is_begin}
 
 -- no more end than begin, and go on before

@@ -8,28 +8,28 @@ use Rattle.slot_table.specs.of_access_types_declared.history.Happening.TheVarian
 use Rattle.slot_table.specs.of_access_types_declared.history.Mark.{Mark}
 use Rattle.slot_table.specs.of_access_types_declared.history.Mark.TheVariants as marks
 use Rattle.slot_table.specs.of_access_types_declared.kind.Kind.{Kind}
-use Rattle.written_order.specs.of_litmus_meaning_Calls.{Scoped, scoped_assertion}
-use Rattle.written_order.specs.of_litmus_meaning_Loads.{load_in}
-use Rattle.written_order.specs.of_litmus_meaning_Meaning.{Chooses, after_condition}
-use Rattle.written_order.specs.of_litmus_meaning_Task.{has_lock}
-use Rattle.written_order.specs.of_litmus_syntax_Limits.{BlockScopes, StatementScopes, block_repeats, scoped_limit, scopes_of, statement_repeats}
-use Rattle.written_order.specs.of_litmus_syntax_Sites.{accesses_of, assignment_has_access, call_has_access, expression_has_access, sites_of}
-use Rattle.written_order.specs.of_litmus_syntax_Tree.{Assignment, Block, Expression, Load, Statement}
-use Rattle.written_order.specs.of_litmus_syntax_Tree as tree
-use Rattle.written_order.specs.of_litmus_syntax_declared.statement.Call.{Call}
-use Rattle.written_order.specs.of_litmus_syntax_declared.statement.Call.TheVariants as calls
-use Rattle.written_order.specs.of_memory_operation_declared.effect.Effect.{Effect}
-use Rattle.written_order.specs.of_memory_operation_declared.operation.Operation.{Operation}
-use Rattle.written_order.specs.of_setup_access_Check.{Check, ChecksAll, ChecksBegun, ChecksOnce, Close, Fallen, Pass, Passes, Rechecks, fallen_of, left_to_check}
-use Rattle.written_order.specs.of_setup_access_Setting as checks
-use Rattle.written_order.specs.of_setup_access_declared.begun.Begun.{Begun}
-use Rattle.written_order.proofs.of_setup_access_DisciplineLemmas.{on_word}
+use Rattle.written_tellings.specs.of_litmus_meaning_Calls.{Scoped, scoped_assertion}
+use Rattle.written_tellings.specs.of_litmus_meaning_Loads.{load_in}
+use Rattle.written_tellings.specs.of_litmus_meaning_Meaning.{Chooses, after_condition}
+use Rattle.written_tellings.specs.of_litmus_meaning_Task.{has_lock}
+use Rattle.written_tellings.specs.of_litmus_syntax_Limits.{BlockScopes, StatementScopes, block_repeats, scoped_limit, scopes_of, statement_repeats}
+use Rattle.written_tellings.specs.of_litmus_syntax_Sites.{accesses_of, assignment_has_access, call_has_access, expression_has_access, sites_of}
+use Rattle.written_tellings.specs.of_litmus_syntax_Tree.{Assignment, Block, Expression, Load, Statement}
+use Rattle.written_tellings.specs.of_litmus_syntax_Tree as tree
+use Rattle.written_tellings.specs.of_litmus_syntax_declared.statement.Call.{Call}
+use Rattle.written_tellings.specs.of_litmus_syntax_declared.statement.Call.TheVariants as calls
+use Rattle.written_tellings.specs.of_memory_operation_declared.effect.Effect.{Effect}
+use Rattle.written_tellings.specs.of_memory_operation_declared.operation.Operation.{Operation}
+use Rattle.written_tellings.specs.of_setup_access_Check.{Check, ChecksAll, ChecksBegun, ChecksOnce, Close, Fallen, Pass, Passes, Rechecks, fallen_of, left_to_check}
+use Rattle.written_tellings.specs.of_setup_access_Setting as checks
+use Rattle.written_tellings.specs.of_setup_access_declared.begun.Begun.{Begun}
+use Rattle.written_tellings.proofs.of_setup_access_DisciplineLemmas.{on_word}
 use Rattle.slot_table.specs.declared.records.Record.{Record}
-use Rattle.written_order.specs.Access.{Makes}
-use Rattle.written_order.specs.Standing.{Setting, Standing, checks_of, coming, counting, doing}
-use Rattle.written_order.specs.WrittenOrder.{ChecksAt, ClosesScope, MakesMark, Only, OpensScope, SpellsAll, Steps, StepsInBlock, StepsInDataRace, StepsOf}
-use Rattle.written_order.specs.WrittenOrder.{StepsOfAssignment, StepsOfBlock, StepsOfCall, StepsOfExpression, StepsOfLoad, StepsOfTurns, at_first, marked_so_often}
-use Rattle.written_order.proofs.ScopesLemmas.{counting_scopes, operated_scopes}
+use Rattle.written_tellings.specs.of_written_order_Access.{Makes}
+use Rattle.written_tellings.specs.of_written_order_Standing.{Setting, Standing, checks_of, coming, counting, doing}
+use Rattle.written_tellings.specs.of_written_order_WrittenOrder.{ChecksAt, ClosesScope, MakesMark, Only, OpensScope, SpellsAll, Steps, StepsInBlock, StepsInDataRace, StepsOf}
+use Rattle.written_tellings.specs.of_written_order_WrittenOrder.{StepsOfAssignment, StepsOfBlock, StepsOfCall, StepsOfExpression, StepsOfLoad, StepsOfTurns, at_first, marked_so_often}
+use Rattle.written_tellings.proofs.of_written_order_ScopesLemmas.{counting_scopes, operated_scopes}
 use Rattle.written_tellings.proofs.BeginsBound.{scaled}
 
 -- a check of an access has one outcome, and those of the scoped assertions in force, at most

@@ -3,9 +3,9 @@ use Rattle.std.proofs.Common.{◌≡◌, ◌∙◌, ◌++◌, ◌∷◌, [], inl
 use Rattle.std.proofs.lemmas.List.{append-nil, map-append}
 use Rattle.slot_table.specs.of_access_types_Arms.{Arm}
 use Rattle.slot_table.specs.of_access_types_Ticket.{ticket_number}
-use Rattle.run_lists.specs.Run.{Run, first_cells, locks_of}
-use Rattle.run_lists.specs.RunList.{RunList}
-use Rattle.run_lists.specs.Told.{OutcomeAt, outcomes_of}
+use Rattle.run_headline.specs.of_run_lists_Run.{Run, first_cells, locks_of}
+use Rattle.run_headline.specs.of_run_lists_RunList.{RunList}
+use Rattle.run_headline.specs.of_run_lists_Told.{OutcomeAt, outcomes_of}
 use Rattle.run_kept.specs.Lists.{AreArmsBy, verdicts_by}
 use Rattle.run_kept.proofs.Settling.{HandSays, HitSays, Known, Match, PartSays, Pending, Settled}
 use Rattle.run_kept.proofs.Pairing.{all_paired}

@@ -7,11 +7,11 @@ use Rattle.std.proofs.lemmas.List.Elements.{All-cons, All-nil}
 use Rattle.std.proofs.lemmas.List.Kept.{AllPairs-cons}
 use Rattle.std.proofs.lemmas.List.Sums.{sum_by-cons}
 use Rattle.slot_table.specs.of_access_types_Stamped.{Stamped}
-use Rattle.run_lists.specs.Run.{Run}
-use Rattle.run_lists.specs.RunList.{RunList}
-use Rattle.run_lists.proofs.OwnLasts.{own_latest}
+use Rattle.run_headline.specs.of_run_lists_Run.{Run}
+use Rattle.run_headline.specs.of_run_lists_RunList.{RunList}
+use Rattle.run_headline.proofs.of_run_lists_OwnLasts.{own_latest}
 use Rattle.run_kept.specs.Noted.{AreNoted, Notes}
-use Rattle.written_order.specs.of_setup_access_declared.begun.Begun.{Begun}
+use Rattle.written_tellings.specs.of_setup_access_declared.begun.Begun.{Begun}
 use Rattle.slot_table.specs.Records.{records_of}
 use Rattle.slot_table.specs.declared.records.Record.{Record}
 use Rattle.slot_table.specs.declared.step.Answer.{Answer}

@@ -6,7 +6,7 @@ use Rattle.std.proofs.lemmas.Bool.Decides.{eqb_tells}
 use Rattle.slot_table.specs.of_access_types_Arms.{Arm}
 use Rattle.slot_table.specs.of_access_types_Ticket.{ticket_number}
 use Rattle.slot_table.specs.of_access_types_declared.arms.ArmOutcome.{ArmOutcome}
-use Rattle.run_lists.specs.Told.{OutcomeAt}
+use Rattle.run_headline.specs.of_run_lists_Told.{OutcomeAt}
 use Rattle.run_kept.specs.Lists.{Became}
 use Rattle.run_headline.proofs.Falls.{ClearsNext}
 use Rattle.slot_table.specs.of_slot_Pair.{Halves}

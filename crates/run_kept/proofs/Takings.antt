@@ -6,10 +6,10 @@ use Rattle.std.proofs.lemmas.List.{append-nil}
 use Rattle.std.proofs.lemmas.List.Elements.{All-contains, Contains-append_left, Contains-append_right}
 use Rattle.slot_table.specs.of_access_types_Takes.{Take}
 use Rattle.slot_table.specs.of_access_types_Ticket.{ticket_number}
-use Rattle.run_lists.specs.Run.{Run}
-use Rattle.run_lists.specs.RunList.{RunList}
-use Rattle.run_lists.specs.Told.{Armed, OutcomeAt, armed_by, came_next, made_by, outcome_at, outcomes_by, outcomes_of}
-use Rattle.run_lists.proofs.OwnLasts.{hears_at, own_latest}
+use Rattle.run_headline.specs.of_run_lists_Run.{Run}
+use Rattle.run_headline.specs.of_run_lists_RunList.{RunList}
+use Rattle.run_headline.specs.of_run_lists_Told.{Armed, OutcomeAt, armed_by, came_next, made_by, outcome_at, outcomes_by, outcomes_of}
+use Rattle.run_headline.proofs.of_run_lists_OwnLasts.{hears_at, own_latest}
 use Rattle.run_kept.specs.Lists.{take_of, takes_by}
 use Rattle.run_kept.specs.Noted.{AreNoted, IsNoted, Notes}
 use Rattle.run_kept.proofs.Owns.{AllOfTask}
@@ -19,9 +19,9 @@ use Rattle.run_headline.specs.Settles.{Settles, TellsOf}
 use Rattle.run_headline.proofs.Falls.{outcomes_in}
 use Rattle.run_headline.proofs.Finds.{ends_so}
 use Rattle.run_headline.proofs.Lists.{SettledAt, settled_at}
-use Rattle.written_order.specs.of_setup_access_Check.{Fallen}
-use Rattle.written_order.specs.of_setup_access_declared.outcome.Outcome.{Outcome}
-use Rattle.written_order.specs.of_setup_access_declared.outcome.Outcome.TheVariants as outcomes
+use Rattle.written_tellings.specs.of_setup_access_Check.{Fallen}
+use Rattle.written_tellings.specs.of_setup_access_declared.outcome.Outcome.{Outcome}
+use Rattle.written_tellings.specs.of_setup_access_declared.outcome.Outcome.TheVariants as outcomes
 use Rattle.slot_table.specs.of_slot_Pair.{Halves}
 use Rattle.slot_table.specs.Discipline.{heard, in_hand}
 use Rattle.slot_table.specs.Hearings.{EachHearsTheOther, HearsTheOther}

@@ -2,11 +2,11 @@
 use Rattle.std.specs.Prelude.{◌≡◌, ◌≢◌, ◌<◌, IsTrue, List, Some, length}
 use Rattle.slot_table.specs.of_access_types_Access.{Access, IsInLimits}
 use Rattle.slot_table.specs.of_access_types_Marked.{CountedAsMarked, Silenced}
-use Rattle.run_lists.specs.Run.{IsOfProgram, Run}
-use Rattle.run_lists.specs.RunList.{RunList}
-use Rattle.run_lists.specs.Told.{OutcomeAt, history_of}
+use Rattle.run_headline.specs.of_run_lists_Run.{IsOfProgram, Run}
+use Rattle.run_headline.specs.of_run_lists_RunList.{RunList}
+use Rattle.run_headline.specs.of_run_lists_Told.{OutcomeAt, history_of}
 use Rattle.run_headline.specs.Watches.{is_verdict}
-use Rattle.written_order.specs.of_setup_access_declared.outcome.Outcome.TheVariants as outcomes
+use Rattle.written_tellings.specs.of_setup_access_declared.outcome.Outcome.TheVariants as outcomes
 use Rattle.slot_table.specs.of_slot_Pair.{Halves}
 use Rattle.slot_table.specs.declared.records.Record.{Record}
 use Rattle.report_text.specs.of_watch_word_Word.{Encodable}

@@ -1,9 +1,9 @@
 //! What is true of what logs keep of accesses.
 
 ghost use Rattle.std.specs.Prelude.{ℕ, List};
-ghost use Rattle.written_order.specs.of_litmus_syntax_Limits.{KeepsLimits};
-ghost use Rattle.run_lists.specs.Run.{Run};
-ghost use Rattle.run_lists.specs.RunList.{RunList};
+ghost use Rattle.written_tellings.specs.of_litmus_syntax_Limits.{KeepsLimits};
+ghost use Rattle.run_headline.specs.of_run_lists_Run.{Run};
+ghost use Rattle.run_headline.specs.of_run_lists_RunList.{RunList};
 ghost use Rattle.run_kept.specs.Lists.{AreAccessesOf};
 ghost use Rattle.run_kept.specs.Noted.{Notes};
 ghost use Rattle.slot_table.specs.declared.records.Record.{Record};

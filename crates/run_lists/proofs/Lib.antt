@@ -10,7 +10,6 @@ pub mod Histories
 pub mod OwnMarks
 pub mod Tried
 pub use Rattle.written_order.proofs.of_setup_access_DisciplineLemmas as of_setup_access_DisciplineLemmas
-pub use Rattle.written_order.proofs.of_memory_operation_WordLemmas as of_memory_operation_WordLemmas
 pub use Rattle.written_order.proofs.AccessLemmas as of_written_order_AccessLemmas
 pub use Rattle.written_order.proofs.HeldLocks as of_written_order_HeldLocks
 pub use Rattle.written_order.proofs.Induction as of_written_order_Induction

@@ -1,18 +1,20 @@
 -- What registers and variables hold at the end of a list of steps.
-use Rattle.std.specs.Prelude.{◌≡◌, ◌*◌, ◌/◌, ◌%◌, ◌^◌, ◌==◌, ℕ, List, [], ◌∷◌, Option, None, Some, length, slice_get, unwrap_or}
+use Rattle.std.specs.Prelude.{◌≡◌, ◌↔◌, ◌*◌, ◌/◌, ◌%◌, ◌^◌, ◌==◌, ℕ, IsTrue, List, [], ◌∷◌, Option, None, Some, length, map, slice_get, unwrap_or}
 use Rattle.std.specs.Prelude.{suc, if◌then◌else◌}
 use Rattle.access_types.specs.History.{History, content}
 use Rattle.access_types.specs.declared.history.Bytes.{Bytes}
-use Rattle.final_condition.specs.Holds.{Holds}
+use Rattle.final_condition.specs.Holds.{Holds, variable_of}
+use Rattle.final_condition.specs.declared.condition.Finals.{Finals}
 use Rattle.litmus_meaning.specs.Layout.{Place, block_of, bytes_of_variable, cells_of, memory_at_first}
 use Rattle.litmus_meaning.specs.Values.{sign_extended}
 use Rattle.litmus_step.specs.Readers.{AreRegisters}
 use Rattle.litmus_step.specs.Runs.{tasks_of}
 use Rattle.litmus_syntax.specs.declared.program.Variable.{Variable}
-use Rattle.run_headline.specs.of_run_lists_Run.{Run}
-use Rattle.run_headline.specs.of_run_lists_RunList.{RunList}
-use Rattle.run_headline.specs.of_run_lists_Told.{history_of}
-use Rattle.task_log.specs.of_slot_table_declared.records.Record.{Record}
+use Rattle.accepted_traces.specs.of_run_lists_Run.{Run}
+use Rattle.accepted_traces.specs.of_run_lists_RunList.{RunList}
+use Rattle.accepted_traces.specs.of_run_lists_Told.{history_of}
+use Rattle.run_output.specs.declared.finals.End.{End}
+use Rattle.accepted_traces.specs.of_slot_table_declared.records.Record.{Record}
 
 -- the value of the variable of a number, with these places, where this history has ended: the content of its bytes, with its sign, in 64
 -- bits
@@ -47,6 +49,16 @@ pub record HoldsAtEnd {run : Run} {records : List Record} (list : RunList run re
   pub registers_are : AreAllRegisters list registers
   pub holds : Holds (register_value registers) (variable_value run.places run.program.variables (history_of list))
       run.program.condition
+
+-- registers and variables hold this where the list ends
+pub record AreFinals {run : Run} {records : List Record} (list : RunList run records) (finals : Finals) : Type 0 where
+  pub registers : AreAllRegisters list (map (λ values. values.items) finals.registers.items)
+  pub variables : (number : ℕ) → variable_of finals number ≡ variable_value run.places run.program.variables (history_of list) number
+
+-- what registers and variables hold where the list ends, and whether the condition of the program holds there
+pub record IsEndOf {run : Run} {records : List Record} (list : RunList run records) (end : End) : Type 0 where
+  pub finals : AreFinals list end.finals
+  pub held : IsTrue end.held ↔ HoldsAtEnd list
 
 -- the word of the cell at an address, where the cells at these addresses hold these words; 0 where there is none
 abbrev pub word_at : (cells words : List ℕ) → ℕ → ℕ

@@ -1,34 +1,43 @@
 //! What is found at the end of a run: what registers and variables hold, and whether the condition does.
 
-ghost use Rattle.std.specs.Prelude.{◌≡◌, ◌↔◌, ℕ, List, IfOk, IsTrue, map, slice_get, unwrap_or};
+ghost use Rattle.std.specs.Prelude.{◌≡◌, ℕ, List, IfOk, map, slice_get, unwrap_or};
 ghost use Rattle.access_types.specs.Sites.{AccessMap};
 ghost use Rattle.final_condition.specs.Holds.{variable_of};
-ghost use Rattle.program_sites.specs.Prepared.{IsPrepared};
+ghost use Rattle.accepted_traces.specs.of_program_sites_Prepared.{IsPrepared};
 ghost use Rattle.litmus_step.specs.Runs.{run_of};
-ghost use Rattle.program_sites.specs.declared.settings.Settings as terms;
+ghost use Rattle.accepted_traces.specs.of_program_sites_declared.settings.Settings as terms;
 ghost use Rattle.litmus_syntax.specs.Limits.{KeepsLimits};
 ghost use Rattle.litmus_syntax.specs.Views.{program_of};
 ghost use Rattle.litmus_syntax.specs.declared.program.Program as tree;
-ghost use Rattle.program_layout.specs.Places.{places_of};
+ghost use Rattle.accepted_traces.specs.of_program_layout_Places.{places_of};
 ghost use Rattle.run_output.specs.Finals as spec;
-ghost use Rattle.run_output.specs.Finals.{AreAllRegisters, HoldsAtEnd, value_in_cells, variable_value};
+ghost use Rattle.run_output.specs.Finals.{AreAllRegisters, IsEndOf, value_in_cells, variable_value};
 ghost use Rattle.run_output.specs.Output.{IsFoundOf};
-ghost use Rattle.run_headline.specs.of_run_lists_Run.{Run};
-ghost use Rattle.run_headline.specs.of_run_lists_Run.{first_words};
-ghost use Rattle.run_headline.specs.of_run_lists_RunList.{RunList};
-ghost use Rattle.run_headline.specs.of_run_lists_Told.{history_of};
-ghost use Rattle.task_log.specs.of_slot_table_Records.{words_after};
-ghost use Rattle.task_log.specs.of_slot_table_declared.records.Record.{Record};
+ghost use Rattle.accepted_traces.specs.of_run_lists_Run.{Run};
+ghost use Rattle.accepted_traces.specs.of_run_lists_Run.{first_words};
+ghost use Rattle.accepted_traces.specs.of_run_lists_RunList.{RunList};
+ghost use Rattle.accepted_traces.specs.of_run_lists_Told.{history_of};
+ghost use Rattle.accepted_traces.specs.of_slot_table_Records.{words_after};
+ghost use Rattle.accepted_traces.specs.of_slot_table_declared.records.Record.{Record};
 
 use crate::output::Found;
+use accepted_traces::program_layout::laws::variables_lie_in_one_cell;
+use accepted_traces::run_headline::histories::cells_hold_the_content;
 use access_types::Bytes;
 use final_condition::{Finals, holds};
 use litmus_meaning::sign_extended;
 use litmus_step::{Prepared, Ran};
 use litmus_syntax::Program;
-use program_layout::laws::variables_lie_in_one_cell;
-use run_headline::histories::cells_hold_the_content;
 use std::alloc::{AllocError, Global};
+
+/// The end of a run.
+#[derive(Drop)]
+pub struct End {
+    /// What registers and variables hold.
+    pub finals: Finals,
+    /// Whether the condition holds.
+    pub held: bool,
+}
 
 /// The word of the cell at an address, where the cells at these addresses hold these words; 0 where there is none.
 fn word_at(cells: &[u64], words: &[u64], addr: u64) -> u64
@@ -117,21 +126,22 @@ fn registers_of<R: Ran>(alloc: Global, ran: &R) -> Result<Vec<Vec<u64>>, AllocEr
     Ok(registers)
 }
 
-/// Whether the condition of a program that is made ready holds where a run of it has ended.
-fn holds_at_end<R: Ran>(
+/// What registers and variables hold where a run of a program that is made ready has ended, and whether its condition holds there.
+pub fn end_of<R: Ran>(
     alloc: Global,
     program: &Program,
     prepared: &Prepared,
     ran: &R,
-) -> Result<bool, AllocError>
+) -> Result<End, AllocError>
     requires { KeepsLimits (program_of program.now) }
     ensures { (settings : terms.Settings) (sites : AccessMap) (records : List Record)
         → (comes : R.comes_of ran.now (run_of program.now settings sites) records) → IsPrepared program.now settings prepared.now
-        → IfOk result (λ held. IsTrue held ↔ HoldsAtEnd (R.list_of ran.now (run_of program.now settings sites) records comes)) }
+        → IfOk result (IsEndOf (R.list_of ran.now (run_of program.now settings sites) records comes)) }
 {
     let registers = registers_of(alloc, ran)?;
     let finals = finals_at(alloc, prepared, registers, ran.memory())?;
-    Ok(holds(&program.condition, &finals))
+    let held = holds(&program.condition, &finals);
+    Ok(End { finals, held })
 }
 
 /// What is found of a run of a program that is made ready.
@@ -146,10 +156,10 @@ pub fn found_of<R: Ran>(
         → (comes : R.comes_of ran.now (run_of program.now settings sites) records) → IsPrepared program.now settings prepared.now
         → IfOk result (IsFoundOf (R.list_of ran.now (run_of program.now settings sites) records comes)) }
 {
-    let held = holds_at_end(alloc, program, prepared, ran)?;
+    let end = end_of(alloc, program, prepared, ran)?;
     Ok(Found {
         counters: ran.counters(),
         unbalanced: ran.unbalanced(),
-        held,
+        held: end.held,
     })
 }

@@ -1,11 +1,11 @@
 -- What is seen of runs on threads.
 use Rattle.std.specs.Prelude.{◌≡◌, ◌<◌, ◌+◌, ◌++◌, ◌∷◌, [], ℕ, AllPairs, IfErr, IfOk, List, Option, None, Result, Some, length, slice_index_or}
-use Rattle.program_sites.specs.declared.settings.Settings.{Settings}
+use Rattle.run_output.specs.of_program_sites_declared.settings.Settings.{Settings}
 use Rattle.litmus_syntax.specs.declared.program.Program.{Program}
 use Rattle.run_tally.specs.Errors.{GetsStuck, StopsRun}
-use Rattle.run_headline.specs.Headline.{Headline}
+use Rattle.run_output.specs.of_run_headline_Headline.{Headline}
 use Rattle.runner.specs.Result.{IsRunOnce}
-use Rattle.program_sites.specs.declared.error.RunError.{RunError}
+use Rattle.run_output.specs.of_program_sites_declared.error.RunError.{RunError}
 use Rattle.runner.specs.declared.result.RunResult.{RunResult}
 use Rattle.run_output.specs.Output.{IsFoundOf}
 use Rattle.run_output.specs.declared.output.Found.{Found}

@@ -5,9 +5,9 @@ use Rattle.std.proofs.lemmas.Bool.Decides.{leb_tells}
 use Rattle.std.proofs.lemmas.List.{map-append}
 use Rattle.std.proofs.lemmas.Option.{get_or_from_slice_get, same_Some, slice_get-map, slice_get_cases, slice_get_read, slice_get_within}
 use Rattle.litmus_step.specs.Runs.{tasks_of}
-use Rattle.run_lists.specs.Run.{Run}
+use Rattle.accepted_traces.specs.of_run_lists_Run.{Run}
 use Rattle.runner.specs.Starts.{AreOutcomes, AreSomeStarts, AreStarts, ComeOf, IsOutcome, IsStart}
-use Rattle.program_sites.specs.declared.error.RunError.{RunError}
+use Rattle.accepted_traces.specs.of_program_sites_declared.error.RunError.{RunError}
 use Rattle.runner.specs.declared.first.TaskStart.{TaskStart}
 use Rattle.runner.specs.declared.seated.Found.{Found}
 use Rattle.shared_table.specs.Seats.{Opened}

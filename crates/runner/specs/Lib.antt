@@ -5,3 +5,4 @@ pub mod Seated
 pub mod Found
 pub mod Starts
 pub mod Result
+pub use Rattle.shared_table.specs.Seats as of_shared_table_Seats

@@ -5,13 +5,13 @@ use Rattle.access_types.specs.declared.report.Report.{Report}
 use Rattle.litmus_step.specs.Kept.{AreLogs}
 use Rattle.litmus_step.specs.Readers.{AreRegisters}
 use Rattle.litmus_step.specs.Runs.{CanBeMade, run_of, tasks_of}
-use Rattle.program_sites.specs.declared.settings.Settings.{Settings}
+use Rattle.accepted_traces.specs.of_program_sites_declared.settings.Settings.{Settings}
 use Rattle.litmus_syntax.specs.declared.program.Program.{Program}
-use Rattle.run_headline.specs.Headline.{Headline}
-use Rattle.run_kept.specs.Setters.{AreReports}
-use Rattle.run_lists.specs.Run.{Run, first_words}
-use Rattle.run_lists.specs.RunList.{AllHaveEnded, RunList}
-use Rattle.run_kept.specs.Totals.{IsUnbalanced}
+use Rattle.accepted_traces.specs.of_run_headline_Headline.{Headline}
+use Rattle.accepted_traces.specs.of_run_kept_Setters.{AreReports}
+use Rattle.accepted_traces.specs.of_run_lists_Run.{Run, first_words}
+use Rattle.accepted_traces.specs.of_run_lists_RunList.{AllHaveEnded, RunList}
+use Rattle.accepted_traces.specs.of_run_kept_Totals.{IsUnbalanced}
 use Rattle.runner.specs.declared.result.RunResult.{RunResult}
 use Rattle.shared_table.specs.Ended.{IsListOf}
 use Rattle.slot_table.specs.Records.{words_after}

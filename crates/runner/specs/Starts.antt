@@ -1,9 +1,9 @@
 -- Tasks before their first steps, and what comes of them.
 use Rattle.std.specs.Prelude.{◌≡◌, ◌<◌, ◌⊎◌, [], ℕ, IfErr, IfOk, IsErrOf, List, Result, Some, length, slice_get}
-use Rattle.run_lists.specs.Run.{Run}
+use Rattle.accepted_traces.specs.of_run_lists_Run.{Run}
 use Rattle.runner.specs.Found.{IsFound, IsInVain}
-use Rattle.program_sites.specs.declared.error.RunError.{RunError}
-use Rattle.program_sites.specs.declared.error.RunError.TheVariants.{OutOfMemory, Stuck}
+use Rattle.accepted_traces.specs.of_program_sites_declared.error.RunError.{RunError}
+use Rattle.accepted_traces.specs.of_program_sites_declared.error.RunError.TheVariants.{OutOfMemory, Stuck}
 use Rattle.runner.specs.declared.first.TaskStart.{TaskStart}
 use Rattle.runner.specs.declared.seated.Found.{Found}
 use Rattle.shared_table.specs.Seats.{Opened}

@@ -2,12 +2,12 @@
 
 ghost use Rattle.std.specs.Prelude.{◌≡◌, ◌≤◌, ◌<◌, [], ℕ, IfOk};
 ghost use Rattle.access_types.specs.Sites.{AccessMap};
-ghost use Rattle.program_sites.specs.Prepared.{IsPrepared, IsReady};
+ghost use Rattle.accepted_traces.specs.of_program_sites_Prepared.{IsPrepared, IsReady};
 ghost use Rattle.litmus_step.specs.Runs.{run_of, tasks_of};
-ghost use Rattle.program_sites.specs.declared.settings.Settings.{Settings};
+ghost use Rattle.accepted_traces.specs.of_program_sites_declared.settings.Settings.{Settings};
 ghost use Rattle.litmus_syntax.specs.Limits.{KeepsLimits};
 ghost use Rattle.litmus_syntax.specs.Views.{program_of};
-ghost use Rattle.run_lists.specs.Run as lists;
+ghost use Rattle.accepted_traces.specs.of_run_lists_Run as lists;
 ghost use Rattle.runner.specs.Starts.{AreStarts, IsOutcome, IsStart};
 ghost use Rattle.runner.specs.Terms.{AreTerms, run_by};
 ghost use Rattle.shared_table.specs.Given.{first_words};

@@ -3,17 +3,17 @@
 ghost use Rattle.std.specs.Prelude.{◌≡◌, ◌<◌, ◌⊎◌, ℕ, IfErr, IfOk, IsErrOf, length, map};
 ghost use Rattle.std.specs.List.{flat_map};
 ghost use Rattle.access_types.specs.Sites.{AccessMap};
-ghost use Rattle.program_sites.specs.Prepared.{IsPrepared};
+ghost use Rattle.accepted_traces.specs.of_program_sites_Prepared.{IsPrepared};
 ghost use Rattle.litmus_step.specs.Runs.{run_of, tasks_of};
 ghost use Rattle.litmus_syntax.specs.Limits.{KeepsLimits};
 ghost use Rattle.litmus_syntax.specs.Views.{program_of};
-ghost use Rattle.program_sites.specs.of_program_layout_Places.{AreFit};
-ghost use Rattle.run_lists.specs.Run.{Run};
+ghost use Rattle.accepted_traces.specs.of_program_layout_Places.{AreFit};
+ghost use Rattle.accepted_traces.specs.of_run_lists_Run.{Run};
 ghost use Rattle.runner.specs.Found.{AreFound, IsInVain, IsOfThreads, IsThrough, calls_below};
 ghost use Rattle.runner.specs.Result.{IsRunOnce};
 ghost use Rattle.runner.specs.Starts.{AreOutcomes};
 ghost use Rattle.runner.specs.Terms.{AreTerms, run_by};
-ghost use Rattle.program_sites.specs.declared.error.RunError.TheVariants.{BadPlace, BadSchedule, BadSlots, OutOfMemory, Stuck};
+ghost use Rattle.accepted_traces.specs.of_program_sites_declared.error.RunError.TheVariants.{BadPlace, BadSchedule, BadSlots, OutOfMemory, Stuck};
 ghost use Rattle.shared_table.specs.Seats.{Opened, new_seats};
 
 use crate::first::{first_starts, first_table};
@@ -22,18 +22,18 @@ use crate::result::RunResult;
 use crate::seated::Found;
 use crate::terms::Terms;
 use crate::threads::on_threads_from;
+use accepted_traces::run_headline::laws::the_headline_holds;
+use accepted_traces::run_kept::reports::a_task_reports_its_own;
+use accepted_traces::task_log::TaskLog;
+use accepted_traces::written_order::the_written_order_keeps_the_discipline;
 use access_types::Report;
 use litmus_step::laws::runs_begin;
 use litmus_step::{Prepared, RunError, Settings};
 use litmus_syntax::Program;
-use run_headline::laws::the_headline_holds;
-use run_kept::reports::a_task_reports_its_own;
 use shared_table::TaskSeat;
 use std::alloc::{AllocError, Global};
 use std::sync::Wait;
 use std::thread::Threads;
-use task_log::TaskLog;
-use written_order::the_written_order_keeps_the_discipline;
 
 /// What is found of all tasks, if it is of each.
 ///

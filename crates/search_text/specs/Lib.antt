@@ -5,4 +5,5 @@ pub mod Times
 pub mod Seen
 pub mod Texts
 pub mod Found
+pub mod Joined
 pub mod Write

@@ -2,6 +2,7 @@
 #![tactic(auto)]
 
 pub mod found;
+pub mod join;
 pub mod laws;
 pub mod locations;
 pub mod schedules;

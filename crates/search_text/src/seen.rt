@@ -1,6 +1,7 @@
 //! What is seen in lists that are searched, one after the other.
 
 ghost use Rattle.std.specs.Prelude.{◌≡◌, ◌==◌, [], IfOk, OnOk, length};
+ghost use Rattle.search_text.specs.Joined.{both};
 ghost use Rattle.search_text.specs.Seen as spec;
 ghost use Rattle.search_text.specs.Seen.{sighted};
 
@@ -41,6 +42,13 @@ impl Seen {
         ensures { self.new ≡ spec.again self.old }
     {
         self.times = self.times.saturating_add(1);
+    }
+
+    /// In these lists and in more that come behind them.
+    pub fn join(&mut self, later: Seen)
+        ensures { self.new ≡ both self.old later }
+    {
+        self.times = self.times.saturating_add(later.times);
     }
 
     /// In how many lists.

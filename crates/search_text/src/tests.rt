@@ -178,6 +178,67 @@ Observation race Sometimes 13 7
     Ok(())
 }
 
+/// Adds a list of this schedule with the report of the race, where 0:r0 ends with 1.
+fn add_loud(
+    alloc: Global,
+    found: &mut Found,
+    race: &Program,
+    schedule: &[Entry],
+) -> Result<(), Fail> {
+    let (sites, report) = race_sites(alloc)?;
+    let locations = locations_of(alloc, &race.condition)?;
+    let ending = Ending {
+        state: state_of(alloc, race, &finals(alloc, 1, 0, 1)?, &locations)?,
+        held: true,
+    };
+    found.add(alloc, &[report], &sites, schedule, Some(ending))?;
+    Ok(())
+}
+
+#[test]
+fn later_lists_are_joined(rt: HostRuntime) -> Result<(), Fail> {
+    let alloc = rt.alloc();
+    let race = program(alloc, "race", register_is_one())?;
+    let first = [
+        Entry { task: 0, steps: 7 },
+        Entry { task: 1, steps: 9 },
+        Entry { task: 0, steps: 7 },
+    ];
+    let mut found = Found::new(alloc);
+    add_quiet(alloc, &mut found, &race, &first, 2, 0)?;
+    add_loud(alloc, &mut found, &race, &first)?;
+    let second = [Entry { task: 1, steps: 9 }, Entry { task: 0, steps: 14 }];
+    let mut later = Found::new(alloc);
+    add_quiet(alloc, &mut later, &race, &second, 3, 2)?;
+    add_quiet(alloc, &mut later, &race, &second, 4, 0)?;
+    add_loud(alloc, &mut later, &race, &second)?;
+    let (sites, report) = race_sites(alloc)?;
+    for _list in 0..2 {
+        later.add(alloc, &[], &sites, &second, None)?;
+    }
+    found.join(later)?;
+    let mut wanted = MemorySink::new(alloc);
+    write_report(&report, &sites, &mut wanted)?;
+    let mut wanted = wanted.into_bytes();
+    wanted.extend_from_slice(
+        b"seen in 2 schedules, first with --schedule 0x7,1x9,0x7
+stuck in 2 schedules, first with --schedule 1x9,0x14
+searched 13 schedules with at most 1 switches
+States 3
+6>0:r0=0;
+2>0:r0=1;
+3>0:r0=2;
+Observation race Sometimes 2 9
+",
+    )?;
+    let asked = Asked {
+        switches: 1,
+        stopped: false,
+    };
+    assert_eq!(rt; written(alloc, &found, &race, asked)?, wanted);
+    Ok(())
+}
+
 #[test]
 fn deadlocks_are_told_apart(rt: HostRuntime) -> Result<(), Fail> {
     let alloc = rt.alloc();

@@ -18,7 +18,8 @@ use Rattle.setup_access.specs.Due.{extended}
 use Rattle.setup_access.specs.Fallen.{followed}
 use Rattle.setup_access.specs.Found.{Hears, Takes, Tells, TellsTo, finder_half, setter_half}
 use Rattle.setup_access.specs.Hits.{Hits}
-use Rattle.setup_access.specs.Parts.{FindLeft, SetupLeft, after_refusal, left_to_try, look_index, made, place_after, try_index}
+use Rattle.setup_access.specs.Parts.{FindLeft, SetupLeft, after_refusal, left_to_try, made}
+use Rattle.index_order.specs.Indices.{look_index, place_after, try_index}
 use Rattle.setup_access.specs.PassLeft.{Given, PassLeft, falls_before}
 use Rattle.setup_access.specs.Records.{MakesDone, MakesWord, OnFlag, OnHalves, OnWord}
 use Rattle.setup_access.specs.Setting.{Setting, slot_of}
@@ -35,8 +36,8 @@ use Rattle.setup_access.specs.declared.outcome.Outcome.TheVariants.{Capacity, Lo
 use Rattle.setup_access.specs.declared.outcome.Watchpoint.{Watchpoint}
 use Rattle.setup_access.specs.declared.pass.Pass as code
 use Rattle.setup_access.specs.declared.pass.Pass.TheVariants as parts
-use Rattle.setup_access.specs.declared.place.Place.{Place}
-use Rattle.setup_access.specs.declared.place.Place.TheVariants.{First, Second, Third}
+use Rattle.index_order.specs.declared.place.Place.{Place}
+use Rattle.index_order.specs.declared.place.Place.TheVariants.{First, Second, Third}
 use Rattle.setup_access.specs.declared.setup.Setup.{Setup}
 use Rattle.setup_access.specs.declared.setup.Setup.TheVariants as setups
 use Rattle.setup_access.specs.declared.setup.Watching.{Watching}

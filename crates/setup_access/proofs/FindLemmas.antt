@@ -6,11 +6,12 @@ use Rattle.slot_table.specs.declared.step.Answer.TheVariants.{Word}
 use Rattle.slot_table.specs.declared.step.Step.TheVariants.{Load}
 use Rattle.setup_access.specs.Find.{LooksUp}
 use Rattle.setup_access.specs.Hits.{Hits}
-use Rattle.setup_access.specs.Parts.{left_to_look, look_index, made}
+use Rattle.setup_access.specs.Parts.{left_to_look, made}
+use Rattle.index_order.specs.Indices.{look_index}
 use Rattle.setup_access.specs.Setting.{Setting, slot_of}
 use Rattle.setup_access.specs.declared.outcome.Watchpoint.{Watchpoint}
-use Rattle.setup_access.specs.declared.place.Place.{Place}
-use Rattle.setup_access.specs.declared.place.Place.TheVariants.{First, Second, Third}
+use Rattle.index_order.specs.declared.place.Place.{Place}
+use Rattle.index_order.specs.declared.place.Place.TheVariants.{First, Second, Third}
 
 module _ (s : Setting) (a : Access) (word : ℕ) (found : Option Watchpoint) (later rest : List Record) (hits : Hits s.rules.layout a word) where
   -- a word that matches ends the look-up

@@ -28,8 +28,8 @@ use Rattle.setup_access.specs.declared.outcome.Outcome.{Outcome}
 use Rattle.setup_access.specs.declared.outcome.Watchpoint.{Watchpoint}
 use Rattle.setup_access.specs.declared.pass.Pass.{Pass}
 use Rattle.setup_access.specs.declared.pass.Pass.TheVariants as parts
-use Rattle.setup_access.specs.declared.place.Place.{Place}
-use Rattle.setup_access.specs.declared.place.Place.TheVariants.{First, Second, Third}
+use Rattle.index_order.specs.declared.place.Place.{Place}
+use Rattle.index_order.specs.declared.place.Place.TheVariants.{First, Second, Third}
 use Rattle.setup_access.specs.declared.setup.Setup.{Setup}
 use Rattle.setup_access.specs.declared.setup.Setup.TheVariants as setups
 use Rattle.setup_access.specs.declared.stage.Stage.{Stage}

@@ -24,7 +24,7 @@ use Rattle.setup_access.specs.declared.pass.Pass as code
 use Rattle.setup_access.specs.declared.pass.Pass.TheVariants as passes
 use Rattle.setup_access.specs.declared.pass.To.TheVariants.{Going, Settled, Unsettled}
 use Rattle.setup_access.specs.declared.pass.Turn.{Turn}
-use Rattle.setup_access.specs.declared.place.Place.TheVariants.{First}
+use Rattle.index_order.specs.declared.place.Place.TheVariants.{First}
 use Rattle.setup_access.specs.declared.setup.Setup.{Setup}
 use Rattle.setup_access.specs.declared.setup.Setup.TheVariants.{Insert}
 

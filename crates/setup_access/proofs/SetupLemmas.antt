@@ -7,14 +7,15 @@ use Rattle.slot_table.specs.declared.records.Record.{Record}
 use Rattle.slot_table.specs.declared.step.Answer.TheVariants as answers
 use Rattle.slot_table.specs.declared.step.Step.TheVariants as steps
 use Rattle.setup_access.specs.Found.{finder_half}
-use Rattle.setup_access.specs.Parts.{JudgedAt, LoadsBoth, LoadsNew, SetupLeft, WatchingLeft, after_name, after_refusal, made, place_after, try_index}
+use Rattle.setup_access.specs.Parts.{JudgedAt, LoadsBoth, LoadsNew, SetupLeft, WatchingLeft, after_name, after_refusal, made}
+use Rattle.index_order.specs.Indices.{place_after, try_index}
 use Rattle.setup_access.specs.Setting.{Setting, slot_of}
 use Rattle.setup_access.specs.Setup.{Judged, Judges, JudgesHit, TriesInsert, WatchesAt}
 use Rattle.setup_access.specs.Values.{LoadsFrom, both_values, source_of, value_in}
 use Rattle.setup_access.specs.Verdicts.{HitOutcome, UntouchedOutcome}
 use Rattle.setup_access.specs.declared.outcome.Outcome.{Outcome}
-use Rattle.setup_access.specs.declared.place.Place.{Place}
-use Rattle.setup_access.specs.declared.place.Place.TheVariants.{First, Second, Third}
+use Rattle.index_order.specs.declared.place.Place.{Place}
+use Rattle.index_order.specs.declared.place.Place.TheVariants.{First, Second, Third}
 use Rattle.setup_access.specs.declared.setup.Setup.TheVariants as setups
 use Rattle.setup_access.specs.declared.setup.Watching.{Watching}
 use Rattle.setup_access.specs.declared.setup.Watching.TheVariants as watchings

@@ -5,7 +5,8 @@ use Rattle.slot.specs.Pair.{Halves}
 use Rattle.slot_table.specs.declared.records.Record.{Record}
 use Rattle.slot_table.specs.declared.step.Answer.TheVariants.{Flag, Halves as Heard}
 use Rattle.setup_access.specs.Found.{setter_half}
-use Rattle.setup_access.specs.Parts.{after_name, after_refusal, place_after}
+use Rattle.setup_access.specs.Parts.{after_name, after_refusal}
+use Rattle.index_order.specs.Indices.{place_after}
 use Rattle.setup_access.specs.Waiting.{capped, taking_wait, tries_of, watching_wait}
 use Rattle.setup_access.specs.Waits.{Wait, after_consume, after_half, after_load, after_try, wait_from, wait_on}
 use Rattle.setup_access.specs.declared.found.Found.TheVariants.{HearSetter, Tell}
@@ -13,8 +14,8 @@ use Rattle.setup_access.specs.declared.found.Taking.{Taking}
 use Rattle.setup_access.specs.declared.found.Taking.TheVariants as takings
 use Rattle.setup_access.specs.declared.outcome.Outcome.{Outcome}
 use Rattle.setup_access.specs.declared.outcome.Outcome.TheVariants.{Lost}
-use Rattle.setup_access.specs.declared.place.Place.{Place}
-use Rattle.setup_access.specs.declared.place.Place.TheVariants.{First, Second, Third}
+use Rattle.index_order.specs.declared.place.Place.{Place}
+use Rattle.index_order.specs.declared.place.Place.TheVariants.{First, Second, Third}
 use Rattle.setup_access.specs.declared.setup.Setup.TheVariants as setups
 use Rattle.setup_access.specs.declared.setup.Watching.{Watching}
 use Rattle.setup_access.specs.declared.setup.Watching.TheVariants as watchings

@@ -6,14 +6,15 @@ use Rattle.slot_table.specs.declared.step.Answer.TheVariants as answers
 use Rattle.slot_table.specs.declared.step.Step.TheVariants.{Consume, Insert, Load, PairLoad, Tell, TryConsume}
 use Rattle.setup_access.specs.Check.{Fallen}
 use Rattle.setup_access.specs.Hits.{Hits}
-use Rattle.setup_access.specs.Parts.{look_index, made}
+use Rattle.setup_access.specs.Parts.{made}
+use Rattle.index_order.specs.Indices.{look_index}
 use Rattle.setup_access.specs.Setting.{Setting, slot_of}
 use Rattle.setup_access.specs.declared.found.Taking.{Taking}
 use Rattle.setup_access.specs.declared.found.Taking.TheVariants as takings
 use Rattle.setup_access.specs.declared.outcome.Outcome.{Outcome}
 use Rattle.setup_access.specs.declared.outcome.Outcome.TheVariants.{Capacity, Dropped, Lost, Nothing, Quiet, Report, Told, Unencodable, Unknown}
 use Rattle.setup_access.specs.declared.outcome.Watchpoint.{Watchpoint}
-use Rattle.setup_access.specs.declared.place.Place.{Place}
+use Rattle.index_order.specs.declared.place.Place.{Place}
 use Rattle.setup_access.specs.declared.setup.Watching.{Watching}
 use Rattle.setup_access.specs.declared.setup.Watching.TheVariants as watchings
 

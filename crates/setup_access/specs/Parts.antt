@@ -21,8 +21,9 @@ use Rattle.setup_access.specs.declared.found.Taking.{Taking}
 use Rattle.setup_access.specs.declared.found.Taking.TheVariants as takings
 use Rattle.setup_access.specs.declared.outcome.Outcome.{Outcome}
 use Rattle.setup_access.specs.declared.outcome.Watchpoint.{Watchpoint}
-use Rattle.setup_access.specs.declared.place.Place.{Place}
-use Rattle.setup_access.specs.declared.place.Place.TheVariants.{First, Second, Third}
+use Rattle.index_order.specs.Indices.{look_index, place_after, try_index}
+use Rattle.index_order.specs.declared.place.Place.{Place}
+use Rattle.index_order.specs.declared.place.Place.TheVariants.{First, Second, Third}
 use Rattle.setup_access.specs.declared.setup.Setup.{Setup}
 use Rattle.setup_access.specs.declared.setup.Setup.TheVariants as setups
 use Rattle.setup_access.specs.declared.setup.Watching.{Watching}
@@ -32,35 +33,17 @@ use Rattle.setup_access.specs.declared.setup.Watching.TheVariants as watchings
 abbrev pub made : ℕ → Step → Answer → Record
 made task step answer = record { task = task; step = step; answer = answer }
 
--- the index of a place in the order of look-ups
-abbrev pub look_index : Place → ℕ → ℕ
-look_index First slot = slot
-look_index Second slot = slot + 1
-look_index Third slot = slot + 2
-
 -- the indices that a look-up has left
 abbrev pub left_to_look : Place → ℕ → List ℕ
 left_to_look First slot = look_order slot
 left_to_look Second slot = (slot + 1) ∷ (slot + 2) ∷ []
 left_to_look Third slot = (slot + 2) ∷ []
 
--- the index of a place in the order of insertions
-abbrev pub try_index : Place → ℕ → ℕ
-try_index First slot = slot + 1
-try_index Second slot = slot + 2
-try_index Third slot = slot
-
 -- the indices that an insertion has left
 abbrev pub left_to_try : Place → ℕ → List ℕ
 left_to_try First slot = (slot + 1) ∷ (slot + 2) ∷ slot ∷ []
 left_to_try Second slot = (slot + 2) ∷ slot ∷ []
 left_to_try Third slot = slot ∷ []
-
--- the place after one
-abbrev pub place_after : Place → Option Place
-place_after First = Some Second
-place_after Second = Some Third
-place_after Third = None
 
 -- the step of a look-up
 abbrev pub find_step : spec.Setting → Access → Find → Step

@@ -5,14 +5,15 @@ ghost use Rattle.access_types.specs.Sites.{AccessMap};
 ghost use Rattle.slot_table.specs.declared.records.Record.{Record};
 ghost use Rattle.setup_access.specs.Kept.{setting_with};
 ghost use Rattle.setup_access.specs.Hits.{Hits};
-ghost use Rattle.setup_access.specs.Parts.{FindLeft, SoughtLeft, find_step, look_index, made};
+ghost use Rattle.setup_access.specs.Parts.{FindLeft, SoughtLeft, find_step, made};
+ghost use Rattle.index_order.specs.Indices.{look_index};
 ghost use Rattle.setup_access.specs.Setting.{slot_of};
 ghost use Rattle.setup_access.specs.declared.outcome.Watchpoint.{Watchpoint};
 
 use crate::outcome::Watchpoint;
-use crate::place::Place;
 use crate::setting::Setting;
 use access_types::Access;
+use index_order::Place;
 use slot_table::{Answer, Step, page_slot};
 use watch_word::{Layout, decode_in, matches_in};
 

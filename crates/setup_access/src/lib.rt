@@ -15,7 +15,6 @@ pub mod laws;
 pub mod outcome;
 pub mod outcomes;
 pub mod pass;
-pub mod place;
 pub mod rules;
 pub mod setting;
 pub mod setup;

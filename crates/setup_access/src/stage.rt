@@ -13,9 +13,9 @@ ghost use Rattle.setup_access.specs.Waiting.{stage_wait, to_wait};
 use crate::begun::Begun;
 use crate::find::Find;
 use crate::pass::{Pass, To};
-use crate::place::Place;
 use crate::setting::Setting;
 use access_types::Sites;
+use index_order::Place;
 use skip_sampler::Sampler;
 
 /// Whose check it is.

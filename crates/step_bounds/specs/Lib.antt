@@ -1,5 +1,14 @@
 pub use Rattle.run_lists.specs.of_setup_access_Parts as of_setup_access_Parts
+pub use Rattle.run_lists.specs.of_setup_access_declared as of_setup_access_declared
+pub use Rattle.run_lists.specs.of_litmus_meaning_Layout as of_litmus_meaning_Layout
+pub use Rattle.run_lists.specs.of_litmus_meaning_Meaning as of_litmus_meaning_Meaning
+pub use Rattle.run_lists.specs.of_litmus_meaning_RunOfProgram as of_litmus_meaning_RunOfProgram
+pub use Rattle.run_lists.specs.of_litmus_meaning_TextSites as of_litmus_meaning_TextSites
+pub use Rattle.run_lists.specs.of_memory_operation_Leads as of_memory_operation_Leads
+pub use Rattle.run_lists.specs.of_written_order_Standing as of_written_order_Standing
+pub use Rattle.run_lists.specs.of_written_order_Told as of_written_order_Told
 pub use Rattle.run_lists.specs.of_written_order_Waits as of_written_order_Waits
+pub use Rattle.run_lists.specs.of_written_order_WrittenOrder as of_written_order_WrittenOrder
 pub use Rattle.run_lists.specs.Ended as of_run_lists_Ended
 pub use Rattle.run_lists.specs.Reports as of_run_lists_Reports
 pub use Rattle.run_lists.specs.Run as of_run_lists_Run

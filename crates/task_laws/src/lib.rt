@@ -7,3 +7,5 @@
 pub mod answered;
 pub mod laws;
 pub mod spelled;
+
+pub use program_layout;

@@ -9,8 +9,6 @@ pub use Rattle.setup_access.specs.of_watch_word_Word as of_watch_word_Word
 pub use Rattle.value_filter.specs.Change as of_value_filter_Change
 pub use Rattle.value_filter.specs.Verdict as of_value_filter_Verdict
 pub use Rattle.value_filter.specs.declared as of_value_filter_declared
-pub use Rattle.slot_table.specs.Records as of_slot_table_Records
-pub use Rattle.slot_table.specs.declared as of_slot_table_declared
 pub use Rattle.setup_access.specs.Check as of_setup_access_Check
 pub use Rattle.setup_access.specs.Find as of_setup_access_Find
 pub use Rattle.setup_access.specs.Found as of_setup_access_Found

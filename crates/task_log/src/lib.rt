@@ -12,3 +12,4 @@ pub mod touches;
 pub use counters::Counters;
 pub use log::TaskLog;
 pub use noted::Noted;
+pub use setup_access;

@@ -8,16 +8,16 @@ use Rattle.litmus_meaning.specs.Expressions.{loading_value}
 use Rattle.litmus_meaning.specs.Meaning.{Chooses}
 use Rattle.litmus_meaning.specs.Values.{sign_extended}
 use Rattle.litmus_syntax.specs.Tree.{Block}
-use Rattle.memory_operation.specs.Locks.{TakesLock}
-use Rattle.memory_operation.specs.declared.effect.Effect.{Effect}
-use Rattle.program_layout.specs.Lays.{Lays}
-use Rattle.program_layout.specs.declared.layout.Layout.{Layout}
-use Rattle.setup_access.proofs.Copies as checker
-use Rattle.setup_access.specs.Checker.{Checks, Closes}
-use Rattle.setup_access.specs.Records.{MakesDone}
-use Rattle.setup_access.specs.declared.begun.Begun.{Begun}
-use Rattle.setup_access.specs.of_task_context_Context.{Context}
-use Rattle.setup_access.specs.of_task_context_History.{LeadsTo}
+use Rattle.access_run.specs.of_memory_operation_Locks.{TakesLock}
+use Rattle.access_run.specs.of_memory_operation_declared.effect.Effect.{Effect}
+use Rattle.program_sites.specs.of_program_layout_Lays.{Lays}
+use Rattle.program_sites.specs.of_program_layout_declared.layout.Layout.{Layout}
+use Rattle.access_run.proofs.of_setup_access_Copies as checker
+use Rattle.access_run.specs.of_setup_access_Checker.{Checks, Closes}
+use Rattle.access_run.specs.of_setup_access_Records.{MakesDone}
+use Rattle.access_run.specs.of_setup_access_declared.begun.Begun.{Begun}
+use Rattle.access_run.specs.of_task_context_Context.{Context}
+use Rattle.access_run.specs.of_task_context_History.{LeadsTo}
 use Rattle.slot_table.specs.declared.records.Record.{Record}
 use Rattle.slot_table.specs.declared.step.Step.TheVariants.{LockStore}
 use Rattle.task_plan.specs.Follow.{Follow, Taker, assigned, condition, goes_on, loaded_by, marks_next, nobody, so_often, to_register}

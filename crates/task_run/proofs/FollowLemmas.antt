@@ -6,7 +6,7 @@ use Rattle.litmus_meaning.specs.Expressions.{loading_value}
 use Rattle.litmus_meaning.specs.Meaning.{Chooses}
 use Rattle.litmus_meaning.specs.Values.{sign_extended}
 use Rattle.litmus_syntax.specs.Tree.{Loading}
-use Rattle.memory_operation.specs.declared.effect.Effect.{Effect}
+use Rattle.access_run.specs.of_memory_operation_declared.effect.Effect.{Effect}
 use Rattle.slot_table.specs.declared.records.Record.{Record}
 use Rattle.task_plan.specs.Follow.{Taker, assigned, condition, goes_on, loaded_by, marks_next, nobody, so_often, to_register}
 use Rattle.task_run.proofs.ToldLemmas.{computes_both, does_now, marks_more, marks_now, registers_more}

@@ -7,11 +7,11 @@ use Rattle.access_types.specs.declared.history.Happening.TheVariants as happenin
 use Rattle.litmus_meaning.specs.Meaning.{Chooses}
 use Rattle.litmus_syntax.specs.Tree.{Block}
 use Rattle.litmus_syntax.specs.Views.{block_of}
-use Rattle.memory_operation.specs.Effects.{moments_of, read_moments, write_moments}
-use Rattle.memory_operation.specs.declared.effect.Effect.{Effect}
-use Rattle.memory_operation.specs.declared.operation.Operation.{Operation}
-use Rattle.memory_operation.specs.declared.operation.Operation.TheVariants as operations
-use Rattle.setup_access.specs.declared.begun.Begun.{Begun}
+use Rattle.access_run.specs.of_memory_operation_Effects.{moments_of, read_moments, write_moments}
+use Rattle.access_run.specs.of_memory_operation_declared.effect.Effect.{Effect}
+use Rattle.access_run.specs.of_memory_operation_declared.operation.Operation.{Operation}
+use Rattle.access_run.specs.of_memory_operation_declared.operation.Operation.TheVariants as operations
+use Rattle.access_run.specs.of_setup_access_declared.begun.Begun.{Begun}
 use Rattle.slot_table.specs.declared.records.Record.{Record}
 use Rattle.text_walk.specs.Left.{BlocksLeft, BodyLeft, Closes, ClosesNewest, EndLeft, NothingLeft, OpenLeft, OutsideLeft, Then, WalkLeft}
 use Rattle.text_walk.specs.declared.block.AtEnd.{AtEnd}

@@ -9,17 +9,17 @@ use Rattle.access_run.specs.Whole.{NoneWhole}
 use Rattle.access_run.specs.declared.access.AccessRun.{AccessRun}
 use Rattle.access_types.specs.Access as access
 use Rattle.litmus_syntax.specs.Tree.{Block}
-use Rattle.memory_operation.specs.Operations.{Operates}
-use Rattle.memory_operation.specs.declared.operation.Operation.{Operation}
-use Rattle.setup_access.proofs.LeadsLemmas.{same_ends}
-use Rattle.setup_access.specs.Check.{Check, Close, Fallen, Passes}
-use Rattle.setup_access.specs.Checker.{Checks, Closes, Doing}
-use Rattle.setup_access.specs.Fallen.{outcomes_in}
-use Rattle.setup_access.specs.Leads as checks
-use Rattle.setup_access.specs.Shown.{outcomes_of}
-use Rattle.setup_access.specs.declared.begun.Begun.{Begun}
-use Rattle.setup_access.specs.declared.checker.Checker.{Checker}
-use Rattle.setup_access.specs.declared.outcome.Outcome.{Outcome}
+use Rattle.access_run.specs.of_memory_operation_Operations.{Operates}
+use Rattle.access_run.specs.of_memory_operation_declared.operation.Operation.{Operation}
+use Rattle.access_run.proofs.of_setup_access_LeadsLemmas.{same_ends}
+use Rattle.access_run.specs.of_setup_access_Check.{Check, Close, Fallen, Passes}
+use Rattle.access_run.specs.of_setup_access_Checker.{Checks, Closes, Doing}
+use Rattle.access_run.specs.of_setup_access_Fallen.{outcomes_in}
+use Rattle.access_run.specs.of_setup_access_Leads as checks
+use Rattle.access_run.specs.of_setup_access_Shown.{outcomes_of}
+use Rattle.access_run.specs.of_setup_access_declared.begun.Begun.{Begun}
+use Rattle.access_run.specs.of_setup_access_declared.checker.Checker.{Checker}
+use Rattle.access_run.specs.of_setup_access_declared.outcome.Outcome.{Outcome}
 use Rattle.slot_table.specs.declared.records.Record.{Record}
 use Rattle.task_plan.specs.Views.{follow_of}
 use Rattle.task_plan.specs.declared.follow.Then.{Then}

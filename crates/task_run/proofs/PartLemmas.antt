@@ -11,9 +11,9 @@ use Rattle.litmus_meaning.specs.Values.{sign_extended}
 use Rattle.litmus_syntax.specs.Tree.{Load, Loading, Pure}
 use Rattle.litmus_syntax.specs.Tree as tree
 use Rattle.litmus_syntax.specs.declared.statement.Call.TheVariants as calls
-use Rattle.memory_operation.specs.declared.effect.Effect.{Effect}
-use Rattle.memory_operation.specs.declared.operation.Operation.{Operation}
-use Rattle.memory_operation.specs.declared.operation.Operation.TheVariants as operations
+use Rattle.access_run.specs.of_memory_operation_declared.effect.Effect.{Effect}
+use Rattle.access_run.specs.of_memory_operation_declared.operation.Operation.{Operation}
+use Rattle.access_run.specs.of_memory_operation_declared.operation.Operation.TheVariants as operations
 use Rattle.slot_table.specs.declared.records.Record.{Record}
 use Rattle.task_run.specs.Due.{ConditionDue, StatementDue}
 use Rattle.task_plan.specs.Follow.{assigned, condition, goes_on, marks_next, nobody, so_often, to_register}

@@ -6,11 +6,11 @@ use Rattle.access_types.specs.Access as access
 use Rattle.access_types.specs.declared.history.Happening.{Happening}
 use Rattle.access_types.specs.declared.history.Happening.TheVariants as happenings
 use Rattle.litmus_meaning.specs.Task as meaning
-use Rattle.memory_operation.specs.Effects.{moments_of, read_moments, write_moments}
-use Rattle.memory_operation.specs.declared.effect.Effect.{Effect}
-use Rattle.memory_operation.specs.declared.operation.Operation.{Operation}
-use Rattle.memory_operation.specs.declared.operation.Operation.TheVariants as operations
-use Rattle.setup_access.specs.declared.begun.Begun.{Begun}
+use Rattle.access_run.specs.of_memory_operation_Effects.{moments_of, read_moments, write_moments}
+use Rattle.access_run.specs.of_memory_operation_declared.effect.Effect.{Effect}
+use Rattle.access_run.specs.of_memory_operation_declared.operation.Operation.{Operation}
+use Rattle.access_run.specs.of_memory_operation_declared.operation.Operation.TheVariants as operations
+use Rattle.access_run.specs.of_setup_access_declared.begun.Begun.{Begun}
 use Rattle.slot_table.specs.declared.records.Record.{Record}
 use Rattle.task_run.specs.Stops.{AreScoped, ScopesAreTold}
 use Rattle.task_run.specs.Told.{Computes, nothing, one_more}

@@ -2,8 +2,8 @@
 use Rattle.std.proofs.Common.{◌≡◌, ◌∙◌, List, Option, refl, sym, ap}
 use Rattle.access_run.specs.declared.access.AccessRun.{AccessRun}
 use Rattle.access_types.specs.Access as access
-use Rattle.memory_operation.specs.declared.lock.LockWait.{LockWait}
-use Rattle.memory_operation.specs.declared.operation.Operation.{Operation}
+use Rattle.access_run.specs.of_memory_operation_declared.lock.LockWait.{LockWait}
+use Rattle.access_run.specs.of_memory_operation_declared.operation.Operation.{Operation}
 use Rattle.slot_table.specs.declared.records.Record.{Record}
 use Rattle.std.specs.Prelude.{ℕ}
 use Rattle.task_plan.specs.Follow.{Follow}

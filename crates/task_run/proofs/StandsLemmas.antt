@@ -6,16 +6,16 @@ use Rattle.access_types.specs.declared.history.Happening.{Happening}
 use Rattle.access_types.specs.declared.history.Happening.TheVariants as happenings
 use Rattle.access_types.specs.declared.history.Mark.{Mark}
 use Rattle.access_types.specs.declared.history.Mark.TheVariants as marks
-use Rattle.setup_access.specs.Leads as checks
-use Rattle.setup_access.specs.Lending.{with_context}
-use Rattle.setup_access.specs.Setting as settings
-use Rattle.setup_access.specs.Shown.{context_of}
-use Rattle.setup_access.specs.declared.begun.Begun.{Begun}
-use Rattle.setup_access.specs.declared.checker.Checker.{Checker}
+use Rattle.access_run.specs.of_setup_access_Leads as checks
+use Rattle.access_run.specs.of_setup_access_Lending.{with_context}
+use Rattle.access_run.specs.of_setup_access_Setting as settings
+use Rattle.access_run.specs.of_setup_access_Shown.{context_of}
+use Rattle.access_run.specs.of_setup_access_declared.begun.Begun.{Begun}
+use Rattle.access_run.specs.of_setup_access_declared.checker.Checker.{Checker}
 use Rattle.slot_table.specs.declared.records.Record.{Record}
-use Rattle.setup_access.specs.of_task_context_Context.{Context}
-use Rattle.setup_access.specs.of_task_context_History.{LeadsTo, MarkFollows}
-use Rattle.setup_access.proofs.of_task_context_Surpluses.{EndsRaised-surplus, surplus-EndsRaised}
+use Rattle.access_run.specs.of_task_context_Context.{Context}
+use Rattle.access_run.specs.of_task_context_History.{LeadsTo, MarkFollows}
+use Rattle.access_run.proofs.of_task_context_Surpluses.{EndsRaised-surplus, surplus-EndsRaised}
 use Rattle.task_plan.proofs.KeepsLemmas.{keeps_on}
 use Rattle.task_plan.specs.Keeps.{Keeps}
 use Rattle.task_plan.specs.declared.progress.Progress.{Progress}

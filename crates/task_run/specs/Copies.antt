@@ -1,7 +1,7 @@
 -- A second machine that is where a first is.
 use Rattle.std.specs.Prelude.{◌≡◌, ℕ}
 use Rattle.std.specs.Arc.{arc_value}
-use Rattle.setup_access.specs.Copies as checker
+use Rattle.access_run.specs.of_setup_access_Copies as checker
 use Rattle.task_plan.specs.Keeps.{Keeps}
 use Rattle.task_run.specs.declared.machine.Machine.{Machine}
 use Rattle.text_walk.specs.Copies as walk

@@ -2,7 +2,7 @@
 use Rattle.std.specs.Prelude.{ℕ}
 use Rattle.access_types.specs.Sites.{AccessMap}
 use Rattle.litmus_syntax.specs.declared.program.Program.{Program}
-use Rattle.program_layout.specs.Places.{places_of}
+use Rattle.program_sites.specs.of_program_layout_Places.{places_of}
 use Rattle.program_sites.specs.Settings.{rules_of}
 use Rattle.program_sites.specs.declared.settings.Settings.{Settings}
 use Rattle.text_walk.specs.of_written_order_Standing.{Setting}

@@ -2,10 +2,10 @@
 use Rattle.std.specs.Prelude.{◌≡◌, ◌↔◌, ◌++◌, ℕ, List, [], ◌∷◌, Option, None, Some, reverse}
 use Rattle.litmus_syntax.specs.Tree.{Block}
 use Rattle.access_run.specs.Leads.{AccessIsStuck}
-use Rattle.memory_operation.specs.LockLeads.{IsStuckAtLock}
-use Rattle.setup_access.specs.Parts.{made}
-use Rattle.setup_access.specs.Waits.{IsStuckBy}
-use Rattle.setup_access.specs.declared.begun.Begun.{Begun}
+use Rattle.access_run.specs.of_memory_operation_LockLeads.{IsStuckAtLock}
+use Rattle.access_run.specs.of_setup_access_Parts.{made}
+use Rattle.access_run.specs.of_setup_access_Waits.{IsStuckBy}
+use Rattle.access_run.specs.of_setup_access_declared.begun.Begun.{Begun}
 use Rattle.slot_table.specs.declared.records.Record.{Record}
 use Rattle.slot_table.specs.declared.step.Answer.{Answer}
 use Rattle.slot_table.specs.declared.step.Step.{Step}

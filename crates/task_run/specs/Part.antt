@@ -6,11 +6,11 @@ use Rattle.access_types.specs.declared.history.Mark.TheVariants as marks
 use Rattle.litmus_meaning.specs.Expressions.{loading_value}
 use Rattle.litmus_meaning.specs.Meaning.{Chooses}
 use Rattle.litmus_meaning.specs.Values.{sign_extended}
-use Rattle.memory_operation.specs.Locks.{TakesLock}
-use Rattle.memory_operation.specs.declared.effect.Effect.{Effect}
-use Rattle.memory_operation.specs.declared.operation.Operation.{Operation}
-use Rattle.setup_access.specs.Records.{MakesDone}
-use Rattle.setup_access.specs.declared.begun.Begun.{Begun}
+use Rattle.access_run.specs.of_memory_operation_Locks.{TakesLock}
+use Rattle.access_run.specs.of_memory_operation_declared.effect.Effect.{Effect}
+use Rattle.access_run.specs.of_memory_operation_declared.operation.Operation.{Operation}
+use Rattle.access_run.specs.of_setup_access_Records.{MakesDone}
+use Rattle.access_run.specs.of_setup_access_declared.begun.Begun.{Begun}
 use Rattle.slot_table.specs.declared.records.Record.{Record}
 use Rattle.slot_table.specs.declared.step.Step.TheVariants.{LockStore}
 use Rattle.task_plan.specs.Follow.{Follow, Taker, assigned, condition, goes_on, loaded_by, marks_next, nobody, so_often, to_register}

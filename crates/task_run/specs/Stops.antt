@@ -1,7 +1,7 @@
 -- Why a task's machine stops.
 use Rattle.std.specs.Prelude.{◌≡◌, ◌<◌, List, [], ◌∷◌, length, true}
 use Rattle.access_types.specs.Access.{Access, IsInLimits}
-use Rattle.setup_access.specs.declared.begun.Begun.{Begun}
+use Rattle.access_run.specs.of_setup_access_declared.begun.Begun.{Begun}
 use Rattle.slot_table.specs.declared.records.Record.{Record}
 use Rattle.task_run.specs.Stands.{Stands}
 use Rattle.task_run.specs.declared.machine.Machine.{Machine}

@@ -5,7 +5,7 @@ ghost use Rattle.std.specs.Prelude.{Some};
 use crate::texts::Texts;
 use litmus_command::EngineError;
 use litmus_command::engine::step_file;
-use litmus_step::Settings;
+use litmus_command::litmus_step::Settings;
 use report_text::{Sink, SinkFault};
 use std::alloc::{AllocError, Global};
 use step_schedule::Schedule;

@@ -1,7 +1,9 @@
 //! What words ask for, and which make no sense.
 
 use clap::error::ErrorKind;
-use command_words::request::{ReplayRequest, Request, RunOptions, RunRequest, StepRequest, asked};
+use command_words::request::{
+    ReplayRequest, Request, RunOptions, RunRequest, SearchRequest, StepRequest, asked,
+};
 use std::alloc::Global;
 use std::process::Abort;
 use std::test::Fail;
@@ -213,6 +215,56 @@ fn runs_are_asked_for(rt: HostRuntime) -> Result<(), Fail> {
     )
 }
 
+/// What `search t` asks for with these bounds and options.
+fn search(switches: u64, limit: u64, options: RunOptions<'_>) -> Request<'_> {
+    Request::Search(SearchRequest {
+        file: "t",
+        switches,
+        limit,
+        options,
+    })
+}
+
+#[test]
+fn searches_are_asked_for(rt: HostRuntime) -> Result<(), Fail> {
+    ask(
+        &rt,
+        rt.alloc(),
+        &["k", "search", "t"],
+        search(2, 1_000_000, OPTIONS),
+    )?;
+    ask(
+        &rt,
+        rt.alloc(),
+        &["k", "search", "--switches", "0", "t", "--limit", "1"],
+        search(0, 1, OPTIONS),
+    )?;
+    ask(
+        &rt,
+        rt.alloc(),
+        &["k", "search", "t", "--switches=16", "--limit=1000000000"],
+        search(16, 1_000_000_000, OPTIONS),
+    )?;
+    ask(
+        &rt,
+        rt.alloc(),
+        &[
+            "k", "search", "t", "--strict", "--slots", "3", "--trace", "r", "--place", "x=0x1000",
+        ],
+        search(
+            2,
+            1_000_000,
+            RunOptions {
+                strict: true,
+                slots: 3,
+                trace: Some("r"),
+                places: "x=0x1000",
+                ..OPTIONS
+            },
+        ),
+    )
+}
+
 #[test]
 fn a_trace_is_asked_for(rt: HostRuntime) -> Result<(), Fail> {
     let request = asked(rt.alloc(), &["k", "replay", "r"])?;
@@ -321,12 +373,40 @@ fn other_words_make_no_sense(rt: HostRuntime) {
 }
 
 #[test]
+fn other_searches_make_no_sense(rt: HostRuntime) {
+    for words in [
+        ["k", "search", "t", "--switches", "17"].as_slice(),
+        ["k", "search", "t", "--switches", "all"].as_slice(),
+        ["k", "search", "t", "--limit", "0"].as_slice(),
+        ["k", "search", "t", "--limit", "1000000001"].as_slice(),
+        ["k", "search", "t", "--slots", "2"].as_slice(),
+    ] {
+        refuse(&rt, rt.alloc(), words, ErrorKind::ValueValidation);
+    }
+    for words in [
+        ["k", "search", "t", "--schedule", "0x1"].as_slice(),
+        ["k", "search", "t", "--runs", "1"].as_slice(),
+        ["k", "step", "t", "--switches", "1"].as_slice(),
+        ["k", "run", "t", "--limit", "1"].as_slice(),
+    ] {
+        refuse(&rt, rt.alloc(), words, ErrorKind::UnknownArgument);
+    }
+    refuse(
+        &rt,
+        rt.alloc(),
+        &["k", "search"],
+        ErrorKind::MissingRequiredArgument,
+    );
+}
+
+#[test]
 fn some_words_ask_for_help(rt: HostRuntime) {
     for words in [
         ["k", "help"].as_slice(),
         ["k", "--help"].as_slice(),
         ["k", "step", "-h"].as_slice(),
         ["k", "run", "--help"].as_slice(),
+        ["k", "search", "--help"].as_slice(),
         ["k", "help", "step"].as_slice(),
     ] {
         refuse(&rt, rt.alloc(), words, ErrorKind::DisplayHelp);

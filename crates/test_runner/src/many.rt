@@ -1,11 +1,11 @@
 //! Many runs, of which each is made once.
 
 use crate::runs::{Meeting, RACE, THOUSAND, TWO_STUCK, Unseen, has, settings};
+use run_tally::runner::{Gate, Point, Stall};
+use run_tally::trace_replay::{Accepted, replay};
 use run_tally::{Hooks, Progress, Times, run_text_with};
-use runner::{Gate, Point, Stall};
 use std::sync::atomic::{AtomicU64, Ordering};
 use std::test::Fail;
-use trace_replay::{Accepted, replay};
 
 /// The trace of a run in which the race is found.
 const ONE_RACE: Accepted = Accepted::Second {

@@ -1,7 +1,7 @@
 //! What a run calls on the way of its tasks, and when.
 
 use crate::runs::{RACE, parsed, settings, wait};
-use runner::{Gate, NoStall, Point, Stall, run_once};
+use run_tally::runner::{Gate, NoStall, Point, Stall, run_once};
 use std::sync::atomic::{AtomicU64, Ordering};
 use std::test::Fail;
 

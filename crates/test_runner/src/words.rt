@@ -4,7 +4,7 @@ ghost use Rattle.std.specs.Prelude.{◌≡◌, ◌≤◌, [], All, IfOk, reverse
 ghost use Rattle.std.specs.Thread.{IsSync};
 ghost use Rattle.slot_table.specs.Records.{records_of};
 
-use shared_table::{Gathered, SharedBoard, SharedTable, TaskSeat};
+use run_tally::shared_table::{Gathered, SharedBoard, SharedTable, TaskSeat};
 use slot_table::discipline::allows;
 use slot_table::{Answer, Board, BoardError, Record, Shape, Step};
 use std::alloc::{AllocError, Global};

@@ -27,6 +27,7 @@ pub use Rattle.setup_access.specs.Setting as of_setup_access_Setting
 pub use Rattle.setup_access.specs.Setup as of_setup_access_Setup
 pub use Rattle.setup_access.specs.Values as of_setup_access_Values
 pub use Rattle.setup_access.specs.Verdicts as of_setup_access_Verdicts
+pub use Rattle.setup_access.specs.Waits as of_setup_access_Waits
 pub use Rattle.setup_access.specs.declared as of_setup_access_declared
 pub use Rattle.memory_operation.specs.of_litmus_syntax_Limits as of_litmus_syntax_Limits
 pub use Rattle.memory_operation.specs.of_litmus_syntax_Sites as of_litmus_syntax_Sites

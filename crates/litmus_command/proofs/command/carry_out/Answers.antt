@@ -1,6 +1,6 @@
 -- a failure has a status of its own, and nothing was written but where a write failed
 use Rattle.std.proofs.Common.{◌≡◌, ◌≢◌, Err, arith, rules}
-use Rattle.litmus_command.proofs.ResultLemmas.{ends_so, err_at, known_above}
+use Rattle.litmus_command.proofs.ResultLemmas.{ends_so, err_at, known_above, known_below}
 use Rattle.litmus_command.specs.Command.{NothingIsWritten, state_of, status_of}
 use Rattle.report_text.specs.Sink.{CountsFailure}
 use Rattle.litmus_command.proofs.command.carry_out.Goals as goal
@@ -13,6 +13,10 @@ returns-in-Err-clause-reported g c = λ is.
 pub returns-in-Err-clause-unreported : goal.returns-in-Err-clause-unreported
 returns-in-Err-clause-unreported g c = λ is.
     let above = known_above c.fail.result c.fail.ensures.known in absurd (omega (arith, is, above))
+
+pub returns-in-Err-clause-stopped : goal.returns-in-Err-clause-stopped
+returns-in-Err-clause-stopped g c = λ is.
+    let below = known_below c.fail.result c.fail.ensures.known in absurd (omega (arith, is, below))
 
 pub returns-in-Err-clause-ends : goal.returns-in-Err-clause-ends
 returns-in-Err-clause-ends g c =

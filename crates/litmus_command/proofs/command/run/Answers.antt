@@ -8,7 +8,7 @@ use Rattle.litmus_command.specs.Command.{FileIsRefused, AreLeft, RunRefuses, onc
 use Rattle.litmus_command.specs.declared.command.Failure.TheVariants.{Engine}
 use Rattle.litmus_command.specs.declared.desk.ReadFault.TheVariants as fault
 use Rattle.report_text.specs.Sink.{CountsFailure}
-use Rattle.litmus_step.specs.of_program_sites_declared.settings.Settings.{Settings}
+use Rattle.run_tally.specs.of_program_sites_declared.settings.Settings.{Settings}
 use Rattle.run_tally.specs.Errors.{IsRefused}
 use Rattle.run_tally.specs.Output.{TextLeaves}
 use Rattle.run_tally.specs.declared.times.Times.{Times}

@@ -1,7 +1,7 @@
 -- Where no place list is read, the text spells none.
 use Rattle.std.proofs.Common.{◌≡◌, List, None, Option, Some, ap, sym, ◌∙◌}
 use Rattle.std.specs.Option.{option_map}
-use Rattle.program_layout.specs.declared.place.Place.{Place}
+use Rattle.place_list.specs.of_program_layout_declared.place.Place.{Place}
 use Rattle.litmus_command.proofs.command.settings_for.Goals as goal
 
 pub returns-in-None-clause-misused : goal.returns-in-None-clause-misused

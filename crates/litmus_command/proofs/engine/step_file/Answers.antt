@@ -4,8 +4,8 @@ use Rattle.std.specs.List.{flat_map}
 use Rattle.std.specs.Option.{option_map}
 use Rattle.report_text.specs.ReportOf.{report_text}
 use Rattle.report_text.specs.Sink.{appended}
-use Rattle.litmus_step.specs.of_run_lists_Reports.{reports_of}
-use Rattle.run_output.specs.Lines.{condition_line, counters_line}
+use Rattle.run_tally.specs.of_run_lists_Reports.{reports_of}
+use Rattle.run_tally.specs.of_run_output_Lines.{condition_line, counters_line}
 use Rattle.litmus_command.proofs.engine.step_file.Goals as goal
 
 pub returns-in-Ok-clause-written : goal.returns-in-Ok-clause-written

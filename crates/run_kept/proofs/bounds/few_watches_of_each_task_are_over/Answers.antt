@@ -2,8 +2,8 @@
 use Rattle.std.proofs.Common.{ℕ, List, arith, reverse, subst, sym}
 use Rattle.std.proofs.lemmas.List.{reverse-reverse}
 use Rattle.run_kept.proofs.Lists.{keeps_body}
-use Rattle.run_lists.specs.Run.{Run}
-use Rattle.run_lists.specs.RunList.{RunList}
+use Rattle.run_headline.specs.of_run_lists_Run.{Run}
+use Rattle.run_headline.specs.of_run_lists_RunList.{RunList}
 use Rattle.run_kept.specs.Noted.{AreNoted, Notes}
 use Rattle.slot_table.specs.Records.{records_of}
 use Rattle.slot_table.specs.declared.records.Record.{Record}

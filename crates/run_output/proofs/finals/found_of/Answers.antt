@@ -8,5 +8,5 @@ returns g c = λ settings sites records comes prepared.
     record {
       counters = c.counters.ensures run records comes;
       unbalanced = c.unbalanced.ensures run records comes;
-      held = c.in_ok-held.ensures settings sites records comes prepared;
+      held = (c.in_ok-end.ensures settings sites records comes prepared).held;
     }

@@ -1,16 +1,16 @@
 -- By the one list of all seats.
 use Rattle.std.proofs.Common.{◌∙◌, Err, List, ap, flat_map, length, refl, sym}
 use Rattle.std.proofs.lemmas.Result.{err_from_is_err_and}
-use Rattle.program_sites.specs.Prepared.{sites_in}
+use Rattle.accepted_traces.specs.of_program_sites_Prepared.{sites_in}
 use Rattle.litmus_step.specs.Runs.{run_of}
-use Rattle.run_lists.specs.Run.{Run}
+use Rattle.accepted_traces.specs.of_run_lists_Run.{Run}
 use Rattle.runner.proofs.OutcomeLemmas.{all_are_here, at_the_table, same_error}
 use Rattle.runner.proofs.ResultLemmas.{is_of}
 use Rattle.runner.proofs.run.run_prepared.Goals as goal
 use Rattle.runner.specs.Found.{calls_below}
 use Rattle.runner.specs.Result.{IsRunOnce}
 use Rattle.runner.specs.Terms.{AreGiven}
-use Rattle.program_sites.specs.declared.error.RunError.{RunError}
+use Rattle.accepted_traces.specs.of_program_sites_declared.error.RunError.{RunError}
 use Rattle.runner.specs.declared.result.RunResult.{RunResult}
 use Rattle.runner.specs.declared.seated.Found.{Found}
 use Rattle.shared_table.specs.Given.{Given, first_words}

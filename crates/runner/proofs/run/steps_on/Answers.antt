@@ -1,8 +1,8 @@
 -- By what comes of each task.
 use Rattle.std.proofs.Common.{◌≡◌, ◌⊎◌, ℕ, Err, IfErr, Ok, Result, inl, inr, subst, sym}
 use Rattle.runner.proofs.run.steps_on.Goals as goal
-use Rattle.program_sites.specs.declared.error.RunError.{RunError}
-use Rattle.program_sites.specs.declared.error.RunError.TheVariants.{OutOfMemory, Stuck}
+use Rattle.accepted_traces.specs.of_program_sites_declared.error.RunError.{RunError}
+use Rattle.accepted_traces.specs.of_program_sites_declared.error.RunError.TheVariants.{OutOfMemory, Stuck}
 use Rattle.runner.specs.Found.{IsOfThreads}
 use Rattle.runner.specs.Terms.{run_by}
 

@@ -1,11 +1,11 @@
 -- The context decides it as the marks so far do, and stays as it is.
 use Rattle.std.proofs.Common.{◌↔◌, IsTrue, ap, refl, subst, sym}
 use Rattle.access_types.specs.Marked.{CountsAfter}
-use Rattle.setup_access.specs.Lending.{with_context}
-use Rattle.setup_access.specs.declared.rules.Rules.{Rules}
+use Rattle.access_run.specs.of_setup_access_Lending.{with_context}
+use Rattle.access_run.specs.of_setup_access_declared.rules.Rules.{Rules}
 use Rattle.std.specs.Prelude.{ℕ}
-use Rattle.setup_access.specs.of_task_context_Context.{Context}
-use Rattle.setup_access.specs.of_task_context_History.{LeadsTo}
+use Rattle.access_run.specs.of_task_context_Context.{Context}
+use Rattle.access_run.specs.of_task_context_History.{LeadsTo}
 use Rattle.task_run.proofs.TellLemmas.{not_heard}
 use Rattle.task_run.proofs.machine.Machine.begun.Goals as goal
 use Rattle.text_walk.specs.of_written_order_Standing.{moments}

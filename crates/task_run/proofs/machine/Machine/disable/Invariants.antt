@@ -1,6 +1,6 @@
 -- Reports were turned off so often as the loop went round, and the count has room for what is left.
 use Rattle.std.proofs.Common.{◌≡◌, ◌+◌, ◌-◌, ◌^◌, ◌≤◌, ◌<◌, List}
-use Rattle.setup_access.specs.Shown.{context_of}
+use Rattle.access_run.specs.of_setup_access_Shown.{context_of}
 use Rattle.slot_table.specs.declared.records.Record.{Record}
 use Rattle.task_run.specs.Part.{disabled}
 use Rattle.task_run.specs.Room.{room_of}

@@ -5,7 +5,7 @@ use Rattle.task_plan.specs.Views.{plan_of}
 use Rattle.task_run.proofs.BeginLemmas.{begins_making}
 use Rattle.access_run.specs.Leads.{HasCell}
 use Rattle.access_types.specs.Access.{Access}
-use Rattle.setup_access.specs.Shown.{context_of}
+use Rattle.access_run.specs.of_setup_access_Shown.{context_of}
 use Rattle.task_run.proofs.StopLemmas.{plan_stops, plan_stops_off}
 use Rattle.task_run.specs.Part.{disabled}
 use Rattle.task_run.specs.Stands.{Stands}

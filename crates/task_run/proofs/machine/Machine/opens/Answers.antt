@@ -2,8 +2,8 @@
 use Rattle.task_run.proofs.StopLemmas.{on_err}
 use Rattle.std.proofs.Common.{◌<◌, ◌≢◌, ◌∙◌, [], None, Some, ap, subst, sym}
 use Rattle.litmus_meaning.specs.Task.{access_now}
-use Rattle.program_layout.specs.Lays.{Lays}
-use Rattle.program_layout.specs.declared.layout.Layout.{Layout}
+use Rattle.program_sites.specs.of_program_layout_Lays.{Lays}
+use Rattle.program_sites.specs.of_program_layout_declared.layout.Layout.{Layout}
 use Rattle.task_run.proofs.BeginLemmas.{begins_opening, proper}
 use Rattle.task_run.proofs.machine.Machine.opens.Goals as goal
 use Rattle.task_run.proofs.StopLemmas.{opening_never, opening_stops}

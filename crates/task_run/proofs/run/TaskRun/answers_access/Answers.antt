@@ -1,8 +1,8 @@
 -- The access goes on, or is over, and what follows on it and is left of the text follows.
 use Rattle.std.proofs.Common.{◌≡◌, ◌∙◌, ap, false, slice_get, subst, sym, true}
-use Rattle.setup_access.specs.Shown.{outcomes_of}
+use Rattle.access_run.specs.of_setup_access_Shown.{outcomes_of}
 use Rattle.task_run.proofs.NewsLemmas.{making_fell}
-use Rattle.setup_access.specs.Parts.{made}
+use Rattle.access_run.specs.of_setup_access_Parts.{made}
 use Rattle.task_run.proofs.RunLemmas.{access_ended, access_inside}
 use Rattle.task_run.proofs.WaitLemmas.{access_no_try, no_try_no_wait}
 use Rattle.task_plan.specs.declared.follow.Then.{Then}

@@ -1,6 +1,6 @@
 -- The check goes on, or is over, and what is left of the text follows.
 use Rattle.std.proofs.Common.{◌≡◌, ◌∙◌, ◌⊎◌, ◌++◌, ◌∷◌, [], List, ap, false, inl, inr, subst, sym, true}
-use Rattle.setup_access.specs.Parts.{made}
+use Rattle.access_run.specs.of_setup_access_Parts.{made}
 use Rattle.slot_table.specs.declared.records.Record.{Record}
 use Rattle.task_run.proofs.NewsLemmas.{closing_fell, opening_fell}
 use Rattle.task_run.proofs.RunLemmas.{closing_ended, closing_inside, opening_ended, opening_inside}

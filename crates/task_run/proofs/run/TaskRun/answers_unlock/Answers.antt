@@ -1,6 +1,6 @@
 -- What is left of the text follows.
 use Rattle.std.proofs.Common.{◌∙◌, ap, count_by, refl, subst, take}
-use Rattle.setup_access.specs.Parts.{made}
+use Rattle.access_run.specs.of_setup_access_Parts.{made}
 use Rattle.slot_table.specs.declared.step.Answer.TheVariants.{Done}
 use Rattle.slot_table.specs.declared.step.Step.TheVariants.{LockStore}
 use Rattle.task_run.proofs.RunLemmas.{unlock_ended}

@@ -1,8 +1,8 @@
 -- The step of the part under way is the only one that the text goes on with.
 use Rattle.std.proofs.Common.{◌≡◌, ◌∙◌, ℕ, IfSome, IsNone, None, Some, ap, false, inl, inr, refl, subst, sym, true}
 use Rattle.access_run.specs.Leads.{AccessOnlyStep}
-use Rattle.memory_operation.specs.LockLeads.{LockSays, OnlyLockStep}
-use Rattle.setup_access.specs.Leads as checks
+use Rattle.access_run.specs.of_memory_operation_LockLeads.{LockSays, OnlyLockStep}
+use Rattle.access_run.specs.of_setup_access_Leads as checks
 use Rattle.slot_table.specs.declared.step.Step.TheVariants.{LockStore}
 use Rattle.text_walk.specs.of_written_order_Waits.{OnlyStep}
 use Rattle.task_run.specs.Says.{IsGoingIn, StageSays}

@@ -3,10 +3,10 @@ use Rattle.std.proofs.Common.{map, subst, sym}
 use Rattle.final_condition.specs.Holds.{Holds}
 use Rattle.litmus_step.specs.Runs.{run_of}
 use Rattle.litmus_syntax.specs.Views.{proposition_of}
-use Rattle.program_layout.specs.Places.{places_of}
-use Rattle.run_headline.specs.of_run_lists_Told.{history_of}
+use Rattle.accepted_traces.specs.of_program_layout_Places.{places_of}
+use Rattle.accepted_traces.specs.of_run_lists_Told.{history_of}
 use Rattle.run_output.proofs.FinalLemmas.{all_registers_same, holds_alike, holds_back, registers_same}
-use Rattle.run_output.proofs.finals.holds_at_end.Goals as goal
+use Rattle.run_output.proofs.finals.end_of.Goals as goal
 use Rattle.run_output.specs.Finals.{AreAllRegisters, register_value, variable_value}
 
 pub returns : goal.returns
@@ -20,13 +20,17 @@ returns g c = λ settings sites records comes prepared.
     (c.in_ok-registers.ensures run records comes) in
     let variables = variable_value (places_of settings.places.items) c.args.program.now.variables (history_of list) in
     let told = c.in_ok-finals.ensures.variables c.args.program.now settings sites records list c.requires prepared
-    (c.memory.ensures run records comes) in (
-      λ held. record {
-        registers = registers;
-        registers_are = are;
-        holds = holds_alike _ _ _ _ (registers_same finals) told p (c.holds.ensures.0 held);
-      },
-      λ at_end. c.holds.ensures.1 (holds_back _ _ _ _ (registers_same finals) told p
-          (subst (λ values. Holds (register_value values) variables p)
-          (all_registers_same list _ _ at_end.registers_are are) at_end.holds)),
-    )
+    (c.memory.ensures run records comes) in
+    record {
+      finals = record { registers = are; variables = told };
+      held = (
+        λ held. record {
+          registers = registers;
+          registers_are = are;
+          holds = holds_alike _ _ _ _ (registers_same finals) told p (c.holds-held.ensures.0 held);
+        },
+        λ at_end. c.holds-held.ensures.1 (holds_back _ _ _ _ (registers_same finals) told p
+            (subst (λ values. Holds (register_value values) variables p)
+            (all_registers_same list _ _ at_end.registers_are are) at_end.holds)),
+      );
+    }

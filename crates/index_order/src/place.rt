@@ -1,7 +1,7 @@
 //! The three indices of an access.
 
 ghost use Rattle.std.specs.Prelude.{◌≡◌, ◌≤◌};
-ghost use Rattle.setup_access.specs.Parts.{look_index, place_after, try_index};
+ghost use Rattle.index_order.specs.Indices.{look_index, place_after, try_index};
 
 use slot_table::{look_order, try_order};
 
@@ -15,7 +15,7 @@ pub enum Place {
 
 impl Place {
     /// The index of a look-up. The first is the page slot: most accesses stay within their page.
-    pub(crate) fn of_look_up(self, slot: usize) -> usize
+    pub fn of_look_up(self, slot: usize) -> usize
         requires { slot ≤ 1023 }
         ensures { result ≡ look_index self slot }
     {
@@ -29,7 +29,7 @@ impl Place {
 
     /// The index of an insertion. The first is the one behind the page slot, so that look-ups from the page
     /// before and from the page after meet it too.
-    pub(crate) fn of_insertion(self, slot: usize) -> usize
+    pub fn of_insertion(self, slot: usize) -> usize
         requires { slot ≤ 1023 }
         ensures { result ≡ try_index self slot }
     {
@@ -41,7 +41,7 @@ impl Place {
         }
     }
 
-    pub(crate) fn after(self) -> Option<Place>
+    pub fn after(self) -> Option<Place>
         ensures { result ≡ place_after self }
     {
         match self {

@@ -1,0 +1,16 @@
+-- a failure has a status of its own, and a search that is done has another
+use Rattle.std.proofs.Common.{◌∙◌, sym}
+use Rattle.litmus_command.proofs.ResultLemmas.{ends_reported, ends_stopped, ends_unreported}
+use Rattle.litmus_command.proofs.command.carry_search.Goals as goal
+
+pub returns-in-Ok-clause-reported : goal.returns-in-Ok-clause-reported
+returns-in-Ok-clause-reported g c = λ is. ends_reported c.args.request.now c.in-Ok.status _ _ c.in-Ok.ensures.done is
+
+pub returns-in-Ok-clause-unreported : goal.returns-in-Ok-clause-unreported
+returns-in-Ok-clause-unreported g c = λ is. ends_unreported c.args.request.now c.in-Ok.status _ _ c.in-Ok.ensures.done is
+
+pub returns-in-Ok-clause-stopped : goal.returns-in-Ok-clause-stopped
+returns-in-Ok-clause-stopped g c = λ is. ends_stopped c.args.request.now c.in-Ok.status _ _ c.in-Ok.ensures.done is
+
+pub returns-in-Err-clause-unread : goal.returns-in-Err-clause-unread
+returns-in-Err-clause-unread g c = λ is. c.in-Err.ensures.unread (sym c.fail.ensures.status ∙ is)

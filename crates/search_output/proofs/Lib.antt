@@ -1,0 +1,2 @@
+pub mod TraceLemmas
+pub use Rattle.schedule_search.proofs.of_litmus_step_FirstLemmas as of_litmus_step_FirstLemmas

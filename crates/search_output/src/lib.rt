@@ -1,0 +1,10 @@
+//! What a search over schedules has found of a program, list by list.
+#![tactic(auto)]
+
+pub mod findings;
+
+pub use findings::Findings;
+pub use run_output;
+pub use schedule_search;
+pub use schedule_search::litmus_step;
+pub use search_text::{Asked, Entry, MemorySink, Sink, WriteError};
