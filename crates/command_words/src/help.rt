@@ -183,7 +183,8 @@ pub const AFTER_SEARCH: &str = "\
     no file is written.\n\
     \n\
     Each distinct report is printed once, in the order in which they were first seen, with how\n\
-    many schedules give it, and the first of them, under which 'kcsan_litmus step' gives it too.\n\
+    many schedules give it, and the first of them: under it, with the same options, so does\n\
+    'kcsan_litmus step', unless tasks wait there for ever.\n\
     Where no task can go on and not all have ended, a line says in how many schedules. Then come\n\
     the number of schedules, whether others remain, what the registers and variables of the\n\
     condition hold where all tasks have ended, as herd7 writes it, and in how many of these the\n\

@@ -7,4 +7,5 @@ pub use findings::Findings;
 pub use run_output;
 pub use schedule_search;
 pub use schedule_search::litmus_step;
+pub use search_text;
 pub use search_text::{Asked, Entry, MemorySink, Sink, WriteError};
