@@ -17,6 +17,3 @@ pub use report_text::{MemorySink, Sink, WriteError};
 pub use states::state_of;
 pub use step_schedule::Entry;
 pub use write::{Asked, write_search};
-
-#[cfg(test)]
-mod tests;
