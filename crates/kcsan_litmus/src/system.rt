@@ -170,6 +170,16 @@ impl Desk for System {
         Ok(())
     }
 
+    /// Says so where standard error is a terminal.
+    fn advise_search(&self) {
+        let rt = &self.output.rt;
+        if rt.stderr().is_terminal() {
+            let _ = rt.eprint(
+                "kcsan_litmus: no report; 'kcsan_litmus search' tries every schedule with few switches\n",
+            );
+        }
+    }
+
     fn complain(&mut self, complaint: Complaint) {
         let _ = self.output.rt.eprint(complaint);
     }

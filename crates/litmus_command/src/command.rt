@@ -440,6 +440,13 @@ fn times_for(request: &RunRequest<'_>) -> Times
     }
 }
 
+/// Where runs gave no report, the desk may say that a search goes over all schedules: on threads it is left to the machine which come.
+fn advise<D: Desk>(raced: bool, desk: &D) {
+    if !raced {
+        desk.advise_search();
+    }
+}
+
 /// Runs a file on threads, and gives what is left of the runs. Whether there was a report.
 fn run<R: Threads + Wait + Sync, D: Desk>(
     rt: &R,
@@ -470,6 +477,7 @@ fn run<R: Threads + Wait + Sync, D: Desk>(
     let times = times_for(request);
     let traced = request.options.trace.is_some();
     let written = run_text_often(rt, alloc, &text, &settings, times, traced, &*desk)?;
+    advise(written.raced, &*desk);
     give(request.options.trace, &written, desk)
 }
 

@@ -68,6 +68,9 @@ pub trait Desk: Progress + SearchProgress {
         ensures told { told self.new ≡ told self.old }
         ensures faults { faults self.new ≡ faults self.old };
 
+    /// Is told that runs gave no report, where a search might. What it says of that is no complaint.
+    fn advise_search(&self);
+
     /// Tells standard error.
     fn complain(&mut self, complaint: Complaint)
         ensures told { told self.new ≡ heard (told self.old) complaint }
