@@ -25,7 +25,7 @@ use Rattle.run_kept.specs.of_run_headline_Watches.{is_verdict}
 use Rattle.run_kept.specs.of_setup_access_Check.{Fallen}
 use Rattle.slot_table.specs.Records.{records_of}
 use Rattle.slot_table.specs.declared.records.Record.{Record}
-use Rattle.run_kept.proofs.Once.{begins_with, few_verdicts, is_verdict_of}
+use Rattle.run_kept.proofs.OneVerdictAtMost.{begins_with, few_verdicts, is_verdict_of}
 use Rattle.run_kept.specs.of_written_order_Told.{fell_next, to_come}
 use Rattle.run_kept.proofs.of_written_order_MeaningLemmas.{whole_means}
 

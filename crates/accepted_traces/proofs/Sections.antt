@@ -1,4 +1,4 @@
--- the lines of a written trace are true, kind by kind
+-- The lines of a written trace are true, kind by kind.
 use Rattle.std.proofs.Common.{◌≡◌, ◌∷◌, ◌++◌, ◌∙◌, ◌+◌, ◌<◌, ◌≤◌, ◌==◌, ◌%◌, ◌/◌, ◌^◌, ◌*◌, ℕ, List, [], ap, append-nil, append_assoc, arith, inl, inr, map, refl, subst, sym}
 use Rattle.std.specs.Prelude.{All, Contains, count_by}
 use Rattle.std.proofs.lemmas.List.{map-append}

@@ -1,4 +1,4 @@
--- a written trace has no more bytes than a trace may have
+-- A written trace has no more bytes than a trace may have.
 use Rattle.std.proofs.Common.{◌≡◌, ◌∷◌, ◌++◌, ◌∙◌, ◌+◌, ◌<◌, ◌≤◌, ◌==◌, ◌^◌, ◌*◌, ℕ, List, [], Bool, true, false, ap, append_assoc, arith, inl, inr, length}
 use Rattle.std.proofs.Common.{length-append, map, refl, suc, sym, unwrap_or}
 use Rattle.std.specs.Prelude.{All, codes}

@@ -37,7 +37,8 @@ use run_kept::watched::{
 use slot_table::laws::heard_is_told;
 use watch_word::words_read_back;
 
-/// Law: what is written of the parts of one true trace is a true trace, of these lines, and no longer than a trace may be.
+/// Law: what is written of the parts of one true trace is a true trace, of these lines, and no longer than a trace may
+/// be.
 pub fn parts_make_a_true_trace()
     ensures { (slots : ℕ) (layout : Layout) (accesses : List Stamped) (arms : List Arm) (takes : List Take) (reports : List Report)
         → AreParts slots layout accesses arms takes reports
@@ -59,10 +60,10 @@ pub fn accesses_of_runs_fit()
     tickets_have_room();
 }
 
-/// Law: once all tasks of a run list have ended its accesses, armings, takings and reports are the parts of one true trace.
-/// So the trace that is written of them is true: each access has its own ticket and stamps, each arming, taking and report
-/// names accesses of the trace that may have made it, and the three tell of the same. It is to be accepted, with as many
-/// lines of each kind as there are accesses, armings, takings and reports.
+/// Law: once all tasks of a run list have ended its accesses, armings, takings and reports are the parts of one true
+/// trace. So the trace that is written of them is true: each access has its own ticket and stamps, each arming, taking
+/// and report names accesses of the trace that may have made it, and the three tell of the same. It is to be accepted,
+/// with as many lines of each kind as there are accesses, armings, takings and reports.
 pub fn traces_of_ended_runs_are_true()
     ensures parts { (run : Run) (records : List Record) (list : RunList run records) → KeepsLimits run.program
         → 3 ≤ run.rules.slots → run.rules.slots ≤ 1024 → AllHaveEnded run records

@@ -20,7 +20,7 @@ use Rattle.memory_operation.specs.declared.stage.Stage as code
 use Rattle.memory_operation.specs.declared.stage.Stage.TheVariants as operating
 use Rattle.setup_access.specs.Check.{Check, Passes}
 use Rattle.setup_access.specs.Checker.{Checks}
-use Rattle.setup_access.specs.Own.{AreOwn, IsOwn}
+use Rattle.setup_access.specs.OwnAccesses.{AreOwn, IsOwn}
 use Rattle.setup_access.specs.Parts.{made}
 use Rattle.setup_access.specs.Setting.{Setting}
 use Rattle.setup_access.specs.Values.{source_of, value_in}

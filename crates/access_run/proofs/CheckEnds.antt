@@ -8,7 +8,7 @@ use Rattle.setup_access.specs.Fallen.{followed}
 use Rattle.setup_access.specs.Find.{LooksUp}
 use Rattle.setup_access.specs.Found.{TellsTo}
 use Rattle.setup_access.specs.Leads.{Leads}
-use Rattle.setup_access.specs.Own.{AreOwn, IsOwn}
+use Rattle.setup_access.specs.OwnAccesses.{AreOwn, IsOwn}
 use Rattle.setup_access.specs.PassLeft.{Given, PassLeft, given_of, nothing_given}
 use Rattle.setup_access.specs.Parts.{FoundLeft, SetupLeft, left_to_look, left_to_try, made}
 use Rattle.setup_access.specs.Setting.{Setting, look_order, slot_of, try_order}

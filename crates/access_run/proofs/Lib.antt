@@ -8,12 +8,12 @@ pub mod Decisions
 pub mod CheckEnds
 pub mod AccessEnds
 pub mod StampLemmas
-pub use Rattle.setup_access.proofs.of_task_context_Leads as of_task_context_Leads
-pub use Rattle.setup_access.proofs.of_task_context_Moments as of_task_context_Moments
-pub use Rattle.setup_access.proofs.of_task_context_NextMarks as of_task_context_NextMarks
-pub use Rattle.setup_access.proofs.of_task_context_OneContext as of_task_context_OneContext
-pub use Rattle.setup_access.proofs.of_task_context_OtherMoments as of_task_context_OtherMoments
-pub use Rattle.setup_access.proofs.of_task_context_Surpluses as of_task_context_Surpluses
+pub use Rattle.memory_operation.proofs.of_task_context_Leads as of_task_context_Leads
+pub use Rattle.memory_operation.proofs.of_task_context_Moments as of_task_context_Moments
+pub use Rattle.memory_operation.proofs.of_task_context_NextMarks as of_task_context_NextMarks
+pub use Rattle.memory_operation.proofs.of_task_context_OneContext as of_task_context_OneContext
+pub use Rattle.memory_operation.proofs.of_task_context_OtherMoments as of_task_context_OtherMoments
+pub use Rattle.memory_operation.proofs.of_task_context_Surpluses as of_task_context_Surpluses
 pub use Rattle.setup_access.proofs.Copies as of_setup_access_Copies
 pub use Rattle.setup_access.proofs.DisciplineLemmas as of_setup_access_DisciplineLemmas
 pub use Rattle.setup_access.proofs.FallLemmas as of_setup_access_FallLemmas
@@ -27,3 +27,5 @@ pub use Rattle.memory_operation.proofs.LeadsLemmas as of_memory_operation_LeadsL
 pub use Rattle.memory_operation.proofs.LockLemmas as of_memory_operation_LockLemmas
 pub use Rattle.memory_operation.proofs.TurnLemmas as of_memory_operation_TurnLemmas
 pub use Rattle.memory_operation.proofs.WordLemmas as of_memory_operation_WordLemmas
+pub use Rattle.setup_access.proofs.begun as of_setup_access_begun
+pub use Rattle.setup_access.proofs.checker as of_setup_access_checker

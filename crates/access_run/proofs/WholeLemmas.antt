@@ -1,4 +1,4 @@
--- Parts of a list of records, and which of them are the whole of something.
+-- Whatever begins with something begins with a part that is the whole of it, found as records come one by one.
 use Rattle.std.proofs.Common.{◌≡◌, ◌∙◌, ◌⊎◌, ◌++◌, ◌∷◌, [], List, ap, inl, inr, refl, subst, sym}
 use Rattle.std.proofs.lemmas.List.{append-nil}
 use Rattle.access_run.specs.Whole.{IsWhole, NoneWhole}

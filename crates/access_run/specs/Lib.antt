@@ -3,14 +3,14 @@ pub mod Moved
 pub mod Whole
 pub mod Stamps
 pub mod Leads
-pub use Rattle.setup_access.specs.of_watch_word_Layout as of_watch_word_Layout
+pub use Rattle.memory_operation.specs.of_watch_word_Layout as of_watch_word_Layout
 pub use Rattle.setup_access.specs.of_watch_word_Word as of_watch_word_Word
 pub use Rattle.setup_access.specs.of_watch_word_declared as of_watch_word_declared
 pub use Rattle.slot_table.specs.of_slot_Pair as of_slot_Pair
 pub use Rattle.slot_table.specs.Answer as of_slot_table_Answer
 pub use Rattle.slot_table.specs.declared as of_slot_table_declared
-pub use Rattle.setup_access.specs.of_task_context_Context as of_task_context_Context
-pub use Rattle.setup_access.specs.of_task_context_History as of_task_context_History
+pub use Rattle.memory_operation.specs.of_task_context_Context as of_task_context_Context
+pub use Rattle.memory_operation.specs.of_task_context_History as of_task_context_History
 pub use Rattle.setup_access.specs.Check as of_setup_access_Check
 pub use Rattle.setup_access.specs.Checker as of_setup_access_Checker
 pub use Rattle.setup_access.specs.Copies as of_setup_access_Copies
@@ -22,7 +22,7 @@ pub use Rattle.setup_access.specs.Hits as of_setup_access_Hits
 pub use Rattle.setup_access.specs.Kept as of_setup_access_Kept
 pub use Rattle.setup_access.specs.Leads as of_setup_access_Leads
 pub use Rattle.setup_access.specs.Lending as of_setup_access_Lending
-pub use Rattle.setup_access.specs.Own as of_setup_access_Own
+pub use Rattle.setup_access.specs.OwnAccesses as of_setup_access_OwnAccesses
 pub use Rattle.setup_access.specs.Parts as of_setup_access_Parts
 pub use Rattle.setup_access.specs.PassLeft as of_setup_access_PassLeft
 pub use Rattle.setup_access.specs.Records as of_setup_access_Records

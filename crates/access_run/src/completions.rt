@@ -19,7 +19,7 @@ ghost use Rattle.setup_access.specs.Check.{Check, Close, Fallen, Passes};
 ghost use Rattle.setup_access.specs.Checker.{Does, Doing};
 ghost use Rattle.setup_access.specs.Fallen.{HaveFallen};
 ghost use Rattle.setup_access.specs.Leads.{Leads};
-ghost use Rattle.setup_access.specs.Own.{AreOwn, IsOwn};
+ghost use Rattle.setup_access.specs.OwnAccesses.{AreOwn, IsOwn};
 ghost use Rattle.setup_access.specs.Setting.{Setting};
 ghost use Rattle.setup_access.specs.declared.begun.Begun.{Begun};
 ghost use Rattle.setup_access.specs.declared.checker.Checker.{Checker};

@@ -46,7 +46,8 @@ pub(crate) fn ready(
     Some(OperationRun::new(access, source, operation))
 }
 
-/// What follows on a step of the check, where the check is over. Where it goes on nothing is copied: most steps are such.
+/// What follows on a step of the check, where the check is over. Where it goes on nothing is copied: most steps are
+/// such.
 pub(crate) fn after_check(checker: &Checker, run: &Option<OperationRun>) -> Option<Stage>
     ensures going { IfSome result IsUnderWay }
     ensures leads { (s : Setting) (scopes : List Begun) (begun : Begun) (asked : ℕ) (operation : Option kinds.Operation) (records : List Record) (last : Record)

@@ -1,4 +1,4 @@
--- the bytes of a value are laid down one by one, and so read back one by one
+-- The bytes of a value are laid down one by one, and so read back one by one.
 use Rattle.std.proofs.Common.{◌≡◌, ◌+◌, ◌*◌, ◌/◌, ◌%◌, ◌^◌, ◌<◌, ◌≤◌, ◌⊎◌, ℕ, zero, suc, inl}
 use Rattle.std.proofs.Common.{inr, refl, sym, arith}
 use Rattle.std.proofs.Math.Arith.{mod-mul}

@@ -1,4 +1,4 @@
--- the entries of a map of std, and the finite map that stands for them
+-- The entries of a map of std, and the finite map that stands for them.
 use Rattle.std.proofs.Common.{◌≡◌, ◌∙◌, ℕ, List, [], ◌∷◌, Option, Some, Bool, true, false, cond, ap}
 use Rattle.std.proofs.Common.{refl, subst, sym, Bor, IfSome, None}
 use Rattle.std.proofs.lemmas.Bool.{eqb-true}

@@ -1,3 +1,4 @@
+-- What an access is and its limits; when two share a byte, and when one of two writes or asserts no accesses.
 use Rattle.std.specs.Prelude.{◌+◌, ◌^◌, ◌<◌, ◌≤◌, ◌==◌, ◌⊎◌, ℕ, Option, Some, None, IsTrue}
 use Rattle.std.specs.Prelude.{if◌then◌else◌}
 use Rattle.access_types.specs.declared.kind.Kind.{Kind}

@@ -1,3 +1,4 @@
+-- What a task keeps of each watchpoint that it has set up and removed.
 use Rattle.std.specs.Prelude.{ℕ}
 use Rattle.access_types.specs.declared.arms.ArmOutcome.{ArmOutcome}
 

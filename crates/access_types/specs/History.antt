@@ -1,3 +1,4 @@
+-- What tasks do, as a list of moments; what memory holds after some of them, and which accesses are in progress.
 use Rattle.std.specs.Prelude.{◌≤◌, ◌+◌, ◌*◌, ◌/◌, ◌%◌, ◌^◌, ◌-◌, ◌&&◌, ◌==◌, ◌⊎◌, ℕ, List, Contains}
 use Rattle.std.specs.Prelude.{filter, fold, map, nat_le, nat_lt, suc, zero, take, if◌then◌else◌}
 use Rattle.access_types.specs.Access.{Access}

@@ -1,3 +1,4 @@
+-- What a kind of access does and claims: its flags, as KCSAN's access types have them, and its words in a report.
 use Rattle.std.specs.Prelude.{◌≡◌, ◌&&◌, ◌||◌, ◌++◌, ℕ, List, Bool, true, false, not, codes}
 use Rattle.access_types.specs.declared.kind.Operation.{Operation}
 use Rattle.access_types.specs.declared.kind.Operation.TheVariants.{Read, Write, ReadWrite}

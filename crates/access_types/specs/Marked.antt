@@ -1,3 +1,4 @@
+-- When an access counts as marked, and when it is silenced, by the moments before its begin.
 use Rattle.std.specs.Prelude.{◌≡◌, ◌<◌, ◌&&◌, ◌==◌, ◌%◌, ℕ, List, [], ◌∷◌, ◌++◌, Bool, true, false}
 use Rattle.std.specs.Prelude.{IsTrue, count_by, drop, nat_le, nat_lt, not}
 use Rattle.access_types.specs.Access.{Access}

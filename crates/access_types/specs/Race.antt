@@ -1,3 +1,4 @@
+-- When two accesses are a true data race, and when an access's bytes changed under its watch.
 use Rattle.std.specs.Prelude.{◌≡◌, ◌≢◌, ◌<◌, ◌≤◌, ℕ, Bool, Option, Some, None, All, bit_and}
 use Rattle.std.specs.Prelude.{bit_xor, drop, length, take}
 use Rattle.access_types.specs.Access.{Access, Breaks, Overlap}

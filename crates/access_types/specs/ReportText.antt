@@ -1,3 +1,4 @@
+-- The text of a report: of two accesses that raced, or of a change whose origin is unknown.
 use Rattle.std.specs.Prelude.{◌-◌, ◌*◌, ◌^◌, ◌==◌, ◌||◌, ◌++◌, ℕ, List, [], ◌∷◌, Bool, false}
 use Rattle.std.specs.Prelude.{Option, Some, None, codes, max, min, replicate, if◌then◌else◌}
 use Rattle.std.specs.Fmt.{decimal, digits, format_spec, padded_integral}

@@ -1,3 +1,4 @@
+-- The accesses of a program by their tickets, each under its own.
 use Rattle.std.specs.Prelude.{◌≡◌, ℕ, List, IfSome}
 use Rattle.std.specs.Ordering.{nat_cmp}
 use Rattle.std.specs.FinMap as map

@@ -1,3 +1,4 @@
+-- What is kept of an access that has ended: its two stamps, and what it counted as.
 use Rattle.std.specs.Prelude.{ℕ, Bool}
 use Rattle.access_types.specs.Access.{Access}
 

@@ -1,3 +1,4 @@
+-- The number that names an access, and its task, site and repetition, which are read back from it.
 use Rattle.std.specs.Prelude.{◌≡◌, ◌+◌, ◌-◌, ◌*◌, ◌/◌, ◌%◌, ◌^◌, ◌<◌, ℕ}
 use Rattle.access_types.specs.Access.{Access}
 

@@ -1,3 +1,5 @@
+//! Accesses: whose they are, which bytes they touch and how, and when two of them conflict.
+
 ghost use Rattle.std.specs.Prelude.{◌≡◌, ◌+◌, ◌^◌, ◌<◌, ◌≤◌, ◌↔◌, IsTrue};
 ghost use Rattle.std.specs.Result.{OkIff};
 ghost use Rattle.access_types.specs.Access as spec;
@@ -135,6 +137,7 @@ impl Access {
             addr,
             size,
             kind,
+            // In a mask of no bits no change would ever count. In KCSAN an `access_mask` of 0 is no mask either.
             mask: mask.filter(|mask| *mask != 0),
         })
     }
@@ -209,7 +212,8 @@ pub fn overlaps(a: &Access, b: &Access) -> bool
     start < a.addr + a.size && start < b.addr + b.size
 }
 
-/// The two conflict: they have a byte in common, and one of them writes or asserts no accesses.
+/// The two conflict: they have a byte in common, and one of them writes or asserts no accesses. Two reads see the
+/// same bytes in either order, so they don't.
 pub fn conflicts(a: &Access, b: &Access) -> bool
     ensures { IsTrue result ↔ (Overlap a.now b.now × Breaks a.now b.now) }
 {

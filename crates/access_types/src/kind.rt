@@ -1,3 +1,5 @@
+//! Kinds of accesses, with the flags of KCSAN's access types, and what reports call them.
+
 ghost use Rattle.std.specs.Prelude.{◌≡◌, ◌↔◌, IsTrue, IsErrOf, IfOk};
 ghost use Rattle.access_types.specs.Kind.{HasFlags, access_words, is_assertion, is_bad};
 ghost use Rattle.access_types.specs.Kind.{is_compound, is_marked, is_scoped, write_flag};
@@ -68,6 +70,7 @@ impl Kind {
         match (assert, scoped) {
             (false, false) if marked => Ok(Kind::Marked(operation)),
             (false, false) => Ok(Kind::Plain(operation)),
+            // An assertion makes no access of its own, so nothing of it could be marked or compound.
             (true, _) if marked || compound => Err(KindError::BadKind),
             (true, false) => Ok(Kind::Assert(claim)),
             (true, true) => Ok(Kind::AssertScoped(claim)),
@@ -75,7 +78,8 @@ impl Kind {
         }
     }
 
-    /// KCSAN's write flag: it writes, or it asserts no accesses.
+    /// KCSAN's write flag: it writes, or it asserts no accesses. `ASSERT_EXCLUSIVE_ACCESS` has the flag in KCSAN too,
+    /// so that reads conflict with it.
     pub fn write(&self) -> bool
         ensures { result ≡ write_flag self.now }
     {

@@ -1,3 +1,5 @@
+//! What is reported: two accesses that raced, or a change of bytes whose origin is unknown.
+
 /// The bytes of an access before and after its watch, as little-endian numbers.
 #[derive(Clone, Copy, Debug, PartialEq, Eq)]
 pub struct ValueChange {

@@ -9,7 +9,8 @@ ghost use Rattle.access_types.specs.Ticket.{ReadsBack};
 
 use crate::access::Access;
 
-/// The number that names an access: 1 + task x 65536 + site x 256 + repetition.
+/// The number that names an access: 1 + task x 65536 + site x 256 + repetition. It begins at 1, since a half of a
+/// pair word that is 0 names nobody.
 pub fn ticket(access: &Access) -> u32
     ensures value { result ≡ ticket_number access.now }
     ensures above_zero { 0 < result }

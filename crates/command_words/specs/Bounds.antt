@@ -23,11 +23,13 @@ pub record KeepsRunBounds (request : RunRequest) : Type 0 where
   pub jobs_to : request.jobs ≤ 64
   pub options : KeepsBounds request.options
 
--- and at most 16 switches, in from 1 to 1,000,000,000 schedules
+-- and at most 16 switches, in from 1 to 1,000,000,000 schedules, by 1 to 64 threads
 pub record KeepsSearchBounds (request : SearchRequest) : Type 0 where
   pub switches : request.switches ≤ 16
   pub limit : 1 ≤ request.limit
   pub limit_to : request.limit ≤ 1000000000
+  pub jobs : 1 ≤ request.jobs
+  pub jobs_to : request.jobs ≤ 64
   pub options : KeepsBounds request.options
 
 -- what may be asked: numbers within their bounds

@@ -79,13 +79,15 @@ run_app sizes =
     (flag_rule (codes "stop-at-first")))
     (flag_rule (codes "keep-going"))) sizes
 
--- `search`, with its file, how many switches a schedule has at most, after how many schedules the search stops, and those options
+-- `search`, with its file, how many switches a schedule has at most, after how many schedules the search stops, how many threads share the
+-- work, and those options
 abbrev pub search_app : Bor (List (Bor Text)) → App
 search_app sizes =
-    with_options (with_rule (with_rule (with_rule (new_app (codes "search"))
+    with_options (with_rule (with_rule (with_rule (with_rule (new_app (codes "search"))
     (word_rule (codes "FILE")))
     (number_rule (codes "switches") 0 16 (codes "2")))
-    (number_rule (codes "limit") 1 1000000000 (codes "1000000"))) sizes
+    (number_rule (codes "limit") 1 1000000000 (codes "1000000")))
+    (number_rule (codes "jobs") 1 64 (codes "1"))) sizes
 
 -- `replay`, with its file
 abbrev pub replay_app : App
@@ -172,6 +174,7 @@ pub record AskSearch (values : List Row) (request : SearchRequest) : Type 0 wher
   pub file : first_of (codes "FILE") values ≡ Some request.file.now
   pub switches : IsNumber values (codes "switches") request.switches
   pub limit : IsNumber values (codes "limit") request.limit
+  pub jobs : IsNumber values (codes "jobs") request.jobs
   pub options : AskOptions values request.options
 
 -- the values of `replay` ask for this

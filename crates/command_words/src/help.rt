@@ -205,3 +205,6 @@ pub const SWITCHES: &str =
 
 /// What `--limit` says.
 pub const LIMIT: &str = "After how many schedules the search stops, 1 to 1000000000";
+
+/// What `--jobs` of `search` says.
+pub const SEARCH_JOBS: &str = "How many threads share the work, 1 to 64; the output is the same";

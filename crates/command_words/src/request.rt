@@ -21,7 +21,7 @@ const RUNS: (u64, u64) = (1, 100_000);
 /// The fewest and the most loads of a delay.
 const DELAY: (u64, u64) = (0, 1_000_000);
 
-/// The fewest and the most runs side by side.
+/// The fewest and the most runs side by side, and the fewest and the most threads of a search.
 const JOBS: (u64, u64) = (1, 64);
 
 /// The fewest and the most switches from task to task.
@@ -101,6 +101,8 @@ pub struct SearchRequest<'a> {
     pub switches: u64,
     /// After how many schedules the search stops, though others remain.
     pub limit: u64,
+    /// How many threads share the work.
+    pub jobs: u64,
     /// What `step` could be given as well.
     pub options: RunOptions<'a>,
 }
@@ -200,6 +202,7 @@ fn search_request<'a>(search: &ArgMatches<'a>) -> Option<SearchRequest<'a>>
         file: search.get_str("FILE")?,
         switches: number(search, "switches", SWITCHES)?,
         limit: number(search, "limit", LIMIT)?,
+        jobs: number(search, "jobs", JOBS)?,
         options: options(search)?,
     })
 }
@@ -326,7 +329,8 @@ fn search_command<'a>(
         .after_help(help::AFTER_SEARCH)
         .arg(file(alloc, "FILE", help::FILE))?
         .arg(number_option(alloc, "switches", help::SWITCHES, SWITCHES, "2"))?
-        .arg(number_option(alloc, "limit", help::LIMIT, LIMIT, "1000000"))?;
+        .arg(number_option(alloc, "limit", help::LIMIT, LIMIT, "1000000"))?
+        .arg(number_option(alloc, "jobs", help::SEARCH_JOBS, JOBS, "1"))?;
     with_shared(alloc, command, sizes)
 }
 

@@ -1,4 +1,4 @@
--- the examples of version 2, line by line
+-- The examples of version 2, line by line.
 use Rattle.std.proofs.Common.{◌≡◌, ◌≢◌, ◌+◌, ◌^◌, ◌<◌, ◌≤◌, ◌++◌, ◌∷◌, ◌∙◌, ℕ, suc, zero, List, [], Bool, false, true, arith, ap, get_or, inl, inr, refl, subst, sym}
 use Rattle.std.specs.Prelude.{All, Contains, IsTrue, None}
 use Rattle.std.specs.Fmt.{char_count, digits, padded_integral}

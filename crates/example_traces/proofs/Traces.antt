@@ -1,4 +1,4 @@
--- the examples, line by line
+-- The examples of version 1 are true traces: each line of them may stand where it does, and is true.
 use Rattle.std.proofs.Common.{◌≡◌, ◌≢◌, ◌+◌, ◌^◌, ◌<◌, ◌≤◌, ◌++◌, ◌∷◌, ◌∙◌, ℕ, List, [], Bool, false, true, arith, append-nil, inl, inr, length, refl, sym, ap}
 use Rattle.std.specs.Prelude.{All, Contains, IsTrue, None}
 use Rattle.std.specs.List.{flat_map}

@@ -1,4 +1,4 @@
--- a loop's trace, line by line
+-- A loop's trace, line by line.
 use Rattle.std.proofs.Common.{◌≡◌, ◌≢◌, ◌+◌, ◌^◌, ◌<◌, ◌≤◌, ◌++◌, ◌∷◌, ℕ, List, [], arith, inr, refl}
 use Rattle.std.specs.Fmt.{char_count, digits, padded_integral}
 use Rattle.std.specs.List.{AllByRecursion}

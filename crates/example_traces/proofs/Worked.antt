@@ -1,4 +1,4 @@
--- what is true of the accesses and lines of the examples
+-- What is true of the accesses and lines of the examples.
 use Rattle.std.proofs.Common.{◌≡◌, ◌≢◌, ◌+◌, ◌^◌, ◌<◌, ◌≤◌, ◌++◌, ◌∷◌, ◌∙◌, ℕ, List, [], Bool, false, true, arith, inl, inr, refl}
 use Rattle.std.specs.Prelude.{All, Contains, IsTrue}
 use Rattle.std.proofs.lemmas.List.Elements.{All-cons, All-nil}

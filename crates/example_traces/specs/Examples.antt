@@ -1,3 +1,4 @@
+-- Worked traces: a plain read and a marked write of the same four bytes, with and without what makes a race of them.
 use Rattle.std.specs.Prelude.{◌++◌, ℕ, List, [], ◌∷◌, Bool, true, false, None, codes}
 use Rattle.report_text.specs.of_access_types_Access.{Access}
 use Rattle.report_text.specs.of_access_types_Arms.{Arm}

@@ -1,3 +1,5 @@
+//! Conditions tried at values of registers and variables for which each connective decides.
+
 use crate::condition::{Finals, holds};
 use litmus_syntax::Proposition;
 use std::boxed::Box;

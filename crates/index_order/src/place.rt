@@ -14,7 +14,8 @@ pub enum Place {
 }
 
 impl Place {
-    /// The index of a look-up. The first is the page slot: most accesses stay within their page.
+    /// The index of a look-up. The first is the page slot, though insertions begin at the index behind it: not to look
+    /// there first is fine, since races are rare and the indices are the same (core.c at SLOT_IDX_FAST).
     pub fn of_look_up(self, slot: usize) -> usize
         requires { slot ≤ 1023 }
         ensures { result ≡ look_index self slot }

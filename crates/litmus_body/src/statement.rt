@@ -93,6 +93,7 @@ pub fn read_block(
     while !process.cursor.accept(Sign::CloseBrace) {
         if let Some(statement) = read_statement(process, inside)? {
             if begins_scope(&statement) {
+                // As in the kernel it holds to the end of its block: what follows in this block has it in force.
                 inside = inside.asserting()?;
             }
             statements.push(statement)?;
@@ -159,6 +160,7 @@ fn opening_of(process: &Process<'_>) -> Result<Opening, Refusal>
             Some(word) => opening_of_word(word).ok_or(process.cursor.offence()),
             None => {
                 process.cursor.refuse_call()?;
+                // A variable's name alone is no access: only `*x` and the calls touch memory.
                 if process.parameter(name).is_some() {
                     return Err(process.cursor.offence());
                 }
@@ -213,6 +215,7 @@ fn read_declaration(
 {
     process.cursor.advance();
     let register = take_declared_register(process, around)?;
+    // With a value it is an assignment, which counts; without one it is nothing that a task does.
     if process.cursor.is_at(Sign::Assign) {
         process.count_statement()?;
         process.cursor.advance();
@@ -284,6 +287,7 @@ fn read_branch(process: &mut Process<'_>, around: Surroundings) -> Result<Statem
     let condition = process.expression(&around)?;
     process.cursor.take(Sign::CloseParen)?;
     let body = read_body(process, around)?;
+    // The body was read first, so an `else` behind it belonged to the nearest `if`, as in C.
     if !is_at_else(&process.cursor) {
         return Ok(Statement::If { condition, body });
     }
@@ -315,6 +319,7 @@ fn read_repetition(process: &mut Process<'_>, around: Surroundings) -> Result<St
 }
 
 /// `( REG = 0 ; REG < NUMBER ; REG ++ )`
+/// No other form is read: of this one the number of turns is known from the text alone.
 #[tactic(auto, unfolding(crate::specs::StatementReader::header_at))]
 fn read_loop_header(process: &mut Process<'_>, around: &Surroundings) -> Result<LoopHeader, Refusal>
     ensures moves { OnOk result (count_left process.new.cursor < count_left process.old.cursor) }

@@ -1,4 +1,4 @@
--- Tasks that are asked, seen otherwise.
+-- What was asked of tasks was asked of them in a view of their states too, where moves and ends are kept.
 use Rattle.std.proofs.Common.{◌↔◌, ℕ, List, [], ◌∷◌, ap, inl, inr}
 use Rattle.step_schedule.specs.Order.{AreAsked, IsAsked, Tasks}
 

@@ -1,4 +1,4 @@
--- What holds where a call succeeds, and where it fails.
+-- What holds where a command succeeds, and with which status it ends where it fails.
 use Rattle.std.proofs.Common.{◌<◌, Bool, OnErr, OnOk, ap, ◌≢◌, ◌≤◌, ◌⊎◌, arith, inl, inr, ◌≡◌, ◌∙◌, ℕ, List, Option, None, Some, Result, Ok, Err, IfOk, IfErr, IfSome, MatchResult, is_some}
 use Rattle.std.proofs.Common.{false, refl, subst, sym, true, Vec}
 use Rattle.std.specs.Global.{Global}

@@ -170,7 +170,12 @@ pub record AreLeft (request : RunRequest) (text : List ℕ) (raced : Bool) (outp
 
 -- what is wanted of a search, as it is asked for
 abbrev pub wanted_of : SearchRequest → Wanted
-wanted_of request = record { switches = request.switches; limit = request.limit; traced = is_some request.options.trace }
+wanted_of request = record {
+  switches = request.switches;
+  limit = request.limit;
+  traced = is_some request.options.trace;
+  jobs = request.jobs;
+}
 
 -- This is left of a search over the program that a text spells, within the bounds and under the settings that are asked for: whether there
 -- was a report, whether others remain, the output, and the trace of the first list with a report, if it is asked for and there is one.

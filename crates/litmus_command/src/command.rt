@@ -154,6 +154,7 @@ fn run_status(error: RunError) -> u8
     ensures { result ≡ run_status_of error }
 {
     match error {
+        // Slots, places and schedules come from the words, and the file has no fault.
         RunError::BadSlots | RunError::BadPlace | RunError::BadSchedule => USAGE,
         RunError::OutOfMemory | RunError::NoThread => OUT_OF_MEMORY,
         RunError::Stuck { .. } => STUCK,
@@ -184,11 +185,11 @@ fn trace_status(error: TraceError) -> u8
 /// The whole program: does what the words ask for, and answers the status that the program ends
 /// with. The first word is the program's name.
 ///
-/// 0: no report, a trace that is accepted, or help. 2: a report. 64: usage, a schedule that doesn't read or names a task
-/// that isn't there, or a place that doesn't read or doesn't suit. 65: the file is refused. 66: it can't be read. 70: a task
-/// is stuck. 71: out of memory, or a thread couldn't be started. 74: output can't be written. 75: a search was stopped at its
-/// limit, and no list that it went over has a report. At 64 to 71 nothing goes to standard output, and no trace is written. At 74
-/// standard output has what it had, or a beginning of what should have gone there.
+/// 0: no report, a trace that is accepted, or help. 2: a report. 64: usage, a schedule that doesn't read or names a
+/// task that isn't there, or a place that doesn't read or doesn't suit. 65: the file is refused. 66: it can't be read.
+/// 70: a task is stuck. 71: out of memory, or a thread couldn't be started. 74: output can't be written. 75: a search
+/// was stopped at its limit, and no list that it went over has a report. At 64 to 71 nothing goes to standard output,
+/// and no trace is written. At 74 standard output has what it had, or a beginning of what should have gone there.
 pub fn command<R: Threads + Wait + Sync, S: AsStr, D: Desk>(
     rt: &R,
     alloc: Global,
@@ -259,7 +260,8 @@ pub fn carry_out<R: Threads + Wait + Sync, D: Desk>(
     let done = match request {
         Request::Step(request) => step(alloc, request, desk),
         Request::Run(request) => run(rt, alloc, request, desk),
-        Request::Search(request) => return carry_search(alloc, request, desk),
+        // A search may end with 75, which is no failure: all that was found is written, and nothing is complained of.
+        Request::Search(request) => return carry_search(rt, alloc, request, desk),
         Request::Replay(request) => replay(alloc, request, desk),
     };
     match done {
@@ -270,7 +272,12 @@ pub fn carry_out<R: Threads + Wait + Sync, D: Desk>(
 }
 
 /// Searches a file, and answers the status that the program ends with.
-fn carry_search<D: Desk>(alloc: Global, request: &SearchRequest<'_>, desk: &mut D) -> u8
+fn carry_search<R: Threads + Sync, D: Desk>(
+    rt: &R,
+    alloc: Global,
+    request: &SearchRequest<'_>,
+    desk: &mut D,
+) -> u8
     requires { KeepsSearchBounds request.now }
     ensures reported { result ≡ 2 → IsDone (Request.Search request.now) true (state_of D.written D.failures D.files desk.old)
         (state_of D.written D.failures D.files desk.new) }
@@ -290,7 +297,7 @@ fn carry_search<D: Desk>(alloc: Global, request: &SearchRequest<'_>, desk: &mut 
     ensures ends { EndsAs result (state_of D.written D.failures D.files desk.old)
         (state_of D.written D.failures D.files desk.new) }
 {
-    match search(alloc, request, desk) {
+    match search(rt, alloc, request, desk) {
         Ok(status) => status,
         Err(failure) => fail(failure, desk),
     }
@@ -312,6 +319,8 @@ fn fail<D: Desk>(failure: Failure, desk: &mut D) -> u8
 fn settings(options: &RunOptions<'_>, places: Vec<Place>) -> Settings
     ensures { result ≡ settings_of options.now places }
 {
+    // As the kernel's CONFIG_KCSAN_REPORT_VALUE_CHANGE_ONLY and CONFIG_KCSAN_ASSUME_PLAIN_WRITES_ATOMIC are by default;
+    // `--strict` turns both off.
     Settings {
         slots: options.slots,
         skip: options.skip,
@@ -379,7 +388,8 @@ fn keep_trace<D: Desk>(
     }
 }
 
-/// Gives what is left of runs: the trace, if it is asked for and there is one, and then the output. Whether there was a report.
+/// Gives what is left of runs: the trace, if it is asked for and there is one, and then the output. Whether there was a
+/// report.
 fn give<D: Desk>(path: Option<&str>, written: &Written, desk: &mut D) -> Result<bool, Failure>
     ensures raced { IfOk result (λ raced. raced ≡ written.now.raced) }
     ensures given { OnOk result (IsGiven (option_map (λ path. path.now) path.entry) written.now.output.items
@@ -393,6 +403,7 @@ fn give<D: Desk>(path: Option<&str>, written: &Written, desk: &mut D) -> Result<
     ensures told { D.told desk.new ≡ D.told desk.old }
     ensures faults { D.faults desk.new ≡ D.faults desk.old }
 {
+    // The trace comes first: where its file can't be written, that is known before standard output has anything.
     keep_trace(path, &written.trace, desk)?;
     match desk.print(written.output.as_slice()) {
         Ok(()) => Ok(written.raced),
@@ -440,7 +451,8 @@ fn times_for(request: &RunRequest<'_>) -> Times
     }
 }
 
-/// Where runs gave no report, the desk may say that a search goes over all schedules: on threads it is left to the machine which come.
+/// Where runs gave no report, the desk may say that a search goes over all schedules: on threads it is left to the
+/// machine which come.
 fn advise<D: Desk>(raced: bool, desk: &D) {
     if !raced {
         desk.advise_search();
@@ -488,6 +500,7 @@ fn search_status(raced: bool, stopped: bool) -> u8
     if raced {
         REPORTED
     } else if stopped {
+        // Without a report at the limit it is open whether the others have one: neither status would be true.
         STOPPED
     } else {
         NO_REPORT
@@ -502,10 +515,12 @@ fn wanted_for(request: &SearchRequest<'_>) -> Wanted
         switches: request.switches,
         limit: request.limit,
         traced: request.options.trace.is_some(),
+        jobs: request.jobs,
     }
 }
 
-/// Gives what a search leaves: the trace, if it is asked for and there is one, and then the output. The status that the search ends with.
+/// Gives what a search leaves: the trace, if it is asked for and there is one, and then the output. The status that the
+/// search ends with.
 fn give_found<D: Desk>(path: Option<&str>, found: &SearchText, desk: &mut D) -> Result<u8, Failure>
     ensures status { IfOk result (λ status. status ≡ search_status_of found.now.written.raced found.now.stopped) }
     ensures given { OnOk result (IsGiven (option_map (λ path. path.now) path.entry) found.now.written.output.items
@@ -524,7 +539,12 @@ fn give_found<D: Desk>(path: Option<&str>, found: &SearchText, desk: &mut D) -> 
 }
 
 /// Searches a file, and gives what is left of that. The status that the program ends with.
-fn search<D: Desk>(alloc: Global, request: &SearchRequest<'_>, desk: &mut D) -> Result<u8, Failure>
+fn search<R: Threads + Sync, D: Desk>(
+    rt: &R,
+    alloc: Global,
+    request: &SearchRequest<'_>,
+    desk: &mut D,
+) -> Result<u8, Failure>
     requires { KeepsSearchBounds request.now }
     ensures done { IfOk result (λ status. SearchEnds request.now status (state_of D.written D.failures D.files desk.old)
         (state_of D.written D.failures D.files desk.new)) }
@@ -546,7 +566,7 @@ fn search<D: Desk>(alloc: Global, request: &SearchRequest<'_>, desk: &mut D) -> 
     let settings = settings_for(alloc, &request.options)?;
     let text = desk.read_file(alloc, request.file, FILE_BYTES)?;
     let wanted = wanted_for(request);
-    let found = search_text(alloc, &text, &settings, wanted, &*desk)?;
+    let found = search_text(rt, alloc, &text, &settings, wanted, &*desk)?;
     give_found(request.options.trace, &found, desk)
 }
 

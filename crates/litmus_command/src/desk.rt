@@ -20,7 +20,8 @@ pub enum ReadFault {
     CannotRead,
 }
 
-/// What a program stands on: standard output, standard error and named files. It is told how far runs on threads and searches have come.
+/// What a program stands on: standard output, standard error and named files. It is told how far runs on threads and
+/// searches have come.
 pub trait Desk: Progress + SearchProgress {
     /// What standard output has taken, or None, which claims nothing, where it can't say.
     ghost written: { Self → Option (List ℕ) };

@@ -41,8 +41,8 @@ pub fn step_file<K: Sink>(
     ensures written { IfOk result (λ raced.
         HoldsOutput text.now settings.now (entries_of schedule.now) raced (K.written sink.old) (K.written sink.new)) }
 
-    // The headline: what was written begins with the reports of a run of the program that the text spells, of which each names a true
-    // race, or bytes that changed.
+    // The headline: what was written begins with the reports of a run of the program that the text spells, of which
+    // each names a true race, or bytes that changed.
     ensures headline { OnOk result
         (HoldsTrueReports text.now settings.now (entries_of schedule.now) (K.written sink.old) (K.written sink.new)) }
 
@@ -67,8 +67,8 @@ pub fn step_file<K: Sink>(
     }
 }
 
-/// Steps the program of a litmus text under a schedule to its end, and keeps what is written of the run: its trace only where
-/// that is wanted.
+/// Steps the program of a litmus text under a schedule to its end, and keeps what is written of the run: its trace only
+/// where that is wanted.
 pub fn run_text(
     alloc: Global,
     text: &[u8],
@@ -89,7 +89,8 @@ pub fn run_text(
     run_program(alloc, &program, settings, schedule, traced)
 }
 
-/// Steps a program under a schedule to its end, and keeps what is written of the run: its trace only where that is wanted.
+/// Steps a program under a schedule to its end, and keeps what is written of the run: its trace only where that is
+/// wanted.
 fn run_program(
     alloc: Global,
     program: &Program,
@@ -110,8 +111,8 @@ fn run_program(
     )
 }
 
-/// Steps a program that is made ready, from its first step on, under a schedule to its end, and keeps what is written of the run: its trace
-/// only where that is wanted.
+/// Steps a program that is made ready, from its first step on, under a schedule to its end, and keeps what is written
+/// of the run: its trace only where that is wanted.
 ///
 /// `OutOfMemory`: all tasks have ended, and there is no room for what is written.
 pub fn run_ready(

@@ -1,5 +1,5 @@
-//! The command line of `kcsan_litmus` over any desk: what is asked, the run of a litmus text, the search over its schedules, the check
-//! of a trace, and what is written of them.
+//! The command line of `kcsan_litmus` over any desk: what is asked, the run of a litmus text, the search over its
+//! schedules, the check of a trace, and what is written of them.
 #![tactic(auto)]
 
 pub mod command;

@@ -1,3 +1,4 @@
+-- What a cursor has left to read: its spots, how many they are, and the token that is next, or the end.
 use Rattle.std.specs.Prelude.{ℕ, List, [], ◌∷◌, Bool, true, false, length}
 use Rattle.litmus_lex.specs.declared.token.Token.{Token}
 use Rattle.litmus_lex.specs.declared.token.Token.TheVariants.{Name, Number, Sign, TooLarge, Stray, Unclosed, End}

@@ -1,3 +1,4 @@
+-- The spots of a cursor are the tokens of its text from a place on, and no others.
 use Rattle.std.specs.Prelude.{◌≡◌, ◌↔◌, ℕ, List, [], ◌∷◌, Some}
 use Rattle.litmus_lex.specs.declared.token.Place.{Place}
 use Rattle.litmus_lex.specs.Token.{terminal_of}

@@ -62,6 +62,7 @@ pub fn tokens(alloc: Global, text: &[u8], start: Place) -> Result<Vec<Spot<'_>>,
     ensures spelled { IfOk result (λ spots. AreTokensFrom text.now start spots.items) }
     ensures found { IfOk result (λ spots. (found : List Placed) × AreSpots spots.items found) }
 {
+    // All tokens are read before parsing, so that the contracts of the parser speak of lists.
     let mut spots = Vec::new(alloc);
     let mut place = start;
     loop {

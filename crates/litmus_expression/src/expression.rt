@@ -63,6 +63,7 @@ fn binary_operator(token: Token<'_>) -> Option<(BinaryOperator, usize)>
     ensures { result ≡ option_map (λ operator. (operator, level_of operator)) (reader.binary_at (symbol_of_token token.entry)) }
 {
     match token {
+        // The levels are those of C, so that an expression of the kernel's files means the same here.
         Token::Sign(Sign::Star) => Some((BinaryOperator::Multiply, 1)),
         Token::Sign(Sign::Plus) => Some((BinaryOperator::Add, 2)),
         Token::Sign(Sign::Minus) => Some((BinaryOperator::Subtract, 2)),
@@ -156,6 +157,7 @@ fn combined(
                 let left = Box::new(alloc, left)?;
                 Ok(Some(Expression::Loading(Loading::Left(operator, left, right))))
             }
+            // Two loads would be two accesses at one site, so an expression has one at most.
             Expression::Loading(_) => Ok(None),
         },
     }

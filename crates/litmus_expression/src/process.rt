@@ -137,6 +137,8 @@ impl Surroundings {
         ensures within { IfOk result (λ repeats. repeats ≤ turns_limit) }
         ensures reads { Answers result (λ repeats. repeats) (places.repeats_of (place_of self.now) turns) }
     {
+        // Tickets tell no more than so many accesses at one site apart. The turns are also looked at by themselves,
+        // since a loop round them that makes no turn brings the product to 0.
         match self.turns.checked_mul(turns) {
             Some(repeats) if turns <= TURNS && repeats <= TURNS => Ok(repeats),
             _ => Err(Refusal::Limit(Excess::Repeats)),
@@ -245,6 +247,7 @@ impl<'a> Process<'a> {
         ensures stays { self.new.cursor ≡ self.old.cursor }
         ensures reads { Answers result (λ _. state_of self.new) (reader.count_access around.now.turns (state_of self.old)) }
     {
+        // Room for all accesses that a task can begin is taken before its first step: this bounds it.
         if self.repeats + around.turns > REPEATS {
             return Err(Refusal::Limit(Excess::Repeats));
         }
@@ -341,6 +344,7 @@ impl<'a> Process<'a> {
             (places.take_changed (place_of around.now).counters (state_of self.old)) }
     {
         let register = self.register()?;
+        // A loop whose body can't change its register makes just the turns that its text says.
         if around.is_counter(register) {
             return Err(self.cursor.unsupported());
         }

@@ -1,3 +1,4 @@
+-- Classes of bytes, longest runs of a class before a rest, and rows of pieces that stand one after the other.
 use Rattle.std.specs.Prelude.{◌≡◌, ◌==◌, ◌||◌, ℕ, List, [], ◌∷◌, ◌++◌, Bool, true, false, not}
 use Rattle.std.specs.List.{concat}
 use Rattle.std.specs.Int.{is_in_range}

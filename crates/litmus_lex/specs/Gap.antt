@@ -1,3 +1,4 @@
+-- Blanks and comments between tokens: which comments a part of a text has, where they end, and where none begins.
 use Rattle.std.specs.Prelude.{◌≡◌, ℕ, List, [], ◌∷◌, true, false}
 use Rattle.litmus_lex.specs.declared.bytes.Class.TheVariants.{Blank, InLine}
 use Rattle.litmus_lex.specs.declared.gap.Comment.{Comment}

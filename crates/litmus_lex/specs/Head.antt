@@ -1,3 +1,4 @@
+-- The head of a text: the test's name, and what is passed over up to the brace at which its tokens begin.
 use Rattle.std.specs.Prelude.{◌≡◌, ◌≢◌, ◌⊎◌, ◌+◌, ◌<◌, ℕ, List, [], ◌∷◌, ◌++◌, length}
 use Rattle.litmus_lex.specs.declared.bytes.Class.TheVariants.{Blank, Graphic, InQuotes}
 use Rattle.litmus_lex.specs.declared.token.Part.TheVariants.{Head, Init}

@@ -1,3 +1,4 @@
+-- The part of a text that its braces lead to, by which the lexer knows whether it stands in a process's body.
 use Rattle.std.specs.Prelude.{ℕ, ◌+◌, ◌-◌, if◌then◌else◌, nat_le}
 use Rattle.litmus_lex.specs.declared.token.Part.{Part}
 use Rattle.litmus_lex.specs.declared.token.Part.TheVariants.{Head, Init, Between, Body}

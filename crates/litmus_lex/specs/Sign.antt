@@ -1,3 +1,4 @@
+-- The bytes of each sign, and which sign bytes begin with: always the longest that stands there.
 use Rattle.std.specs.Prelude.{◌≡◌, ◌≤◌, ℕ, List, ◌++◌, length, codes}
 use Rattle.litmus_lex.specs.declared.sign.Sign.{Sign}
 use Rattle.litmus_lex.specs.declared.sign.Sign.TheVariants.{OpenBrace, CloseBrace, OpenParen, CloseParen, OpenBracket, CloseBracket, Semicolon, Comma, Colon, Assign}

@@ -1,3 +1,4 @@
+-- How far a source of bytes was read: what it gave, within a bound, and how its failures are counted.
 use Rattle.std.specs.Prelude.{◌≡◌, ◌+◌, ◌-◌, ◌^◌, ◌≤◌, ◌⊎◌, ℕ, List, Option, Some, None, length, take, ⊤}
 use Rattle.std.specs.Io.KnownBytes.{Consumes}
 

@@ -1,3 +1,4 @@
+-- Which bytes spell which token; what no grammar takes (too large, stray, not closed) is a token too.
 use Rattle.std.specs.Prelude.{◌≡◌, ◌⊎◌, ◌^◌, ◌<◌, ◌≤◌, ℕ, List, [], ◌∷◌, ◌++◌, Option, Some, None, true, false, length}
 use Rattle.std.specs.Str.Parse.{digits_value}
 use Rattle.litmus_lex.specs.declared.bytes.Class.TheVariants.{NameStart, NamePart, Digit, HexDigit}

@@ -1,3 +1,4 @@
+-- The tokens of a text with their places, and what it means that a token is the next one from a place on.
 use Rattle.std.specs.Prelude.{◌≡◌, ◌↔◌, ◌+◌, ℕ, List, [], ◌∷◌, ◌++◌, Option, Some, None, length, drop}
 use Rattle.litmus_lex.specs.declared.sign.Sign.TheVariants.{OpenBrace, CloseBrace}
 use Rattle.litmus_lex.specs.declared.token.Part.{Part}

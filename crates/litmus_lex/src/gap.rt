@@ -44,6 +44,7 @@ fn comment_of(part: Part, first: u8, second: u8) -> Option<Comment>
     ensures none { IfNone result ((comment : Comment) → ¬ Opens part comment first second) }
 {
     match (first, second) {
+        // In a body `(*` may open an access, as in `(*x)++`, so it opens no comment there.
         (b'(', b'*') if !matches!(part, Part::Body(_)) => Some(Comment::Parens),
         (b'/', b'*') if part != Part::Head => Some(Comment::Slashes),
         (b'/', b'/') if part != Part::Head => Some(Comment::Line),

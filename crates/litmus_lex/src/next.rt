@@ -147,6 +147,7 @@ fn hexadecimal_digits(bytes: &[u8]) -> Option<&[u8]>
         return None;
     };
     match run_len(digits, Class::HexDigit) {
+        // `0x` without a digit is the number 0 and a name.
         0 => None,
         len => Some(&digits[..len]),
     }
@@ -161,6 +162,7 @@ fn number_token(digits: &[u8], radix: u32) -> Token<'_>
 {
     match value_of(digits, radix) {
         Some(value) => Token::Number(value),
+        // It offends only where the parser comes to it, since the first token that has no place decides.
         None => Token::TooLarge,
     }
 }

@@ -182,6 +182,7 @@ fn add_call(
             add_once(found, times, bytes_of(bytes, variable), kind, None)
         }
         Call::AssertBits { variable, mask } => {
+            // A mask without a bit is no mask, as in KCSAN, where 0 says that none is set.
             let mask = if mask == 0 { None } else { Some(mask) };
             add_once(
                 found,

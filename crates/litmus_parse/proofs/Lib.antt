@@ -2,7 +2,7 @@ pub mod Values
 pub mod Quantifiers
 pub mod Numbers
 pub mod Table
-pub mod Going
+pub mod EnoughTurns
 pub mod Items
 pub mod Parameters
 pub mod Unrolled

@@ -19,7 +19,7 @@ use Rattle.litmus_parse.specs.ProcessReader.{Course, and_process, is_process, pr
 use Rattle.litmus_parse.specs.TextReader.{bodies_of}
 use Rattle.litmus_syntax.specs.declared.statement.Statement.{Statement}
 use Rattle.litmus_parse.specs.Turns.{Turn, again, done, turned}
-use Rattle.litmus_parse.proofs.Going.{going_at_most, going_unrolls}
+use Rattle.litmus_parse.proofs.EnoughTurns.{going_at_most, going_unrolls}
 use Rattle.litmus_parse.proofs.Parameters.{parameter_fewer, parameter_read}
 use Rattle.litmus_parse.proofs.Unrolled.{Listing, left_listed, listed_short, others_at_most}
 

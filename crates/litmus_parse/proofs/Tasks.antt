@@ -1,4 +1,4 @@
--- One more task is made.
+-- One more task is made: of the first process and the first body that are left, behind those made before.
 use Rattle.std.proofs.Common.{◌≡◌, ◌∙◌, ◌++◌, ◌+◌, ◌-◌, ◌<◌, ◌≤◌, ℕ, zero, suc, List, [], ◌∷◌, Vec, Global, drop, get_or, length, map, refl}
 use Rattle.std.proofs.Common.{sym, ap, subst, take, arith}
 use Rattle.std.specs.Prelude.{remove}

@@ -10,7 +10,7 @@ use Rattle.litmus_expression.proofs.Fewer.{at_last, behind_it, either_way}
 use Rattle.litmus_parse.specs.ItemReader.{Heading, behind_item, item_at, items_at, items_by, past}
 use Rattle.litmus_parse.specs.ParameterReader.{behind_parameter, listed_at, listed_by, parameter_at}
 use Rattle.litmus_parse.specs.Turns.{Turn, again, done, turned}
-use Rattle.litmus_parse.proofs.Going.{going_unrolls}
+use Rattle.litmus_parse.proofs.EnoughTurns.{going_unrolls}
 use Rattle.litmus_parse.proofs.Items.{item_fewer, item_read}
 use Rattle.litmus_parse.proofs.Parameters.{parameter_fewer, parameter_read}
 

@@ -1,3 +1,4 @@
+-- Which bytes a litmus text may have, and how many of them.
 use Rattle.std.specs.Prelude.{◌≡◌, ◌≤◌, ◌⊎◌, ℕ}
 pub use Rattle.litmus_syntax.specs.Limits.{file_bytes}
 

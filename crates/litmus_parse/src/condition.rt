@@ -161,6 +161,7 @@ impl<'a> Condition<'a> {
         if !self.cursor.is_at(Sign::OpenParen) {
             return self.atom(*operators);
         }
+        // Each parenthesis is a call inside a call: this bounds the stack, as the limit of operators does for `~`.
         if depth >= NESTING {
             return Err(Refusal::Limit(Excess::Nesting));
         }
@@ -273,6 +274,7 @@ impl<'a> Condition<'a> {
         let Some(process) = self.processes.get_mut(task) else {
             return Err(offence);
         };
+        // The process takes the name, so that a register which only the condition names keeps the same limit.
         process.cursor = self.cursor;
         let register = process.take_register()?;
         self.cursor = process.cursor;

@@ -17,7 +17,7 @@ use litmus_cursor::{Excess, Refusal, VariableType};
 use litmus_syntax::{Contents, Name, Variable};
 use std::alloc::Global;
 
-/// How many variables a program can have.
+/// How many variables a program can have: a choice. Among so few a name is found by looking at one after the other.
 pub const VARIABLES: usize = 32;
 
 /// A variable, as far as the text has been read.
@@ -26,9 +26,11 @@ pub struct Declared<'a> {
     pub name: &'a [u8],
     /// The type that items and parameters give it.
     pub variable_type: Option<VariableType>,
-    /// The last of its initial values, modulo 2^64.
+    /// The last of its initial values, modulo 2^64. That it wins is a choice: several are no offence, as several
+    /// assignments are none.
     pub value: Option<u64>,
-    /// An item without a type names it: it has the type of a parameter, else it is an int.
+    /// An item without a type names it: it has the type of a parameter, else it is an int, as most
+    /// variables of the kernel's own tests are.
     is_untyped: bool,
     /// Such an item gives it a value.
     is_given: bool,
@@ -120,6 +122,7 @@ impl<'a> Declared<'a> {
         ensures names { Answers result (λ _. entry_of self.new) (entries.named_parameter variable_type (entry_of self.old)) }
     {
         self.settle_type(variable_type, at)?;
+        // The value was taken before anything said that this is a lock, so it is the parameter that offends.
         if variable_type == VariableType::Lock && self.is_given {
             return Err(Refusal::Unsupported { at });
         }
@@ -133,6 +136,7 @@ impl<'a> Declared<'a> {
         ensures stays { self.new.name ≡ self.old.name }
         ensures settles { Answers result (λ _. entry_of self.new) (entries.settled variable_type (entry_of self.old)) }
     {
+        // All tasks share a variable's bytes, so it has one type.
         if let Some(given) = self.variable_type {
             if given != variable_type {
                 return Err(Refusal::Unsupported { at });

@@ -149,7 +149,8 @@ impl<'a> Header<'a> {
         self.declarations.number(name)
     }
 
-    /// `[-] NUMBER` or `ATOMIC_INIT ( [-] NUMBER )`. Another name and an address are unsupported.
+    /// `[-] NUMBER` or `ATOMIC_INIT ( [-] NUMBER )`. Another name and an address are unsupported, and not syntax: the
+    /// kernel's format has both, for pointers, so that such a text is no mistake.
     #[tactic(auto, unfolding(crate::specs::HeaderReader::value_at, litmus_cursor::specs::Front::take_signed, litmus_cursor::specs::Front::take_number))]
     fn value(&mut self) -> Result<u64, Refusal>
         ensures moves { OnOk result (count_left self.new.cursor < count_left self.old.cursor) }

@@ -49,8 +49,8 @@ pub fn what_is_read_as_a_text_is_spelled()
         → (program.name ≡ name) × Grammar symbols program }
 {}
 
-/// Law: what is spelled as an initialization block is read, with the names and the numbers that its items give, where the
-/// names have types.
+/// Law: what is spelled as an initialization block is read, with the names and the numbers that its items give, where
+/// the names have types.
 pub fn what_is_spelled_as_an_initialization_block_is_read()
     ensures { (all items : List Mention) (symbols rest : List Symbol) (names : Names)
         → Items symbols items rest → AreNumbered [] items names → AreTyped all items
@@ -58,8 +58,8 @@ pub fn what_is_spelled_as_an_initialization_block_is_read()
         ≡ Some (record { symbols = rest; names = names; table = table })) }
 {}
 
-/// Law: what is spelled as the parameters of a first process is read, behind an initialization block that is read, where
-/// the names have types.
+/// Law: what is spelled as the parameters of a first process is read, behind an initialization block that is read,
+/// where the names have types.
 pub fn what_is_spelled_as_parameters_is_read()
     ensures { (all items : List Mention) (symbols inside rest : List Symbol) (names later : Names) (table : List Entry)
         (parameters : List Parameter) → Items symbols items (sign OpenParen ∷ inside)

@@ -21,8 +21,8 @@ ghost use Rattle.litmus_parse.specs.ProcessReader.{is_process, processes_at, see
 ghost use Rattle.litmus_parse.specs.PropositionReader.{whole_at};
 ghost use Rattle.litmus_parse.specs.Typed.{AreTyped};
 
-/// Law: what is spelled as a whole proposition, with no more operators than one may have, is read so, behind processes each
-/// of whose names differ, where the names and locks that the reader knows are those of the variables.
+/// Law: what is spelled as a whole proposition, with no more operators than one may have, is read so, behind processes
+/// each of whose names differ, where the names and locks that the reader knows are those of the variables.
 pub fn what_is_spelled_as_a_proposition_is_read()
     ensures { (mentions : List Mention) (names : Names) (locks : List Bool) (states : List State) (bodies : List tree.Block)
         (symbols : List Symbol) (proposition : tree.Proposition) (later : List Process)
@@ -33,8 +33,8 @@ pub fn what_is_spelled_as_a_proposition_is_read()
         → (after : List State) × (whole_at names locks symbols states ≡ Some (proposition, after)) × (seen after bodies ≡ later) }
 {}
 
-/// Law: what is spelled as processes is read, behind an initialization block that is read and before what begins no process,
-/// where the names have types.
+/// Law: what is spelled as processes is read, behind an initialization block that is read and before what begins no
+/// process, where the names have types.
 pub fn what_is_spelled_as_processes_is_read()
     ensures { (all items : List Mention) (symbols inside rest : List Symbol) (names later : Names) (table : List Entry)
         (processes : List Process) → Items symbols items inside → AreNumbered [] items names → AreTyped all items
@@ -56,8 +56,8 @@ pub fn names_of_a_program_are_spelled()
         × All (λ task. All (λ name. Contains symbols (identifier name)) task.registers) program.tasks }
 {}
 
-/// Law: a program that symbols spell keeps the limits and the rules of types, where the symbols are no more than the bytes that
-/// a text may have.
+/// Law: a program that symbols spell keeps the limits and the rules of types, where the symbols are no more than the
+/// bytes that a text may have.
 pub fn a_program_that_is_spelled_keeps_limits()
     ensures { (symbols : List Symbol) (program : tree.Program) → Grammar symbols program → length symbols ≤ file_bytes
         → KeepsLimits program }

@@ -32,10 +32,10 @@ use litmus_syntax::{
 };
 use std::alloc::{AllocError, Global};
 
-/// How many bytes a litmus text can have.
+/// How many bytes a litmus text can have: a choice. What a reader takes of time and memory grows with them.
 pub const FILE_BYTES: usize = 65536;
 
-/// How many tasks a program can have.
+/// How many tasks a program can have: a choice, as a run has a thread for each. Tickets would have room for more.
 pub const TASKS: usize = 16;
 
 /// Reads a litmus text.
@@ -52,6 +52,7 @@ pub fn parse(alloc: Global, text: &[u8]) -> Result<Program, ParseError>
 {
     a_text_spells_one_program();
     a_text_spells_what_keeps_limits();
+    // The size comes first, so that all after it works on a bounded text; then the bytes, so that names are ASCII.
     if text.len() > FILE_BYTES {
         return Err(ParseError::Limit(Limit::File));
     }
@@ -153,6 +154,8 @@ fn parts<'a>(alloc: Global, cursor: Cursor<'a>) -> Result<Reading<'a>, Refusal>
     };
     let quantifier = condition.quantifier()?;
     let proposition = condition.whole()?;
+    // Only now are all parameters known, and one may still settle the type of an item without one. So two items that
+    // contradict each other are refused at the end, at the place of the second.
     if let Some(at) = condition.declarations.contradiction() {
         return Err(Refusal::Unsupported { at });
     }

@@ -59,6 +59,7 @@ fn append_pure(text: &mut String, registers: &[Name], pure: &Pure) -> Result<(),
     match pure {
         Pure::Number(number) => write!(text, "{number}"),
         Pure::Register(register) => append(text, name_of(registers, *register)),
+        // Each operator has its own parentheses, so that what is printed reads back as the same tree.
         Pure::Unary(operator, operand) => {
             append(text, "(")?;
             append(text, operator.sign())?;

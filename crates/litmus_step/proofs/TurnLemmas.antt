@@ -1,4 +1,4 @@
--- Steps, one after the other.
+-- A task asked once more goes on by its own machine, which tells whether it is stuck or has ended.
 use Rattle.std.proofs.Common.{◌≡◌, ◌↔◌, ◌≢◌, ◌++◌, ◌∙◌, ◌<◌, ◌∷◌, [], ℕ, List, Some, ap, arith, get_or, inl, inr, length, refl}
 use Rattle.std.proofs.Common.{replicate, reverse, slice_get, subst, sym}
 use Rattle.std.proofs.lemmas.Bool.Decides.{eqb_tells}

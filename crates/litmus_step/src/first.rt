@@ -22,8 +22,8 @@ use run_kept::task_run::TaskRun;
 use slot_table::{BoardError, PlainBoard, Shape};
 use std::alloc::{AllocError, Global};
 
-/// At an access at most so many watchpoints are set up, and as many taken, and so much is reported: by its own check, and
-/// by those of the scoped assertions in force, of which there are 8 at most.
+/// At an access at most so many watchpoints are set up, and as many taken, and so much is reported: by its own check,
+/// and by those of the scoped assertions in force, of which there are 8 at most.
 const WATCHES: usize = 9;
 
 /// The words before the first step of a program that is made ready.

@@ -96,9 +96,9 @@ pub fn steps_lead_on()
     steps_name_words_of_the_run();
 }
 
-/// Law: before the first step a list notes nothing. Where a task's log notes the step that its machine makes, the access
-/// that begins with it, and the outcome that falls at it, what is kept is what the list says still. So is what its machine
-/// keeps of the task's last steps.
+/// Law: before the first step a list notes nothing. Where a task's log notes the step that its machine makes, the
+/// access that begins with it, and the outcome that falls at it, what is kept is what the list says still. So is what
+/// its machine keeps of the task's last steps.
 pub fn steps_are_kept()
     ensures none { (run : Run) (list : RunList run []) → (task : ℕ) → Notes list task [] }
     ensures more { (run : Run) (records : List Record) (task : ℕ) (old : TaskRun) (step : Step) (answer : Answer) (begins : Option Begun)

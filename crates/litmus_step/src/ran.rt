@@ -16,8 +16,8 @@ use access_types::{Arm, Report, Stamped, Take};
 use run_kept::task_log::Counters;
 use std::alloc::{AllocError, Global};
 
-/// What came of the steps of a run: a world, or what threads leave. What is read of it is what the list of these steps gives. The latest
-/// record of a list stands first.
+/// What came of the steps of a run: a world, or what threads leave. What is read of it is what the list of these steps
+/// gives. The latest record of a list stands first.
 pub trait Ran {
     /// These records lead there.
     ghost comes_of: { Self → Run → List Record → Type 0 };

@@ -47,8 +47,8 @@ impl<'a> World<'a> {
         self.steps
     }
 
-    /// What the tasks did so far. It is stored nowhere and the call answers nothing, but says what is so of it: the history
-    /// that each list tells which leads here is that of a run of the program.
+    /// What the tasks did so far. It is stored nowhere and the call answers nothing, but says what is so of it: the
+    /// history that each list tells which leads here is that of a run of the program.
     pub fn history(&self)
         ensures { (run : Run) (records : List Record) → (leads : LeadsTo run records self.now)
             → RunOfProgram run.program run.places (history_of leads.list) }

@@ -43,8 +43,8 @@ pub enum Stepped {
     Stuck,
 }
 
-/// All tasks of a program, the words that they share, and what is kept of their steps. It keeps no allocator: what reads lists of it is
-/// passed one.
+/// All tasks of a program, the words that they share, and what is kept of their steps. It keeps no allocator: what
+/// reads lists of it is passed one.
 #[derive(Drop)]
 pub struct World<'a> {
     pub(crate) board: PlainBoard,

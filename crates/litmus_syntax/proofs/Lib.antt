@@ -1,2 +1,3 @@
 pub mod TreeLemmas
 pub mod KeptLemmas
+pub mod Shared

@@ -1,7 +1,7 @@
-//! `measure_shared_table [ROUNDS]` measures the steps that threads make on the shared words: 1, 2 and 4 threads, all on one cell,
-//! and then each on a cell of its own, with a cache line between them. A round is two steps: a load of the cell, and an
-//! exchange of what was found for one more. A line says how many threads there were, where they stepped, and how many
-//! steps they made together; with a number of rounds also how many microseconds that took.
+//! `measure_shared_table [ROUNDS]` measures the steps that threads make on the shared words: 1, 2 and 4 threads, all on
+//! one cell, and then each on a cell of its own, with a cache line between them. A round is two steps: a load of the
+//! cell, and an exchange of what was found for one more. A line says how many threads there were, where they stepped,
+//! and how many steps they made together; with a number of rounds also how many microseconds that took.
 #![tactic(auto)]
 
 ghost use Rattle.std.specs.Prelude.{◌≡◌, ◌≤◌, All, IfOk};

@@ -53,6 +53,7 @@ impl OperationRun {
             → (IsTrue result ↔ IsStuck turns task a source operation records) }
     {
         match self.stage {
+            // The first exchange is always made: only one that was refused is a try in vain.
             Stage::Exchange { tries, .. } => tries > 0 && tries >= turns,
             _ => false,
         }

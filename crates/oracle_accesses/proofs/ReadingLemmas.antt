@@ -1,4 +1,4 @@
--- What one record more says of the records read so far.
+-- What one record more says of a task's records that are read as its whole text.
 use Rattle.std.proofs.Common.{◌≡◌, ◌<◌, ◌↔◌, ◌++◌, ◌∷◌, ◌∙◌, [], ℕ, suc, Bool, false, true, IfSome, IsTrue}
 use Rattle.std.proofs.Common.{◌⊎◌, ◌+◌, List, None, Option, Some, add-one, ap, drop, get_or, inl, inr, is_some, length, subst, sym, take}
 use Rattle.std.proofs.Math.Seq.{drop-cons, take-length, take-suc}

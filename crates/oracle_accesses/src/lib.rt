@@ -1,5 +1,5 @@
-//! A slow plain program that reads the records of a task by the definition of the written order, for whole texts with their
-//! accesses: it decides each list of records. `test_texts` runs it on worked texts.
+//! A slow plain program that reads the records of a task by the definition of the written order, for whole texts with
+//! their accesses: it decides each list of records. `test_texts` runs it on worked texts.
 #![tactic(auto)]
 
 pub mod reading;

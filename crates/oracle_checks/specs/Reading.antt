@@ -1,3 +1,4 @@
+-- What records are of the checks that a checker makes: all of them with its outcomes, not these, or stuck in a wait.
 use Rattle.std.specs.Prelude.{◌≡◌, ◌++◌, ℕ, List}
 use Rattle.slot_table.specs.Answer.{Answers}
 use Rattle.slot_table.specs.declared.records.Record.{Record}

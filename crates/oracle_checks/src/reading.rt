@@ -9,7 +9,7 @@ ghost use Rattle.slot_table.specs.declared.step.Step.{Step};
 ghost use Rattle.setup_access.specs.of_task_context_Context.{idle};
 ghost use Rattle.setup_access.specs.Checker.{Checks, Doing};
 ghost use Rattle.setup_access.specs.Leads.{Leads};
-ghost use Rattle.setup_access.specs.Own.{IsOwn};
+ghost use Rattle.setup_access.specs.OwnAccesses.{IsOwn};
 ghost use Rattle.setup_access.specs.Setting as spec;
 ghost use Rattle.setup_access.specs.Shown.{IsDecided};
 ghost use Rattle.setup_access.specs.declared.begun.Begun.{Begun};

@@ -1,4 +1,4 @@
--- the marks of a history, moment by moment: each adds its own mark at the end
+-- The marks of a history, moment by moment: each adds its own mark at the end.
 use Rattle.std.proofs.Common.{◌≡◌, ◌<◌, ◌+◌, ◌++◌, ℕ, List, [], ◌∷◌, Bool, true, ap, get_or, length}
 use Rattle.std.proofs.Common.{refl, sym, take}
 use Rattle.std.proofs.lemmas.List.{take_more}

@@ -1,4 +1,4 @@
--- a search from each start in turn finds what a definition says of some split of the list
+-- A search from each start in turn finds what a definition says of some split of the list.
 use Rattle.std.proofs.Common.{◌≡◌, ◌<◌, ◌≤◌, ℕ, List, ◌∷◌, Bool, count_by, drop, inl, inr, length}
 use Rattle.std.proofs.Common.{take, arith}
 use Rattle.std.proofs.Math.ListN.{drop_of_length-le}

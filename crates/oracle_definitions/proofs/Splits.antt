@@ -1,4 +1,4 @@
--- a list split at an element: what comes before it, and what comes after
+-- A list split at an element: what comes before it, and what comes after.
 use Rattle.std.proofs.Common.{◌≡◌, ◌<◌, ◌-◌, ◌++◌, ◌∙◌, ℕ, List, ◌∷◌, ap, drop, length}
 use Rattle.std.proofs.Common.{length-append, length-drop, sym, take, arith}
 use Rattle.std.proofs.Math.Seq.{drop-append_seam, take-append_seam}

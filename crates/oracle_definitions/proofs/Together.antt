@@ -1,4 +1,4 @@
--- two accesses are in progress at one moment, or at none: past the end nothing changes any more
+-- Two accesses are in progress at one moment, or at none: past the end nothing changes any more.
 use Rattle.std.proofs.Common.{◌≡◌, ◌<◌, ◌≤◌, ◌+◌, ◌∙◌, ℕ, inl, inr, length, sym, take, arith}
 use Rattle.std.proofs.lemmas.Bool.{cases_lt}
 use Rattle.std.proofs.lemmas.List.{take_all}

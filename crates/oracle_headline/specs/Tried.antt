@@ -73,7 +73,8 @@ pub record NamesRace (told : Account) (came : Came) (pair : Halves) : Type 0 whe
   pub there : Contains told.accesses finder
   pub names : NamesRaceWith told came pair finder
 
--- a report of two sides names a true race, as its finder does, and one of unknown origin bytes that changed
+-- a report of two sides names a true race, by the ticket that the finder told, and one of unknown origin bytes that
+-- changed
 abbrev pub IsTrueIn : Account → Came → Outcome → Type 0
 IsTrueIn told came (outcomes.Report pair seen) = NamesRace told came pair
 IsTrueIn told came (outcomes.Unknown old new) = ChangedUnderWatch told.initial told.history came.access old new

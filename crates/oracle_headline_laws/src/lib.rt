@@ -1,5 +1,5 @@
-//! The headline that `oracle_headline` decides of a list that is given, beside the headline of run lists: of what a run list
-//! tells the first holds where the second does, and what it says of such a list the second says as well.
+//! The headline that `oracle_headline` decides of a list that is given, beside the headline of run lists: of what a run
+//! list tells the first holds where the second does, and what it says of such a list the second says as well.
 #![tactic(auto)]
 
 ghost use Rattle.std.specs.Prelude.{Bool, Contains, IsTrue, List};
@@ -11,8 +11,8 @@ ghost use Rattle.run_headline.specs.of_run_lists_Run.{Run};
 ghost use Rattle.run_headline.specs.of_run_lists_RunList.{AllHaveEnded, RunList};
 ghost use Rattle.oracle_headline.specs.of_slot_table_declared.records.Record.{Record};
 
-/// Law: of each run list of which the headline holds, the headline that is decided of given lists holds, for the moments
-/// and the outcomes that the list tells.
+/// Law: of each run list of which the headline holds, the headline that is decided of given lists holds, for the
+/// moments and the outcomes that the list tells.
 pub fn headlines_are_decided()
     ensures { (run : Run) (records : List Record) → (list : RunList run records) → Headline list
         → (accesses : List Access) → HoldsAccesses run accesses
@@ -20,9 +20,9 @@ pub fn headlines_are_decided()
         → HasHeadline (account_of list accesses ended) }
 {}
 
-/// Law: where it holds of what a run list tells, no arming of that list is taken twice, each report of two sides names a true
-/// race and each of unknown origin bytes that changed, each taking whose two accesses have ended has one answer, and the
-/// totals agree if all tasks have ended.
+/// Law: where it holds of what a run list tells, no arming of that list is taken twice, each report of two sides names
+/// a true race and each of unknown origin bytes that changed, each taking whose two accesses have ended has one answer,
+/// and the totals agree if all tasks have ended.
 pub fn decided_headlines_say_alike()
     ensures { (run : Run) (records : List Record) → (list : RunList run records)
         → (accesses : List Access) (ended : Bool) → HasHeadline (account_of list accesses ended)

@@ -1,4 +1,4 @@
--- How much there is to walk through in a text, turn by turn.
+-- How much there is to walk through in a text with values given for its reads, turn by turn.
 use Rattle.std.proofs.Common.{◌+◌, ◌*◌, ℕ, suc}
 use Rattle.litmus_syntax.specs.Tree.{Block, Statement}
 use Rattle.litmus_syntax.specs.Tree as tree

@@ -1,5 +1,5 @@
-//! A slow plain program beside the definition of what a text means: it walks a text, statement by statement, with values
-//! given for its reads, and says what the task does and what its registers hold then. `test_texts` runs
+//! A slow plain program beside the definition of what a text means: it walks a text, statement by statement, with
+//! values given for its reads, and says what the task does and what its registers hold then. `test_texts` runs
 //! it on worked programs.
 #![tactic(auto)]
 

@@ -219,8 +219,8 @@ fn zeros(alloc: Global, count: usize) -> Result<Vec<u64>, AllocError>
     Ok(vec![in alloc; 0; count]?)
 }
 
-/// Whether the records, the oldest first, spell the whole text of a task with so many registers. The walk through it, where
-/// they do.
+/// Whether the records, the oldest first, spell the whole text of a task with so many registers. The walk through it,
+/// where they do.
 ///
 /// `Other` and `TooMany`: they don't. `NotRead`: the text makes an access or a mark.
 pub fn spells(

@@ -1,3 +1,5 @@
+//! Tests of lists of places: those that are read, and those that are refused.
+
 use crate::places::parse_places;
 use std::test::Fail;
 

@@ -1,4 +1,4 @@
--- Calls, whatever follows.
+-- What is printed of a call reads back as its symbols, whatever follows.
 use Rattle.std.proofs.Common.{◌≡◌, ℕ, List, [], ◌∷◌, ◌++◌, Some, true, false, refl}
 use Rattle.std.specs.Prelude.{codes}
 use Rattle.std.specs.Fmt.{decimal}

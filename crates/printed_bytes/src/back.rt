@@ -14,8 +14,9 @@ use std::alloc::Global;
 
 /// Prints a program and reads what was printed.
 ///
-/// What comes is the program that the printed form spells, and where it spells one, that one comes or memory ran out. So a program
-/// that a text spells comes back as it was, wherever its printed form keeps the limits of nesting and of a file's size.
+/// What comes is the program that the printed form spells, and where it spells one, that one comes or memory ran out.
+/// So a program that a text spells comes back as it was, wherever its printed form keeps the limits of nesting and of a
+/// file's size.
 pub fn read_back(alloc: Global, program: &Program) -> Result<Program, ParseError>
     ensures spelled { IfOk result (λ again. SpellsProgram (printed (program_of program.now)) (program_of again)) }
     ensures complete { (other : tree.Program) → SpellsProgram (printed (program_of program.now)) other

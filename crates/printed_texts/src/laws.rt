@@ -24,8 +24,8 @@ ghost use Rattle.printed_texts.specs.PrintedProcess.{task_symbols};
 ghost use Rattle.printed_texts.specs.PrintedProgram.{Nests, items_symbols, mention_of, program_symbols};
 ghost use Rattle.printed_texts.specs.PrintedSymbols.{block_symbols, expression_symbols};
 
-/// Law: where some symbols spell an expression, those of its printed form spell it too, among registers that have the names and
-/// numbers that they had there, if the printed form keeps the limit of nesting.
+/// Law: where some symbols spell an expression, those of its printed form spell it too, among registers that have the
+/// names and numbers that they had there, if the printed form keeps the limit of nesting.
 pub fn printed_expressions_are_spelled()
     ensures { (parameters : List Parameter) (variables : List Variable) (registers before after : Names) (depth there : ℕ)
         (symbols behind rest : List Symbol) (e : tree.Expression)
@@ -36,8 +36,8 @@ pub fn printed_expressions_are_spelled()
         → Expression parameters depth registers (expression_symbols variables registers e rest) e rest registers }
 {}
 
-/// Law: where some symbols spell the statements of a block, those of their printed form spell them too, among registers that
-/// have the names and numbers that they had there, if the printed form keeps the limit of nesting.
+/// Law: where some symbols spell the statements of a block, those of their printed form spell them too, among registers
+/// that have the names and numbers that they had there, if the printed form keeps the limit of nesting.
 pub fn printed_bodies_are_spelled()
     ensures { (parameters : List Parameter) (variables : List Variable) (registers before after : Names) (depth there : ℕ)
         (counters : List ℕ) (symbols behind rest : List Symbol) (body : tree.Block)
@@ -49,8 +49,8 @@ pub fn printed_bodies_are_spelled()
         (block_symbols variables registers body (sign CloseBrace ∷ rest)) body rest registers }
 {}
 
-/// Law: where some symbols spell a proposition, those of its printed form spell it too, over processes that have all the registers
-/// that are named in the end, if the printed form keeps the limit of nesting.
+/// Law: where some symbols spell a proposition, those of its printed form spell it too, over processes that have all
+/// the registers that are named in the end, if the printed form keeps the limit of nesting.
 pub fn printed_propositions_are_spelled()
     ensures { (mentions said : List Mention) (names : Names) (variables : List Variable) (before later last : List Process)
         (depth there : ℕ) (symbols behind rest : List Symbol) (proposition : tree.Proposition)
@@ -61,9 +61,9 @@ pub fn printed_propositions_are_spelled()
         → Disjoined said names depth last (proposition_symbols variables (map task_of last) proposition rest) proposition rest last }
 {}
 
-/// Law: where some symbols spell the body of a process, which keeps its limits, the symbols of the process's printed form spell the
-/// process with these registers, if they have the names and numbers that they had there, and the printed form keeps the limit of
-/// nesting.
+/// Law: where some symbols spell the body of a process, which keeps its limits, the symbols of the process's printed
+/// form spell the process with these registers, if they have the names and numbers that they had there, and the printed
+/// form keeps the limit of nesting.
 pub fn printed_processes_are_spelled()
     ensures { (variables : List Variable) (names before : Names) (task : ℕ) (symbols behind rest : List Symbol) (process : Process)
         → AreNames variables names process.parameters process.registers
@@ -81,8 +81,8 @@ pub fn printed_items_are_spelled()
         × AreNumbered [] (map mention_of variables) names }
 {}
 
-/// Law: the printed initialization block declares the variables with the types and the values that they have, beside parameters of
-/// their types.
+/// Law: the printed initialization block declares the variables with the types and the values that they have, beside
+/// parameters of their types.
 pub fn printed_items_declare_their_variables()
     ensures { (all : List Mention) (names : Names) (variables : List Variable) (processes : List Process)
         → AreDeclared all names variables → Differ (map (λ (v : Variable). v.name) variables)

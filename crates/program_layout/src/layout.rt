@@ -22,6 +22,7 @@ use thiserror::Error;
 const FIRST: u64 = 0x10000;
 
 /// From a variable to the next one.
+/// It is a multiple of all sizes and of a cell's, so variables that aren't placed share no byte and no cell.
 const STRIDE: u64 = 64;
 
 /// How many bytes a cell has. Each begins at a multiple of it.
@@ -107,6 +108,7 @@ fn add_cell(cells: &mut Vec<u64>, variable: (Bytes, u64)) -> Result<(), AllocErr
 {
     let (bytes, _) = variable;
     let cell = bytes.addr - bytes.addr % CELL;
+    // Variables that are placed may share a cell. That is one word then, so each sees what is written to the other.
     if bytes.size == 0 || is_among(cells.as_slice(), cell) {
         return Ok(());
     }

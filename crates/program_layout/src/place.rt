@@ -15,6 +15,7 @@ pub struct Place {
 }
 
 /// No variable is placed above this address.
+/// The longest check from there on still ends below 2^63, so no range of bytes wraps.
 const HIGHEST: u64 = 0x4000_0000_0000_0000;
 
 /// The place is for the variable of this name.
@@ -52,6 +53,7 @@ fn is_fit(variables: &[Variable], place: &Place) -> bool
     match named(variables, &place.name) {
         Some(variable) => {
             let size = size_of(variable.contents);
+            // At a multiple of its size it lies in one cell, so one step loads it whole. A lock has no bytes to place.
             size != 0 && place.addr % size == 0 && place.addr <= HIGHEST
         }
         None => false,

@@ -43,6 +43,7 @@ fn in_statement(times: u64, statement: &Statement) -> u64
             otherwise,
             ..
         } => {
+            // Which branch is taken is known only in a run, and in a loop it may be now one, now the other: both count.
             let first = own.saturating_add(in_block(times, body.as_slice()));
             first.saturating_add(in_block(times, otherwise.as_slice()))
         }

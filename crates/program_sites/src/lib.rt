@@ -1,5 +1,5 @@
-//! What a litmus program comes to under the settings of its runs: the accesses that it can make, by their tickets, and what else all its
-//! runs go by.
+//! What a litmus program comes to under the settings of its runs: the accesses that it can make, by their tickets, and
+//! what else all its runs go by.
 #![tactic(auto)]
 
 pub mod accesses;

@@ -29,8 +29,8 @@ use setup_access::{Checker, CheckerError, Rules};
 use std::alloc::{AllocError, Global};
 use std::sync::Arc;
 
-/// What a program and the settings of its runs come to: made once, however many tasks and runs there are. Whatever is made of it, only
-/// memory can be wanting then.
+/// What a program and the settings of its runs come to: made once, however many tasks and runs there are. Whatever is
+/// made of it, only memory can be wanting then.
 #[derive(Drop)]
 pub struct Prepared {
     /// Where the variables stand.
@@ -63,6 +63,7 @@ impl Prepared {
     {
         let places = settings.places.as_slice();
         let layout = Layout::new(alloc, program.variables.as_slice(), places)?;
+        // A check looks up its page's slot and one on each side, as KCSAN does, so there must be three.
         if settings.slots < 3 || settings.slots > 1024 {
             return Err(RunError::BadSlots);
         }

@@ -26,6 +26,7 @@ fn add_site(sites: &mut Sites, task: u32, number: u32, site: Site) -> Result<(),
     ensures { OnOk result (Adds sites.old sites.new (IsRepetition task number site)) }
 {
     let Bytes { addr, size } = site.bytes;
+    // Each repetition has its own ticket: who reads a ticket in a pair word finds here which access it names.
     for rep in 0..site.times {
         match Access::new_rep(task, number, rep as u32, addr, size, site.kind, site.mask) {
             Ok(access) => sites.add(&access)?,

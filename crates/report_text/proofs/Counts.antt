@@ -1,4 +1,4 @@
--- the groups of texts are each text once, in the order in which they were first seen, with its count
+-- The groups of texts are each text once, in the order in which they were first seen, with its count.
 use Rattle.std.proofs.Common.{◌≡◌, ◌+◌, ◌-◌, ◌^◌, ◌++◌, ◌∷◌, ◌∙◌, ℕ, List, [], Bool, true, false, ap, append_assoc, append-nil, arith, cond, map, min, refl, subst, sym, if◌then◌else◌}
 use Rattle.std.specs.Prelude.{count_by, fold}
 use Rattle.std.specs.List.{list_any}

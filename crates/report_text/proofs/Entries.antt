@@ -1,4 +1,4 @@
--- the groups that a map's entries show
+-- The groups that a map's entries show.
 use Rattle.std.proofs.Common.{◌≡◌, ◌++◌, ◌∷◌, ◌∙◌, ℕ, List, [], Bool, true, false, ap, append_assoc, map, refl, sym, unwrap_or, Vec, Global}
 use Rattle.std.specs.List.{flat_map}
 use Rattle.indexmap.specs.IndexMap.{insert_entry}

@@ -1,4 +1,4 @@
--- the digits of a number in base 16, from the last on
+-- The digits of a number in base 16, from the last on.
 use Rattle.std.proofs.Common.{◌≡◌, ◌-◌, ◌++◌, ◌/◌, ◌%◌, ◌^◌, ◌<◌, ◌≤◌, ◌∷◌, ◌∙◌, ℕ, suc, List, [], ap, arith, false, refl, length, replicate, append-nil}
 use Rattle.std.proofs.Math.Nat.{sub-zero}
 use Rattle.std.proofs.lemmas.Bool.{ne_eqb}

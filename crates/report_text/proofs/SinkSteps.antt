@@ -1,4 +1,4 @@
--- what calls that write one text after the other leave
+-- What calls that write one text after the other leave.
 use Rattle.std.proofs.Common.{◌≡◌, ◌+◌, ◌<◌, ◌++◌, ◌∷◌, ◌∙◌, drop, get_or, ℕ, List, [], Option, Some, None, append_assoc, ap, append-nil, arith, length, length-append, refl, suc, sym, take, subst}
 use Rattle.std.proofs.lemmas.List.{take-append-le}
 use Rattle.std.proofs.Math.Seq.{drop-cons, take-append-add}

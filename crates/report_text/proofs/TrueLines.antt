@@ -1,4 +1,4 @@
--- the lines of a true trace are true
+-- The lines of a true trace are true.
 use Rattle.std.proofs.Common.{◌≡◌, ◌<◌, ◌++◌, ◌∷◌, ℕ, zero, suc, List, [], ap, append_assoc, arith, get_or, length, refl, subst, sym}
 use Rattle.std.specs.Prelude.{Contains, Option}
 use Rattle.std.proofs.lemmas.List.Elements.{Contains-append_left}

@@ -1,3 +1,4 @@
+-- Which bytes are a true trace, and which line of others is the first that is bad or false.
 use Rattle.std.specs.Prelude.{◌≡◌, ◌+◌, ◌<◌, ◌≤◌, ◌++◌, ℕ, List, [], ◌∷◌, length}
 use Rattle.std.specs.List.{flat_map}
 use Rattle.watch_word.specs.declared.layout.Layout.{Layout}

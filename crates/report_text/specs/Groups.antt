@@ -1,3 +1,4 @@
+-- Texts in groups: each once, in the order in which they were first seen, with how often it was seen.
 use Rattle.std.specs.Prelude.{◌≡◌, ◌+◌, ◌-◌, ◌^◌, ◌++◌, ℕ, List, [], ◌∷◌, Bool, codes, count_by, fold, if◌then◌else◌, map, min, nat_eq}
 use Rattle.std.specs.Cmp.Lexicographic.{pointwise}
 use Rattle.std.specs.Fmt.{decimal}

@@ -1,3 +1,4 @@
+-- How each line of a trace is spelled.
 use Rattle.std.specs.Prelude.{◌==◌, ◌++◌, ℕ, List, [], Bool, codes, if◌then◌else◌, unwrap_or}
 use Rattle.std.specs.Fmt.{decimal}
 use Rattle.access_types.specs.ReportText.{hex, line}

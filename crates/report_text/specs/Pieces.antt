@@ -1,3 +1,4 @@
+-- What a list of pieces, texts and numbers, spells.
 use Rattle.std.specs.Prelude.{ℕ, List}
 use Rattle.std.specs.Borrow.{Bor}
 use Rattle.std.specs.Fmt.{decimal}

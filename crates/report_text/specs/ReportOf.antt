@@ -1,3 +1,4 @@
+-- The text of a report, by the accesses that its tickets name.
 use Rattle.std.specs.Prelude.{ℕ, List, [], Option, None, Some, IsSome}
 use Rattle.std.specs.FinMap as map
 use Rattle.access_types.specs.Access.{Access}

@@ -1,3 +1,4 @@
+-- What a call that writes a text leaves in a sink: all of it, or a beginning of it and one failure more.
 use Rattle.std.specs.Prelude.{◌≡◌, ◌+◌, ◌-◌, ◌^◌, ◌≤◌, ◌++◌, ◌⊎◌, ℕ, List, Option, Some, None, length, take, Result, MatchResult}
 
 -- the text stands behind what a sink had taken, where it can say that

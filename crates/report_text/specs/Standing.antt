@@ -1,3 +1,4 @@
+-- Which line may stand after others in a trace: by its kind, its stamps, and the accesses that it names.
 use Rattle.std.specs.Prelude.{◌≡◌, ◌≢◌, ◌<◌, ◌≤◌, ◌+◌, ◌^◌, ◌==◌, ℕ, List, [], ◌∷◌, All, Contains, IsTrue, count_by, unwrap_or}
 use Rattle.access_types.specs.Access.{IsInLimits}
 use Rattle.access_types.specs.Arms.{Arm}

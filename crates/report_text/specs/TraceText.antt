@@ -1,3 +1,4 @@
+-- The text of a trace: its head, its lines kind by kind, and its end.
 use Rattle.std.specs.Prelude.{◌++◌, ℕ, List, codes, map}
 use Rattle.std.specs.Fmt.{decimal}
 use Rattle.std.specs.List.{flat_map}

@@ -1,3 +1,4 @@
+-- When a line is true of the accesses before it, and when armings, takings and reports tell of the same.
 use Rattle.std.specs.Prelude.{◌≡◌, ◌≢◌, ◌<◌, ◌≤◌, ◌+◌, ◌*◌, ◌/◌, ◌%◌, ◌^◌, ◌==◌, ◌&&◌, ◌||◌, ◌⊎◌, ◌↔◌, ℕ, List, [], ◌∷◌, Bool, IsTrue, IsSome, None, count_by}
 use Rattle.std.specs.List.{flat_map}
 use Rattle.access_types.specs.Access.{Breaks, Overlap, proper_mask}

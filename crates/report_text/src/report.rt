@@ -106,7 +106,8 @@ fn rule() -> Piece
     Piece::Text("==================================================================\n")
 }
 
-/// The title of a report of two accesses, the smaller task first.
+/// The title of a report of two accesses, the smaller task first: one race has one title, whoever found it. KCSAN
+/// orders the two functions of a title by name for this.
 #[tactic(auto, unfolding(access_types::specs::ReportText::two_sided_title))]
 fn two_sided_title(setter: &Access, finder: &Access) -> [Piece; 7]
     ensures { text_of result ≡ spec.two_sided_title setter.now finder.now }

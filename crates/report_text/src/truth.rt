@@ -109,7 +109,8 @@ fn result_agrees(s: &Stamped, f: &Stamped, result_of_hit: HitResult) -> bool
     }
 }
 
-/// The finder could take the setter's watchpoint, at this index and with this result.
+/// The finder could take the setter's watchpoint, at this index and with this result. Which bits of a finder change
+/// only its own watch could tell, so one with a mask takes nothing, as in KCSAN.
 pub fn may_hit(
     slots: u64,
     layout: Layout,
@@ -134,7 +135,8 @@ pub fn may_hit(
         && result_agrees(s, f, result_of_hit)
 }
 
-/// The access may have set a watchpoint up with this word, at this index, after so many earlier ones.
+/// The access may have set a watchpoint up with this word, at this index, after so many earlier ones. An assertion in
+/// force is checked again with later accesses, so it alone sets up more than one.
 pub fn may_watch(
     slots: u64,
     layout: Layout,

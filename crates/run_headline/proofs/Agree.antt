@@ -15,7 +15,7 @@ use Rattle.run_lists.specs.Told.{OutcomeAt, outcomes_of}
 use Rattle.run_headline.specs.Takings.{EachSettles}
 use Rattle.run_headline.specs.Totals.{Totals, is_try, made_so}
 use Rattle.run_headline.proofs.Answered.{answers_heard, kinds_of_answers, unknown_quiet}
-use Rattle.run_headline.proofs.Hands.{arms_end, hits_end, is_taking, is_tell, of_clear, of_end, takings_end}
+use Rattle.run_headline.proofs.EndedOrInHand.{arms_end, hits_end, is_taking, is_tell, of_clear, of_end, takings_end}
 use Rattle.run_headline.proofs.Heard.{of_hearing, takings_heard}
 use Rattle.run_headline.proofs.Bags.{clears_heard, tells_told, tries_end}
 use Rattle.run_headline.proofs.Weights.{alike_all, counts_weigh, of_step, weigh, weigh_both}

@@ -15,7 +15,7 @@ use Rattle.slot_table.specs.StepLine.{step_line}
 use Rattle.slot_table.proofs.Lists.{allowed_at, kept_before}
 use Rattle.task_log.specs.Counters.{is_lost}
 use Rattle.run_headline.specs.Totals.{is_try}
-use Rattle.run_headline.proofs.Hands.{clears_hit, is_taking, is_tell, of_clear}
+use Rattle.run_headline.proofs.EndedOrInHand.{clears_hit, is_taking, is_tell, of_clear}
 use Rattle.run_headline.proofs.Weights.{of_step, weigh}
 
 one_more : (n : ℕ) → suc n ≡ 1 + n

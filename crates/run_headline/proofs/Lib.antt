@@ -7,11 +7,11 @@ pub mod Takings
 pub mod Endings
 pub mod Makers
 pub mod Opens
-pub mod Onces
+pub mod AccessesBeginOnce
 pub mod Tells
 pub mod Watched
 pub mod TextTells
-pub mod Does
+pub mod RecordsDoEvents
 pub mod Watches
 pub mod Finds
 pub mod MadeFor
@@ -29,7 +29,7 @@ pub mod Locks
 pub mod RunsOfPrograms
 pub mod Ended
 pub mod Weights
-pub mod Hands
+pub mod EndedOrInHand
 pub mod Heard
 pub mod Bags
 pub mod Answered
@@ -44,4 +44,5 @@ pub use Rattle.run_lists.proofs.Intervals as of_run_lists_Intervals
 pub use Rattle.run_lists.proofs.OwnLasts as of_run_lists_OwnLasts
 pub use Rattle.run_lists.proofs.OwnMarks as of_run_lists_OwnMarks
 pub use Rattle.run_lists.proofs.TaskFacts as of_run_lists_TaskFacts
-pub use Rattle.run_lists.proofs.Ways as of_run_lists_Ways
+pub use Rattle.run_lists.proofs.DoneOnlyGrows as of_run_lists_DoneOnlyGrows
+pub use Rattle.task_log.proofs.log as of_task_log_log

@@ -1,7 +1,7 @@
 -- Before each insertion and each try its task has an access in progress for which it makes it.
 use Rattle.std.proofs.Common.{◌≡◌, ◌∙◌, ◌<◌, ◌++◌, [], ◌∷◌, ℕ, List, append_assoc, length, refl, subst, sym}
 use Rattle.slot_table.specs.of_access_types_Access.{Access}
-use Rattle.task_log.specs.of_setup_access_Own.{IsOwn}
+use Rattle.task_log.specs.of_setup_access_OwnAccesses.{IsOwn}
 use Rattle.slot_table.specs.declared.records.Record.{Record}
 use Rattle.slot_table.specs.declared.step.Step.{Step}
 use Rattle.slot_table.specs.declared.step.Step.TheVariants.{Insert, TryConsume}
@@ -13,7 +13,7 @@ use Rattle.run_lists.specs.Told.{made_by}
 use Rattle.run_lists.proofs.Histories.{in_progress}
 use Rattle.run_lists.proofs.Intervals.{IsOpen}
 use Rattle.run_headline.specs.Made.{EachIsMadeFor, IsInHand, IsMadeFor}
-use Rattle.run_headline.proofs.Does.{made_at}
+use Rattle.run_headline.proofs.RecordsDoEvents.{made_at}
 use Rattle.run_headline.proofs.Tells.{MadeFor}
 use Rattle.run_headline.proofs.Watches.{is_below, of_program}
 

@@ -19,7 +19,7 @@ use Rattle.access_run.specs.of_memory_operation_declared.operation.Change.{Chang
 use Rattle.access_run.specs.of_memory_operation_declared.operation.Change.TheVariants as changes
 use Rattle.task_log.specs.of_setup_access_Check.{Fallen}
 use Rattle.task_log.specs.of_setup_access_Hits.{Hits}
-use Rattle.task_log.specs.of_setup_access_Own.{IsOwn}
+use Rattle.task_log.specs.of_setup_access_OwnAccesses.{IsOwn}
 use Rattle.task_log.specs.of_setup_access_Records.{MakesWord}
 use Rattle.task_log.specs.of_setup_access_Setting as checks
 use Rattle.task_log.specs.of_setup_access_Values.{source_of, value_in}

@@ -11,7 +11,7 @@ use Rattle.task_log.specs.of_setup_access_Check.{Check, ChecksLast, ChecksOnce, 
 use Rattle.task_log.specs.of_setup_access_Find.{Finds}
 use Rattle.task_log.specs.of_setup_access_Found.{FoundWatchpoint, Takes, Tells}
 use Rattle.task_log.specs.of_setup_access_Hits.{Hits}
-use Rattle.task_log.specs.of_setup_access_Own.{AreOwn, IsOwn}
+use Rattle.task_log.specs.of_setup_access_OwnAccesses.{AreOwn, IsOwn}
 use Rattle.task_log.specs.of_setup_access_Records.{MakesDone, MakesFlag, OnFlag}
 use Rattle.task_log.specs.of_setup_access_Setting as checks
 use Rattle.task_log.specs.of_setup_access_Setting.{look_order, slot_of}

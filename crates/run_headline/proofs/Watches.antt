@@ -15,7 +15,7 @@ use Rattle.access_run.specs.of_litmus_meaning_TextSites.{IsOfText}
 use Rattle.access_run.proofs.of_litmus_meaning_TicketLemmas.{of_text}
 use Rattle.access_run.specs.of_litmus_syntax_Tree.{Task}
 use Rattle.task_log.specs.of_setup_access_Check.{Fallen}
-use Rattle.task_log.specs.of_setup_access_Own.{IsOwn}
+use Rattle.task_log.specs.of_setup_access_OwnAccesses.{IsOwn}
 use Rattle.task_log.specs.of_setup_access_Setting as checks
 use Rattle.task_log.specs.of_setup_access_declared.outcome.Outcome.{Outcome}
 use Rattle.slot_table.specs.Records.{records_of}
@@ -32,8 +32,8 @@ use Rattle.run_lists.proofs.Intervals.{Has, IsOpen, has_first}
 use Rattle.run_lists.proofs.OwnLasts.{own_latest}
 use Rattle.run_headline.specs.Finds.{is_telling}
 use Rattle.run_headline.specs.Watches.{IfVerdict, IsOfWatch, IsWatch, is_verdict}
-use Rattle.run_headline.proofs.Does.{told_whole}
-use Rattle.run_headline.proofs.Onces.{there}
+use Rattle.run_headline.proofs.RecordsDoEvents.{told_whole}
+use Rattle.run_headline.proofs.AccessesBeginOnce.{there}
 use Rattle.run_headline.proofs.Opens.{has_split}
 use Rattle.run_headline.proofs.Tells as tells
 use Rattle.run_headline.proofs.Tells.{FallsOf, FallsSo, IsPart, IsSomeFind, Tells, goes_on}

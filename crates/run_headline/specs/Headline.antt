@@ -45,7 +45,7 @@ pub record Headline {run : Run} {records : List Record} (list : RunList run reco
       → HasOneAnswer list index number
   -- which is the verdict on the two: on the watch of the one and the find of the other
   pub verdicts : All (IfAnswersBoth list) (outcomes_of list)
-  -- every report of two sides names, as its finder does, a true race of these two
+  -- every report of two sides names, by the ticket that the finder told, a true race of these two
   pub true_races : All (NamesRaceOfBoth list) (outcomes_of list)
   -- one of unknown origin names bytes that changed under its watch
   pub origins_changed : All (NamesWatched list) (outcomes_of list)

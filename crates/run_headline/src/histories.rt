@@ -66,9 +66,9 @@ pub fn run_lists_tell_runs_of_the_program()
 }
 
 /// Law: each report of unknown origin that a run list tells names bytes that changed under the watch of the access that
-/// was checked. In the history that the list tells their content was the old value at the first load of the watch and the
-/// new one at the second, both made after the setter had named itself and before it consumed its word, untouched. The
-/// access was in progress at both, and no moment between them is of its own task.
+/// was checked. In the history that the list tells their content was the old value at the first load of the watch and
+/// the new one at the second, both made after the setter had named itself and before it consumed its word, untouched.
+/// The access was in progress at both, and no moment between them is of its own task.
 pub fn unknown_origins_changed()
     ensures changed { (run : Run) (records : List Record) → (list : RunList run records)
         → All (NamesChange list) (outcomes_of list) }
@@ -81,7 +81,8 @@ pub fn unknown_origins_changed()
 
 /// Law: the reports of a run list are true. Each of two sides names two accesses of the program by their tickets, the
 /// setter's first, which race in the history that the list tells; each of unknown origin names an access of the
-/// program whose bytes changed under its watch. They are the reports of the list's outcomes, and each outcome that is a report has it.
+/// program whose bytes changed under its watch. They are the reports of the list's outcomes, and each outcome that is a
+/// report has it.
 pub fn reports_are_true()
     ensures all { (run : Run) (records : List Record) → (list : RunList run records)
         → All (IsTrueReport list) (reports_of list) }
@@ -96,9 +97,9 @@ pub fn reports_are_true()
     unknown_origins_changed();
 }
 
-/// Law: each taking has one answer once its two accesses have ended: an access of the setter's task that was in progress
-/// as it armed, as the one is that it armed for, and one of the finder's task that was as it took. The answer is one
-/// report of two sides or one named discard, and there is no other.
+/// Law: each taking has one answer once its two accesses have ended: an access of the setter's task that was in
+/// progress as it armed, as the one is that it armed for, and one of the finder's task that was as it took. The answer
+/// is one report of two sides or one named discard, and there is no other.
 pub fn takings_of_ended_accesses_have_one_answer()
     ensures { (run : Run) (records : List Record) → (list : RunList run records)
         → (index number setter word finder taken_word : ℕ) → HasEndedSince list (IsArming index number setter word)

@@ -18,10 +18,10 @@ use run_lists::laws::{answers_are_to_takings, roles_of_run_lists, run_lists_keep
 use slot_table::step::Step;
 
 /// Law: in the history that a run list tells each record has its event, by its step and its answer, and then the marks
-/// that its task makes before its next step. A step of the clock begins or ends one access. A read has the value that its
-/// bytes have in the word that the load or the refused exchange answered. An accepted exchange changes only the bytes
-/// that it writes, to the value that it writes. A lock is taken or given up at the step on its own word. Before its first
-/// step a task makes marks alone.
+/// that its task makes before its next step. A step of the clock begins or ends one access. A read has the value that
+/// its bytes have in the word that the load or the refused exchange answered. An accepted exchange changes only the
+/// bytes that it writes, to the value that it writes. A lock is taken or given up at the step on its own word. Before
+/// its first step a task makes marks alone.
 pub fn records_tell_their_events()
     ensures each { (run : Run) (records : List Record) → (list : RunList run records) → EachDoesItsEvent list records }
     ensures first { (run : Run) (records : List Record) → (list : RunList run records)
@@ -35,17 +35,17 @@ pub fn outcomes_fall_where_they_are_settled()
     ensures { (run : Run) (records : List Record) → (list : RunList run records) → EachSettles list records }
 {}
 
-/// Law: each verdict that a run list tells, a report, a named discard or none, is on a watch that its task has just made
-/// of the very access that was checked: set up under the access's word, named by its ticket, and judged by its two loads
-/// and by the pair that was heard. The access is in progress all the while.
+/// Law: each verdict that a run list tells, a report, a named discard or none, is on a watch that its task has just
+/// made of the very access that was checked: set up under the access's word, named by its ticket, and judged by its two
+/// loads and by the pair that was heard. The access is in progress all the while.
 pub fn verdicts_are_on_watches()
     ensures { (run : Run) (records : List Record) → (list : RunList run records)
         → All (IfVerdict list) (outcomes_of list) }
 {}
 
 /// Law: each telling is on a find that its task has just made of the very access that was checked: it looked a matching
-/// word up, took it, heard the setter, and told its own ticket. The access is in progress all the while. What it took is
-/// one arming of another task, with its index, its number and its word.
+/// word up, took it, heard the setter, and told its own ticket. The access is in progress all the while. What it took
+/// is one arming of another task, with its index, its number and its word.
 pub fn tellings_are_on_finds()
     ensures { (run : Run) (records : List Record) → (list : RunList run records)
         → All (IfTelling list) (outcomes_of list) }
@@ -53,8 +53,8 @@ pub fn tellings_are_on_finds()
     roles_of_run_lists();
 }
 
-/// Law: watchpoints are armed and taken for accesses in progress. Just before each insertion its task has an access of the
-/// program in progress whose word it inserts, and just before each try one that the word matches.
+/// Law: watchpoints are armed and taken for accesses in progress. Just before each insertion its task has an access of
+/// the program in progress whose word it inserts, and just before each try one that the word matches.
 pub fn watchpoints_are_of_accesses_in_progress()
     ensures { (run : Run) (records : List Record) → (list : RunList run records) → EachIsMadeFor list records }
 {}

@@ -19,7 +19,7 @@ use Rattle.run_headline.specs.Watches.{is_verdict}
 use Rattle.written_tellings.specs.of_setup_access_Check as cases
 use Rattle.written_tellings.specs.of_setup_access_Check.{Check, ChecksOnce, Fallen, GoesOn, NoneFound, Pass, Passes, Rechecks, fallen_of, left_to_check}
 use Rattle.written_tellings.specs.of_setup_access_Found.{Takes, Tells}
-use Rattle.written_tellings.specs.of_setup_access_Own.{IsOwn}
+use Rattle.written_tellings.specs.of_setup_access_OwnAccesses.{IsOwn}
 use Rattle.written_tellings.specs.of_setup_access_Records.{MakesDone}
 use Rattle.written_tellings.specs.of_setup_access_declared.begun.Begun.{Begun}
 use Rattle.written_tellings.specs.of_setup_access_declared.outcome.Outcome.{Outcome}

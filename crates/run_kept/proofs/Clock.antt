@@ -13,7 +13,7 @@ use Rattle.run_headline.specs.of_run_lists_RunList.{RunList}
 use Rattle.run_headline.specs.of_run_lists_Told.{made_by}
 use Rattle.run_headline.proofs.of_run_lists_Histories.{did_of_all, did_then}
 use Rattle.run_headline.proofs.of_run_lists_OwnLasts.{own_latest}
-use Rattle.run_headline.proofs.of_run_lists_Ways.{whole_chain}
+use Rattle.run_headline.proofs.of_run_lists_DoneOnlyGrows.{whole_chain}
 use Rattle.run_headline.specs.Events.{AreMarks, EachDoesItsEvent, IsEvent, ReadsAtMost, Writes}
 use Rattle.slot_table.specs.Records.{Legal, records_of, words_after}
 use Rattle.slot_table.specs.StepLine.{step_line}

@@ -9,7 +9,7 @@ use Rattle.written_tellings.specs.of_memory_operation_declared.effect.Effect.{Ef
 use Rattle.written_tellings.specs.of_memory_operation_declared.operation.Operation.{Operation}
 use Rattle.run_kept.proofs.Afters.{After, follow_left, walk_left}
 use Rattle.slot_table.specs.declared.records.Record.{Record}
-use Rattle.run_kept.proofs.Going.{Goes, part_goes}
+use Rattle.run_kept.proofs.PartNotOver.{Goes, part_goes}
 use Rattle.run_kept.proofs.PointsTold.{AllBelow, AreAs, IsAs, as_by, from_fewer, operated_adds, past}
 use Rattle.task_run.specs.Agrees.{IsIn}
 use Rattle.task_run.specs.Leads.{Leads, stands_at}

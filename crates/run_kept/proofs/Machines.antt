@@ -7,7 +7,7 @@ use Rattle.run_headline.specs.of_run_lists_RunList.{RunList}
 use Rattle.run_headline.specs.of_run_lists_Told.{made_by}
 use Rattle.run_headline.proofs.of_run_lists_OwnLasts.{own_latest}
 use Rattle.run_kept.specs.Noted.{IsBegun, IsNoted}
-use Rattle.run_kept.proofs.Ties.{says_what_begins, says_what_is_noted}
+use Rattle.run_kept.proofs.MachineMatchesRecords.{says_what_begins, says_what_is_noted}
 use Rattle.run_headline.specs.Events.{DoesEvent, EachDoesItsEvent}
 use Rattle.written_tellings.specs.of_setup_access_declared.begun.Begun.{Begun}
 use Rattle.written_tellings.specs.of_setup_access_declared.outcome.Outcome.{Outcome}

@@ -7,7 +7,7 @@ use Rattle.run_headline.specs.of_run_lists_RunList.{RunList}
 use Rattle.run_headline.specs.of_run_lists_Told.{Armed, OutcomeAt, armed_by, came_next, made_by, outcome_at, outcomes_by, outcomes_of}
 use Rattle.run_headline.proofs.of_run_lists_OwnLasts.{own_latest}
 use Rattle.run_kept.proofs.Naming.{last_name, watch_named}
-use Rattle.run_kept.proofs.Owns.{AllOfTask}
+use Rattle.run_kept.proofs.OutcomesOfOwnTask.{AllOfTask}
 use Rattle.run_kept.proofs.Verdicts.{fell_own, same_end}
 use Rattle.run_headline.specs.Watches.{IfVerdict, IsOfWatch, is_verdict}
 use Rattle.run_headline.proofs.Lists.{SettledAt, settled_at}

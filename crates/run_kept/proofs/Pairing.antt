@@ -14,7 +14,7 @@ use Rattle.run_headline.specs.of_run_lists_RunList.{RunList}
 use Rattle.run_headline.specs.of_run_lists_Told.{Armed, OutcomeAt, armed_by, armed_in, came_next, outcome_at, outcomes_of}
 use Rattle.run_headline.proofs.of_run_lists_OwnLasts.{finder_told, own_latest, own_name, still_told}
 use Rattle.run_kept.specs.Lists.{AreArmsAt, AreArmsBy, Became, IsArm, verdicts_by}
-use Rattle.run_kept.proofs.Hands.{IsNamed, Says, all_say, in_part, last_word}
+use Rattle.run_kept.proofs.HandIsLastArming.{IsNamed, Says, all_say, in_part, last_word}
 use Rattle.run_kept.proofs.Naming.{last_name}
 use Rattle.run_kept.proofs.Removals.{of_task, some_is}
 use Rattle.run_kept.proofs.Settling.{HandSays, HitSays, Known, Match, Pending, Settled, Suits, carried, in_hand_says, match_with, silently, unheard_settled}

@@ -3,7 +3,7 @@ use Rattle.std.proofs.Common.{◌≡◌, ◌∙◌, ◌<◌, ◌≤◌, ◌++◌
 use Rattle.std.proofs.lemmas.Bool.{le-leb}
 use Rattle.std.proofs.lemmas.Bool.Decides.{leb_tells}
 use Rattle.slot_table.specs.of_access_types_declared.history.Happening.{Happening}
-use Rattle.run_headline.proofs.of_run_lists_Ways.{Chain}
+use Rattle.run_headline.proofs.of_run_lists_DoneOnlyGrows.{Chain}
 use Rattle.task_run.specs.Told.{AllFrom, last_of}
 use Rattle.written_tellings.specs.of_written_order_Standing.{Point, point_by}
 use Rattle.written_tellings.proofs.Falling.{AllUpTo, IsFalling}

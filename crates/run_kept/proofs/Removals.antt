@@ -8,7 +8,7 @@ use Rattle.written_tellings.specs.of_litmus_syntax_Tree.{Block}
 use Rattle.run_headline.proofs.of_run_lists_OwnLasts.{own_latest, own_name, own_word}
 use Rattle.run_kept.specs.Noted.{AreNoted}
 use Rattle.run_kept.specs.Removed.{Removed, as_removed, removed_at, removed_by}
-use Rattle.run_kept.proofs.Hands.{AreOf, IsNamed, Says, all_say, in_part, last_word}
+use Rattle.run_kept.proofs.HandIsLastArming.{AreOf, IsNamed, Says, all_say, in_part, last_word}
 use Rattle.run_kept.proofs.Naming.{last_name, names_noted}
 use Rattle.slot_table.specs.Armings.{Arming, last_arming, named_at}
 use Rattle.slot_table.specs.Discipline.{Allows, in_hand}

@@ -17,7 +17,7 @@ use Rattle.run_headline.proofs.of_run_lists_OwnLasts.{own_latest, own_split}
 use Rattle.run_kept.specs.Noted.{AreNoted, IsNoted, Notes}
 use Rattle.run_kept.proofs.Growth.{one_more_listed}
 use Rattle.run_kept.proofs.Naming.{last_name, names_noted, watch_named}
-use Rattle.run_kept.proofs.Owns.{AllOfTask, whole_own}
+use Rattle.run_kept.proofs.OutcomesOfOwnTask.{AllOfTask, whole_own}
 use Rattle.run_headline.specs.Settles.{Settles}
 use Rattle.run_headline.specs.Takings.{EachSettles}
 use Rattle.run_headline.specs.Watches.{IfVerdict, IsOfWatch, is_verdict}

@@ -12,7 +12,7 @@ use Rattle.run_headline.specs.of_run_lists_Told.{Armed, OutcomeAt, armed_by, cam
 use Rattle.run_headline.proofs.of_run_lists_OwnLasts.{hears_at, own_latest}
 use Rattle.run_kept.specs.Lists.{take_of, takes_by}
 use Rattle.run_kept.specs.Noted.{AreNoted, IsNoted, Notes}
-use Rattle.run_kept.proofs.Owns.{AllOfTask}
+use Rattle.run_kept.proofs.OutcomesOfOwnTask.{AllOfTask}
 use Rattle.run_kept.proofs.Verdicts.{fell_own, noted_one, only_one, same_end}
 use Rattle.run_headline.specs.Finds.{IfTelling, IsOfFind, is_telling}
 use Rattle.run_headline.specs.Settles.{Settles, TellsOf}

@@ -19,7 +19,7 @@ use Rattle.run_headline.specs.of_run_lists_Told.{Armed, OutcomeAt, armed_by, cam
 use Rattle.run_headline.proofs.of_run_lists_Begun.{heard_so, there, unmarked_so}
 use Rattle.run_headline.proofs.of_run_lists_Histories.{did_of_all, has_own, of_task, own_has}
 use Rattle.run_headline.proofs.of_run_lists_Intervals.{Has, contains_has, has_contains, has_first}
-use Rattle.run_headline.proofs.of_run_lists_Ways.{last_of, whole_chain}
+use Rattle.run_headline.proofs.of_run_lists_DoneOnlyGrows.{last_of, whole_chain}
 use Rattle.written_tellings.specs.of_setup_access_Check.{Fallen}
 use Rattle.slot_table.specs.Records.{records_of}
 use Rattle.slot_table.specs.declared.records.Record.{Record}

@@ -18,9 +18,9 @@ use Rattle.run_headline.specs.of_run_lists_Told.{Armed, OutcomeAt, armed_by, arm
 use Rattle.run_headline.proofs.of_run_lists_OwnLasts.{finder_told, own_latest, own_name, still_told}
 use Rattle.run_kept.specs.Lists.{AreArmsAt, AreArmsBy, Became, IsArm, verdicts_by}
 use Rattle.run_kept.specs.Noted.{AreNoted, IsNoted, Notes}
-use Rattle.run_kept.proofs.Hands.{IsNamed, Says, all_say, in_part, last_word}
+use Rattle.run_kept.proofs.HandIsLastArming.{IsNamed, Says, all_say, in_part, last_word}
 use Rattle.run_kept.proofs.Naming.{last_name, names_noted, watch_named}
-use Rattle.run_kept.proofs.Owns.{AllOfTask, whole_own}
+use Rattle.run_kept.proofs.OutcomesOfOwnTask.{AllOfTask, whole_own}
 use Rattle.run_kept.proofs.Removals.{AtRemove, at_remove, of_task, some_is, words_noted}
 use Rattle.run_kept.proofs.Reporting.{left_of}
 use Rattle.run_kept.proofs.Settling.{HandSays, HitSays, Known, Pending, Settled, Suits, in_hand_says, match_with, carried, silently, unheard_settled}

@@ -15,8 +15,9 @@ use crate::logs::{
 };
 use crate::watched::stamps_tell_the_order;
 
-/// Law: the accesses that a log of a task keeps are just those that have ended in the list, each once and in the order of
-/// their begins, with their stamps, and marked and silenced as the history decides, where the program keeps the limits.
+/// Law: the accesses that a log of a task keeps are just those that have ended in the list, each once and in the order
+/// of their begins, with their stamps, and marked and silenced as the history decides, where the program keeps the
+/// limits.
 pub fn a_log_keeps_just_the_accesses()
     ensures { (run : Run) (records : List Record) (list : RunList run records) (task : ℕ) (noted : List Noted) → KeepsLimits run.program
         → Notes list task noted → AreAccessesOf list task (accesses_of noted) }

@@ -18,8 +18,8 @@ use run_headline::run_lists::laws::{
 use run_headline::verdicts::{each_taking_has_one_answer, verdicts_are_on_watches};
 use slot_table::laws::heard_is_told;
 
-/// Law: each arming that a task has removed has a verdict of its own, of the access that set it up, in the order of both. At
-/// most the verdict on the arming in hand is left.
+/// Law: each arming that a task has removed has a verdict of its own, of the access that set it up, in the order of
+/// both. At most the verdict on the arming in hand is left.
 pub fn armings_have_their_own_verdicts()
     ensures { (run : Run) (records later earlier : List Record) (list : RunList run records) (task : ℕ) (arms : List Arm)
         → records ≡ later ++ earlier → AreArmsBy list task earlier arms
@@ -29,9 +29,10 @@ pub fn armings_have_their_own_verdicts()
     verdicts_are_on_watches();
 }
 
-/// Law: of a run list whose tasks have all ended the armings, the takings and the reports tell of the same. Each taking is a
-/// hit that an arming tells of, each pair that an arming says was reported is that of a race that the list reports, and
-/// each arming that says its bytes changed with nobody hitting it is a report of unknown origin; each as often.
+/// Law: of a run list whose tasks have all ended the armings, the takings and the reports tell of the same. Each taking
+/// is a hit that an arming tells of, each pair that an arming says was reported is that of a race that the list
+/// reports, and each arming that says its bytes changed with nobody hitting it is a report of unknown origin; each as
+/// often.
 pub fn the_bags_are_equal()
     ensures takings { (run : Run) (records : List Record) (list : RunList run records) (arms : List Arm) (takes : List Take) → AllHaveEnded run records
         → AreArms list arms → AreTakes list takes → AreOneBag is_take (hits_in arms) takes }

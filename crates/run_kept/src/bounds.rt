@@ -17,9 +17,9 @@ ghost use Rattle.written_tellings.specs.of_written_order_WrittenOrder.{SpellsAll
 
 use written_tellings::written_order::the_written_order_keeps_the_discipline;
 
-/// Law: of the checks of a task whose text keeps the limits no more outcomes fall than nine for each time that the loops
-/// of its text repeat an access: one for the access and one for each of the eight scoped assertions that may be in force.
-/// That is 9,216 at most.
+/// Law: of the checks of a task whose text keeps the limits no more outcomes fall than nine for each time that the
+/// loops of its text repeat an access: one for the access and one for each of the eight scoped assertions that may be
+/// in force. That is 9,216 at most.
 pub fn few_outcomes_fall()
     ensures text { (s : Setting) (registers : ℕ) (body : Block) (records : List Record) → BodyKeepsLimits body
         → (whole : SpellsAll s registers body records) → length whole.end.outcomes ≤ 9 * block_repeats 1 body }
@@ -27,8 +27,8 @@ pub fn few_outcomes_fall()
         → (whole : SpellsAll s registers body records) → length whole.end.outcomes ≤ 9216 }
 {}
 
-/// Law: of a task whose text keeps the limits no more armings are over than nine for each time that the loops of its text
-/// repeat an access, and no more takings, and no more reports are made at its steps.
+/// Law: of a task whose text keeps the limits no more armings are over than nine for each time that the loops of its
+/// text repeat an access, and no more takings, and no more reports are made at its steps.
 pub fn few_watches_are_over()
     ensures arms { (s : Setting) (registers : ℕ) (body : Block) (records : List Record) (noted : List Noted) → BodyKeepsLimits body
         → (written : WrittenOrder s registers body records) → AreNoted written (reverse records) noted
@@ -55,8 +55,8 @@ pub fn few_watches_of_each_task_are_over()
     few_watches_are_over();
 }
 
-/// Law: a run list whose program keeps the limits reports no more than nine times for each time that the loops of a text
-/// of its tasks repeat an access, and so no more than 9,216 times for each of its tasks.
+/// Law: a run list whose program keeps the limits reports no more than nine times for each time that the loops of a
+/// text of its tasks repeat an access, and so no more than 9,216 times for each of its tasks.
 pub fn few_are_reported()
     ensures text { (run : Run) (records : List Record) (list : RunList run records) → KeepsLimits run.program
         → length (reports_of list) ≤ 9 * sum_by (λ task. block_repeats 1 task.body) run.program.tasks }

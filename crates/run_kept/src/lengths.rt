@@ -14,8 +14,8 @@ use crate::bounds::few_outcomes_fall;
 use written_tellings::written_order::the_written_order_keeps_the_discipline;
 use written_tellings::{few_accesses_begin, one_telling};
 
-/// Law: a run list whose program keeps the limits has at most 1,024 accesses that have ended for each of its tasks, and at
-/// most 9,216 armings and 9,216 takings that are over.
+/// Law: a run list whose program keeps the limits has at most 1,024 accesses that have ended for each of its tasks, and
+/// at most 9,216 armings and 9,216 takings that are over.
 pub fn few_are_kept()
     ensures accesses { (run : Run) (records : List Record) (list : RunList run records) (accesses : List Stamped) → KeepsLimits run.program
         → AreAccesses list accesses → length accesses ≤ length run.program.tasks * 1024 }

@@ -139,8 +139,8 @@ pub fn a_log_keeps_the_armings_that_are_over()
     run_lists_keep_the_discipline();
 }
 
-/// Law: the armings that a log of a task keeps are just those that the task has removed, each with its index, its watch word,
-/// the ticket of the access whose verdict it is, and what that verdict says became of it.
+/// Law: the armings that a log of a task keeps are just those that the task has removed, each with its index, its watch
+/// word, the ticket of the access whose verdict it is, and what that verdict says became of it.
 pub fn a_log_keeps_just_the_arms()
     ensures { (run : Run) (records : List Record) (list : RunList run records) (task : ℕ) (noted : List Noted)
         → Notes list task noted → AreArmsOf list task (arms_of noted) }
@@ -156,8 +156,8 @@ pub fn a_log_keeps_the_takings_that_are_over()
         → Notes list task noted → map as_told (takes_of noted) ≡ told_by task records }
 {}
 
-/// Law: the takings that a log of a task keeps are just those over which the task has told, each with its index, the ticket
-/// that it told and that of the setter which it had heard.
+/// Law: the takings that a log of a task keeps are just those over which the task has told, each with its index, the
+/// ticket that it told and that of the setter which it had heard.
 pub fn a_log_keeps_just_the_takes()
     ensures { (run : Run) (records : List Record) (list : RunList run records) (task : ℕ) (noted : List Noted)
         → Notes list task noted → AreTakesOf list task (takes_of noted) }
@@ -184,8 +184,8 @@ pub fn a_log_says_of_accesses_what_the_history_decides()
 }
 
 /// Law: the accesses that a log of a task keeps are as many as have ended in the list, and each of them began and ended
-/// there at its stamps: with that access the task did so at a step of the clock which was answered this. Each end in the
-/// list is that of one of them.
+/// there at its stamps: with that access the task did so at a step of the clock which was answered this. Each end in
+/// the list is that of one of them.
 pub fn a_log_keeps_the_accesses_that_have_ended()
     ensures spans { (run : Run) (records : List Record) (list : RunList run records) (task : ℕ) (noted : List Noted)
         → Notes list task noted → All (IsSpan list task) (accesses_of noted) }

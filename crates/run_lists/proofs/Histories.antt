@@ -26,7 +26,7 @@ use Rattle.run_lists.specs.RunList.{InWrittenOrder, RunList}
 use Rattle.run_lists.specs.Told.{first_moments, history_by, history_of, made_by, moments_of}
 use Rattle.run_lists.proofs.Intervals.{Has, IsOpen, contains_has, has_contains}
 use Rattle.run_lists.proofs.OwnLasts.{own_latest, own_split}
-use Rattle.run_lists.proofs.Ways.{Chain, by_fewer, by_last, last_of, whole_chain}
+use Rattle.run_lists.proofs.DoneOnlyGrows.{Chain, by_fewer, by_last, last_of, whole_chain}
 
 -- what of a history is a task's
 pub of_both : (task : ℕ) (first second : History)

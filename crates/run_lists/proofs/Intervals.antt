@@ -12,7 +12,7 @@ use Rattle.written_order.specs.of_memory_operation_Effects.{moments_of, read_mom
 use Rattle.written_order.specs.of_memory_operation_declared.effect.Effect.{Effect}
 use Rattle.written_order.specs.Standing.{Point, point_by}
 use Rattle.written_order.proofs.WayLemmas.{Begins}
-use Rattle.run_lists.proofs.Ways.{Chain, by_last, by_later, last_of}
+use Rattle.run_lists.proofs.DoneOnlyGrows.{Chain, by_last, by_later, last_of}
 
 -- one of a list
 abbrev pub Has : {X : Type 0} → List X → X → Type 0

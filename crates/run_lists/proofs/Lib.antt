@@ -4,7 +4,7 @@ pub mod TaskFacts
 pub mod OwnLasts
 pub mod Begun
 pub mod TwoSides
-pub mod Ways
+pub mod DoneOnlyGrows
 pub mod Intervals
 pub mod Histories
 pub mod OwnMarks

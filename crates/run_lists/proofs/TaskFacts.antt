@@ -18,7 +18,7 @@ use Rattle.written_order.specs.of_memory_operation_declared.operation.Change.The
 use Rattle.written_order.specs.of_memory_operation_declared.operation.Operation.{Operation}
 use Rattle.written_order.specs.of_memory_operation_declared.operation.Operation.TheVariants as operations
 use Rattle.written_order.specs.of_setup_access_Check.{Fallen}
-use Rattle.written_order.specs.of_setup_access_Own.{IsOwn}
+use Rattle.written_order.specs.of_setup_access_OwnAccesses.{IsOwn}
 use Rattle.written_order.specs.of_setup_access_Records.{MakesDone, MakesWord}
 use Rattle.written_order.specs.of_setup_access_Values.{value_in}
 use Rattle.written_order.specs.of_setup_access_declared.begun.Begun.{Begun}
@@ -39,8 +39,8 @@ use Rattle.written_order.proofs.WayLemmas.{Begins}
 use Rattle.run_lists.proofs.CheckFacts.{Good, OnTell, good_step}
 use Rattle.run_lists.proofs.CheckSteps.{AreIn, IsIn, check, check_shorter, clock_long, close, close_shorter}
 use Rattle.run_lists.proofs.Intervals.{AllFrom, IsOpen, IsPaired, NoneEnds, from_both, from_fewer, none_of_effect, none_of_marks, open_from, paired_access, paired_both, paired_none}
-use Rattle.run_lists.proofs.Ways as ways
-use Rattle.run_lists.proofs.Ways.{Chain, IsWay, last_of}
+use Rattle.run_lists.proofs.DoneOnlyGrows as ways
+use Rattle.run_lists.proofs.DoneOnlyGrows.{Chain, IsWay, last_of}
 
 -- the step is none of a check's
 abbrev pub IsPlain : Step → Type 0

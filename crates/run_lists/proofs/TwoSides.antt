@@ -1,5 +1,6 @@
 -- An answer to a taking names its setter and its finder, and a report of two sides a true race.
-use Rattle.std.proofs.Common.{◌≡◌, ◌≢◌, ◌↔◌, ◌<◌, ◌==◌, ◌⊎◌, ◌∙◌, ◌+◌, ◌-◌, ◌++◌, ◌||◌, inl, inr, ℕ, suc, Bool, true, false, All, Contains, IsTrue, length, List, [], ◌∷◌, Option, Some, IsSomeAnd, ap, append_assoc, arith, map, refl, reverse, subst, sym}
+use Rattle.std.proofs.Common.{◌≡◌, ◌≢◌, ◌↔◌, ◌<◌, ◌==◌, ◌⊎◌, ◌∙◌, ◌+◌, ◌-◌, ◌++◌, ◌||◌, inl, inr, ℕ, suc, Bool, true, false, All, Contains, IsTrue, length, List, [], ◌∷◌, Option, Some, IsSomeAnd, ap}
+use Rattle.std.proofs.Common.{append_assoc, arith, map, refl, reverse, subst, sym}
 use Rattle.std.specs.List.{filter}
 use Rattle.std.specs.Option.{option_map}
 use Rattle.std.proofs.lemmas.Bool.Decides.{eqb_tells}
@@ -64,7 +65,7 @@ use Rattle.run_lists.proofs.Histories.{front_of, in_progress}
 use Rattle.run_lists.proofs.Intervals.{IsOpen}
 use Rattle.run_lists.proofs.OwnLasts.{finder_told, hears_at, one_arming, own_latest, own_name, own_split, own_word, last_below, number_below, same_arming, stands_at, stands_later}
 use Rattle.run_lists.proofs.TaskFacts.{AreGood, During, IsKnown, whole_text}
-use Rattle.run_lists.proofs.Ways.{whole_chain}
+use Rattle.run_lists.proofs.DoneOnlyGrows.{whole_chain}
 
 -- a list and its front
 back_is : (p own : List Record) → back p own ≡ reverse p ++ own

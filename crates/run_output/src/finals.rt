@@ -90,8 +90,9 @@ fn variables_of(alloc: Global, prepared: &Prepared, words: &[u64]) -> Result<Vec
     values_of(alloc, prepared.cells.as_slice(), words, bytes.as_slice())
 }
 
-/// What registers and variables hold where a run of a program that is made ready has ended, whose tasks have these registers and whose cells
-/// hold these words: a variable has the content of its bytes in the history that the list of its steps tells.
+/// What registers and variables hold where a run of a program that is made ready has ended, whose tasks have these
+/// registers and whose cells hold these words: a variable has the content of its bytes in the history that the list of
+/// its steps tells.
 fn finals_at(
     alloc: Global,
     prepared: &Prepared,
@@ -126,7 +127,8 @@ fn registers_of<R: Ran>(alloc: Global, ran: &R) -> Result<Vec<Vec<u64>>, AllocEr
     Ok(registers)
 }
 
-/// What registers and variables hold where a run of a program that is made ready has ended, and whether its condition holds there.
+/// What registers and variables hold where a run of a program that is made ready has ended, and whether its condition
+/// holds there.
 pub fn end_of<R: Ran>(
     alloc: Global,
     program: &Program,

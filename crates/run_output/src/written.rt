@@ -1,7 +1,7 @@
 //! What is left of runs.
 
-/// What is written of runs: their output, the trace of the last one that ended, if that is wanted and there is one; and whether there was a
-/// report.
+/// What is written of runs: their output, the trace of the last one that ended, if that is wanted and there is one; and
+/// whether there was a report.
 #[derive(Drop)]
 pub struct Written {
     pub output: Vec<u8>,

@@ -7,16 +7,18 @@ use crossbeam_utils::atomic::AtomicCell;
 use runner::{Gate, Point, Stall};
 use std::thread;
 
-/// After so many loads nobody waits any more for a task that hasn't come: its thread may not have started.
+/// After so many loads nobody waits any more for a task that hasn't come: its thread may not have started. The number
+/// is a choice: threads were seen to take some ten times 64 loads to start. With fewer a run would go on without a slow
+/// thread, and with more it would wait longer for one that never starts.
 const PATIENCE: u64 = 100_000;
 
-/// The delay of one run: at most so many loads of a word, after each of which other threads may run. Without that it is over before another
-/// task, which may have no processor yet, comes to the watchpoint. The loads count from when each task has come to its first access: a thread
-/// may take longer to start than all of them. It ends early once no other task can come: each delays too, waits for a lock, or makes no step
-/// more.
+/// The delay of one run: at most so many loads of a word, after each of which other threads may run. Without that it is
+/// over before another task, which may have no processor yet, comes to the watchpoint. The loads count from when each
+/// task has come to its first access: a thread may take longer to start than all of them. It ends early once no other
+/// task can come: each delays too, waits for a lock, or makes no step more.
 ///
-/// Also it has the others wait with their first access until the task that starts first has set up a watchpoint or ended an access: a thread
-/// that starts later may be sooner there.
+/// Also it has the others wait with their first access until the task that starts first has set up a watchpoint or
+/// ended an access: a thread that starts later may be sooner there.
 #[derive(Drop)]
 pub struct Delay {
     loads: u64,
@@ -83,6 +85,7 @@ impl Delay {
             }
             thread::yield_now();
         }
+        // It opens for all and for good: whoever starts first may never come, and is so waited for once a run.
         self.open.store(1);
     }
 
@@ -100,6 +103,7 @@ impl Delay {
 
 impl Stall for Delay {
     fn stall(&self, task: usize, _index: usize) {
+        // Without a delay nothing is waited for: the runs come as the machine has them.
         if self.loads == 0 {
             return;
         }
@@ -113,9 +117,11 @@ impl Stall for Delay {
         self.delaying.fetch_sub(1);
     }
 
-    /// A task that waits for a lock may wait for the delays of many others, each of which would use up as many of its tries as it has loads: so
-    /// it tries again only once nobody delays, or after as many loads.
+    /// A task that waits for a lock may wait for the delays of many others, each of which would use up as many of its
+    /// tries as it has loads: so it tries again only once nobody delays, or after as many loads.
     fn wait(&self, task: usize) {
+        // Whoever waits for a lock can't come to an access before it is free, and its holder may be waiting for this
+        // task: so it counts as come, and holds nobody back.
         self.comes(task);
         self.opens(task);
         self.away.fetch_add(1);
@@ -142,6 +148,7 @@ impl Gate for Delay {
                 self.comes(task);
                 self.awaits_first(task);
             }
+            // Its access may have set up no watchpoint, as a marked or skipped one: the others are not held for that.
             Point::End => self.opens(task),
             Point::Begin | Point::Armed | Point::Taken => {}
         }

@@ -5,7 +5,8 @@ ghost use Rattle.std.specs.Prelude.{◌≡◌, ℕ};
 use crate::delay::Delay;
 use runner::{Gate, Stall};
 
-/// What each run of a program calls on the way of its tasks. Those of the program are [`Delays`]; a test has others, which count or hold.
+/// What each run of a program calls on the way of its tasks. Those of the program are [`Delays`]; a test has others,
+/// which count or hold.
 pub trait Hooks: Sync {
     /// What one run calls.
     type OfRun: Stall + Gate + Drop;
@@ -13,8 +14,8 @@ pub trait Hooks: Sync {
     /// What one run calls has been asked to have a watch delay for so many loads of a word.
     ghost asks: { Self.OfRun → ℕ → Type 0 };
 
-    /// What one run more calls, in which a watch is asked to delay for so many loads of a word, of so many tasks of which this one
-    /// starts first.
+    /// What one run more calls, in which a watch is asked to delay for so many loads of a word, of so many tasks of
+    /// which this one starts first.
     fn of_run(&self, loads: u64, tasks: u64, first: usize) -> Self::OfRun
         ensures { asks result loads };
 }

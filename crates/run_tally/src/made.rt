@@ -1,4 +1,5 @@
-//! Runs of a program that are made, one after the other or several side by side, until there are as many as are asked for.
+//! Runs of a program that are made, one after the other or several side by side, until there are as many as are asked
+//! for.
 
 ghost use Rattle.std.specs.Prelude.{◌≡◌, ◌≤◌, ◌<◌, ◌+◌, ◌-◌, ◌^◌, ◌++◌, ◌∷◌, [], All, List, IfErr, IfOk, OnOk, length, true, vec_len};
 ghost use Rattle.access_types.specs.Sites.{AccessMap};
@@ -125,8 +126,8 @@ fn side_by_side<R: Threads + Wait + Sync, H: Hooks>(
     thread::map_indices(rt, alloc, many, &run)
 }
 
-/// What comes of the run of this number: what is ready first, or else the first of so many more that are made side by side, of which the
-/// rest is ready then.
+/// What comes of the run of this number: what is ready first, or else the first of so many more that are made side by
+/// side, of which the rest is ready then.
 fn next_run<R: Threads + Wait + Sync, H: Hooks>(
     rt: &R,
     alloc: Global,
@@ -160,6 +161,8 @@ fn is_counted(counted: bool, error: RunError) -> bool
     ensures { result ≡ spec.is_counted counted error }
 {
     match error {
+        // Whether a task gets stuck hangs on how threads meet, from run to run. What else goes wrong is a matter of the
+        // settings or of the machine, and more runs mend nothing.
         RunError::Stuck { .. } => counted,
         RunError::BadSlots
         | RunError::BadPlace
@@ -300,6 +303,8 @@ pub(crate) fn made_of<R: Threads + Wait + Sync, P: Progress, H: Hooks>(
     let mut made = Made::new(alloc);
     let mut ready = VecDeque::new(alloc);
     for run in 0..times.runs {
+        // Runs that were made beside it and are numbered behind it are dropped: so the output is of the same runs in
+        // one form, whatever the number of jobs.
         if times.stop_at_first && made.raced() {
             return Ok(made);
         }

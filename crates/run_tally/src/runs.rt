@@ -53,8 +53,8 @@ fn run_often<R: Threads + Wait + Sync, P: Progress, H: Hooks>(
     })
 }
 
-/// Runs the program of a litmus text on threads, as often as is asked for, and keeps what is written of the runs: the trace of the last one
-/// that ended only where that is wanted.
+/// Runs the program of a litmus text on threads, as often as is asked for, and keeps what is written of the runs: the
+/// trace of the last one that ended only where that is wanted.
 pub fn run_text_often<R: Threads + Wait + Sync, P: Progress>(
     rt: &R,
     alloc: Global,

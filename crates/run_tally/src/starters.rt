@@ -5,8 +5,8 @@ ghost use Rattle.std.specs.Prelude.{◌<◌};
 use access_types::{Access, Kind, Operation, SITES, Sites, TASKS, limits_are_numbers, ticket};
 use task_context::Context;
 
-/// The tasks of a program that may set up a watchpoint. Who starts first is often over before the last begins, so one that sets up none
-/// would be over before there is any: those that may start first in turn, from run to run.
+/// The tasks of a program that may set up a watchpoint. Who starts first is often over before the last begins, so one
+/// that sets up none would be over before there is any: those that may start first in turn, from run to run.
 #[derive(Clone, Copy, Debug, PartialEq, Eq)]
 pub(crate) struct Starters {
     /// A bit for each.
@@ -31,6 +31,8 @@ fn may_watch(sites: &Sites, task: u32, plain_writes_atomic: bool) -> bool
     limits_are_numbers();
     for site in 0..SITES {
         if let Some(access) = access_at(sites, task, site) {
+            // In which regions an access runs is known only in a run. Within one more count as marked, so this names
+            // rather a task too many than one too few.
             if !Context::new().counts_as_marked(access, plain_writes_atomic) {
                 return true;
             }
@@ -56,8 +58,8 @@ impl Starters {
         self.tasks.wrapping_shr((task % 64) as u32) % 2 == 1
     }
 
-    /// The task that starts first in the run of a number, of so many tasks: from the one whose turn it is on the next that may set up
-    /// a watchpoint, or itself where none may.
+    /// The task that starts first in the run of a number, of so many tasks: from the one whose turn it is on the next
+    /// that may set up a watchpoint, or itself where none may.
     pub(crate) fn first(self, number: u64, tasks: u64) -> usize {
         let turn = number.checked_rem(tasks).unwrap_or(0);
         for task in (turn..tasks).chain(0..turn) {

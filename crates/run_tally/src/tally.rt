@@ -67,7 +67,8 @@ impl Tally {
         self.raced
     }
 
-    /// Adds what is found of one run more.
+    /// Adds what is found of one run more. Both counts stop at the largest number that there is: so they need no bound
+    /// on how many runs there are, and never begin again at 0.
     pub(crate) fn add(
         &mut self,
         alloc: Global,

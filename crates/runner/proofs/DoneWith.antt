@@ -3,8 +3,8 @@ use Rattle.std.proofs.Common.{◌≡◌, ◌+◌, ◌∙◌, ◌∷◌, ◌++◌
 use Rattle.std.proofs.lemmas.List.{length-append}
 use Rattle.access_types.specs.declared.history.Happening.{Happening}
 use Rattle.litmus_syntax.specs.Tree.{Block}
-use Rattle.accepted_traces.proofs.of_run_headline_Does.{done_with}
-use Rattle.accepted_traces.proofs.of_run_headline_Onces.{begin_once}
+use Rattle.accepted_traces.proofs.of_run_headline_RecordsDoEvents.{done_with}
+use Rattle.accepted_traces.proofs.of_run_headline_AccessesBeginOnce.{begin_once}
 use Rattle.accepted_traces.proofs.of_run_headline_TextTells.{whole_tells}
 use Rattle.accepted_traces.specs.of_run_headline_Events.{DoesEvent, IsEvent}
 use Rattle.slot_table.specs.declared.records.Record.{Record}

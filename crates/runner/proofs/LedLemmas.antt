@@ -12,7 +12,7 @@ use Rattle.litmus_step.specs.Runs.{CanBeMade, tasks_of}
 use Rattle.litmus_syntax.specs.Tree.{Block}
 use Rattle.accepted_traces.specs.of_run_lists_Run.{Run, first_words, idle, task_of, task_setting}
 use Rattle.accepted_traces.specs.of_run_lists_RunList.{InWrittenOrder}
-use Rattle.accepted_traces.proofs.of_run_kept_Ties.{says_what_is_noted}
+use Rattle.accepted_traces.proofs.of_run_kept_MachineMatchesRecords.{says_what_is_noted}
 use Rattle.accepted_traces.specs.of_run_kept_Noted.{AreNoted, IsNoted}
 use Rattle.runner.proofs.DoneWith.{does_last}
 use Rattle.runner.specs.Led.{IsLed}

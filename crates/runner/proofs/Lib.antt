@@ -3,7 +3,6 @@ pub mod LedLemmas
 pub mod SeatedLemmas
 pub mod StartLemmas
 pub mod TurnLemmas
-pub mod Sent
 pub mod PartLemmas
 pub mod OutcomeLemmas
 pub mod ResultLemmas

@@ -19,7 +19,8 @@ pub enum Point {
     End,
 }
 
-/// The delay between the two loads of a watch, as KCSAN's `udelay` there, and what a task does that waits for a lock.
+/// The delay between the two loads of a watch, as KCSAN's `udelay` there, and what a task does that waits for a lock. A
+/// delay makes it likelier that a conflicting access comes while the watch lasts.
 pub trait Stall: Sync {
     /// A task has set up the watchpoint at an index.
     fn stall(&self, task: usize, index: usize);
@@ -76,8 +77,8 @@ pub(crate) fn has_passed<G: Gate>(gate: &G, task: usize, after: After) {
     }
 }
 
-/// What follows on a step that is a vain try of a wait: of a lock that isn't free, or of a pair word whose other half is still empty, which
-/// is loaded again next.
+/// What follows on a step that is a vain try of a wait: of a lock that isn't free, or of a pair word whose other half
+/// is still empty, which is loaded again next.
 pub(crate) fn waits<S: Stall>(
     stall: &S,
     task: usize,
@@ -87,6 +88,8 @@ pub(crate) fn waits<S: Stall>(
 ) {
     match (step, answer) {
         (Step::LockTry(_, _), Answer::Flag(false)) => stall.wait(task),
+        // Whether its half stood there the task knows: it loads again if not. It only yields, and waits for no delay to
+        // end: a finder would then tell, and write, when the delay of the setter is over.
         (Step::PairLoad(_), _) => {
             if run.next() == Some(step) {
                 thread::yield_now();

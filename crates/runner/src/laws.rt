@@ -72,9 +72,9 @@ pub fn seats_lead_on()
     one_more_is_noted();
 }
 
-/// Law: once all tasks of a run list have ended each of its reports is of accesses that ended there. One of two sides names
-/// two that race, of which each began before the other's end by their stamps; one of unknown origin names one that may have
-/// seen its bytes change.
+/// Law: once all tasks of a run list have ended each of its reports is of accesses that ended there. One of two sides
+/// names two that race, of which each began before the other's end by their stamps; one of unknown origin names one
+/// that may have seen its bytes change.
 pub fn reports_are_of_ended_accesses()
     ensures { (run : Run) (records : List Record) (list : RunList run records) → KeepsLimits run.program → AllHaveEnded run records
         → (accesses : List Stamped) → AreAccesses list accesses → All (ReportFits accesses) (reports_of list) }
@@ -90,8 +90,8 @@ pub fn reports_are_of_ended_accesses()
     reports_are_true();
 }
 
-/// Law: what came of a run on threads is of its program. What a task did, and its registers at the end, are what its text
-/// means with the values that it read; the cells hold what the history leaves in memory; and each report is true.
+/// Law: what came of a run on threads is of its program. What a task did, and its registers at the end, are what its
+/// text means with the values that it read; the cells hold what the history leaves in memory; and each report is true.
 pub fn results_are_of_the_program()
     ensures meant { (run : Run) (records : List Record) (list : RunList run records) (result : RunResult) → IsOf list result
         → (task : ℕ) → IsMeant list task }

@@ -17,8 +17,8 @@ use litmus_step::logs::{accesses_of, arms_of, counters_of, takes_of};
 use shared_table::Gathered;
 use std::alloc::{AllocError, Global};
 
-/// What came of a run on threads: what was kept of the steps of its tasks, and the words at its end. Only a call that makes a run answers
-/// one, and it is never copied: those of two numbers are of two calls.
+/// What came of a run on threads: what was kept of the steps of its tasks, and the words at its end. Only a call that
+/// makes a run answers one, and it is never copied: those of two numbers are of two calls.
 #[derive(Drop)]
 pub struct RunResult {
     pub(crate) number: u64,

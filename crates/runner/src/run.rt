@@ -49,13 +49,15 @@ fn all_found(alloc: Global, outcomes: Vec<Result<Found, RunError>>) -> Result<Ve
         → IfErr result (λ error. ((task : ℕ) × (error ≡ Stuck task)) ⊎ (error ≡ OutOfMemory)) }
 {
     let mut found = Vec::with_capacity(alloc, outcomes.len())?;
+    // In the order of the tasks, whichever thread was over first: so of several that are stuck the smallest is named.
     for outcome in outcomes {
         found.push_reserved(outcome?);
     }
     Ok(found)
 }
 
-/// The program's tasks make their steps on the words of this table, each on its thread, of which the first of these starts first.
+/// The program's tasks make their steps on the words of this table, each on its thread, of which the first of these
+/// starts first.
 ///
 /// `Stuck`: a wait of the task had as many vain tries as are allowed; of several such tasks the smallest is named.
 /// `NoThread`: a thread couldn't be started.
@@ -91,7 +93,8 @@ fn reports_of(alloc: Global, found: &[Found]) -> Result<Vec<Report>, AllocError>
     Ok(reports)
 }
 
-/// How many calls had nothing to end, up to the largest number that there is.
+/// How many calls had nothing to end, up to the largest number that there is: so the sum needs no bound on what each
+/// task counted, and never begins again at 0.
 fn calls_of(found: &[Found]) -> u64
     ensures { result ≡ calls_below found.now (length found.now) }
 {
@@ -135,7 +138,8 @@ fn apart(alloc: Global, found: Vec<Found>) -> Result<Parts, AllocError>
 ///
 /// `BadSlots`: there are fewer than 3 page slots, or more than 1,024. `BadPlace`: a place is no multiple of its
 /// variable's size or is above 2^62, its name is unknown, a lock's, or placed twice. `Stuck`: a wait of the task had as
-/// many vain tries as are allowed; of several such tasks the smallest is named. `NoThread`: a thread couldn't be started.
+/// many vain tries as are allowed; of several such tasks the smallest is named. `NoThread`: a thread couldn't be
+/// started.
 pub fn run_once<R: Threads + Wait + Sync, S: Stall, G: Gate>(
     rt: &R,
     alloc: Global,
@@ -165,8 +169,8 @@ pub fn run_once<R: Threads + Wait + Sync, S: Stall, G: Gate>(
 pub struct Turn {
     /// Its number, which stands in its result.
     pub number: u64,
-    /// The task whose thread starts first, then those of the tasks above, then those below: who starts first is often over before the last
-    /// begins.
+    /// The task whose thread starts first, then those of the tasks above, then those below: who starts first is often
+    /// over before the last begins.
     pub first: usize,
 }
 
@@ -208,6 +212,7 @@ pub fn run_prepared<R: Threads + Wait + Sync, S: Stall, G: Gate>(
         logs,
         registers,
     } = apart(alloc, found)?;
+    // Each seat is there, and after a whole text no check is unfinished, so gathering can't be refused.
     let Some(gathered) = table.gather(seats) else {
         unreachable!()
     };

@@ -107,6 +107,7 @@ impl<'t> SeatedTask<'t> {
             has_passed(gate, task, run.after());
             waits(stall, task, step, answer, &run);
         }
+        // Also of a task that is stuck: no delay is to wait any more for one that makes no step.
         stall.over(task);
         SeatedTask {
             number,
@@ -131,6 +132,7 @@ impl<'t> SeatedTask<'t> {
         no_task_stops();
         machines_stand_where_the_records_tell();
         few_watches_are_over();
+        // A stuck task may have a check unfinished, with which its seat can't be gathered: so its run has no result.
         if self.run.stuck() {
             return Err(RunError::Stuck {
                 task: self.number as usize,

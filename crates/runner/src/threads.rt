@@ -31,8 +31,8 @@ impl<'t> Promise<Result<Found, RunError>> for OfTask<'t> {
     ghost kept_by = { λ promise outcome. IsOutcome (run_by promise.terms) promise.terms.table.now promise.task outcome };
 }
 
-/// Makes the steps of each task on a thread of its own, and says what comes of each. The thread of the first of these starts first,
-/// then those of the tasks above, then those below. All threads that were started are joined.
+/// Makes the steps of each task on a thread of its own, and says what comes of each. The thread of the first of these
+/// starts first, then those of the tasks above, then those below. All threads that were started are joined.
 ///
 /// `NoThread`: one couldn't be started.
 pub(crate) fn on_threads_from<'t, R: Threads + Wait + Sync, S: Stall, G: Gate>(
@@ -52,12 +52,13 @@ pub(crate) fn on_threads_from<'t, R: Threads + Wait + Sync, S: Stall, G: Gate>(
     let first = first.min(starts.len());
     starts.rotate_left(first);
     let mut outcomes = on_threads(rt, alloc, terms, starts, stall, gate)?;
+    // The outcomes are turned back, since whoever reads them takes the place for the number of the task.
     outcomes.rotate_right(first);
     Ok(outcomes)
 }
 
-/// Makes the steps of each of these tasks on a thread of its own, and says what comes of each, in this order, in which the threads start
-/// too. All threads that were started are joined.
+/// Makes the steps of each of these tasks on a thread of its own, and says what comes of each, in this order, in which
+/// the threads start too. All threads that were started are joined.
 ///
 /// `NoThread`: one couldn't be started.
 fn on_threads<'t, R: Threads + Wait + Sync, S: Stall, G: Gate>(
@@ -73,6 +74,8 @@ fn on_threads<'t, R: Threads + Wait + Sync, S: Stall, G: Gate>(
     ensures outcomes { IfOk result (λ all. ComeOf (run_by terms.entry) terms.entry.table.now starts.items all.items) }
     ensures errors { IfErr result (λ error. (error ≡ NoThread) ⊎ (error ≡ OutOfMemory)) }
 {
+    // What a closure ensures is forgotten if it captures a struct with a lifetime: so the threads capture the parts of
+    // the terms, as plain references, and each puts them together again.
     let Terms {
         program,
         settings,
@@ -118,6 +121,8 @@ fn on_threads<'t, R: Threads + Wait + Sync, S: Stall, G: Gate>(
                 };
                 match scope.spawn_with(promise, steps) {
                     Ok(handle) => handles.push_reserved(handle),
+                    // A run without one of its tasks is none of the program. The scope still joins those that were
+                    // started.
                     Err(_) => return Err(RunError::NoThread),
                 }
             }

@@ -24,13 +24,13 @@ step_on : {run : Run} (b : Bool) (first : OneList run) (rest last : Option (OneL
 step_on true first rest last both is = is
 step_on false first rest last both is = refl
 
--- with a list behind them the first is the same, or else the last if it has one
-pub first_of_more : {run : Run} (lists : List (OneList run)) (one : OneList run)
-    → first_reported (lists ++ one ∷ []) ≡ or_else (first_reported lists) (first_reported (one ∷ []))
-first_of_more [] one = refl
-first_of_more (first ∷ later) one =
-    step_on (length first.reports == 0) first (first_reported later) (first_reported (one ∷ [])) (first_reported (later ++ one ∷ []))
-    (first_of_more later one)
+-- with more lists behind them the first is the same, or else the first of those
+pub first_of_more : {run : Run} (lists more : List (OneList run))
+    → first_reported (lists ++ more) ≡ or_else (first_reported lists) (first_reported more)
+first_of_more [] more = refl
+first_of_more (first ∷ later) more =
+    step_on (length first.reports == 0) first (first_reported later) (first_reported more) (first_reported (later ++ more))
+    (first_of_more later more)
 
 no_some : {X : Type 0} (x : X) → None ≡ Some x → ⊥
 no_some x is = cc
@@ -54,7 +54,7 @@ pub kept_on : (settings : Settings) (traced : Bool) {run : Run} (lists : List (O
     → IsFirstTrace settings traced (lists ++ one ∷ []) trace
 kept_on settings false lists one trace some same lacks is = is
 kept_on settings true lists one trace some same lacks is =
-    subst (λ found. IsTraceIfSome settings found trace) (sym (first_of_more lists one))
+    subst (λ found. IsTraceIfSome settings found trace) (sym (first_of_more lists (one ∷ [])))
     (stays settings (first_reported lists) (first_reported (one ∷ [])) trace some
     (λ none. empty_none one (length one.reports == 0) refl
     (subst (λ (b : Bool). (not b && not (length one.reports == 0)) ≡ false) (same ∙ none) lacks)) is)
@@ -88,7 +88,7 @@ kept_first settings true lists one trace some bytes same lacks is traces =
     let left = and_left (not some) (not (length one.reports == 0)) lacks in
     let right = and_right (not some) (not (length one.reports == 0)) lacks in
     subst (λ found. IsTraceIfSome settings found (Some bytes))
-    (sym (first_of_more lists one ∙ ap (or_else (first_reported lists)) (alone one false (not_true (length one.reports == 0) right))))
+    (sym (first_of_more lists (one ∷ []) ∙ ap (or_else (first_reported lists)) (alone one false (not_true (length one.reports == 0) right))))
     (begins settings (first_reported lists) one trace bytes (sym same ∙ not_true some left) is traces)
 
 -- there is a list where there is a Vec
@@ -105,3 +105,28 @@ traced_as settings {run} one list reports bytes same_list same_reports written a
       (subst (λ r. IsTraceOf settings list r bytes) (sym same_reports) written);
   accepted = accepted;
 }
+
+from_behind : (settings : Settings) {run : Run} (found behind : Option (OneList run)) (trace later : Option (List ℕ))
+    → trace ≡ None → IsTraceIfSome settings found trace → IsTraceIfSome settings behind later
+    → IsTraceIfSome settings (or_else found behind) later
+from_behind settings None behind trace later none is others = others
+from_behind settings (Some one) behind trace later none is others =
+    absurd (let no : None ≡ Some is.0 = sym none ∙ is.1 in cc)
+
+-- where no trace was kept it is that of the lists behind
+pub joined_none : (settings : Settings) (traced : Bool) {run : Run} (lists more : List (OneList run)) (trace later : Option (List ℕ))
+    → trace ≡ None → IsFirstTrace settings traced lists trace → IsFirstTrace settings traced more later
+    → IsFirstTrace settings traced (lists ++ more) later
+joined_none settings false lists more trace later none is behind = behind
+joined_none settings true lists more trace later none is behind =
+    subst (λ found. IsTraceIfSome settings found later) (sym (first_of_more lists more))
+    (from_behind settings (first_reported lists) (first_reported more) trace later none is behind)
+
+-- where one was kept it stays
+pub joined_some : (settings : Settings) (traced : Bool) {run : Run} (lists more : List (OneList run)) (trace later : Option (List ℕ))
+    → is_some trace ≡ true → IsFirstTrace settings traced lists trace → IsFirstTrace settings traced (lists ++ more) trace
+joined_some settings false lists more trace later some is = is
+joined_some settings true lists more trace later some is =
+    subst (λ found. IsTraceIfSome settings found trace) (sym (first_of_more lists more))
+    (stays settings (first_reported lists) (first_reported more) trace (is_some trace)
+    (λ none. absurd (let no : true ≡ false = sym some ∙ none in cc)) is)

@@ -6,6 +6,7 @@ pub use Rattle.schedule_search.specs.of_program_layout_Places as of_program_layo
 pub use Rattle.schedule_search.specs.of_program_sites_Errors as of_program_sites_Errors
 pub use Rattle.schedule_search.specs.of_program_sites_Prepared as of_program_sites_Prepared
 pub use Rattle.run_output.specs.of_program_sites_Sites as of_program_sites_Sites
+pub use Rattle.schedule_search.specs.of_program_sites_contracts as of_program_sites_contracts
 pub use Rattle.schedule_search.specs.of_program_sites_declared as of_program_sites_declared
 pub use Rattle.schedule_search.specs.of_run_lists_Run as of_run_lists_Run
 pub use Rattle.schedule_search.specs.of_run_lists_RunList as of_run_lists_RunList

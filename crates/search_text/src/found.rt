@@ -110,8 +110,8 @@ impl Found {
         Ok(())
     }
 
-    /// Adds one list more: its reports, of the accesses that their tickets name among the sites, its schedule, and how it ended, if all
-    /// tasks did.
+    /// Adds one list more: its reports, of the accesses that their tickets name among the sites, its schedule, and how
+    /// it ended, if all tasks did.
     ///
     /// The only error is want of memory, after which what is found is of no use.
     pub fn add(

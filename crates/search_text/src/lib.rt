@@ -1,4 +1,5 @@
-//! The text that a search over schedules leaves: what is counted of the lists that were searched, and how it is written.
+//! The text that a search over schedules leaves: what is counted of the lists that were searched, and how it is
+//! written.
 #![tactic(auto)]
 
 pub mod found;

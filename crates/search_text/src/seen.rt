@@ -66,7 +66,8 @@ impl Seen {
     }
 }
 
-/// Texts, each once, in the order in which they were first seen, each with in how many lists it was and the schedule of the first.
+/// Texts, each once, in the order in which they were first seen, each with in how many lists it was and the schedule of
+/// the first.
 #[derive(Drop)]
 pub struct Sightings {
     pub(crate) seen: IndexMap<Vec<u8>, Seen>,

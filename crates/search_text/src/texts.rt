@@ -9,7 +9,8 @@ use access_types::{Report, Sites};
 use report_text::{MemorySink, write_report};
 use std::alloc::{AllocError, Global};
 
-/// The text of a report, of the accesses that its tickets name among the sites. Where one names none, the report has no text.
+/// The text of a report, of the accesses that its tickets name among the sites. Where one names none, the report has no
+/// text.
 fn text_of(alloc: Global, report: &Report, sites: &Sites) -> Result<Vec<u8>, AllocError>
     ensures { IfOk result (λ text. text.items ≡ report_text sites.now report.now) }
 {

@@ -22,7 +22,7 @@ use Rattle.setup_access.specs.Find.{LooksUp}
 use Rattle.setup_access.specs.Found.{FoundWatchpoint, Hears, Takes, Tells, finder_half, setter_half}
 use Rattle.setup_access.specs.MadeOfChecks as shapes
 use Rattle.setup_access.specs.MadeOfChecks.{FreesHeldLocks, IsBesides, MadeOfChecks}
-use Rattle.setup_access.specs.Own.{AreOwn, IsOwn}
+use Rattle.setup_access.specs.OwnAccesses.{AreOwn, IsOwn}
 use Rattle.setup_access.specs.Parts.{made}
 use Rattle.setup_access.specs.Records.{MakesDone, MakesFlag, MakesWord, OnFlag, OnHalves, OnWord}
 use Rattle.setup_access.specs.Setting.{Setting, look_order, slot_of, try_order}

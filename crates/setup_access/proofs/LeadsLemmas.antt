@@ -19,7 +19,7 @@ use Rattle.setup_access.specs.Fallen.{followed, outcomes_in}
 use Rattle.setup_access.specs.FallsAt.{AllFallIn, GivesAt}
 use Rattle.setup_access.specs.Kept.{setting_with}
 use Rattle.setup_access.specs.Leads.{Leads, Says, stage_step}
-use Rattle.setup_access.specs.Own.{AreOwn, IsOwn}
+use Rattle.setup_access.specs.OwnAccesses.{AreOwn, IsOwn}
 use Rattle.setup_access.specs.Parts.{made}
 use Rattle.setup_access.specs.PassLeft.{Given, PassLeft, Samples, TurnLeft, falls_before, pass_step, with_outcome}
 use Rattle.setup_access.specs.Records.{OnWord}

@@ -1,3 +1,4 @@
+-- The check of an access as records: its look-up, what follows on it, and the scoped assertions after it.
 use Rattle.std.specs.Prelude.{◌≡◌, ◌+◌, ◌||◌, ℕ, List, [], ◌∷◌, Bool, true, false, Option, None, Some, MatchBool}
 use Rattle.access_types.specs.Access.{Access}
 use Rattle.slot_table.specs.declared.records.Record.{Record}
@@ -5,7 +6,7 @@ use Rattle.slot_table.specs.declared.step.Step.TheVariants.{Clock}
 use Rattle.watch_word.specs.Word.{Encodable, word_of}
 use Rattle.setup_access.specs.Find.{Finds}
 use Rattle.setup_access.specs.Found.{FoundWatchpoint}
-use Rattle.setup_access.specs.Own.{AreOwn, IsOwn}
+use Rattle.setup_access.specs.OwnAccesses.{AreOwn, IsOwn}
 use Rattle.setup_access.specs.Records.{MakesWord}
 use Rattle.setup_access.specs.Setting.{IsWatched, Setting}
 use Rattle.setup_access.specs.Setup.{Frees, Judged, SetsUp}

@@ -1,3 +1,4 @@
+-- What a task does with its checker, and the records and outcomes that each stage has left.
 use Rattle.std.specs.Prelude.{◌≡◌, ◌+◌, ◌-◌, ◌++◌, ℕ, List, [], Bool, Option, None, Some, drop}
 use Rattle.slot_table.specs.declared.records.Record.{Record}
 use Rattle.slot_table.specs.declared.step.Step.TheVariants.{Clock}

@@ -1,3 +1,4 @@
+-- A copy of a checker keeps all that the checker keeps, in lists of its own.
 use Rattle.std.specs.Prelude.{◌≡◌}
 use Rattle.access_types.specs.Sites.{AccessMap}
 use Rattle.setup_access.specs.Kept.{setting_with}

@@ -1,3 +1,4 @@
+-- How many outcomes a check may still give, so that they fit into their array.
 use Rattle.std.specs.Prelude.{◌++◌, ℕ, List, [], ◌∷◌, Option, None, Some}
 use Rattle.setup_access.specs.declared.outcome.Outcome.{Outcome}
 use Rattle.setup_access.specs.declared.pass.Pass.{Pass}

@@ -1,3 +1,4 @@
+-- Which outcomes have fallen by the records so far: they stay, and all others fall later.
 use Rattle.std.specs.Prelude.{◌≡◌, ◌++◌, ℕ, List, [], ◌∷◌}
 use Rattle.slot_table.specs.declared.records.Record.{Record}
 use Rattle.setup_access.specs.Check.{Fallen, Passes}

@@ -1,3 +1,4 @@
+-- A look-up as records: loads of the three indices, up to the first word that matches.
 use Rattle.std.specs.Prelude.{◌≡◌, ◌⊎◌, ℕ, List, [], ◌∷◌, Option, None, Some}
 use Rattle.access_types.specs.Access.{Access}
 use Rattle.slot_table.specs.declared.records.Record.{Record}

@@ -1,3 +1,4 @@
+-- What an access makes of a watchpoint that it found, as records: it tries to take it, and tells its setter.
 use Rattle.std.specs.Prelude.{◌≡◌, ◌<◌, ◌⊎◌, ℕ, List, [], ◌∷◌, MatchBool, MatchOption}
 use Rattle.access_types.specs.Access.{Access}
 use Rattle.access_types.specs.Ticket.{ticket_number}

@@ -1,3 +1,4 @@
+-- When an access hits the watchpoint of a word.
 use Rattle.std.specs.Prelude.{◌||◌, ℕ, IsTrue}
 use Rattle.access_types.specs.Access.{Access}
 use Rattle.access_types.specs.Kind.{write_flag}

@@ -1,3 +1,4 @@
+-- What a checker keeps of a setting, as the setting that definitions speak of.
 use Rattle.access_types.specs.Sites.{AccessMap}
 use Rattle.setup_access.specs.Setting as spec
 use Rattle.setup_access.specs.declared.setting.Setting.{Setting}

@@ -1,3 +1,4 @@
+-- The invariant of a checker: the records so far lead to it, and it has left what completes them.
 use Rattle.std.specs.Prelude.{◌≡◌, ◌↔◌, ◌++◌, ◌⊎◌, ℕ, List, [], ◌∷◌, Option, None, Some}
 use Rattle.access_types.specs.Sites.{AccessMap}
 use Rattle.slot_table.specs.Answer.{Answers}
@@ -9,7 +10,7 @@ use Rattle.setup_access.specs.Checker.{Does, Doing, StageLeft, last_of}
 use Rattle.setup_access.specs.Fallen.{followed, outcomes_in}
 use Rattle.setup_access.specs.FallsAt.{AllFallIn}
 use Rattle.setup_access.specs.Kept.{setting_with}
-use Rattle.setup_access.specs.Own.{AreOwn}
+use Rattle.setup_access.specs.OwnAccesses.{AreOwn}
 use Rattle.setup_access.specs.PassLeft.{Samples, pass_step}
 use Rattle.setup_access.specs.Setting.{Setting}
 use Rattle.setup_access.specs.Waiting.{capped, stage_wait}

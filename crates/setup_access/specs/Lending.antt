@@ -1,3 +1,4 @@
+-- A checker that lends its context ends with what became of that, and keeps all else.
 use Rattle.std.specs.Borrow.{Lends, MutBor, Fml}
 use Rattle.task_context.specs.Context.{Context}
 use Rattle.task_context.specs.contracts.context.Context as context

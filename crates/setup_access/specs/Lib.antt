@@ -7,7 +7,7 @@ pub mod Found
 pub mod Values
 pub mod Verdicts
 pub mod Setup
-pub mod Own
+pub mod OwnAccesses
 pub mod Check
 pub mod Parts
 pub mod PassLeft
@@ -23,10 +23,7 @@ pub mod Shown
 pub mod Copies
 pub mod MadeOfChecks
 pub use Rattle.access_types.specs.Access as of_access_types_Access
-pub use Rattle.access_types.specs.History as of_access_types_History
 pub use Rattle.access_types.specs.Kind as of_access_types_Kind
-pub use Rattle.access_types.specs.Marked as of_access_types_Marked
-pub use Rattle.access_types.specs.Race as of_access_types_Race
 pub use Rattle.access_types.specs.Sites as of_access_types_Sites
 pub use Rattle.access_types.specs.declared as of_access_types_declared
 pub use Rattle.watch_word.specs.Layout as of_watch_word_Layout
@@ -37,8 +34,6 @@ pub use Rattle.value_filter.specs.Verdict as of_value_filter_Verdict
 pub use Rattle.value_filter.specs.declared as of_value_filter_declared
 pub use Rattle.slot.specs.Pair as of_slot_Pair
 pub use Rattle.slot_table.specs.Discipline as of_slot_table_Discipline
-pub use Rattle.slot_table.specs.StepLine as of_slot_table_StepLine
-pub use Rattle.slot_table.specs.Words as of_slot_table_Words
 pub use Rattle.slot_table.specs.declared as of_slot_table_declared
 pub use Rattle.task_context.specs.Context as of_task_context_Context
 pub use Rattle.task_context.specs.History as of_task_context_History

@@ -1,3 +1,4 @@
+-- The records of a task are whole checks and closes, with steps between them that neither set up nor take.
 use Rattle.std.specs.Prelude.{◌≡◌, ℕ, Bool, List, [], ◌∷◌, IsTrue}
 use Rattle.slot_table.specs.Discipline.{holds}
 use Rattle.slot_table.specs.declared.records.Record.{Record}

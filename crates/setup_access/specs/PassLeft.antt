@@ -1,3 +1,4 @@
+-- The step that the check of one access makes next, and the records and outcomes that it has left.
 use Rattle.std.specs.Prelude.{◌≡◌, ℕ, List, [], ◌∷◌, Bool, true, false, Option, None, Some}
 use Rattle.skip_sampler.specs.Sampler.{LeadsTo, Sampler}
 use Rattle.slot_table.specs.declared.records.Record.{Record}

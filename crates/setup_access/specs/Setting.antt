@@ -1,3 +1,4 @@
+-- What a task's checks go by: its rules, the three indices of an access, and which accesses are watched.
 use Rattle.std.specs.Prelude.{◌+◌, ◌/◌, ◌%◌, ◌^◌, ℕ, List, [], ◌∷◌}
 use Rattle.access_types.specs.Access.{Access}
 use Rattle.access_types.specs.Sites.{AccessMap}

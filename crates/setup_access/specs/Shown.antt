@@ -1,3 +1,4 @@
+-- What is seen of a checker from outside, and how a context decides what an access counts as.
 use Rattle.std.specs.Prelude.{◌↔◌, ℕ, List, [], ◌∷◌, IsTrue, vec_capacity}
 use Rattle.access_types.specs.History.{History}
 use Rattle.access_types.specs.Marked.{CountsAfter, EndsRaised, is_disable, is_enable, marks_of}

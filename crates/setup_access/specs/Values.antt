@@ -1,3 +1,4 @@
+-- Which accesses have a value, and how it is loaded from the one cell that they lie in.
 use Rattle.std.specs.Prelude.{◌≡◌, ◌==◌, ◌||◌, ◌&&◌, ◌+◌, ◌-◌, ◌*◌, ◌/◌, ◌%◌, ◌^◌, ℕ, List, Bool, Option, None, Some, nat_le, position, slice_index, if◌then◌else◌}
 use Rattle.std.specs.Option.{option_map}
 use Rattle.access_types.specs.Access.{Access}

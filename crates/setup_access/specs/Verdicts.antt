@@ -1,3 +1,4 @@
+-- The outcome of a watch, where the watchpoint was hit and where nobody hit it.
 use Rattle.std.specs.Prelude.{◌≡◌, ℕ, Option, None, Some, IsNone, IsSome, IsSomeAnd, true, false}
 use Rattle.std.specs.FinMap as map
 use Rattle.access_types.specs.Access.{Access, Overlap}

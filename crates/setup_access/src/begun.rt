@@ -1,3 +1,5 @@
+//! An access that has begun, with what it counts as until its check is over.
+
 ghost use Rattle.std.specs.Prelude.{◌≡◌, ◌<◌};
 
 use access_types::Access;

@@ -55,7 +55,7 @@ impl Find {
         Step::Load(self.index(setting, access))
     }
 
-    /// Takes the word that was read. The first that matches ends the look-up.
+    /// Takes the word that was read. The first match ends the look-up: an access has one handshake in hand at most.
     pub(crate) fn answer(self, setting: &Setting, access: &Access, word: u64) -> Sought
         requires { 0 < access.now.size }
         ensures { (sites : AccessMap) (found : Option Watchpoint) (later rest : List Record) → let s = setting_with setting.now sites in
@@ -72,8 +72,8 @@ impl Find {
     }
 }
 
-/// Whether the access hits the watchpoint of a word. Two reads never conflict, so one of the two has to be a
-/// write. The ranges are compared as far as words have their addresses: the setter drops a match too many.
+/// Whether the access hits the watchpoint of a word. Two reads never conflict, so one has to write or assert no
+/// accesses. The ranges are compared as far as words have their addresses: the setter drops a match too many.
 fn hits(layout: Layout, access: &Access, word: u64) -> bool
     requires { 0 < access.now.size }
     ensures { IsTrue result ↔ Hits layout access.now word }

@@ -21,7 +21,8 @@ use slot_table::{Answer, Step};
 /// An access that takes a watchpoint.
 #[derive(Clone, Copy, Debug, PartialEq, Eq)]
 pub enum Found {
-    /// Take it, if it is still the word that was read: so one access alone takes it, and none once its watch is over.
+    /// Take it, if the word that was read stands at its index: so one access alone takes an arming. Where that word was
+    /// removed and inserted anew since, the try takes whichever arming has that word now.
     TryConsume(Watchpoint),
     /// It is taken: wait until its setter has named itself, which it does after its insertion, so that both
     /// sides have one pair.
@@ -97,6 +98,7 @@ fn tried(found: Watchpoint, taken: bool) -> Taking
     })
 }
 
+/// The pair was loaded. A half of 0 isn't the setter's yet, who names itself right after its insertion.
 fn heard_setter(index: usize, tries: u64, setter: u32) -> Taking
     ensures vain { setter ≡ 0 → result ≡ Taking.Going (Found.HearSetter index (min (tries + 1) (2 ^ 64 - 1))) }
     ensures stands { 0 < setter → result ≡ Taking.Going (Found.Tell index setter) }

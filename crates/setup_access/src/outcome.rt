@@ -1,3 +1,5 @@
+//! What a check of an access comes to.
+
 use access_types::ValueChange;
 use slot::Pair;
 use value_filter::Reason;

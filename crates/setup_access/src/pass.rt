@@ -51,8 +51,8 @@ pub struct Turn {
     pub(crate) to: To,
 }
 
-/// `check_access`. Each access looks, since that is three loads; few are watched, since that is a stall. One that
-/// found a watchpoint sets none up: its race is that watch's to report, and to watch it too would only stall again.
+/// `check_access`, of an access that isn't silenced. One that found a watchpoint sets none up: its race is that watch's
+/// to report. Which others are watched the sampler says: all that may be by default, where core.c has few.
 fn check_access(
     find: Find,
     setting: &Setting,

@@ -1,3 +1,5 @@
+//! The rules of a run, as KCSAN's options and parameters set them.
+
 use watch_word::Layout;
 
 /// What all checks of a run go by.

@@ -1,3 +1,5 @@
+//! The setting of one task's checks, which stays as it is throughout a run.
+
 ghost use Rattle.std.specs.Prelude.{◌≡◌, ◌≤◌, IfOk, vec_capacity};
 
 use crate::rules::Rules;

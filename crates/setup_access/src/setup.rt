@@ -43,8 +43,8 @@ pub enum Setup {
     Name {
         index: usize,
     },
-    /// Load the bytes, now that the word stands: whoever changes them from here on met it, or came too early and
-    /// is seen by the change. A plain load does, since all that is asked is whether two values differ.
+    /// Load the bytes, now that the word stands: whoever changes them from here on met it, or is seen by the change.
+    /// All that is asked is whether two values differ.
     LoadOld {
         index: usize,
         source: Source,
@@ -79,8 +79,8 @@ pub enum Watching {
     Judged { index: usize, outcome: Outcome },
 }
 
-/// `kcsan_setup_watchpoint`. The access is watched if a word can stand for it: one that says less of it would be
-/// met by the wrong ones.
+/// `kcsan_setup_watchpoint`. The access is watched if a word can stand for it: a word that says less of it
+/// would be met by the wrong ones.
 pub(crate) fn setup_watchpoint(setting: &Setting, begun: &Begun) -> Turn
     ensures fits { given_now result.outcome + to_due result.to ≤ 1 }
     ensures waits { to_wait result.to ≡ None }
@@ -175,7 +175,7 @@ fn index_of(place: Place, setting: &Setting, access: &Access) -> usize
     place.of_insertion(page_slot(access.addr(), setting.rules.slots))
 }
 
-/// An index was tried. Refused, the next one is.
+/// An index was tried. Refused, it is occupied, and the next one is tried: as in core.c its neighbours stand in.
 fn inserted(setting: &Setting, access: &Access, place: Place, word: u64, accepted: bool) -> Watching
     ensures accepted { (sites : AccessMap) → accepted ≡ true → result ≡ Watching.Going (Setup.Name (try_index place (spec.slot_of (setting_with setting.now sites) access.now))) }
     ensures refused { accepted ≡ false → result ≡ after_refusal word (place_after place) }
@@ -204,7 +204,7 @@ fn named(setting: &Setting, access: &Access, index: usize) -> Watching
     }
 }
 
-/// The setter has consumed its word.
+/// The setter has consumed its word. If nobody had hit it nobody will, so the verdict falls at once.
 fn consumed(
     setting: &Setting,
     access: &Access,
@@ -252,7 +252,7 @@ pub(crate) fn watched(
 }
 
 /// Nobody hit the watchpoint. A change that was seen has an unknown origin: whoever made it had looked too early,
-/// or looks nothing up.
+/// had ended its look-up at another watchpoint, or looks nothing up.
 fn untouched(setting: &Setting, access: &Access, values: Option<(u64, u64)>) -> Outcome
     ensures { (sites : AccessMap) → UntouchedOutcome (setting_with setting.now sites) access.now values result }
 {

@@ -105,7 +105,7 @@ pub(crate) fn after_turn(to: To, role: Role, begun: Begun, scopes: &[Begun]) -> 
 
 /// What follows on a check of an access that is over. One that found a watchpoint or stalled for its own has
 /// done enough here. After another, also where no index was free or no word stands for it, the scoped
-/// assertions have their turn: one after the other, whatever each finds, since each claims bytes of its own.
+/// assertions have their turn: one after the other, whatever each finds, since each is a claim apart.
 fn after_check(role: Role, is_settled: bool, scopes: &[Begun]) -> Stage
     requires { length scopes.now ≤ 8 }
     ensures fits { stage_due result ≤ role_due role }
@@ -116,6 +116,7 @@ fn after_check(role: Role, is_settled: bool, scopes: &[Begun]) -> Stage
     match role {
         Role::Access if is_settled => Stage::Rest,
         Role::Access => check_scoped_accesses(scopes, 0),
+        // Goes on to the next one: KCSAN's kcsan_check_scoped_accesses() too avoids that its checks start others.
         Role::Scope(number) => check_scoped_accesses(scopes, number.saturating_add(1)),
         Role::Closing => Stage::End,
     }

@@ -22,6 +22,7 @@ pub(crate) fn source_of(setting: &Setting, access: &Access) -> Option<Source>
     ensures value { (sites : AccessMap) → result ≡ spec.source_of (setting_with setting.now sites) access.now }
     ensures in_cell { IfSome result (λ source. source.first + access.now.size ≤ 8) }
 {
+    // As KCSAN's read_instrumented_memory(), which reads bytes of these sizes alone: others aren't compared.
     if !matches!(access.size(), 1 | 2 | 4 | 8) {
         return None;
     }

@@ -1,3 +1,4 @@
+-- What is left of a table of shared words, and the one legal list that has all records of its seats.
 use Rattle.std.specs.Prelude.{◌≡◌, ◌≢◌, ◌<◌, ◌≤◌, ℕ, List, All, []}
 use Rattle.std.specs.List.{Contains}
 use Rattle.slot_table.specs.Discipline.{AllAreFinished, IsFinished, LegalInDiscipline}

@@ -1,3 +1,4 @@
+-- What a table of shared words is made for, and its words before the first step.
 use Rattle.std.specs.Prelude.{ℕ, List}
 use Rattle.slot_table.specs.Words.{Words, words_at_first}
 

@@ -1,3 +1,4 @@
+-- What a seat notes of each operation on the row of words: the step that it is, and its answer.
 use Rattle.std.specs.Prelude.{◌≡◌, ◌==◌, ◌||◌, ℕ, not, ◌^◌, ◌-◌, ◌/◌, true, if◌then◌else◌, []}
 use Rattle.atomic_table.specs.Table as table
 use Rattle.slot_table.specs.declared.step.Answer.{Answer}

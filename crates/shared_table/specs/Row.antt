@@ -1,3 +1,4 @@
+-- Where each word of a table stands in its one row, and which words a row stands for.
 use Rattle.std.specs.Prelude.{◌+◌, ◌/◌, ◌%◌, ◌^◌, ℕ, List, length, map, take, drop, replicate, slice_index, ◌++◌, [], ◌∷◌}
 use Rattle.slot.specs.Pair.{Halves}
 use Rattle.slot_table.specs.Words.{Words}

@@ -1,3 +1,4 @@
+-- The invariant of the shared words: one legal list has what the seats hold, and leaves the words as they stand.
 use Rattle.std.specs.Prelude.{◌≡◌, ◌≢◌, ◌≤◌, ℕ, List, [], All, length}
 use mathlib.Core.Option.{some}
 use lib.ListN.{get_elem?}

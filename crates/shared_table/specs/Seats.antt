@@ -1,3 +1,4 @@
+-- A task's seat at a table, the steps that it may make there, and the lists that have its records.
 use Rattle.std.specs.Prelude.{◌≡◌, ℕ, List, [], ◌∷◌, map}
 use Rattle.std.specs.List.{range_with_len}
 use Rattle.atomic_table.specs.Seated.{TableId}

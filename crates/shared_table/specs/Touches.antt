@@ -1,3 +1,4 @@
+-- An operation that a seat may make on a word of the row: it keeps the invariant, and notes one record.
 use Rattle.std.specs.Prelude.{◌≡◌, ◌<◌, ℕ, List}
 use Rattle.atomic_table.specs.Table.{Allows, State}
 use Rattle.atomic_table.specs.declared.shared.Seat.{Seat}

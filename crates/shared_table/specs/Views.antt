@@ -1,3 +1,4 @@
+-- What a seat holds, tasks with their records, and how it changes as seats are cut, joined and make steps.
 use Rattle.std.specs.Prelude.{ℕ, List, [], ◌∷◌, map, ◌++◌}
 use Rattle.std.specs.List.{range_with_len}
 use Rattle.slot_table.specs.declared.records.Record.{Record}

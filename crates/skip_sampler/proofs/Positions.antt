@@ -1,4 +1,4 @@
--- a sampler counts down to the next position, and draws one generator word at each
+-- A sampler counts down to the next position, and draws one generator word at each.
 use Rattle.std.proofs.Common.{◌≡◌, ◌<◌, ◌≤◌, ◌⊎◌, ◌*◌, ◌+◌, ◌-◌, ◌%◌, ◌∙◌, ℕ, zero, suc, List, Bool}
 use Rattle.std.proofs.Common.{true, false, refl, sym, ap, arith, below_more, add-one, add-zero}
 use Rattle.std.proofs.Common.{add-suc, le_refl, subst, inl, inr, if◌then◌else◌}

@@ -1,3 +1,4 @@
+-- Which askings are answered yes, by skip and seed, and the state that so many askings lead to.
 use Rattle.std.specs.Prelude.{◌≡◌, ◌+◌, ◌-◌, ◌%◌, ◌<◌, ◌≤◌, ◌&&◌, ◌==◌, ℕ, zero, suc, List, Bool}
 use Rattle.std.specs.Prelude.{not, if◌then◌else◌}
 use Rattle.rand_core.specs.Stream.{Stream, next_u64}

@@ -41,7 +41,8 @@ impl Model for Sampler {
 
 impl Sampler {
     /// A sampler that skips the first `skip` accesses. The seed decides what a randomized sampler
-    /// skips between later ones.
+    /// skips between later ones. That it begins with a whole skip is a choice, where core.c watches
+    /// the first access that asks: so without chance each multiple of `skip` + 1 is watched.
     pub fn new(skip: u64, randomize: bool, seed: u64) -> Sampler
         ensures { LeadsTo skip randomize seed 0 result }
     {
@@ -87,7 +88,7 @@ impl Sampler {
 }
 
 /// How many accesses are skipped after one that is watched. The generator is asked only where this
-/// is drawn.
+/// is drawn. As by KCSAN's reset_kcsan_skip() a random part is taken off `skip`, which so stays the most.
 fn next_gap(skip: u64, randomize: bool, generator: &mut Xoshiro256PlusPlus) -> u64
     ensures gap { result ≡ gap_by skip randomize (next_u64 (stream_from generator.old)).0 }
     ensures rest { stream_from generator.new

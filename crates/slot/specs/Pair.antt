@@ -1,3 +1,4 @@
+-- The steps on a pair word: what each answers, and the two halves after it.
 use Rattle.std.specs.Prelude.{ℕ, bit_or}
 use Rattle.slot.specs.Line.{Line}
 

@@ -1,3 +1,4 @@
+-- The steps on a watch word: what each answers, and the word after it.
 use Rattle.std.specs.Prelude.{◌==◌, ◌||◌, ℕ, Bool, not, if◌then◌else◌}
 use Rattle.slot.specs.Line.{Line}
 

@@ -1,3 +1,5 @@
+//! The pair word: who set a watchpoint up, and who hit it.
+
 ghost use Rattle.std.specs.Prelude.{◌≡◌};
 ghost use Rattle.slot.specs.Pair.{Halves, clear_line, halves_line, name_line, tell_line, unnamed};
 
@@ -39,7 +41,7 @@ impl Pair {
     }
 
     /// Tells the setter who hit its watchpoint: the bits of the finder's ticket are set in its
-    /// half.
+    /// half. Bits are set and no word is stored, so that the other half stays.
     pub fn tell(&mut self, ticket: u32)
         ensures { self.new ≡ (tell_line self.old ticket).after }
     {

@@ -1,3 +1,5 @@
+//! The watch word: set up, taken by whoever hits it, ended by its setter, and removed.
+
 ghost use Rattle.std.specs.Prelude.{◌≡◌, ◌<◌, ℕ};
 ghost use Rattle.slot.specs.Slot.{consume_line, insert_line, load_line, remove_line};
 ghost use Rattle.slot.specs.Slot.{try_consume_line};
@@ -40,7 +42,8 @@ impl Slot {
         self.word
     }
 
-    /// Sets up the watchpoint `word` if there is none, and answers whether it did.
+    /// Sets up the watchpoint `word` if there is none, and answers whether it did. As KCSAN's insert_watchpoint() it
+    /// replaces the empty word alone, so that no watch under way is lost.
     pub fn insert(&mut self, word: u64) -> bool
         requires { 1 < word }
         ensures answer { result ≡ (insert_line self.old word).answer }
@@ -68,7 +71,8 @@ impl Slot {
     }
 
     /// Marks whatever stands there as hit, and answers whether it was a watchpoint that nobody had
-    /// hit. The setter ends its watch so.
+    /// hit. The setter ends its watch so, as by KCSAN's consume_watchpoint(): in one step, so that a finder was first
+    /// or is refused.
     pub fn consume(&mut self) -> bool
         ensures answer { result ≡ (consume_line self.old).answer }
         ensures after { self.new ≡ (consume_line self.old).after }

@@ -1,3 +1,4 @@
+-- Which kind of answer each step has.
 use Rattle.std.specs.Prelude.{◌⊎◌, ◌≡◌, true}
 use Rattle.slot_table.specs.declared.step.Answer.{Answer}
 use Rattle.slot_table.specs.declared.step.Answer.TheVariants.{Word, Flag, Halves, Done}

@@ -1,3 +1,4 @@
+-- The armings in a list of records, who took, named and told each, and that none is taken or told twice.
 use Rattle.std.specs.Prelude.{◌≡◌, ◌==◌, ◌&&◌, ℕ, true, List, [], ◌∷◌, Option, None, Some, length}
 use Rattle.std.specs.Prelude.{if◌then◌else◌}
 use Rattle.std.specs.List.{cons_option}

@@ -1,3 +1,4 @@
+-- The discipline of a task: which step it may make after its own records.
 use Rattle.std.specs.Prelude.{◌≡◌, ◌==◌, ◌<◌, ◌⊎◌, ℕ, Bool, true, false, List, [], ◌∷◌, Option}
 use Rattle.std.specs.Prelude.{None, Some, IsTrue, if◌then◌else◌}
 use Rattle.access_types.specs.Ticket.{task_in}

@@ -1,3 +1,4 @@
+-- A finder that tells, and a setter that clears after a hit, has heard the ticket of the other of this very arming.
 use Rattle.std.specs.Prelude.{◌≡◌, ◌≢◌, ◌⊎◌, ℕ, true, List, [], ◌∷◌, None, Some, length}
 use Rattle.slot.specs.Pair.{Halves}
 use Rattle.slot_table.specs.Armings.{finder_at, last_arming, last_arming_number, named_at}

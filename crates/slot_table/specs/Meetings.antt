@@ -1,3 +1,4 @@
+-- Which setter and finder met over which arming, as finders told it and as setters heard it.
 use Rattle.std.specs.Prelude.{◌==◌, ℕ, List, [], ◌∷◌, Option, Some, map}
 use Rattle.std.specs.List.{filter}
 use Rattle.slot.specs.Pair.{Halves}

@@ -1,3 +1,4 @@
+-- Which task is setter at an index, and which is a finder there that has not told yet.
 use Rattle.std.specs.Prelude.{◌==◌, ◌⊎◌, ℕ, Bool, true, false, List, [], ◌∷◌, IsTrue, if◌then◌else◌}
 use Rattle.slot_table.specs.Records.{records_of}
 use Rattle.slot_table.specs.declared.records.Record.{Record}

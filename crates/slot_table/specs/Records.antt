@@ -1,3 +1,4 @@
+-- Which lists of records, the latest first, are legal, and what words they leave.
 use Rattle.std.specs.Prelude.{◌≡◌, ◌==◌, ℕ, List, [], ◌∷◌}
 use Rattle.std.specs.List.{filter}
 use Rattle.slot_table.specs.StepLine.{Names, step_line}

@@ -1,3 +1,4 @@
+-- What stands at an index after a list: its watch word tells whose it is, and what part each task has there.
 use Rattle.std.specs.Prelude.{◌≡◌, ◌≢◌, ◌<◌, ◌⊎◌, ℕ, List, Option, None, Some, slice_index}
 use Rattle.std.specs.Prelude.{slice_index_or}
 use Rattle.slot.specs.Pair.{Halves, unnamed}

@@ -1,3 +1,4 @@
+-- What each step answers and leaves of the words, and which words it names.
 use Rattle.std.specs.Prelude.{◌+◌, ◌%◌, ◌^◌, ◌==◌, ◌<◌, ℕ, true, length, slice_index}
 use Rattle.std.specs.Prelude.{slice_index_or, slice_set, if◌then◌else◌}
 use Rattle.slot.specs.Line.{Line}

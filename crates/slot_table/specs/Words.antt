@@ -1,3 +1,4 @@
+-- The words that the tasks share, and what they are before the first step.
 use Rattle.std.specs.Prelude.{◌+◌, ℕ, List, replicate}
 use Rattle.slot.specs.Pair.{Halves, unnamed}
 

@@ -209,18 +209,25 @@ pub fn allows(made: &[Record], task: u32, step: Step) -> bool
 {
     let hand = hand_of(made, task);
     match step {
+        // One handshake at a time: a task that has one in hand neither sets up nor takes another.
         Step::Insert(_, word) => word > CONSUMED && hand.is_none(),
+        // What is taken was read there before: a word that wasn't read has matched no access.
         Step::TryConsume(index, word) => {
             word > CONSUMED && loaded_by(made, task, index) == Some(word) && hand.is_none()
         }
+        // A stamp begins or ends an access or a scope, and handshakes lie between: whoever is named is in progress.
         Step::Clock => hand.is_none(),
         Step::Name(index, ticket) => is_own_ticket(task, ticket) && has_inserted(hand, index),
+        // The name comes first: a finder that took the word awaits it, and after a hit the setter awaits this finder.
         Step::Consume(index) => has_named(hand, index),
+        // After a hit the finder's half is awaited: cleared too early, the finder would tell the next setter.
         Step::Clear(index) => {
             has_part(hand, index, Part::Untouched)
                 || has_part(hand, index, Part::Hit) && has_heard_finder(made, task, index)
         }
+        // The pair is emptied while the index is still the setter's own.
         Step::Remove(index) => has_part(hand, index, Part::Cleared),
+        // The finder has heard the setter first, so that both know the same pair.
         Step::Tell(index, ticket) => {
             is_own_ticket(task, ticket)
                 && has_taken(hand, index)

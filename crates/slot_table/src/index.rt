@@ -16,7 +16,8 @@ pub fn page_slot(addr: u64, page_slots: usize) -> usize
     (addr / PAGE % page_slots as u64) as usize
 }
 
-/// The indices at which an access of this page slot looks for a watchpoint, in this order.
+/// The indices at which an access of this page slot looks for a watchpoint, in this order. As by KCSAN's
+/// SLOT_IDX_FAST() the middle one isn't first: that is fine, since races are rare and the indices are the same.
 pub fn look_order(page_slot: usize) -> [usize; 3]
     requires { page_slot ≤ 1023 }
     ensures { result ≡ page_slot ∷ (page_slot + 1) ∷ (page_slot + 2) ∷ [] }
@@ -24,7 +25,9 @@ pub fn look_order(page_slot: usize) -> [usize; 3]
     [page_slot, page_slot + 1, page_slot + 2]
 }
 
-/// The indices at which an access of this page slot tries to set up a watchpoint, in this order.
+/// The indices at which an access of this page slot tries to set up a watchpoint, in this order. As by KCSAN's
+/// SLOT_IDX() the middle one comes first: look-ups from the page before and from the page after read it too. Where it
+/// is occupied its neighbours are tried.
 pub fn try_order(page_slot: usize) -> [usize; 3]
     requires { page_slot ≤ 1023 }
     ensures { result ≡ (page_slot + 1) ∷ (page_slot + 2) ∷ page_slot ∷ [] }

@@ -10,9 +10,9 @@ ghost use Rattle.run_lists.specs.of_written_order_Standing.{Setting};
 ghost use Rattle.run_lists.specs.of_written_order_Waits.{WithinTurns};
 ghost use Rattle.run_lists.specs.of_written_order_WrittenOrder.{WrittenOrder};
 
-/// Law: a task whose text keeps the limits, and which goes on with no wait for longer than the turns, makes no more than
-/// 2^25 steps for each turn and one, and a program no more than each of its tasks. So where the turns are a number of 64
-/// bits, a run has fewer than 2^96 steps.
+/// Law: a task whose text keeps the limits, and which goes on with no wait for longer than the turns, makes no more
+/// than 2^25 steps for each turn and one, and a program no more than each of its tasks. So where the turns are a number
+/// of 64 bits, a run has fewer than 2^96 steps.
 pub fn few_steps_are_made()
     ensures task { (s : Setting) (registers : ℕ) (body : Block) (records : List Record) → BodyKeepsLimits body
         → WrittenOrder s registers body records → WithinTurns s.rules.turns (reverse records)

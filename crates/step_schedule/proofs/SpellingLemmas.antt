@@ -1,3 +1,4 @@
+-- A text spells at most one list of entries: the one read between its commas, and round the first `x` of each.
 use Rattle.std.proofs.Common.{◌≡◌, ◌≢◌, ◌<◌, ◌^◌, ◌++◌, ◌↔◌, ◌∙◌, ℕ, zero, suc, List, [], ◌∷◌, Bor}
 use Rattle.std.proofs.Common.{Option, None, Some, Result, Ok, Err, true, false, ap, arith, get_or, length}
 use Rattle.std.proofs.Common.{map, refl, sym, subst, take}

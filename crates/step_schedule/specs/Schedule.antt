@@ -1,3 +1,4 @@
+-- The entries of a schedule, and whether one names a task that a program doesn't have.
 use Rattle.std.specs.Prelude.{ℕ, List, Bool, nat_le}
 use Rattle.std.specs.List.{list_any}
 use Rattle.step_schedule.specs.declared.schedule.Entry.{Entry}

@@ -1,3 +1,4 @@
+-- How a schedule is spelled: tasks with numbers of steps, joined by commas.
 use Rattle.std.specs.Prelude.{◌≡◌, ◌<◌, ◌^◌, ◌++◌, ◌∷◌, [], ℕ, List, true, length}
 use Rattle.std.specs.List.{join_with_byte}
 use Rattle.std.specs.Str.{all_ascii_digits}

@@ -1,3 +1,5 @@
+//! Tests of schedules: those that are read, and those that are refused.
+
 use crate::schedule::{Entry, Schedule};
 use std::test::Fail;
 

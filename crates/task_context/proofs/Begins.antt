@@ -1,4 +1,4 @@
--- the begin of an access adds no mark, and takes one of what is left where it is countable
+-- The begin of an access adds no mark, and takes one of what is left where it is countable.
 use Rattle.std.proofs.Common.{◌≡◌, ◌<◌, ◌≤◌, ◌-◌, ◌==◌, ◌∙◌, ◌&&◌, ◌⊎◌, ◌↔◌, ℕ, List, [], ◌∷◌, Bool}
 use Rattle.std.proofs.Common.{true, false, not, cond, IsTrue, refl, ap, arith, inl, inr}
 use Rattle.std.proofs.Math.Bool.{and-true}

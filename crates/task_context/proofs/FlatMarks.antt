@@ -1,4 +1,4 @@
--- one mark more, and whether the last flat mark is then a begin
+-- One mark more, and whether the last flat mark is then a begin.
 use Rattle.std.proofs.Common.{◌≡◌, ◌++◌, ◌⊎◌, ◌∙◌, List, [], ◌∷◌, false, count_by, refl, ap, arith}
 use Rattle.std.proofs.Common.{inl, inr, append_assoc}
 use Rattle.access_types.specs.Marked.{IsFlatOpen, is_flat}

@@ -1,4 +1,4 @@
--- each mark changes one part of the context, and leaves the others as they are
+-- Each mark changes one part of the context, and leaves the others as they are.
 use Rattle.std.proofs.Common.{◌≡◌, ◌+◌, ◌-◌, ◌++◌, ◌↔◌, ℕ, List, [], ◌∷◌, Bool, true, false, IsTrue}
 use Rattle.std.proofs.Common.{refl, ap, arith, count_by}
 use Rattle.access_types.specs.History.{History}

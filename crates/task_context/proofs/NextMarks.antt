@@ -1,4 +1,4 @@
--- there is one last next-mark, and what is left of it goes down with each countable begin
+-- There is one last next-mark, and what is left of it goes down with each countable begin.
 use Rattle.std.proofs.Common.{◌≡◌, ◌<◌, ◌++◌, ◌+◌, ◌-◌, ◌∙◌, ℕ, [], ◌∷◌, Bool, cond, count_by, refl}
 use Rattle.std.proofs.Common.{ap, arith, append_assoc, sym}
 use Rattle.std.proofs.lemmas.List.Sums.{sum_by-append}

@@ -1,4 +1,4 @@
--- an access that begins once begins after one list of moments only
+-- An access that begins once begins after one list of moments only.
 use Rattle.std.proofs.Common.{◌≡◌, ◌++◌, ◌↔◌, [], ◌∷◌, Bool, Contains, refl, sym, subst}
 use Rattle.std.proofs.lemmas.List.Elements.{Contains-append_left, Contains-append_right}
 use Rattle.std.proofs.lemmas.List.Elements.{Contains-push}

@@ -1,4 +1,4 @@
--- each part of a context is determined by the moments, one after the other
+-- Each part of a context is determined by the moments, one after the other.
 use Rattle.std.proofs.Common.{◌≡◌, ◌-◌, ◌++◌, ◌==◌, ◌↔◌, ℕ, [], ◌∷◌, Bool, true, false, IsTrue}
 use Rattle.std.proofs.Common.{refl, sym, subst, inl, inr, append_assoc}
 use Rattle.std.proofs.lemmas.Bool.{cases_eq}

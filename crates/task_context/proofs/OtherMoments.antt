@@ -1,4 +1,4 @@
--- a moment that doesn't concern a task adds no mark of it and begins no countable access of it
+-- A moment that doesn't concern a task adds no mark of it and begins no countable access of it.
 use Rattle.std.proofs.Common.{◌≡◌, ◌-◌, ◌++◌, ◌==◌, ℕ, List, [], ◌∷◌, Bool, true, false, refl}
 use Rattle.std.proofs.Common.{ap, arith}
 use Rattle.std.proofs.Math.Bool.{and-false}

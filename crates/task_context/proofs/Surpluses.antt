@@ -1,4 +1,4 @@
--- one mark more, and the largest surplus of an ending part then
+-- One mark more, and the largest surplus of an ending part then.
 use Rattle.std.proofs.Common.{◌≡◌, ◌+◌, ◌-◌, ◌≤◌, ◌<◌, ◌++◌, ◌⊎◌, ℕ, zero, suc, List, [], ◌∷◌, Bool}
 use Rattle.std.proofs.Common.{true, false, cond, drop, length, count_by, refl, arith, ap, inl, inr}
 use Rattle.std.proofs.Common.{le_refl, sub-one, length-append}

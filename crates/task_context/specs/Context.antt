@@ -1,3 +1,4 @@
+-- What a task keeps of its KCSAN calls.
 use Rattle.std.specs.Prelude.{ℕ, Bool, false}
 
 -- what a task keeps: how often reporting is disabled, how many nested regions are open, whether a

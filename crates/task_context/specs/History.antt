@@ -1,3 +1,4 @@
+-- Which context the marks and accesses of a task so far lead to.
 use Rattle.std.specs.Prelude.{◌≡◌, ◌+◌, ◌-◌, ◌≤◌, ◌↔◌, ◌++◌, ℕ, List, [], ◌∷◌, Bool, IsTrue}
 use Rattle.std.specs.Prelude.{count_by, drop}
 use Rattle.access_types.specs.History.{History}

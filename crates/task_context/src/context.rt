@@ -1,3 +1,5 @@
+//! The context of a task: what its KCSAN calls have turned on and off, and so how its accesses count.
+
 ghost use Rattle.std.specs.Prelude.{◌≡◌, ◌+◌, ◌-◌, ◌<◌, ◌^◌, ◌↔◌, ℕ, [], Bool, IsFalse, IsTrue, IsErrOf};
 ghost use Rattle.std.specs.Prelude.{OnErr, OnOk, false, true};
 ghost use Rattle.access_types.specs.History.{History};
@@ -92,7 +94,7 @@ impl Context {
         self.disable_count += 1;
     }
 
-    /// `kcsan_enable_current`: takes one `disable` back.
+    /// `kcsan_enable_current`: takes one `disable` back. Where there is none KCSAN warns, and keeps the count at 0 too.
     ///
     /// `Unbalanced`: there is none to take back. Nothing changes, and the refused call may stand in
     /// the history all the same.
@@ -174,9 +176,11 @@ impl Context {
         if access.kind().is_marked() {
             return true;
         }
+        // As in KCSAN's is_atomic(): so an assertion means the same within atomic regions, as those of seqlocks.
         if access.kind().is_assertion() {
             return false;
         }
+        // Before `atomic_next`, as in KCSAN: a write that counts anyway takes nothing of what is left.
         if is_atomic_write(access, plain_writes_atomic) {
             return true;
         }
@@ -184,6 +188,8 @@ impl Context {
             self.atomic_next -= 1;
             return true;
         }
+        // The two kinds of regions are independent: a reader's section of a seqlock, which is flat, may lie in a
+        // writer's, which nests.
         self.nest_count > 0 || self.in_flat
     }
 

@@ -10,7 +10,7 @@ use Rattle.access_run.specs.of_memory_operation_declared.effect.Effect.{Effect}
 use Rattle.access_run.specs.of_memory_operation_declared.operation.Operation.{Operation}
 use Rattle.access_run.specs.of_memory_operation_declared.operation.Operation.TheVariants as operations
 use Rattle.access_run.specs.of_setup_access_Check.{Check, Fallen, Passes}
-use Rattle.access_run.specs.of_setup_access_Own.{AreOwn, IsOwn}
+use Rattle.access_run.specs.of_setup_access_OwnAccesses.{AreOwn, IsOwn}
 use Rattle.access_run.specs.of_setup_access_Records.{MakesWord}
 use Rattle.access_run.specs.of_setup_access_declared.begun.Begun.{Begun}
 use Rattle.access_run.specs.of_slot_table_declared.records.Record.{Record}
@@ -18,7 +18,7 @@ use Rattle.access_run.specs.of_slot_table_declared.step.Step.TheVariants.{Clock}
 use Rattle.task_laws.proofs.SpelledAccesses.{after_access, begun_in, ends_at}
 use Rattle.task_laws.proofs.Decided.{begins_now}
 use Rattle.task_laws.specs.Begins.{one_at}
-use Rattle.task_laws.specs.Core.{Core, core_of, standing}
+use Rattle.task_laws.specs.StandingButWay.{Core, core_of, standing}
 use Rattle.task_laws.proofs.Places.{ByEach, BySome, PartIsOpen, Valued, WithinFrom, sum_open}
 use Rattle.text_bounds.specs.of_written_order_Access.{Makes}
 use Rattle.text_bounds.specs.of_written_order_Standing.{BeginsNow, Point, Setting, Standing, checks_of}

@@ -1,4 +1,4 @@
--- Assignments are open.
+-- Assignments are open: whatever their steps are answered they go on, if what may follow on them does.
 use Rattle.std.proofs.Common.{◌≡◌, ◌<◌, ◌≤◌, ◌+◌, ◌-◌, ◌^◌, ℕ, Bool, true, List, None, Some, ap, arith, refl, replicate, if◌then◌else◌}
 use Rattle.program_layout.specs.of_access_types_declared.history.Happening.{Happening}
 use Rattle.program_layout.specs.of_access_types_declared.history.Happening.TheVariants as happenings
@@ -16,11 +16,11 @@ use Rattle.access_run.specs.of_memory_operation_declared.effect.Effect.{Effect}
 use Rattle.access_run.specs.of_memory_operation_declared.operation.Change.TheVariants as changes
 use Rattle.access_run.specs.of_memory_operation_declared.operation.Operation.{Operation}
 use Rattle.access_run.specs.of_memory_operation_declared.operation.Operation.TheVariants as operations
-use Rattle.access_run.specs.of_setup_access_Own.{AreOwn}
+use Rattle.access_run.specs.of_setup_access_OwnAccesses.{AreOwn}
 use Rattle.task_laws.proofs.Parts.{set_at}
 use Rattle.task_laws.proofs.Statements.{atomic_bytes, doing_at, few_at, integer_bytes, write_bytes}
 use Rattle.task_laws.specs.Begins.{one_at, own_begins}
-use Rattle.task_laws.specs.Core.{Core, begun_at, core_of, standing}
+use Rattle.task_laws.specs.StandingButWay.{Core, begun_at, core_of, standing}
 use Rattle.task_laws.specs.Fits.{ArePlaced, HasBytes}
 use Rattle.task_laws.proofs.Loads.{expression_open, made_to_open}
 use Rattle.task_laws.proofs.Places.{Plain, StepsAreOpen, WithinFrom, part_via}

@@ -8,7 +8,7 @@ use Rattle.program_layout.specs.of_litmus_syntax_declared.statement.Call.{Call}
 use Rattle.program_layout.specs.of_litmus_syntax_declared.statement.Call.TheVariants as calls
 use Rattle.access_run.specs.of_slot_table_declared.records.Record.{Record}
 use Rattle.task_laws.specs.Begins.{block_begins, one_at, own_begins, statement_begins}
-use Rattle.task_laws.specs.Core.{begun_at, core_of}
+use Rattle.task_laws.specs.StandingButWay.{begun_at, core_of}
 use Rattle.text_bounds.proofs.Counts.{Bounds, block_grows}
 use Rattle.text_bounds.proofs.Statements.{assignment_weight, call_weight, expression_weight}
 use Rattle.text_bounds.proofs.Weights.{Weighs}

@@ -9,7 +9,7 @@ use Rattle.program_layout.specs.of_litmus_syntax_Limits.{BlockTyped, ExpressionT
 use Rattle.program_layout.specs.of_litmus_syntax_Sites.{accesses_of, assignment_has_access, call_has_access, expression_has_access, sites_of}
 use Rattle.program_layout.specs.of_litmus_syntax_Tree.{Block, Expression, Load, Statement}
 use Rattle.program_layout.specs.of_litmus_syntax_Tree as tree
-use Rattle.access_run.specs.of_setup_access_Own.{AreOwn}
+use Rattle.access_run.specs.of_setup_access_OwnAccesses.{AreOwn}
 use Rattle.access_run.specs.of_setup_access_Setting as checks
 use Rattle.access_run.specs.of_setup_access_declared.begun.Begun.{Begun}
 use Rattle.access_run.specs.of_slot_table_declared.records.Record.{Record}
@@ -17,7 +17,7 @@ use Rattle.task_laws.proofs.SpelledBlocks.{after_own, alone, scoped_fits}
 use Rattle.task_laws.proofs.Parts.{set_at}
 use Rattle.task_laws.proofs.Statements.{few_at, fetch_bytes}
 use Rattle.task_laws.specs.Begins.{block_begins, one_at, own_begins, statement_begins}
-use Rattle.task_laws.specs.Core.{Core, begun_at, core_of, standing}
+use Rattle.task_laws.specs.StandingButWay.{Core, begun_at, core_of, standing}
 use Rattle.task_laws.specs.Fits.{ArePlaced, HasBytes}
 use Rattle.task_laws.proofs.Assignments.{assign_open}
 use Rattle.task_laws.proofs.Calls.{call_open}

@@ -21,14 +21,14 @@ use Rattle.program_layout.specs.of_litmus_syntax_declared.statement.Call.TheVari
 use Rattle.access_run.specs.of_memory_operation_Locks.{TakesLock}
 use Rattle.access_run.specs.of_memory_operation_declared.effect.Effect.{Effect}
 use Rattle.access_run.specs.of_setup_access_Check.{Fallen}
-use Rattle.access_run.specs.of_setup_access_Own.{AreOwn}
+use Rattle.access_run.specs.of_setup_access_OwnAccesses.{AreOwn}
 use Rattle.access_run.specs.of_setup_access_Records.{MakesDone}
 use Rattle.access_run.specs.of_slot_table_declared.records.Record.{Record}
 use Rattle.access_run.specs.of_slot_table_declared.step.Step.TheVariants.{LockStore}
 use Rattle.task_laws.proofs.Decided.{nothing_told}
 use Rattle.task_laws.proofs.Statements.{above_zero, doing_at, few_at, in_range, lock_at, memory_bytes, no_mask, own_access, proper}
 use Rattle.task_laws.specs.Begins.{one_at, own_begins}
-use Rattle.task_laws.specs.Core.{Core, begun_at, core_of, standing}
+use Rattle.task_laws.specs.StandingButWay.{Core, begun_at, core_of, standing}
 use Rattle.task_laws.specs.Fits.{ArePlaced}
 use Rattle.task_laws.proofs.Accesses.{makes_open}
 use Rattle.task_laws.proofs.Places.{Plain, StepsAreOpen, Valued, WithinFrom, part_as, part_of, part_still, part_sum, part_via}

@@ -9,7 +9,7 @@ use Rattle.access_run.specs.of_setup_access_Check.{Check, ChecksBegun, ChecksOnc
 use Rattle.access_run.specs.of_setup_access_Find.{LooksUp}
 use Rattle.access_run.specs.of_setup_access_Found.{FoundWatchpoint, Hears, Takes, Tells, TellsTo, finder_half, setter_half}
 use Rattle.access_run.specs.of_setup_access_Hits.{Hits}
-use Rattle.access_run.specs.of_setup_access_Own.{AreOwn, IsOwn}
+use Rattle.access_run.specs.of_setup_access_OwnAccesses.{AreOwn, IsOwn}
 use Rattle.access_run.specs.of_setup_access_Records.{MakesDone, MakesWord}
 use Rattle.access_run.specs.of_setup_access_Setting.{IsWatched, Setting, look_order, slot_of, try_order}
 use Rattle.access_run.specs.of_setup_access_Setup.{Arms, Frees, Judged, Judges, JudgesHit, SetsUp, TriesInsert, Watches, WatchesAt}

@@ -8,7 +8,7 @@ use Rattle.program_layout.specs.of_access_types_Marked.{CountsAfter, EndsRaised,
 use Rattle.program_layout.specs.of_access_types_Marked.CountsAfter.{atomic_write, declared, in_flat, in_nest, within_next}
 use Rattle.program_layout.specs.of_access_types_declared.history.Mark.{Mark}
 use Rattle.program_layout.specs.of_access_types_declared.history.Mark.TheVariants.{Disable, Enable, FlatBegin, FlatEnd, NestClose, NestOpen, Next}
-use Rattle.access_run.specs.of_setup_access_Own.{IsOwn}
+use Rattle.access_run.specs.of_setup_access_OwnAccesses.{IsOwn}
 use Rattle.access_run.specs.of_setup_access_declared.begun.Begun.{Begun}
 use Rattle.access_run.proofs.of_task_context_NextMarks.{IsWithinNext-left}
 use Rattle.access_run.proofs.of_task_context_OneContext.{some_context}

@@ -16,12 +16,12 @@ use Rattle.program_layout.specs.of_litmus_syntax_Tree as tree
 use Rattle.access_run.specs.of_memory_operation_declared.effect.Effect.{Effect}
 use Rattle.access_run.specs.of_memory_operation_declared.operation.Operation.{Operation}
 use Rattle.access_run.specs.of_setup_access_Check.{Fallen}
-use Rattle.access_run.specs.of_setup_access_Own.{AreOwn}
+use Rattle.access_run.specs.of_setup_access_OwnAccesses.{AreOwn}
 use Rattle.access_run.specs.of_slot_table_declared.records.Record.{Record}
 use Rattle.task_laws.proofs.ReadLemmas.{HasRead, fetch_reads, operation_reads}
 use Rattle.task_laws.proofs.Statements.{doing_at, few_at, in_range, load_bytes, no_mask, own_access}
 use Rattle.task_laws.specs.Begins.{one_at, own_begins}
-use Rattle.task_laws.specs.Core.{Core, begun_at, core_of, standing}
+use Rattle.task_laws.specs.StandingButWay.{Core, begun_at, core_of, standing}
 use Rattle.task_laws.specs.Fits.{ArePlaced, HasBytes}
 use Rattle.task_laws.proofs.Accesses.{makes_open}
 use Rattle.task_laws.proofs.Places.{PartIsOpen, Valued, WithinFrom, part_still, part_via}

@@ -22,7 +22,7 @@ use Rattle.access_run.specs.of_slot_table_declared.step.Answer.{Answer}
 use Rattle.access_run.specs.of_slot_table_declared.step.Answer.TheVariants as answers
 use Rattle.access_run.specs.of_slot_table_declared.step.Step.{Step}
 use Rattle.access_run.specs.of_slot_table_declared.step.Step.TheVariants.{CellExchange, CellLoad}
-use Rattle.task_laws.specs.Alike.{IsAlike}
+use Rattle.task_laws.specs.SameStep.{IsAlike}
 use Rattle.task_laws.proofs.Opens.{After, Begins, IsOpen, Lists, Open, SomeIs, is_open_as, mapped_open, none_open, word_then}
 
 module _ (task : ℕ) (a : Access) (source : Source) where

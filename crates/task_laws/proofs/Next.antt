@@ -7,7 +7,7 @@ use Rattle.access_run.specs.of_slot_table_Answer.{Answers}
 use Rattle.access_run.specs.of_slot_table_declared.records.Record.{Record}
 use Rattle.access_run.specs.of_slot_table_declared.step.Answer.{Answer}
 use Rattle.access_run.specs.of_slot_table_declared.step.Step.{Step}
-use Rattle.task_laws.specs.Alike.{IsAlike}
+use Rattle.task_laws.specs.SameStep.{IsAlike}
 use Rattle.text_bounds.specs.of_written_order_Standing.{Setting}
 use Rattle.text_bounds.specs.of_written_order_WrittenOrder.{SpellsAll, WrittenOrder}
 

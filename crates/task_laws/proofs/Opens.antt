@@ -7,7 +7,7 @@ use Rattle.access_run.specs.of_slot_table_declared.records.Record.{Record}
 use Rattle.access_run.specs.of_slot_table_declared.step.Answer.{Answer}
 use Rattle.access_run.specs.of_slot_table_declared.step.Answer.TheVariants as answers
 use Rattle.access_run.specs.of_slot_table_declared.step.Step.{Step}
-use Rattle.task_laws.specs.Alike.{IsAlike}
+use Rattle.task_laws.specs.SameStep.{IsAlike}
 
 abbrev pub Lists : Type 1
 Lists = List Record → Type 0

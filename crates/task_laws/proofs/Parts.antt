@@ -3,10 +3,10 @@ use Rattle.std.proofs.Common.{◌≡◌, ◌≤◌, ◌∙◌, ◌+◌, ◌*◌,
 use Rattle.std.proofs.Math.Nat.{suc-mul}
 use Rattle.program_layout.specs.of_litmus_meaning_Task as meaning
 use Rattle.access_run.specs.of_setup_access_Check.{Fallen}
-use Rattle.access_run.specs.of_setup_access_Own.{AreOwn}
+use Rattle.access_run.specs.of_setup_access_OwnAccesses.{AreOwn}
 use Rattle.access_run.specs.of_setup_access_Setting as checks
 use Rattle.access_run.specs.of_slot_table_declared.records.Record.{Record}
-use Rattle.task_laws.specs.Core.{Core, begun_at, standing}
+use Rattle.task_laws.specs.StandingButWay.{Core, begun_at, standing}
 use Rattle.text_bounds.specs.of_written_order_Standing.{Point, Standing, registered}
 use Rattle.text_bounds.specs.of_written_order_WrittenOrder.{Steps, StepsOfTurns}
 

@@ -3,7 +3,7 @@ use Rattle.std.proofs.Common.{◌≡◌, ◌↔◌, ◌+◌, ◌≤◌, ℕ, Lis
 use Rattle.task_laws.proofs.Opens.{After, Begins, IsOpen, Lists, Open, open_map}
 use Rattle.access_run.specs.of_setup_access_Check.{Fallen}
 use Rattle.access_run.specs.of_slot_table_declared.records.Record.{Record}
-use Rattle.task_laws.specs.Core.{Core, begun_at, core_of, standing}
+use Rattle.task_laws.specs.StandingButWay.{Core, begun_at, core_of, standing}
 use Rattle.text_bounds.specs.of_written_order_Standing.{Point, Standing}
 
 -- the steps of a part of a text that gives a value

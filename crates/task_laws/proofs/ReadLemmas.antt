@@ -1,4 +1,4 @@
--- The operation of a load reads a value.
+-- In the written order the operation of a load reads a value.
 use Rattle.std.proofs.Common.{◌≡◌, ◌∙◌, ℕ, Bool, true, false, List, [], ◌∷◌, MatchBool, None, Option, Some, ap, refl}
 use Rattle.program_layout.specs.of_access_types_Access.{Access}
 use Rattle.program_layout.specs.of_litmus_syntax_Tree.{Fetch}

@@ -8,7 +8,7 @@ use Rattle.program_layout.specs.of_litmus_meaning_Calls.{Scoped, scoped_access}
 use Rattle.program_layout.specs.of_litmus_meaning_Task as meaning
 use Rattle.program_layout.specs.of_litmus_meaning_Task.{bytes_in}
 use Rattle.access_run.specs.of_setup_access_Check.{Check, Close, Passes}
-use Rattle.access_run.specs.of_setup_access_Own.{AreOwn, IsOwn}
+use Rattle.access_run.specs.of_setup_access_OwnAccesses.{AreOwn, IsOwn}
 use Rattle.access_run.specs.of_setup_access_declared.begun.Begun.{Begun}
 use Rattle.access_run.specs.of_slot_table_declared.records.Record.{Record}
 use Rattle.task_laws.proofs.SpelledAccesses.{begun_more}
@@ -16,7 +16,7 @@ use Rattle.task_laws.proofs.SpelledBlocks.{ScopedFits, own_more}
 use Rattle.task_laws.proofs.Decided.{begins_now, disabled_told}
 use Rattle.task_laws.proofs.Statements.{few_at, in_range, no_mask, own_access}
 use Rattle.task_laws.specs.Begins.{one_at}
-use Rattle.task_laws.specs.Core.{Core, begun_at, core_of, standing}
+use Rattle.task_laws.specs.StandingButWay.{Core, begun_at, core_of, standing}
 use Rattle.task_laws.specs.Fits.{ArePlaced, HasBytes}
 use Rattle.task_laws.proofs.Places.{Both, ByEach, BySome, PartIsOpen, Plain, StepsAreOpen, Valued, WithinFrom, part_as, part_both, part_wider, sum_open}
 use Rattle.task_plan.proofs.KeepsLemmas.{begun_still}

@@ -16,7 +16,7 @@ use Rattle.access_run.specs.of_memory_operation_declared.effect.Effect.{Effect}
 use Rattle.access_run.specs.of_memory_operation_declared.operation.Operation.{Operation}
 use Rattle.access_run.specs.of_memory_operation_declared.operation.Operation.TheVariants as operations
 use Rattle.access_run.specs.of_setup_access_Check.{Fallen, Passes}
-use Rattle.access_run.specs.of_setup_access_Own.{AreOwn, IsOwn}
+use Rattle.access_run.specs.of_setup_access_OwnAccesses.{AreOwn, IsOwn}
 use Rattle.access_run.specs.of_setup_access_Parts.{made}
 use Rattle.access_run.specs.of_setup_access_Setting as checks
 use Rattle.access_run.specs.of_setup_access_Values.{source_of}
@@ -27,9 +27,9 @@ use Rattle.access_run.specs.of_slot_table_declared.step.Step.TheVariants.{Clock}
 use Rattle.task_laws.proofs.Decided.{begins_now}
 use Rattle.task_laws.proofs.ReadLemmas.{HasRead, Reads, operation_reads}
 use Rattle.task_laws.specs.Begins.{one_at}
-use Rattle.task_laws.specs.Core.{Core, begun_at, standing}
+use Rattle.task_laws.specs.StandingButWay.{Core, begun_at, standing}
 use Rattle.task_plan.proofs.KeepsLemmas.{begun_still}
-use Rattle.task_plan.specs.Alike.{AreOther}
+use Rattle.task_plan.specs.SameProgress.{AreOther}
 use Rattle.text_bounds.specs.of_written_order_Access.{Makes, operated}
 use Rattle.text_bounds.specs.of_written_order_Standing.{Point, Setting, Standing, checks_of, doing}
 

@@ -17,7 +17,7 @@ use Rattle.program_layout.specs.of_litmus_syntax_Tree.{Block, Expression, Statem
 use Rattle.program_layout.specs.of_litmus_syntax_Tree as tree
 use Rattle.program_layout.specs.of_litmus_syntax_declared.statement.Call.TheVariants as calls
 use Rattle.access_run.specs.of_setup_access_Check.{Check, Close, Passes}
-use Rattle.access_run.specs.of_setup_access_Own.{AreOwn, IsOwn}
+use Rattle.access_run.specs.of_setup_access_OwnAccesses.{AreOwn, IsOwn}
 use Rattle.access_run.specs.of_setup_access_Setting as checks
 use Rattle.access_run.specs.of_setup_access_declared.begun.Begun.{Begun}
 use Rattle.access_run.specs.of_slot_table_declared.records.Record.{Record}
@@ -26,7 +26,7 @@ use Rattle.task_laws.proofs.Decided.{begins_now, disabled_told}
 use Rattle.task_laws.proofs.Parts.{Both, Spelled, spelled_as, spelled_both, turns_spelled}
 use Rattle.task_laws.proofs.Statements.{assign_spelled, call_spelled, expression_spelled, few_at, in_range, load_spelled, fetch_bytes, memory_bytes, no_mask, own_access}
 use Rattle.task_laws.specs.Begins.{block_begins, one_at, own_begins, statement_begins}
-use Rattle.task_laws.specs.Core.{Core, begun_at, standing}
+use Rattle.task_laws.specs.StandingButWay.{Core, begun_at, standing}
 use Rattle.task_laws.specs.Fits.{ArePlaced, HasBytes}
 use Rattle.task_plan.proofs.KeepsLemmas.{begun_still}
 use Rattle.text_bounds.specs.of_written_order_Standing.{BeginsNow, Setting, Standing, checks_of, doing}

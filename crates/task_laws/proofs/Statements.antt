@@ -1,5 +1,6 @@
 -- Each statement without a block is spelled by some records where it fits.
-use Rattle.std.proofs.Common.{◌≡◌, ◌≢◌, ◌<◌, ◌≤◌, ◌⊎◌, ◌+◌, ◌-◌, ◌^◌, ◌==◌, ◌++◌, ℕ, zero, suc, Bool, true, false, List, [], ◌∷◌, ◌↔◌, IsTrue, Option, None, Some, MatchBool, arith, count_by, eq-eqb, inl, inr, le_refl, not, refl, replicate, if◌then◌else◌}
+use Rattle.std.proofs.Common.{◌≡◌, ◌≢◌, ◌<◌, ◌≤◌, ◌⊎◌, ◌+◌, ◌-◌, ◌^◌, ◌==◌, ◌++◌, ℕ, zero, suc, Bool, true, false, List, [], ◌∷◌, ◌↔◌, IsTrue, Option, None, Some, MatchBool, arith, count_by, eq-eqb}
+use Rattle.std.proofs.Common.{inl, inr, le_refl, not, refl, replicate, if◌then◌else◌}
 use Rattle.std.proofs.lemmas.Bool.{cases_Bool}
 use Rattle.std.proofs.lemmas.List.Sums.{sum_by-append}
 use Rattle.program_layout.specs.of_access_types_Access.{proper_mask}
@@ -34,7 +35,7 @@ use Rattle.access_run.specs.of_memory_operation_declared.operation.Change.TheVar
 use Rattle.access_run.specs.of_memory_operation_declared.operation.Operation.{Operation}
 use Rattle.access_run.specs.of_memory_operation_declared.operation.Operation.TheVariants as operations
 use Rattle.access_run.specs.of_setup_access_Check.{Fallen}
-use Rattle.access_run.specs.of_setup_access_Own.{AreOwn, IsOwn}
+use Rattle.access_run.specs.of_setup_access_OwnAccesses.{AreOwn, IsOwn}
 use Rattle.access_run.specs.of_setup_access_Parts.{made}
 use Rattle.access_run.specs.of_setup_access_Records.{MakesDone}
 use Rattle.access_run.specs.of_slot_table_declared.records.Record.{Record}
@@ -45,7 +46,7 @@ use Rattle.task_laws.proofs.Decided.{nothing_told}
 use Rattle.task_laws.proofs.Parts.{Spelled, set_at, spelled_as}
 use Rattle.task_laws.proofs.ReadLemmas.{fetch_reads}
 use Rattle.task_laws.specs.Begins.{one_at, own_begins}
-use Rattle.task_laws.specs.Core.{Core, begun_at, standing}
+use Rattle.task_laws.specs.StandingButWay.{Core, begun_at, standing}
 use Rattle.task_laws.specs.Fits.{ArePlaced, HasBytes}
 use Rattle.task_plan.proofs.KeepsLemmas.{begun_still, marks_other}
 use Rattle.text_bounds.specs.of_written_order_Standing.{EndsNothing, IsLockAt, Point, Setting, Standing, checks_of, coming, counting, doing, is_lock, lock_number, registered}

@@ -8,7 +8,7 @@ use Rattle.access_run.specs.of_slot_table_declared.records.Record.{Record}
 use Rattle.task_laws.proofs.SpelledBlocks.{block_spelled}
 use Rattle.task_laws.proofs.LimitLemmas.{block_few}
 use Rattle.task_laws.specs.Begins.{block_begins}
-use Rattle.task_laws.specs.Core.{begun_at, core_of, standing}
+use Rattle.task_laws.specs.StandingButWay.{begun_at, core_of, standing}
 use Rattle.task_laws.specs.Fits.{ArePlaced, Fits}
 use Rattle.text_bounds.specs.of_written_order_Standing.{Setting, Standing}
 use Rattle.text_bounds.specs.of_written_order_WrittenOrder.{SpellsAll, StepsOfBlock, WrittenOrder, at_first}

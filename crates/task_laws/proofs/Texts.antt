@@ -1,13 +1,13 @@
 -- What is open as a block is open as a whole text.
 use Rattle.std.proofs.Common.{◌++◌, ℕ, List, [], ◌∷◌, append_assoc, length, refl, subst, sym}
 use Rattle.task_laws.proofs.Ends.{AtEnd, end_open}
-use Rattle.task_laws.specs.Alike.{IsAlike}
+use Rattle.task_laws.specs.SameStep.{IsAlike}
 use Rattle.program_layout.specs.of_litmus_syntax_Limits.{TaskKeepsLimits}
 use Rattle.program_layout.specs.of_litmus_syntax_Tree.{Block, Task}
 use Rattle.access_run.specs.of_slot_table_declared.records.Record.{Record}
 use Rattle.task_laws.proofs.TextLemmas.{fits_first}
 use Rattle.task_laws.specs.Begins.{block_begins}
-use Rattle.task_laws.specs.Core.{core_of}
+use Rattle.task_laws.specs.StandingButWay.{core_of}
 use Rattle.task_laws.specs.Fits.{ArePlaced, Fits}
 use Rattle.task_laws.proofs.Blocks.{block_open}
 use Rattle.task_laws.proofs.Places.{StepsAreOpen}

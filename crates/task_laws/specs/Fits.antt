@@ -6,10 +6,10 @@ use Rattle.program_layout.specs.of_litmus_syntax_Limits.{BlockTyped, IsLock, IsV
 use Rattle.program_layout.specs.of_litmus_syntax_Sites.{sites_of}
 use Rattle.program_layout.specs.of_litmus_syntax_Tree.{Block}
 use Rattle.program_layout.specs.of_litmus_syntax_declared.program.Variable.{Variable}
-use Rattle.access_run.specs.of_setup_access_Own.{AreOwn}
+use Rattle.access_run.specs.of_setup_access_OwnAccesses.{AreOwn}
 use Rattle.access_run.specs.of_setup_access_Values.{source_of}
 use Rattle.task_laws.specs.Begins.{block_begins}
-use Rattle.task_laws.specs.Core.{begun_at, core_of}
+use Rattle.task_laws.specs.StandingButWay.{begun_at, core_of}
 use Rattle.text_bounds.specs.of_written_order_Standing.{Setting, Standing, checks_of}
 
 -- the variable of a number has bytes, up to 8, of low addresses and in one cell

@@ -1,7 +1,7 @@
-pub mod Core
+pub mod StandingButWay
 pub mod Begins
 pub mod Fits
-pub mod Alike
+pub mod SameStep
 pub mod LeadsOn
 pub use Rattle.program_layout.specs.Lays as of_program_layout_Lays
 pub use Rattle.program_layout.specs.Places as of_program_layout_Places

@@ -10,9 +10,9 @@ ghost use Rattle.access_run.specs.of_slot_table_declared.records.Record.{Record}
 ghost use Rattle.access_run.specs.of_slot_table_declared.step.Answer.{Answer};
 ghost use Rattle.access_run.specs.of_slot_table_declared.step.Step.{Step};
 ghost use Rattle.task_laws.specs.Begins.{block_begins};
-ghost use Rattle.task_laws.specs.Core.{begun_at, core_of};
+ghost use Rattle.task_laws.specs.StandingButWay.{begun_at, core_of};
 ghost use Rattle.task_laws.specs.Fits.{ArePlaced};
-ghost use Rattle.task_laws.specs.Alike.{IsAlike};
+ghost use Rattle.task_laws.specs.SameStep.{IsAlike};
 ghost use Rattle.text_bounds.specs.of_written_order_Standing.{Setting, Standing};
 ghost use Rattle.text_bounds.specs.of_written_order_WrittenOrder.{SpellsAll, StepsOfBlock, WrittenOrder};
 

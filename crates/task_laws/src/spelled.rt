@@ -9,7 +9,7 @@ ghost use Rattle.program_layout.specs.Places.{AreFit, places_of};
 ghost use Rattle.program_layout.specs.declared.place.Place.{Place};
 ghost use Rattle.access_run.specs.of_slot_table_declared.records.Record.{Record};
 ghost use Rattle.task_laws.specs.Begins.{block_begins};
-ghost use Rattle.task_laws.specs.Core.{begun_at, core_of};
+ghost use Rattle.task_laws.specs.StandingButWay.{begun_at, core_of};
 ghost use Rattle.task_laws.specs.Fits.{ArePlaced, Fits};
 ghost use Rattle.text_bounds.specs.of_written_order_Standing.{Setting, Standing};
 ghost use Rattle.text_bounds.specs.of_written_order_WrittenOrder.{SpellsAll, StepsOfBlock, WrittenOrder, at_first};

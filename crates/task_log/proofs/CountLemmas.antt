@@ -1,3 +1,4 @@
+-- A counter has the number of noted steps that pass its test, up to the largest number of 64 bits.
 use Rattle.std.proofs.Common.{◌≡◌, ◌+◌, ◌∙◌, ◌∷◌, ℕ, Bool, true, false, List, ap, arith, sym}
 use Rattle.std.proofs.lemmas.List.Sums.{sum_by-cons}
 use Rattle.std.specs.Prelude.{count_by, if◌then◌else◌}

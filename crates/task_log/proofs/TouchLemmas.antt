@@ -1,3 +1,4 @@
+-- The newest access that goes on is the one that ends, and where all have ended nothing changes.
 use Rattle.std.proofs.Common.{◌≡◌, ◌+◌, ◌<◌, ◌≤◌, ℕ, inl, inr, zero, suc, Bool, true, false, List, [], ◌∷◌}
 use Rattle.std.proofs.Common.{Some, ap, arith, get_or, length, refl, set}
 use Rattle.std.proofs.lemmas.Bool.{cases_lt}

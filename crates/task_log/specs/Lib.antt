@@ -13,7 +13,7 @@ pub use Rattle.setup_access.specs.Check as of_setup_access_Check
 pub use Rattle.setup_access.specs.Find as of_setup_access_Find
 pub use Rattle.setup_access.specs.Found as of_setup_access_Found
 pub use Rattle.setup_access.specs.Hits as of_setup_access_Hits
-pub use Rattle.setup_access.specs.Own as of_setup_access_Own
+pub use Rattle.setup_access.specs.OwnAccesses as of_setup_access_OwnAccesses
 pub use Rattle.setup_access.specs.Parts as of_setup_access_Parts
 pub use Rattle.setup_access.specs.Records as of_setup_access_Records
 pub use Rattle.setup_access.specs.Setting as of_setup_access_Setting

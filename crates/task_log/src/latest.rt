@@ -55,7 +55,8 @@ impl Latest {
         }
     }
 
-    /// What became of a watchpoint, where a step settles it.
+    /// What became of a watchpoint, where a step settles it. It is noted with the verdict, and not at the remove: then
+    /// the halves that were heard need not be kept.
     fn note_outcome(&mut self, noted: &Noted)
         ensures { self.new ≡ record self.old { became = option_or (spec.became noted.now) self.old.became } }
     {

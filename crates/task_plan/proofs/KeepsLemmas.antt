@@ -1,5 +1,6 @@
 -- What a task keeps of what it did.
-use Rattle.std.proofs.Common.{◌≡◌, ◌<◌, ◌≤◌, ◌∙◌, ◌+◌, ◌-◌, ◌^◌, ◌++◌, ◌==◌, ℕ, zero, suc, Bool, true, false, List, [], ◌∷◌, ap, arith, count_by, eq-eqb, get_or, get_or-set_same, get_or-set_other, inl, inr, length, length-set, ne_eqb, refl, replicate, slice_get, slice_index, slice_set, subst, sym, unwrap_or, zero-add, if◌then◌else◌}
+use Rattle.std.proofs.Common.{◌≡◌, ◌<◌, ◌≤◌, ◌∙◌, ◌+◌, ◌-◌, ◌^◌, ◌++◌, ◌==◌, ℕ, zero, suc, Bool, true, false, List, [], ◌∷◌, ap, arith, count_by, eq-eqb, get_or, get_or-set_same, get_or-set_other}
+use Rattle.std.proofs.Common.{inl, inr, length, length-set, ne_eqb, refl, replicate, slice_get, slice_index, slice_set, subst, sym, unwrap_or, zero-add, if◌then◌else◌}
 use Rattle.std.proofs.lemmas.Bool.{cases_eq, cases_lt}
 use Rattle.std.proofs.lemmas.List.{get_or-replicate, get_or_past, length-replicate}
 use Rattle.std.proofs.lemmas.List.Sums.{sum_by-append, sum_by-cons}
@@ -11,7 +12,7 @@ use Rattle.access_types.specs.declared.history.Mark.{Mark}
 use Rattle.litmus_meaning.specs.Task as meaning
 use Rattle.litmus_meaning.specs.Task.{access_now, begins_at, has_after, has_lock}
 use Rattle.memory_operation.specs.of_slot_table_declared.records.Record.{Record}
-use Rattle.task_plan.specs.Alike.{AreOther, IsOther, StandAlike}
+use Rattle.task_plan.specs.SameProgress.{AreOther, IsOther, StandAlike}
 use Rattle.task_plan.specs.Counts.{up_to_last}
 use Rattle.task_plan.specs.Keeps.{Keeps}
 use Rattle.task_plan.specs.Plans.{planned_access}

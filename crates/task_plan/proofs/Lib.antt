@@ -1,1 +1,2 @@
 pub mod KeepsLemmas
+pub mod Sent

@@ -4,4 +4,4 @@ pub mod Views
 pub mod Plans
 pub mod Keeps
 pub mod Room
-pub mod Alike
+pub mod SameProgress

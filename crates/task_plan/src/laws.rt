@@ -4,7 +4,7 @@ ghost use Rattle.std.specs.Prelude.{◌≡◌, ◌-◌, ◌^◌, ◌<◌, ℕ, L
 ghost use Rattle.access_types.specs.declared.history.Happening.{Happening};
 ghost use Rattle.litmus_meaning.specs.Task.{begins_at, has_lock};
 ghost use Rattle.memory_operation.specs.of_slot_table_declared.records.Record.{Record};
-ghost use Rattle.task_plan.specs.Alike.{AreOther, StandAlike};
+ghost use Rattle.task_plan.specs.SameProgress.{AreOther, StandAlike};
 ghost use Rattle.task_plan.specs.Keeps.{Keeps};
 ghost use Rattle.task_plan.specs.Plans.{planned_access};
 ghost use Rattle.task_plan.specs.Views.{Plan};

@@ -175,6 +175,7 @@ impl<'p> Planner<'p> {
         ensures { (s : meaning.Setting) → Lays s.places s.variables self.entry.layout.now
             → plan_of result ≡ variable_plan s variable assignments.compound_kind (operations.Add amount) data_race }
     {
+        // Read at one moment and written at a later one: what another task writes in between is lost, as in C.
         self.to_variable(variable, COMPOUND, Operation::Add(amount), data_race)
     }
 
@@ -297,9 +298,11 @@ impl<'p> Planner<'p> {
             }
             Call::AssertBits { variable, mask } => Some(Plan {
                 mask: Some(mask),
+                // KCSAN's macro calls `kcsan_atomic_next(1)` behind its check.
                 after: Then::MarksNext,
                 ..self.asserts(variable, Kind::Assert(Claim::NoWrites))
             }),
+            // It touches nothing, so it is no access and takes no site.
             Call::Check { size: 0, .. } => None,
             Call::Check {
                 write,

@@ -1,5 +1,6 @@
 -- Each part of a text as it begins.
-use Rattle.std.proofs.Common.{◌≡◌, ◌≢◌, ◌↔◌, ◌∙◌, ◌+◌, ◌^◌, ◌++◌, ◌<◌, ◌≤◌, ◌||◌, ℕ, Bool, true, false, MatchBool, IsSomeAnd, IsTrue, List, [], ◌∷◌, None, Option, Some, ap, append_assoc, arith, rules, count_by, length, refl, replicate, slice_get, subst, sym}
+use Rattle.std.proofs.Common.{◌≡◌, ◌≢◌, ◌↔◌, ◌∙◌, ◌+◌, ◌^◌, ◌++◌, ◌<◌, ◌≤◌, ◌||◌, ℕ, Bool, true, false, MatchBool, IsSomeAnd, IsTrue, List, [], ◌∷◌, None, Option, Some, ap, append_assoc, arith, rules}
+use Rattle.std.proofs.Common.{count_by, length, refl, replicate, slice_get, subst, sym}
 use Rattle.std.proofs.lemmas.List.{append-nil, replicate-append-replicate}
 use Rattle.access_run.specs.Leads.{AccessLeads, HasCell}
 use Rattle.access_run.specs.Whole.{NoneWhole}
@@ -22,7 +23,7 @@ use Rattle.access_run.specs.of_memory_operation_declared.lock.LockWait.{LockWait
 use Rattle.access_run.specs.of_setup_access_Check.{ChecksOnce, Close, Fallen, Pass, Passes, Rechecks, fallen_of}
 use Rattle.access_run.specs.of_setup_access_Checker.{Checks, Closes}
 use Rattle.access_run.specs.of_setup_access_Leads as checks
-use Rattle.access_run.specs.of_setup_access_Own.{IsOwn}
+use Rattle.access_run.specs.of_setup_access_OwnAccesses.{IsOwn}
 use Rattle.access_run.specs.of_setup_access_Records.{MakesWord}
 use Rattle.access_run.specs.of_setup_access_Setting as settings
 use Rattle.access_run.specs.of_setup_access_Shown.{IsDecided, IsSilenced, context_of}

@@ -17,7 +17,7 @@ use Rattle.access_run.specs.of_task_context_Context.{Context}
 use Rattle.access_run.specs.of_task_context_History.{Concerns, Follows, LeadsTo}
 use Rattle.access_run.proofs.of_task_context_OtherMoments.{other_moment}
 use Rattle.task_plan.proofs.KeepsLemmas.{keeps_alike, keeps_on}
-use Rattle.task_plan.specs.Alike.{AreOther, IsOther}
+use Rattle.task_plan.specs.SameProgress.{AreOther, IsOther}
 use Rattle.task_run.specs.Stands.{Counts}
 use Rattle.task_run.specs.declared.machine.Machine.{Machine}
 use Rattle.text_walk.specs.of_written_order_Access.{operated}

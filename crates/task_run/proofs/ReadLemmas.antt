@@ -1,4 +1,4 @@
--- The operation of a load reads a value.
+-- In the run of a task's machine the operation of a load reads a value.
 use Rattle.std.proofs.Common.{◌≡◌, ◌∙◌, ℕ, Bool, true, false, List, [], ◌∷◌, MatchBool, None, Option, Some, ap, refl}
 use Rattle.access_types.specs.Access.{Access}
 use Rattle.access_run.specs.of_memory_operation_Effects.{changed}

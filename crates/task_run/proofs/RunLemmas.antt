@@ -19,7 +19,7 @@ use Rattle.access_run.specs.of_memory_operation_declared.operation.Operation.{Op
 use Rattle.access_run.specs.of_setup_access_Check.{Check, Close}
 use Rattle.access_run.specs.of_setup_access_Checker.{Checks, Closes, Doing}
 use Rattle.access_run.specs.of_setup_access_Leads as checks
-use Rattle.access_run.specs.of_setup_access_Own.{IsOwn}
+use Rattle.access_run.specs.of_setup_access_OwnAccesses.{IsOwn}
 use Rattle.access_run.specs.of_setup_access_Setting as settings
 use Rattle.access_run.specs.of_setup_access_Shown.{context_of}
 use Rattle.access_run.specs.of_setup_access_declared.begun.Begun.{Begun}

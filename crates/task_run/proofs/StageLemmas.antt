@@ -1,4 +1,4 @@
--- The part that a stage is of.
+-- The stage of a task's machine tells which part of its text it is in: each part has a stage of its own.
 use Rattle.std.proofs.Common.{◌≡◌, ◌∙◌, List, Option, refl, sym, ap}
 use Rattle.access_run.specs.declared.access.AccessRun.{AccessRun}
 use Rattle.access_types.specs.Access as access

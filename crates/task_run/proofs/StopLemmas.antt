@@ -1,6 +1,7 @@
 -- What has no room has the task pass a limit, or doesn't follow in the text.
 use native.Mathlib.Omega.{arith}
-use Rattle.std.proofs.Common.{◌≡◌, ◌∙◌, ◌+◌, ◌^◌, ◌++◌, ◌<◌, ◌≤◌, ℕ, zero, suc, Bool, true, false, Err, List, [], ◌∷◌, IsSomeAnd, IsTrue, Ok, OnErr, Result, None, Option, Some, ap, append_assoc, count_by, if◌then◌else◌, length, refl, replicate, slice_get, subst, sym}
+use Rattle.std.proofs.Common.{◌≡◌, ◌∙◌, ◌+◌, ◌^◌, ◌++◌, ◌<◌, ◌≤◌, ℕ, zero, suc, Bool, true, false, Err, List, [], ◌∷◌, IsSomeAnd, IsTrue, Ok, OnErr, Result, None, Option, Some, ap, append_assoc}
+use Rattle.std.proofs.Common.{count_by, if◌then◌else◌, length, refl, replicate, slice_get, subst, sym}
 use Rattle.std.proofs.lemmas.List.{append-nil, length-append, map-append, replicate-append-replicate}
 use Rattle.std.proofs.lemmas.List.Sums.{sum_by-append, sum_by-cons}
 use Rattle.access_types.specs.Access as access

@@ -37,7 +37,8 @@ use Rattle.task_plan.specs.declared.follow.Then.{Then}
 use Rattle.task_run.proofs.EndLemmas.{begins_one, one_answer}
 use Rattle.task_run.proofs.LeadsLemmas.{agrees_in}
 use Rattle.task_run.proofs.LongLemmas.{LoadsNext, check_long, lock_long, operation_long}
-use Rattle.task_run.proofs.NextLemmas.{closing_is, closing_only, closing_part, locking_leads, locking_part, locking_only, making_agrees, making_is, making_leads, making_only, making_part, opening_is, opening_only, opening_part, over_stuck, stopped_stuck, too_much_stuck, unlocking_stuck}
+use Rattle.task_run.proofs.NextLemmas.{closing_is, closing_only, closing_part, locking_leads, locking_part, locking_only, making_agrees, making_is, making_leads, making_only, making_part, opening_is}
+use Rattle.task_run.proofs.NextLemmas.{opening_only, opening_part, over_stuck, stopped_stuck, too_much_stuck, unlocking_stuck}
 use Rattle.task_run.proofs.PairLemmas.{AreOfOne, check_of_one, close_of_one}
 use Rattle.task_run.proofs.TriesLemmas.{all_onto, onto, onto_both}
 use Rattle.task_run.specs.Leads.{IsStuck, Leads, WaitsTooLong}

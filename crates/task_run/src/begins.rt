@@ -6,7 +6,7 @@ ghost use Rattle.access_types.specs.Access.{IsInLimits};
 ghost use Rattle.litmus_syntax.specs.Tree as tree;
 ghost use Rattle.litmus_syntax.specs.Views.{assignment_of, expression_of, load_of, pure_of, statement_of};
 ghost use Rattle.litmus_syntax.specs.declared.statement.Call.TheVariants.{Lock, Unlock};
-ghost use Rattle.access_run.specs.of_setup_access_Own.{IsOwn};
+ghost use Rattle.access_run.specs.of_setup_access_OwnAccesses.{IsOwn};
 ghost use Rattle.slot_table.specs.declared.records.Record.{Record};
 ghost use Rattle.access_run.specs.Leads.{HasCell};
 ghost use Rattle.task_run.specs.Agrees.{Begins, IsFit};
@@ -56,8 +56,8 @@ impl<'a> Machine<'a> {
         }
     }
 
-    /// The stage becomes that of the next part. It stands apart from what takes an answer, so that those many answers on which
-    /// the stage stays need no room for another.
+    /// The stage becomes that of the next part. It stands apart from what takes an answer, so that those many answers
+    /// on which the stage stays need no room for another.
     pub(crate) fn goes_on(&mut self, stage: &mut Stage<'a>)
         ensures begins { (s : Setting) (before : List Record → Standing) → StandsBy s before self.old
             → Begins s (WalkLeft s self.old.walk) before self.new stage.new }
@@ -356,6 +356,7 @@ impl<'a> Machine<'a> {
         ensures cost { self.new.walk ≡ self.old.walk }
         ensures room { room_of self.new ≡ room_of self.old }
     {
+        // To give back what another task holds would let two tasks in at once.
         if self.progress.has_lock(variable) {
             return Some(Stage::Unlocking(variable));
         }
@@ -410,6 +411,7 @@ impl<'a> Machine<'a> {
             → BeginsNow s before access.now result }
         ensures unchanged { self.new ≡ self.old }
     {
+        // On a copy: one of what `kcsan_atomic_next` left is used up once, where the checker begins the access.
         let mut context = *self.checker.context();
         let silenced = !context.enabled();
         let marked = context.counts_as_marked(access, self.rules.plain_writes_atomic);
@@ -433,6 +435,7 @@ impl<'a> Machine<'a> {
         if !self.has_cell(&access, plan.operation) {
             return Err(Beyond);
         }
+        // Whether an access is silenced is decided as it begins, so `data_race( )` comes before that.
         self.disable(plan.after.data_races())?;
         let begun = self.begun(&access);
         self.progress.begins_at(site);

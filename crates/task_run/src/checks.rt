@@ -6,7 +6,7 @@ ghost use Rattle.access_run.specs.Leads.{AccessLeads, AccessSays};
 ghost use Rattle.access_run.specs.of_memory_operation_declared.operation.Operation.{Operation};
 ghost use Rattle.access_run.specs.of_setup_access_Checker.{Doing};
 ghost use Rattle.access_run.specs.of_setup_access_Leads as checks;
-ghost use Rattle.access_run.specs.of_setup_access_Own.{IsOwn};
+ghost use Rattle.access_run.specs.of_setup_access_OwnAccesses.{IsOwn};
 ghost use Rattle.access_run.specs.of_setup_access_Parts.{made};
 ghost use Rattle.access_run.specs.of_setup_access_Setting as settings;
 ghost use Rattle.access_run.specs.of_setup_access_Shown.{context_of, outcomes_of};
@@ -106,6 +106,7 @@ impl<'a> Machine<'a> {
         ensures kept { self.new ≡ record self.old { checker = self.new.checker; in_force = self.new.in_force } }
         ensures room { room_of self.new ≡ room_of self.old }
     {
+        // Not before its own check is over: that one doesn't check it again.
         self.checker.open_scoped();
         self.in_force = self.in_force.saturating_add(1);
     }

@@ -32,6 +32,7 @@ impl<'a> Machine<'a> {
                 data_races,
                 taker,
             } => {
+                // A silence ends with its own `data_race( )`: the load's here, the assignment's once that is made.
                 self.enable(data_races);
                 if let Some(old) = effect.read {
                     self.takes(taker, sign_extended(old, size));

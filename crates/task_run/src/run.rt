@@ -90,8 +90,8 @@ impl<'a> TaskRun<'a> {
         Ok(run)
     }
 
-    /// The task of this number before its first step, of a program that is made ready. It takes all its room, and no call after it takes
-    /// memory.
+    /// The task of this number before its first step, of a program that is made ready. It takes all its room, and no
+    /// call after it takes memory.
     pub fn prepared(
         alloc: Global,
         program: &'a Program,
@@ -302,14 +302,15 @@ impl<'a> TaskRun<'a> {
         self.machine.answers_access(run, answer);
         let fell = self.machine.came_after(came);
         if run.is_over() {
+            // Before the next part begins: a mark, or the end of a silence, is for the very next access.
             self.machine.follows(after, run.effect());
             self.machine.goes_on(&mut self.stage);
         }
         fell
     }
 
-    /// The check of a scoped assertion takes the answer, and what fell is told. Once it is over, the assertion is in force, or no
-    /// longer.
+    /// The check of a scoped assertion takes the answer, and what fell is told. Once it is over, the assertion is in
+    /// force, or no longer.
     fn answers_check(&mut self, answer: Answer) -> Option<Outcome>
         requires checking { (self.old.stage ≡ Opening) ⊎ (self.old.stage ≡ Closing) }
         requires says { (step : Step) × Says self.old step × Answers step answer }

@@ -11,8 +11,8 @@ use std::thread::Threads;
 /// The status where a file is refused.
 const REFUSED: u8 = 65;
 
-/// The words, the program's name first, and a file of which each beginning of fewer than so many bytes is refused, with this
-/// said of its last line.
+/// The words, the program's name first, and a file of which each beginning of fewer than so many bytes is refused, with
+/// this said of its last line.
 #[derive(Drop)]
 pub struct Cuts<'t> {
     words: Vec<String>,

@@ -1,5 +1,5 @@
-//! Reads rows from standard input, each the words that the program is started with and what comes of them over a desk in memory,
-//! and prints those of which something else comes.
+//! Reads rows from standard input, each the words that the program is started with and what comes of them over a desk
+//! in memory, and prints those of which something else comes.
 #![tactic(auto)]
 
 mod cuts;
@@ -40,8 +40,8 @@ fn main(rt: HostRuntime) -> ExitCode {
     ExitCode::from(status)
 }
 
-/// Keeps each text, tries each row, and counts the rows of which something else comes. Lines that are empty or begin with
-/// `#` are neither.
+/// Keeps each text, tries each row, and counts the rows of which something else comes. Lines that are empty or begin
+/// with `#` are neither.
 fn try_rows<R: Threads + Wait + Sync + Input + Print + Alloc<A = Global>>(
     rt: &R,
 ) -> io::Result<u64> {
@@ -76,8 +76,8 @@ fn is_text(texts: &mut Texts, line: &str) -> Result<bool, AllocError> {
     Ok(false)
 }
 
-/// Tries what a line says: a row, one of which each write is also tried failing, for writes of several sizes, a text that is stepped
-/// to a sink, or the beginnings of a file.
+/// Tries what a line says: a row, one of which each write is also tried failing, for writes of several sizes, a text
+/// that is stepped to a sink, or the beginnings of a file.
 fn comes_as_said<R: Threads + Wait + Sync>(
     rt: &R,
     alloc: Global,

@@ -27,8 +27,8 @@ pub struct Row<'t> {
 }
 
 impl<'t> Row<'t> {
-    /// The row of a line: `WORDS | FILE => STATUS OUTPUT ERRORS`, and what becomes of the trace's file behind that, where that
-    /// is touched. A file is called by its name, or is `-`, which can't be read.
+    /// The row of a line: `WORDS | FILE => STATUS OUTPUT ERRORS`, and what becomes of the trace's file behind that,
+    /// where that is touched. A file is called by its name, or is `-`, which can't be read.
     pub fn read(
         alloc: Global,
         texts: &'t Texts,
@@ -119,8 +119,8 @@ impl<'t> Row<'t> {
         true
     }
 
-    /// With room for so many bytes a write, of which so many succeed, the program ends as it has to where standard output can't
-    /// be written, and has written a beginning of the whole.
+    /// With room for so many bytes a write, of which so many succeed, the program ends as it has to where standard
+    /// output can't be written, and has written a beginning of the whole.
     fn fails_after<R: Threads + Wait + Sync>(
         &self,
         rt: &R,

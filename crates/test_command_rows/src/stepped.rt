@@ -94,7 +94,8 @@ impl<'t> Stepped<'t> {
         }
     }
 
-    /// Where so many writes of so many bytes succeed, the sink has the whole output just where that is said, and else a beginning of it.
+    /// Where so many writes of so many bytes succeed, the sink has the whole output just where that is said, and else a
+    /// beginning of it.
     fn comes_as_said(&self, alloc: Global, most: usize, writes: usize) -> bool {
         let mut sink = Narrow {
             bytes: Vec::new(alloc),

@@ -16,8 +16,8 @@ pub enum Wanted {
 }
 
 impl Wanted {
-    /// What a word calls for: `-` nothing, `*` something that isn't the program's own, names with `+` between them the texts of
-    /// these names.
+    /// What a word calls for: `-` nothing, `*` something that isn't the program's own, names with `+` between them the
+    /// texts of these names.
     pub fn read(texts: &Texts, word: &str) -> Result<Option<Wanted>, AllocError> {
         match word {
             "-" => Ok(Some(Wanted::Nothing)),
@@ -51,8 +51,8 @@ pub enum Trace {
 }
 
 impl Trace {
-    /// What a word calls for: none that the file is not touched, `!` that it can't be written, names with `+` between them the
-    /// texts of these names.
+    /// What a word calls for: none that the file is not touched, `!` that it can't be written, names with `+` between
+    /// them the texts of these names.
     pub fn read(texts: &Texts, word: Option<&str>) -> Result<Option<Trace>, AllocError> {
         match word {
             None => Ok(Some(Trace::Untouched)),

@@ -216,11 +216,12 @@ fn runs_are_asked_for(rt: HostRuntime) -> Result<(), Fail> {
 }
 
 /// What `search t` asks for with these bounds and options.
-fn search(switches: u64, limit: u64, options: RunOptions<'_>) -> Request<'_> {
+fn search(switches: u64, limit: u64, jobs: u64, options: RunOptions<'_>) -> Request<'_> {
     Request::Search(SearchRequest {
         file: "t",
         switches,
         limit,
+        jobs,
         options,
     })
 }
@@ -231,19 +232,27 @@ fn searches_are_asked_for(rt: HostRuntime) -> Result<(), Fail> {
         &rt,
         rt.alloc(),
         &["k", "search", "t"],
-        search(2, 1_000_000, OPTIONS),
+        search(2, 1_000_000, 1, OPTIONS),
     )?;
     ask(
         &rt,
         rt.alloc(),
         &["k", "search", "--switches", "0", "t", "--limit", "1"],
-        search(0, 1, OPTIONS),
+        search(0, 1, 1, OPTIONS),
     )?;
     ask(
         &rt,
         rt.alloc(),
-        &["k", "search", "t", "--switches=16", "--limit=1000000000"],
-        search(16, 1_000_000_000, OPTIONS),
+        &[
+            "k",
+            "search",
+            "t",
+            "--switches=16",
+            "--limit=1000000000",
+            "--jobs",
+            "64",
+        ],
+        search(16, 1_000_000_000, 64, OPTIONS),
     )?;
     ask(
         &rt,
@@ -254,6 +263,7 @@ fn searches_are_asked_for(rt: HostRuntime) -> Result<(), Fail> {
         search(
             2,
             1_000_000,
+            1,
             RunOptions {
                 strict: true,
                 slots: 3,
@@ -379,6 +389,8 @@ fn other_searches_make_no_sense(rt: HostRuntime) {
         ["k", "search", "t", "--switches", "all"].as_slice(),
         ["k", "search", "t", "--limit", "0"].as_slice(),
         ["k", "search", "t", "--limit", "1000000001"].as_slice(),
+        ["k", "search", "t", "--jobs", "0"].as_slice(),
+        ["k", "search", "t", "--jobs", "65"].as_slice(),
         ["k", "search", "t", "--slots", "2"].as_slice(),
     ] {
         refuse(&rt, rt.alloc(), words, ErrorKind::ValueValidation);

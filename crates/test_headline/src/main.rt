@@ -1,5 +1,5 @@
-//! Reads rows from standard input, each a program of tasks, or what is bent in the list that one makes, and what comes of it by the
-//! headline that `oracle_headline` decides, and prints those of which something else comes.
+//! Reads rows from standard input, each a program of tasks, or what is bent in the list that one makes, and what comes
+//! of it by the headline that `oracle_headline` decides, and prints those of which something else comes.
 #![tactic(auto)]
 
 mod bend;

@@ -57,7 +57,8 @@ pub fn failed(alloc: Global, count: usize, order: &[u32]) -> Result<String, Refu
     Ok(format!(in alloc; "no headline after {count} steps in the order {order:?}")?)
 }
 
-/// The reports of the list that the row's order makes, in which all tasks have ended, where the headline holds of each beginning.
+/// The reports of the list that the row's order makes, in which all tasks have ended, where the headline holds of each
+/// beginning.
 pub fn in_one_order(alloc: Global, row: &Row) -> Result<String, Refusal> {
     let order = row.order.as_slice();
     let end = order.len().saturating_add(1);

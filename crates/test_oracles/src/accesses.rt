@@ -1,5 +1,5 @@
-//! Accesses, as rows write them: `KIND:TASK.SITE`, then `.REPETITION` where the site ran before, `@ADDRESS+SIZE` where it isn't the
-//! four bytes from 0x10000 on, and `&MASK` where there is a mask.
+//! Accesses, as rows write them: `KIND:TASK.SITE`, then `.REPETITION` where the site ran before, `@ADDRESS+SIZE` where
+//! it isn't the four bytes from 0x10000 on, and `&MASK` where there is a mask.
 
 use crate::words::{Fault, number_of, small_of};
 use access_types::{Access, Bytes, Claim, Kind, Operation, SITES, TASKS};

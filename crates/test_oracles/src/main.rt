@@ -1,5 +1,5 @@
-//! Reads rows from standard input and prints those of which something else comes: histories, with what the definitions say of them;
-//! plays of some checkers over one board, move by move; and records, with what they are of a check.
+//! Reads rows from standard input and prints those of which something else comes: histories, with what the definitions
+//! say of them; plays of some checkers over one board, move by move; and records, with what they are of a check.
 #![tactic(auto)]
 
 mod accesses;

@@ -1,5 +1,6 @@
-//! What a program has before any task of it runs, tried on rows that were worked out by hand: its names and lists, the values of its
-//! expressions and the sites of its texts, where its variables stand, and the accesses that it can make. Nothing stands on this crate.
+//! What a program has before any task of it runs, tried on rows that were worked out by hand: its names and lists, the
+//! values of its expressions and the sites of its texts, where its variables stand, and the accesses that it can make.
+//! Nothing stands on this crate.
 #![tactic(auto)]
 
 #[cfg(test)]

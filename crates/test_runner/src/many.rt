@@ -24,8 +24,8 @@ struct Counts {
     /// The delays that were asked for, added up.
     loads: AtomicU64,
     ran_out: AtomicU64,
-    /// Of how many runs it was told after each that they are over, added up in hundreds, and of how many in all, in ones; and that there are no
-    /// more, in ten thousands.
+    /// Of how many runs it was told after each that they are over, added up in hundreds, and of how many in all, in
+    /// ones; and that there are no more, in ten thousands.
     told: AtomicU64,
 }
 
@@ -36,8 +36,8 @@ struct Meetings<'a> {
     counts: &'a Counts,
 }
 
-/// The meeting of one run, and what is counted over all. The reader is held until the writer's access has ended, so that it sees the value
-/// change in each run.
+/// The meeting of one run, and what is counted over all. The reader is held until the writer's access has ended, so
+/// that it sees the value change in each run.
 #[derive(Drop)]
 struct CountedMeeting<'a> {
     holds: bool,

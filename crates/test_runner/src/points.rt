@@ -58,8 +58,8 @@ impl Places {
     }
 }
 
-/// The reader of a race is held between its watchpoint and its stall until the writer has told, and the writer behind its tell until the
-/// reader's access has ended: each could go on only behind that step of the other.
+/// The reader of a race is held between its watchpoint and its stall until the writer has told, and the writer behind
+/// its tell until the reader's access has ended: each could go on only behind that step of the other.
 #[derive(Drop)]
 struct Crossing {
     reader: Places,
@@ -115,8 +115,8 @@ impl Stall for Crossing {
     }
 }
 
-/// The reader begins once the writer has come to its begin, which waits for the end of the reader's access; and that end waits for the
-/// writer's.
+/// The reader begins once the writer has come to its begin, which waits for the end of the reader's access; and that
+/// end waits for the writer's.
 #[derive(Drop)]
 struct InTurn {
     crossing: Crossing,

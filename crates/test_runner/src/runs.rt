@@ -48,7 +48,8 @@ pub(crate) fn parsed(alloc: Global, text: &str) -> Result<Program, ParseError>
     parse(alloc, text.as_bytes())
 }
 
-/// Every access is watched that may be; a strict run reports hits without a change of the value, and holds no plain write for marked.
+/// Every access is watched that may be; a strict run reports hits without a change of the value, and holds no plain
+/// write for marked.
 pub(crate) fn settings(alloc: Global, strict: bool, turns: u64) -> Settings {
     Settings {
         slots: 64,

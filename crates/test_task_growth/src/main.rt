@@ -1,5 +1,5 @@
-//! Makes a task of a program, and says by its status where memory was refused. With each growth of memory refused in turn it
-//! shows that the task, whose room is taken as it is made, answers each by want of memory.
+//! Makes a task of a program, and says by its status where memory was refused. With each growth of memory refused in
+//! turn it shows that the task, whose room is taken as it is made, answers each by want of memory.
 #![tactic(auto)]
 
 ghost use Rattle.std.specs.Prelude.{IfOk};

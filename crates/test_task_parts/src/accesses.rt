@@ -36,7 +36,8 @@ struct Scene {
     run: AccessRun,
 }
 
-/// What comes of an access of task 1: `KIND OPERATION`, or `KIND -` where it leaves memory alone. Its reports are disabled or not.
+/// What comes of an access of task 1: `KIND OPERATION`, or `KIND -` where it leaves memory alone. Its reports are
+/// disabled or not.
 pub fn access(alloc: Global, start: &str, script: &str, silenced: bool) -> Result<String, Fault> {
     let (kind, operation) = cut(start, ' ')?;
     let operation = match operation {

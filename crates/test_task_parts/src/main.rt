@@ -1,5 +1,5 @@
-//! Reads rows from standard input, each a part of a task and what comes of it: what is done to memory, accesses, the walk of a text,
-//! what a statement is about to do, and what is kept. Prints those of which something else comes.
+//! Reads rows from standard input, each a part of a task and what comes of it: what is done to memory, accesses, the
+//! walk of a text, what a statement is about to do, and what is kept. Prints those of which something else comes.
 #![tactic(auto)]
 
 mod accesses;
@@ -52,7 +52,8 @@ fn try_rows(rt: &HostRuntime) -> io::Result<u64> {
     Ok(others)
 }
 
-/// The rows. A line that begins with a blank goes on with the row above it; those that are empty or begin with `#` are left out.
+/// The rows. A line that begins with a blank goes on with the row above it; those that are empty or begin with `#` are
+/// left out.
 fn read_rows(rt: &HostRuntime) -> io::Result<Vec<String>> {
     let mut rows: Vec<String> = Vec::new(rt.alloc());
     for line in rt.lines(rt.alloc()) {

@@ -62,8 +62,8 @@ fn planned<'a>(planner: Planner<'_>, due: Due<'a>) -> Option<Plan<'a>> {
     }
 }
 
-/// The bytes, the kind and the operation of a plan, its mask, that of the access which is made of it, how often reports are
-/// off for it, and what follows.
+/// The bytes, the kind and the operation of a plan, its mask, that of the access which is made of it, how often reports
+/// are off for it, and what follows.
 fn said(alloc: Global, plan: Plan<'_>) -> Result<String, Fault> {
     let (addr, size) = (plan.bytes.addr, plan.bytes.size);
     let (kind, operation) = (plan.kind, plan.operation);
@@ -106,7 +106,8 @@ fn push_taker(text: &mut String, taker: Taker<'_>) -> Result<(), AllocError> {
     }
 }
 
-/// What the variables of a process say of themselves, by number: whether each is a lock, and how many locks come before it.
+/// What the variables of a process say of themselves, by number: whether each is a lock, and how many locks come before
+/// it.
 pub fn locks(alloc: Global, process: &str, script: &str) -> Result<String, Fault> {
     let program = program_of(alloc, process)?;
     let variables = program.variables.as_slice();

@@ -1,5 +1,5 @@
-//! Scripts: words, one behind the other, each with what comes of it. `STEP=ANSWER` is a step that the part itself makes,
-//! `+STEP=ANSWER` one that another task makes, `QUESTION=ANSWER` what the part says of itself.
+//! Scripts: words, one behind the other, each with what comes of it. `STEP=ANSWER` is a step that the part itself
+//! makes, `+STEP=ANSWER` one that another task makes, `QUESTION=ANSWER` what the part says of itself.
 
 use crate::fault::Fault;
 use crate::notation::{Phrase, push_answer, push_step};

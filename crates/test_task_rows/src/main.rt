@@ -1,5 +1,5 @@
-//! Reads rows from standard input, each a litmus text whose tasks make their steps on plain words, with the steps, their answers
-//! and what is left in the end, and prints those of which something else comes.
+//! Reads rows from standard input, each a litmus text whose tasks make their steps on plain words, with the steps,
+//! their answers and what is left in the end, and prints those of which something else comes.
 #![tactic(auto)]
 
 mod notation;
@@ -34,8 +34,8 @@ fn main(rt: HostRuntime) -> ExitCode {
     ExitCode::from(status)
 }
 
-/// Keeps each text, tries each row, and counts the rows of which something else comes. Lines that are empty or begin with `#` are
-/// neither.
+/// Keeps each text, tries each row, and counts the rows of which something else comes. Lines that are empty or begin
+/// with `#` are neither.
 fn try_rows(rt: &HostRuntime) -> io::Result<u64> {
     let mut texts = Texts::new(rt.alloc());
     let mut rows = 0u64;
@@ -80,8 +80,8 @@ fn comes_as_said(rt: &HostRuntime, texts: &Texts, line: &str) -> io::Result<bool
     Ok(said)
 }
 
-/// What a row wants and what comes of it. Where that is want of memory, the row is tried a second time: where one growth of memory
-/// is refused, so much has to be said of it, and the row comes out the same.
+/// What a row wants and what comes of it. Where that is want of memory, the row is tried a second time: where one
+/// growth of memory is refused, so much has to be said of it, and the row comes out the same.
 fn tried_again(alloc: Global, texts: &Texts, line: &str) -> Result<Option<Tried>, AllocError> {
     match try_row(alloc, texts, line) {
         Ok(tried) => Ok(tried),

@@ -1,4 +1,5 @@
-//! Rows of records of texts with accesses: whether they are in the written order, and whether lists that are bent aren't.
+//! Rows of records of texts with accesses: whether they are in the written order, and whether lists that are bent
+//! aren't.
 
 ghost use Rattle.std.specs.Prelude.{IfOk};
 ghost use Rattle.litmus_syntax.specs.Limits.{KeepsLimits};
@@ -42,8 +43,8 @@ fn watched(alloc: Global) -> Settings {
     }
 }
 
-/// Shows what the steps of a task are of its text, and where they are the whole of it, which bent lists aren't read as they have
-/// to be: `TEXT TASK`, and behind that settings.
+/// Shows what the steps of a task are of its text, and where they are the whole of it, which bent lists aren't read as
+/// they have to be: `TEXT TASK`, and behind that settings.
 pub fn show(
     alloc: Global,
     blocks: &Blocks,

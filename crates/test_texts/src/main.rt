@@ -1,5 +1,5 @@
-//! Reads rows from standard input: texts with what comes of them by their tokens, their printed form, their meaning, their order
-//! and their accesses. It prints those of which something else comes.
+//! Reads rows from standard input: texts with what comes of them by their tokens, their printed form, their meaning,
+//! their order and their accesses. It prints those of which something else comes.
 #![tactic(auto)]
 
 mod accesses;

@@ -12,8 +12,8 @@ use oracle_order::oracle_meaning::walk::{Given, NoMeaning};
 use std::alloc::Global;
 use std::fmt::Write;
 
-/// Shows what a task of a text does, or why that has no meaning: `TEXT TASK at BYTES reading VALUES`, with the bytes of each
-/// variable and the values of the reads.
+/// Shows what a task of a text does, or why that has no meaning: `TEXT TASK at BYTES reading VALUES`, with the bytes of
+/// each variable and the values of the reads.
 pub fn show(alloc: Global, blocks: &Blocks, row: &str, shown: &mut String) -> Result<(), Fault> {
     let (row, values) = row.split_once(" reading").ok_or(Fault::NoRow)?;
     let (row, bytes) = row.split_once(" at ").ok_or(Fault::NoRow)?;

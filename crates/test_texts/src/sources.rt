@@ -63,8 +63,8 @@ fn way_in(alloc: Global, words: &str) -> Result<Way, Fault> {
     })
 }
 
-/// Shows what is read of a text that comes so many bytes at a time, up to a limit, where so many reads succeed, and then how many
-/// bytes are left and how often the source has failed: `SIZE LIMIT READS "TEXT"`.
+/// Shows what is read of a text that comes so many bytes at a time, up to a limit, where so many reads succeed, and
+/// then how many bytes are left and how often the source has failed: `SIZE LIMIT READS "TEXT"`.
 pub fn show(alloc: Global, row: &str, shown: &mut String) -> Result<(), Fault> {
     let (words, text) = quoted(alloc, row)?;
     let Way { size, limit, reads } = way_in(alloc, words)?;

@@ -14,7 +14,8 @@ pub fn records_of(alloc: Global, task: u32, text: &str) -> Result<Vec<Record>, F
     Ok(records)
 }
 
-/// The record of a word: `STEP=ANSWER`, or a step alone, whose answer is that it is done. `TASK/` before it names another task.
+/// The record of a word: `STEP=ANSWER`, or a step alone, whose answer is that it is done. `TASK/` before it names
+/// another task.
 fn record_of(alloc: Global, task: u32, word: &str) -> Result<Record, Fault> {
     let (task, made) = match word.split_once('/') {
         Some((other, made)) => (small(other)?, made),

@@ -36,8 +36,8 @@ impl Sink for Faulty {
     }
 }
 
-/// What is left of a trace whose writes fail: `NAME MOST WRITES`, the name of the trace, how many bytes a write takes at most,
-/// and below how many writes each number is tried as that of those that succeed.
+/// What is left of a trace whose writes fail: `NAME MOST WRITES`, the name of the trace, how many bytes a write takes
+/// at most, and below how many writes each number is tried as that of those that succeed.
 pub fn failing(alloc: Global, texts: &Texts, asked: &str) -> Result<Option<String>, AllocError> {
     let mut words = asked.split(' ');
     let (Some(name), Some(most), Some(writes)) = (
@@ -74,7 +74,8 @@ fn written_in_part(alloc: Global, trace: &Trace, most: usize, writes: u64) -> (b
     (written, sink)
 }
 
-/// Whether a sink has a beginning of a text, and the whole of it just where that is said and where it counted no failure.
+/// Whether a sink has a beginning of a text, and the whole of it just where that is said and where it counted no
+/// failure.
 fn is_a_beginning(written: bool, sink: &Faulty, text: &str) -> bool {
     let whole = sink.bytes.as_slice() == text.as_bytes();
     written == whole

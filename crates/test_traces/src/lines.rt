@@ -32,8 +32,8 @@ pub fn head(alloc: Global, asked: &str) -> Result<Option<String>, AllocError> {
     }
 }
 
-/// The line that a quoted text is, and what else comes where the text goes on behind it, where a beginning of the text is a
-/// line too, or where the line isn't written as that text.
+/// The line that a quoted text is, and what else comes where the text goes on behind it, where a beginning of the text
+/// is a line too, or where the line isn't written as that text.
 pub fn line(alloc: Global, asked: &str) -> Result<Option<String>, AllocError> {
     let Some(text) = quoted(asked) else {
         return Ok(None);

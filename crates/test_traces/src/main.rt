@@ -1,5 +1,5 @@
-//! Reads rows from standard input, each of a trace, of its lines or of reports, and what comes of it, and prints those of which
-//! something else comes.
+//! Reads rows from standard input, each of a trace, of its lines or of reports, and what comes of it, and prints those
+//! of which something else comes.
 #![tactic(auto)]
 
 mod failing;
@@ -37,8 +37,8 @@ fn main(rt: HostRuntime) -> ExitCode {
     ExitCode::from(status)
 }
 
-/// Keeps each text, tries each row, and counts the rows of which something else comes. Lines that are empty or begin with
-/// `#` are neither.
+/// Keeps each text, tries each row, and counts the rows of which something else comes. Lines that are empty or begin
+/// with `#` are neither.
 fn try_rows(rt: &HostRuntime) -> io::Result<u64> {
     let mut texts = Texts::new(rt.alloc());
     let mut rows = 0u64;

@@ -53,8 +53,8 @@ fn parts<'t>(texts: &'t Texts, name: &str, part: &str) -> Option<(&'t str, &'t s
     texts.get(name)?.split_once(part)
 }
 
-/// What is answered of the beginnings of the trace of a name: of the first that isn't bad in its last line, where there is
-/// one.
+/// What is answered of the beginnings of the trace of a name: of the first that isn't bad in its last line, where there
+/// is one.
 pub fn cut(alloc: Global, texts: &Texts, name: &str) -> Result<Option<String>, AllocError> {
     let Some(text) = texts.get(name) else {
         return Ok(None);

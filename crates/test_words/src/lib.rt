@@ -1,4 +1,5 @@
-//! Accesses, watch words, values, boards, contexts and samplers, tried on rows that were worked out by hand. Nothing stands on this crate.
+//! Accesses, watch words, values, boards, contexts and samplers, tried on rows that were worked out by hand. Nothing
+//! stands on this crate.
 #![tactic(auto)]
 
 #[cfg(test)]

@@ -1,6 +1,6 @@
 //! The calls on one watch word.
 
-use slot::slot::Slot;
+use slot::Slot;
 
 const READ: u64 = 0x0008_0000_0001_0000;
 

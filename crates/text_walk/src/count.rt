@@ -35,6 +35,7 @@ pub fn accesses_in(statement: &Statement) -> usize
     match statement {
         Statement::Load(_) | Statement::Assign { .. } | Statement::Call(_) => itself,
         Statement::If { body, .. } => itself.saturating_add(sites_in(body.as_slice())),
+        // A loop's own steps touch no memory, so it has no site of its own.
         Statement::For { body, .. } => sites_in(body.as_slice()),
         Statement::IfElse {
             body,

@@ -1,4 +1,4 @@
--- digits at the front of bytes, and what they spell
+-- Digits at the front of bytes, and what they spell.
 use Rattle.std.proofs.Common.{◌≡◌, ◌∙◌, ℕ, zero, suc, ◌+◌, ◌*◌, ◌-◌, ◌^◌, ◌<◌, ◌≤◌, List, [], ◌∷◌, Bool, true, false, if◌then◌else◌, Some, None, refl, ap, arith, length, get_or, get_or-take, take, drop, length-take-le, add-one}
 use Rattle.std.proofs.Math.Seq.{drop-cons}
 use Rattle.std.proofs.lemmas.List.{drop_all, take_all}

@@ -1,4 +1,4 @@
--- the fields of a line, both ways: what is spelled is read, and what is read is spelled so
+-- The fields of a line, both ways: what is spelled is read, and what is read is spelled so.
 use Rattle.std.proofs.Common.{◌≡◌, ◌∙◌, ◌+◌, ◌*◌, ◌++◌, ◌^◌, ◌<◌, ◌&&◌, ◌∷◌, ℕ, zero, suc, List, [], Bool, true, false, Option, Some, None, ap, append-nil, append_assoc, arith, get_or, length, ltb-true, nat_lt, refl, subst, sym, not}
 use Rattle.std.proofs.lemmas.Bool.{ne_eqb}
 use Rattle.std.proofs.lemmas.Bool.Decides.{nat_tests}
@@ -22,7 +22,8 @@ use Rattle.access_types.specs.declared.kind.Operation.TheVariants.{Read, Write, 
 use Rattle.report_text.specs.Line.{hit_word, kind_letters, letter_if, name, name_in, operation_letter, outcome_words, repetition}
 use Rattle.trace_lines.specs.declared.fields.AccessLetters.{AccessLetters}
 use Rattle.trace_lines.specs.declared.fields.AccessName.{AccessName}
-use Rattle.trace_lines.specs.FieldReaders.{◌>>=◌, AreInLimits, behind_digits, decimal_at, digits_of, either, flag_at, flag_by, hit_at, is_number, kind_asserted, kind_at, kind_of, letters_at, letters_marked, means, name_at, name_of, number_of, operation_at, outcome_at, past, repetition_at, repetition_by, result_at, small_value, ticket_at}
+use Rattle.trace_lines.specs.FieldReaders.{◌>>=◌, AreInLimits, behind_digits, decimal_at, digits_of, either, flag_at, flag_by, hit_at, is_number, kind_asserted, kind_at, kind_of, letters_at}
+use Rattle.trace_lines.specs.FieldReaders.{letters_marked, means, name_at, name_of, number_of, operation_at, outcome_at, past, repetition_at, repetition_by, result_at, small_value, ticket_at}
 use Rattle.trace_lines.specs.Reading.{FinderIsPlain, IsTicket}
 use Rattle.trace_lines.proofs.Digits.{digits_of_are, small_some}
 use Rattle.trace_lines.proofs.Words.{bind_is, bind_some, past_is, past_there, same_given}

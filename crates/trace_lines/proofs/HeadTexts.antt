@@ -1,4 +1,4 @@
--- the head of a trace, both ways
+-- The head of a trace, both ways.
 use Rattle.std.proofs.Common.{◌≡◌, ◌∙◌, ◌++◌, ◌<◌, ◌||◌, ◌^◌, ℕ, List, Bool, true, false, Option, Some, None, ap, append_assoc, arith, nat_lt, refl, subst, sym}
 use Rattle.std.proofs.lemmas.Bool.Decides.{nat_tests}
 use Rattle.std.specs.Fmt.{decimal}

@@ -1,4 +1,4 @@
--- the lines of a trace, both ways: what is spelled is read, and what is read is spelled so
+-- The lines of a trace, both ways: what is spelled is read, and what is read is spelled so.
 use Rattle.std.proofs.Common.{◌≡◌, ◌∙◌, ◌+◌, ◌++◌, ◌^◌, ◌<◌, ◌≤◌, ◌||◌, ◌∷◌, ℕ, List, [], Bool, true, false, Option, Some, None, ap, append_assoc, arith, nat_lt, refl, subst, sym, unwrap_or}
 use Rattle.std.proofs.lemmas.Bool.Decides.{nat_tests}
 use Rattle.std.specs.Fmt.{decimal}

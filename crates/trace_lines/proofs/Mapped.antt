@@ -1,4 +1,4 @@
--- elements of a list, and of another that is made of it
+-- Elements of a list, and of another that is made of it.
 use Rattle.std.proofs.Common.{◌≡◌, ◌∙◌, ◌<◌, List, ap, map, refl, subst, sym}
 use Rattle.std.specs.Prelude.{All, Contains}
 use Rattle.std.proofs.lemmas.List.{get_or-map, length-map}

@@ -1,4 +1,4 @@
--- the plain form of a line may stand where the line may
+-- The plain form of a line may stand where the line may.
 use Rattle.std.proofs.Common.{◌≡◌, ◌<◌, ◌^◌, ◌==◌, ℕ, List, false, Option, Some, None, arith, refl, subst, sym, unwrap_or}
 use Rattle.std.proofs.lemmas.List.Sums.{count_by-le-length}
 use Rattle.access_types.specs.Access.{IsInLimits, proper_mask}

@@ -1,4 +1,4 @@
--- lines may stand and are true exactly where their plain forms may and are
+-- Lines may stand and are true exactly where their plain forms may and are.
 use Rattle.std.proofs.Common.{◌≡◌, ◌≢◌, ◌∷◌, ◌++◌, ◌∙◌, ◌≤◌, ◌<◌, ◌^◌, ◌==◌, ◌||◌, ℕ, List, [], Option, Some, None, ap, map, refl, subst, sym, unwrap_or}
 use Rattle.std.specs.Prelude.{All, Contains, IsSome, IsTrue, count_by}
 use Rattle.std.specs.List.{flat_map}

@@ -1,4 +1,4 @@
--- the lines with which a trace truly begins keep the limits
+-- The lines with which a trace truly begins keep the limits.
 use Rattle.std.proofs.Common.{◌≡◌, ◌∷◌, ◌++◌, ◌≤◌, ℕ, List, [], ap, arith, length, length-append}
 use Rattle.std.specs.Prelude.{All}
 use Rattle.std.specs.List.{flat_map}

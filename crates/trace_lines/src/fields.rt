@@ -2,7 +2,8 @@
 //! it, or `None` where no such field stands there.
 
 ghost use Rattle.std.specs.Prelude.{◌≡◌, ◌+◌, ◌*◌, ◌^◌, ◌<◌, ◌≤◌, codes, drop, length, take, IfNone, IfSome};
-ghost use Rattle.trace_lines.specs.FieldReaders.{AreDigits, AreInLimits, behind_digits, decimal_at, digits_of, flag_at, hex_all, hex_at, hex_value, hit_at, is_number, kind_at, kind_of, letters_at, name_at, name_of, operation_at, outcome_at, past, repetition_at, result_at, small_value, ticket_at};
+ghost use Rattle.trace_lines.specs.FieldReaders.{AreDigits, AreInLimits, behind_digits, decimal_at, digits_of, flag_at, hex_all, hex_at, hex_value, hit_at, is_number, kind_at, kind_of, letters_at};
+ghost use Rattle.trace_lines.specs.FieldReaders.{name_at, name_of, operation_at, outcome_at, past, repetition_at, result_at, small_value, ticket_at};
 ghost use Rattle.trace_lines.specs.Reading.{seen, seen_rest};
 
 use access_types::{ArmOutcome, Claim, HitResult, Kind, Operation};

@@ -1,4 +1,4 @@
--- what counts by key say of takings
+-- What counts by key say of takings.
 use Rattle.std.proofs.Common.{Ok, Err, Result, ◌≡◌, ◌∷◌, ◌++◌, ◌∙◌, ◌↔◌, ◌+◌, ℕ, List, [], Bool, append-nil, cond, map, subst, sym}
 use Rattle.std.specs.Prelude.{OnOk, count_by, nat_eq}
 use Rattle.std.proofs.lemmas.List.{map-append}

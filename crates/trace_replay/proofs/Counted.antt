@@ -1,4 +1,4 @@
--- counts by key that agree at each key of either
+-- Counts by key that agree at each key of either.
 use Rattle.std.proofs.Common.{◌≡◌, ◌∷◌, ◌∙◌, ◌↔◌, ℕ, List, [], Bool, true, false, cond, Option, Some, None, ap, refl, subst, sym, unwrap_or, true≢false}
 use Rattle.std.specs.Prelude.{All, IsTrue}
 use Rattle.std.specs.Cmp.{IsEquivalence}

@@ -1,4 +1,4 @@
--- accesses by their tickets, and their stamps
+-- Accesses by their tickets, and their stamps.
 use Rattle.std.proofs.Common.{◌≡◌, ◌≢◌, ◌∷◌, ◌++◌, ◌∙◌, ◌==◌, ◌||◌, ◌+◌, ◌⊎◌, inl, inr, ℕ, zero, suc, List, [], Bool, true, false, cond, Bor, Option, Some, None, ap, arith, get_or, length, refl, subst, sym, true≢false, unwrap_or}
 use Rattle.std.specs.Prelude.{All, Contains, nat_eq, slice_get}
 use Rattle.std.specs.List.{list_any}

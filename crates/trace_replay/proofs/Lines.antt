@@ -1,4 +1,4 @@
--- what one line more adds to what lines say
+-- What one line more adds to what lines say.
 use Rattle.std.proofs.Common.{◌≡◌, ◌∷◌, ◌++◌, ◌∙◌, ◌↔◌, ◌+◌, ◌<◌, ◌≤◌, ◌^◌, ◌-◌, ℕ, List, [], Bool, ap, append-nil, arith, length, map, refl, subst, sym}
 use Rattle.std.specs.Prelude.{All, count_by}
 use Rattle.std.specs.List.{flat_map}

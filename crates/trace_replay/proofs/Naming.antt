@@ -1,4 +1,4 @@
--- what a look-up by ticket says of accesses among lines
+-- What a look-up by ticket says of accesses among lines.
 use Rattle.std.proofs.Common.{◌≡◌, ◌↔◌, ◌<◌, ℕ, List, Option, Some, None, is_some, refl, subst, sym, true≢false}
 use Rattle.std.specs.Prelude.{All, IsTrue}
 use Rattle.std.proofs.lemmas.List.Elements.{All-contains}

@@ -1,4 +1,4 @@
--- bytes have one answer
+-- Bytes have one answer.
 use Rattle.std.proofs.Common.{◌≡◌, ◌∷◌, ◌++◌, ◌∙◌, ◌+◌, ◌<◌, ◌≤◌, ℕ, List, [], Option, Some, None, ap, append_assoc, append-nil, arith, length, map, refl, suc, subst, sym, ◌⊎◌, inl, inr, length-append}
 use Rattle.std.specs.Prelude.{◌↔◌, Contains, Err, IfErr, IfOk, Ok, Result}
 use Rattle.std.specs.List.{flat_map}
@@ -34,7 +34,7 @@ use Rattle.trace_replay.specs.Answer.{IsAccepted, IsAnswerTo, IsRefused, accepte
 use Rattle.trace_replay.specs.declared.accepted.Accepted.{Accepted}
 use Rattle.trace_replay.specs.declared.accepted.TraceError.{TraceError}
 use Rattle.trace_replay.specs.declared.accepted.TraceError.TheVariants.{OutOfMemory, BadTrace, FalseReport}
-use Rattle.trace_replay.proofs.Going.{line_is_no_end}
+use Rattle.trace_replay.proofs.FirstFailingLine.{line_is_no_end}
 use Rattle.report_text.proofs.TrueLines.{arms-append}
 
 abbrev Answered : Type 0

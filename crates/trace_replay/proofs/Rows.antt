@@ -1,4 +1,4 @@
--- rows in which one value more is set
+-- Rows in which one value more is set.
 use Rattle.std.proofs.Common.{◌≡◌, ◌∷◌, ◌++◌, ◌/◌, ◌%◌, ℕ, List, [], refl, zero, suc}
 use Rattle.std.specs.Prelude.{Vec, slice_get}
 use Rattle.trace_replay.specs.Table.{in_row, in_rows}

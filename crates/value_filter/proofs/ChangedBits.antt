@@ -1,4 +1,4 @@
--- a number that is not 0 has a bit, and the bits of an exclusive or are those that differ
+-- A number that is not 0 has a bit, and the bits of an exclusive or are those that differ.
 use Rattle.std.proofs.Common.{◌≡◌, ◌≢◌, ◌↔◌, ◌∙◌, Bool, true, false, not, nat_eq, IsTrue, ◌+◌, ◌/◌}
 use Rattle.std.proofs.Common.{◌%◌, ◌<◌, ◌≤◌, ℕ, Option, Some, None, ap, arith, bit_and, bit_xor}
 use Rattle.std.proofs.Common.{min, refl, suc, sym, zero}

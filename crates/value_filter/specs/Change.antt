@@ -1,3 +1,4 @@
+-- When the old and the new value of an access's bytes differ in a bit that counts for it.
 use Rattle.std.specs.Prelude.{◌≡◌, ◌≢◌, ℕ, Option, Some, None, IsSomeAnd}
 use Rattle.std.specs.Int.{bit_at}
 use Rattle.access_types.specs.Access.{Access}

@@ -1,3 +1,4 @@
+-- The table of verdicts on a watch that is over: a report, a hit that is dropped, or quiet.
 use Rattle.std.specs.Prelude.{◌≡◌, ◌≢◌, ◌<◌, ◌⊎◌, Bool, true, false, IsTrue}
 use Rattle.access_types.specs.Access.{Access}
 use Rattle.access_types.specs.Kind.{is_assertion}

@@ -20,6 +20,7 @@ pub fn change(access: &Access, values: Option<(u64, u64)>) -> Change
     let mask = access.mask();
     match values {
         Some((old, new)) if differ(mask, old, new) => Change::Seen,
+        // Also where no values were loaded: KCSAN too asks of a mask that a change be seen.
         _ if mask.is_some() => Change::Ruled,
         _ => Change::Maybe,
     }

@@ -51,11 +51,15 @@ pub fn judge(change: Change, setter: &Access, taken: bool, value_change_only: bo
 {
     match (taken, change) {
         (true, Change::Seen) => Verdict::Report,
+        // As in KCSAN: who gives a mask expects others to change the bits outside it, so a change inside is asked for.
         (true, Change::Ruled) => Verdict::Drop(Reason::MaskedBits),
+        // KCSAN assumes a change here: it compares no values of this size, and an assertion is broken by the access.
         (true, Change::Maybe) if setter.size() > 8 || setter.kind().is_assertion() =>
             Verdict::Report,
+        // As in KCSAN's skip_report(): by the option a race is left out while nothing shows that the value changed.
         (true, Change::Maybe) if value_change_only => Verdict::Drop(Reason::SameValue),
         (true, Change::Maybe) => Verdict::Report,
+        // KCSAN infers a race here: while an unmarked access is watched its bytes should not change.
         (false, Change::Seen) => Verdict::Report,
         (false, _) => Verdict::Quiet,
     }

@@ -1,3 +1,4 @@
+-- Where the address, the size and the write bit stand in a watch word of 64 or of 32 bits.
 use Rattle.std.specs.Prelude.{◌%◌, ◌^◌, ℕ}
 use Rattle.watch_word.specs.declared.layout.Layout.{Layout}
 use Rattle.watch_word.specs.declared.layout.Layout.TheVariants.{W64, W32}

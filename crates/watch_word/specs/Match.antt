@@ -1,3 +1,4 @@
+-- When the ranges of a watchpoint and of an access meet, by the low bits of their addresses.
 use Rattle.std.specs.Prelude.{◌+◌, ◌<◌, ℕ}
 use Rattle.watch_word.specs.declared.layout.Layout.{Layout}
 use Rattle.watch_word.specs.declared.watch.Watch.{Watch}

@@ -1,3 +1,4 @@
+-- Which accesses a watch word can stand for, the word of each, and what a word says when it is read.
 use Rattle.std.specs.Prelude.{◌≡◌, ◌+◌, ◌*◌, ◌/◌, ◌%◌, ◌<◌, ◌≤◌, ◌==◌, ℕ, if◌then◌else◌}
 use Rattle.access_types.specs.Access.{Access, IsInLimits}
 use Rattle.access_types.specs.Kind.{write_flag}

@@ -1,3 +1,5 @@
+//! Where the fields of a watch word stand, in words of 64 bits and of 32.
+
 ghost use Rattle.std.specs.Prelude.{◌≡◌};
 ghost use Rattle.watch_word.specs.Layout as spec;
 

@@ -1,3 +1,5 @@
+//! The word of an access, what a word says when it is read, and when that meets another access.
+
 ghost use Rattle.std.specs.Prelude.{◌≡◌, ◌+◌, ◌^◌, ◌<◌, ◌≤◌, ◌↔◌, ℕ, IfSome, IsSome, IsTrue};
 ghost use Rattle.access_types.specs.Access as spec;
 ghost use Rattle.watch_word.specs.declared.layout.Layout.{Layout};
@@ -38,6 +40,8 @@ pub fn encode_in(layout: Layout, access: &Access) -> Option<u64>
     ensures says { IfSome result (λ word. Watches layout word (watch_of layout access.now)) }
 {
     let size = access.size();
+    // As KCSAN's check_encodable(), which keeps null pointers out and sizes above the limit. A word of size 0 would
+    // match nothing.
     if access.addr() < PAGE_SIZE || size == 0 || size > MAX_ENCODABLE_SIZE {
         return None;
     }

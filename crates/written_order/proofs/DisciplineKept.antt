@@ -19,7 +19,7 @@ use Rattle.setup_access.proofs.LocksLemmas.{TouchesNoLock, check_leaves_locks, c
 use Rattle.setup_access.specs.Check.{Check, Close, Passes}
 use Rattle.setup_access.specs.MadeOfChecks as shapes
 use Rattle.setup_access.specs.MadeOfChecks.{FreesHeldLocks, IsBesides, MadeOfChecks}
-use Rattle.setup_access.specs.Own.{AreOwn, IsOwn}
+use Rattle.setup_access.specs.OwnAccesses.{AreOwn, IsOwn}
 use Rattle.setup_access.specs.Records.{MakesDone, MakesWord, OnFlag, OnWord}
 use Rattle.setup_access.specs.declared.begun.Begun.{Begun}
 use Rattle.setup_access.specs.declared.source.Source.{Source}

@@ -4,14 +4,14 @@ pub mod WrittenOrder
 pub mod Waits
 pub mod Told
 pub use Rattle.setup_access.specs.of_access_types_Access as of_access_types_Access
-pub use Rattle.setup_access.specs.of_access_types_Marked as of_access_types_Marked
-pub use Rattle.setup_access.specs.of_access_types_Race as of_access_types_Race
+pub use Rattle.memory_operation.specs.of_access_types_Marked as of_access_types_Marked
+pub use Rattle.memory_operation.specs.of_access_types_Race as of_access_types_Race
 pub use Rattle.setup_access.specs.of_access_types_declared as of_access_types_declared
-pub use Rattle.setup_access.specs.of_value_filter_Verdict as of_value_filter_Verdict
-pub use Rattle.setup_access.specs.of_value_filter_declared as of_value_filter_declared
+pub use Rattle.memory_operation.specs.of_value_filter_Verdict as of_value_filter_Verdict
+pub use Rattle.memory_operation.specs.of_value_filter_declared as of_value_filter_declared
 pub use Rattle.setup_access.specs.of_slot_Pair as of_slot_Pair
-pub use Rattle.setup_access.specs.of_slot_table_StepLine as of_slot_table_StepLine
-pub use Rattle.setup_access.specs.of_slot_table_Words as of_slot_table_Words
+pub use Rattle.memory_operation.specs.of_slot_table_StepLine as of_slot_table_StepLine
+pub use Rattle.memory_operation.specs.of_slot_table_Words as of_slot_table_Words
 pub use Rattle.setup_access.specs.of_slot_table_declared as of_slot_table_declared
 pub use Rattle.setup_access.specs.Check as of_setup_access_Check
 pub use Rattle.setup_access.specs.Checker as of_setup_access_Checker
@@ -20,7 +20,7 @@ pub use Rattle.setup_access.specs.Find as of_setup_access_Find
 pub use Rattle.setup_access.specs.Found as of_setup_access_Found
 pub use Rattle.setup_access.specs.Hits as of_setup_access_Hits
 pub use Rattle.setup_access.specs.Leads as of_setup_access_Leads
-pub use Rattle.setup_access.specs.Own as of_setup_access_Own
+pub use Rattle.setup_access.specs.OwnAccesses as of_setup_access_OwnAccesses
 pub use Rattle.setup_access.specs.Parts as of_setup_access_Parts
 pub use Rattle.setup_access.specs.Records as of_setup_access_Records
 pub use Rattle.setup_access.specs.Setting as of_setup_access_Setting

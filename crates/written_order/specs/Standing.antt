@@ -1,8 +1,8 @@
 -- What a task goes by, and how far it has come in its text, with its checks.
 use Rattle.std.specs.Prelude.{◌↔◌, ◌≡◌, ◌+◌, ◌++◌, ℕ, Bool, List, [], ◌∷◌, IsSomeAnd, IsTrue, false, true, count_by, length, map, nat_le, slice_get, take, if◌then◌else◌}
 use Rattle.setup_access.specs.of_access_types_Access.{Access}
-use Rattle.setup_access.specs.of_access_types_History.{History}
-use Rattle.setup_access.specs.of_access_types_Marked.{CountsAfter, EndsRaised, is_disable, is_enable, is_nest_close, is_nest_open, marks_of}
+use Rattle.memory_operation.specs.of_access_types_History.{History}
+use Rattle.memory_operation.specs.of_access_types_Marked.{CountsAfter, EndsRaised, is_disable, is_enable, is_nest_close, is_nest_open, marks_of}
 use Rattle.setup_access.specs.of_access_types_Sites.{AccessMap}
 use Rattle.setup_access.specs.of_access_types_declared.history.Happening.{Happening}
 use Rattle.setup_access.specs.of_access_types_declared.history.Mark.{Mark}
@@ -11,7 +11,7 @@ use Rattle.memory_operation.specs.of_litmus_meaning_Layout.{cells_of}
 use Rattle.memory_operation.specs.of_litmus_meaning_Task as meaning
 use Rattle.memory_operation.specs.of_litmus_syntax_declared.program.Contents.{Contents}
 use Rattle.memory_operation.specs.of_litmus_syntax_declared.program.Contents.TheVariants.{Lock}
-use Rattle.setup_access.specs.Own.{IsOwn}
+use Rattle.setup_access.specs.OwnAccesses.{IsOwn}
 use Rattle.setup_access.specs.Setting as checks
 use Rattle.setup_access.specs.declared.begun.Begun.{Begun}
 use Rattle.setup_access.specs.Check.{Fallen}

@@ -9,7 +9,7 @@ pub use Rattle.written_order.specs.of_setup_access_Find as of_setup_access_Find
 pub use Rattle.written_order.specs.of_setup_access_Found as of_setup_access_Found
 pub use Rattle.written_order.specs.of_setup_access_Hits as of_setup_access_Hits
 pub use Rattle.written_order.specs.of_setup_access_Leads as of_setup_access_Leads
-pub use Rattle.written_order.specs.of_setup_access_Own as of_setup_access_Own
+pub use Rattle.written_order.specs.of_setup_access_OwnAccesses as of_setup_access_OwnAccesses
 pub use Rattle.written_order.specs.of_setup_access_Parts as of_setup_access_Parts
 pub use Rattle.written_order.specs.of_setup_access_Records as of_setup_access_Records
 pub use Rattle.written_order.specs.of_setup_access_Setting as of_setup_access_Setting

@@ -9,6 +9,7 @@ returns-clause-asked c = record {
   file = some_read (found_of c.args.search.now) (codes "FILE") c.get_str.result _ c.get_str.ensures c.in_ok-get_str.was;
   switches = c.in_ok-number.ensures.asked;
   limit = c.in_ok-number-2.ensures.asked;
+  jobs = c.in_ok-number-3.ensures.asked;
   options = c.in_ok-options.ensures.asked;
 }
 
@@ -21,3 +22,8 @@ pub returns-in_err-number-2-clause-complete : goal.returns-in_err-number-2-claus
 returns-in_err-number-2-clause-complete c = λ request bounds asks.
     absurd (not_missing c.number-2.result (c.number-2.ensures.complete request.limit bounds.limit bounds.limit_to asks.limit)
     c.in_err-number-2.was)
+
+pub returns-in_err-number-3-clause-complete : goal.returns-in_err-number-3-clause-complete
+returns-in_err-number-3-clause-complete c = λ request bounds asks.
+    absurd (not_missing c.number-3.result (c.number-3.ensures.complete request.jobs bounds.jobs bounds.jobs_to asks.jobs)
+    c.in_err-number-3.was)

@@ -1,5 +1,5 @@
 -- Record by record.
-use Rattle.run_kept.proofs.Own.{own_verdicts}
+use Rattle.run_kept.proofs.ArmingsHaveVerdicts.{own_verdicts}
 use Rattle.run_kept.proofs.bags.armings_have_their_own_verdicts.Goals as goal
 
 pub returns : goal.returns

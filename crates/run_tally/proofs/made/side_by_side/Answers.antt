@@ -17,7 +17,7 @@ use Rattle.run_output.proofs.of_program_sites_settings.Settings.TheSendSync as s
 use Rattle.run_output.specs.of_program_sites_contracts.prepared.Prepared as prepared_row
 use Rattle.run_output.specs.of_program_sites_contracts.settings.Settings as settings_row
 use Rattle.litmus_syntax.specs.contracts.program.Program as program_row
-use Rattle.runner.proofs.Sent.{program_shared}
+use Rattle.litmus_syntax.proofs.Shared.{program_shared}
 use Rattle.run_tally.proofs.starters.Starters.TheSendSync as starters
 use Rattle.run_tally.specs.contracts.starters.Starters as starters_row
 use Rattle.run_tally.proofs.times.Times.TheSendSync as times

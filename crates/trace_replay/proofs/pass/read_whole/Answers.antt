@@ -1,5 +1,5 @@
 -- the head fails
-use Rattle.trace_replay.proofs.Going.{head_fails}
+use Rattle.trace_replay.proofs.FirstFailingLine.{head_fails}
 use Rattle.trace_replay.proofs.pass.read_whole.Goals as goal
 
 pub returns-in-Err-clause-refused : goal.returns-in-Err-clause-refused

@@ -4,7 +4,7 @@ use Rattle.report_text.specs.TraceText.{head_text}
 use Rattle.trace_lines.specs.HeadReading.{head_of}
 use Rattle.trace_lines.proofs.TrueBegins.{few_lines}
 use Rattle.trace_replay.specs.Answer.{GoesOn}
-use Rattle.trace_replay.proofs.Going.{begun, low_number, next_number, none_begins, one_line_more, refused, shorter}
+use Rattle.trace_replay.proofs.FirstFailingLine.{begun, low_number, next_number, none_begins, one_line_more, refused, shorter}
 use Rattle.trace_replay.proofs.pass.replay_lines.Goals as goal
 
 pub loop-next-init : goal.loop-next-init

@@ -27,7 +27,7 @@ use Rattle.accepted_traces.specs.of_run_lists_Run.{Run}
 use Rattle.accepted_traces.proofs.of_program_sites_prepared.Prepared.TheSendSync as prepared
 use Rattle.accepted_traces.specs.of_program_sites_Prepared.{sites_in}
 use Rattle.accepted_traces.proofs.of_program_sites_settings.Settings.TheSendSync as settings
-use Rattle.runner.proofs.Sent.{program_shared}
+use Rattle.litmus_syntax.proofs.Shared.{program_shared}
 use Rattle.runner.proofs.first.TaskStart.TheSendSync as start
 use Rattle.shared_table.proofs.table.SharedTable.TheSendSync as table
 use Rattle.runner.proofs.threads.fn.on_threads.scope.Goals as goal
