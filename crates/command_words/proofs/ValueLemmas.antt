@@ -135,6 +135,8 @@ asked_replay name values (requests.Run request) is asks =
 asked_replay name values (requests.Search request) is asks =
     absurd (let first : 115 ≡ 114 = ap (λ (text : Text). get_or text 0 0) (sym asks.0 ∙ is) in omega (arith, first))
 asked_replay name values (requests.Replay request) is asks = (request.trace.now, asks.1)
+asked_replay name values (requests.Show request) is asks =
+    absurd (let long : 4 ≡ 6 = ap (λ (text : Text). length text) (sym asks.0 ∙ is) in omega (arith, long))
 
 -- the words ask for what the command that they call asks for
 pub asked_by : (words : List Text) (sizes : Bor (List (Bor Text))) → AreSizes sizes

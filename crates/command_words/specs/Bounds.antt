@@ -38,3 +38,4 @@ MayBeAsked (requests.Step request) = KeepsBounds request.options
 MayBeAsked (requests.Run request) = KeepsRunBounds request
 MayBeAsked (requests.Search request) = KeepsSearchBounds request
 MayBeAsked (requests.Replay request) = Unit {0}
+MayBeAsked (requests.Show request) = Unit {0}

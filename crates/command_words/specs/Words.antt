@@ -19,6 +19,7 @@ use Rattle.command_words.specs.declared.request.Request.{Request}
 use Rattle.command_words.specs.declared.request.Request.TheVariants as requests
 use Rattle.command_words.specs.declared.request.RunRequest.{RunRequest}
 use Rattle.command_words.specs.declared.request.SearchRequest.{SearchRequest}
+use Rattle.command_words.specs.declared.request.ShowRequest.{ShowRequest}
 use Rattle.command_words.specs.declared.request.StepRequest.{StepRequest}
 use Rattle.watch_word.specs.declared.layout.Layout.{Layout}
 use Rattle.watch_word.specs.declared.layout.Layout.TheVariants as layouts
@@ -93,12 +94,19 @@ search_app sizes =
 abbrev pub replay_app : App
 replay_app = with_rule (new_app (codes "replay")) (word_rule (codes "TRACE"))
 
+-- `show`, with its file, the file that a picture goes to, and whether the text is drawn with ASCII alone
+abbrev pub show_app : App
+show_app = with_rule (with_rule (with_rule (new_app (codes "show"))
+    (word_rule (codes "TRACE")))
+    (text_rule (codes "svg")))
+    (flag_rule (codes "ascii"))
+
 -- the program, one of whose commands has to be named
 abbrev pub program_app : Bor (List (Bor Text)) → App
 program_app sizes =
-    with_subcommand (with_subcommand (with_subcommand (with_subcommand
+    with_subcommand (with_subcommand (with_subcommand (with_subcommand (with_subcommand
     (on_top (λ shape. record shape { subcommand_required = true }) (new_app (codes "kcsan_litmus")))
-    (step_app sizes).top) (run_app sizes).top) (search_app sizes).top) replay_app.top
+    (step_app sizes).top) (run_app sizes).top) (search_app sizes).top) replay_app.top) show_app.top
 
 -- an argument goes by a rule, and is of its own command alone
 pub record IsArg (rule : Rule) (arg : Arg) : Type 0 where
@@ -181,12 +189,19 @@ pub record AskSearch (values : List Row) (request : SearchRequest) : Type 0 wher
 abbrev pub AskReplay : List Row → ReplayRequest → Type 0
 AskReplay values request = first_of (codes "TRACE") values ≡ Some request.trace.now
 
+-- the values of `show` ask for this
+pub record AskShow (values : List Row) (request : ShowRequest) : Type 0 where
+  pub trace : first_of (codes "TRACE") values ≡ Some request.trace.now
+  pub svg : first_of (codes "svg") values ≡ option_map (λ path. path.now) request.svg
+  pub ascii : IsFlag values (codes "ascii") request.ascii
+
 -- a command of this name with these values asks for this
 abbrev pub IsAskedBy : Text → List Row → Request → Type 0
 IsAskedBy name values (requests.Step request) = (name ≡ codes "step") × AskStep values request
 IsAskedBy name values (requests.Run request) = (name ≡ codes "run") × AskRun values request
 IsAskedBy name values (requests.Search request) = (name ≡ codes "search") × AskSearch values request
 IsAskedBy name values (requests.Replay request) = (name ≡ codes "replay") × AskReplay values request
+IsAskedBy name values (requests.Show request) = (name ≡ codes "show") × AskShow values request
 
 -- the command that was called, with its values, if there is one, asks for this
 abbrev pub IsAskedOf : Option (Text × List Row) → Request → Type 0

@@ -208,3 +208,32 @@ pub const LIMIT: &str = "After how many schedules the search stops, 1 to 1000000
 
 /// What `--jobs` of `search` says.
 pub const SEARCH_JOBS: &str = "How many threads share the work, 1 to 64; the output is the same";
+
+/// What `show` does.
+pub const SHOW: &str = "Draws a trace: which access was in progress when, who watched, who took it";
+
+/// What follows the options of `show`.
+pub const AFTER_SHOW: &str = "\
+    A trace is what 'kcsan_litmus step --trace PATH' writes; one that 'kcsan_litmus replay' does\n\
+    not accept is not drawn. A task has a column and a stamp a line, time downwards: where an\n\
+    access begins, a bar while it is in progress, and where it ends. A race is a line from one\n\
+    side to the other, at a stamp at which both are in progress. Under the accesses stand the\n\
+    watchpoints that were set up, with what became of each, and those that were taken. For\n\
+    example\n\
+    \n\
+    \x20\x20\x20\x20kcsan_litmus step race.litmus --schedule 0x7,1x9 --trace race.trace\n\
+    \x20\x20\x20\x20kcsan_litmus show race.trace --svg race.svg\n\
+    \n\
+    draws the race of race.litmus, and writes the same as a picture to race.svg. Lines are drawn\n\
+    with | + - = alone unless LC_ALL, or else LC_CTYPE, or else LANG, names UTF-8.\n\
+    \n\
+    Exit status: 0 the trace is drawn; 64 usage; 65 it is refused, or has more than 10000\n\
+    accesses (limit: picture); 66 it can't be read; 71 out of memory; 74 output can't be written.\n\
+    From 64 on standard error says why, and up to 71 nothing goes to standard output or to the\n\
+    picture's file.";
+
+/// What `--svg` does.
+pub const SVG: &str = "Also writes the picture to this file, as SVG";
+
+/// What `--ascii` does.
+pub const ASCII: &str = "Draws with the signs | + - = alone";

@@ -5,5 +5,5 @@ pub mod help;
 pub mod request;
 
 pub use request::{
-    ReplayRequest, Request, RunOptions, RunRequest, SearchRequest, StepRequest, asked,
+    ReplayRequest, Request, RunOptions, RunRequest, SearchRequest, ShowRequest, StepRequest, asked,
 };

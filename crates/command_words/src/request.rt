@@ -2,9 +2,9 @@
 
 ghost use Rattle.std.specs.Prelude.{◌≡◌, ◌≤◌, ◌<◌, ℕ, IfErr, IfOk, IfSome, IsSome, codes, map};
 ghost use Rattle.command_words.specs.Bounds.{KeepsBounds, KeepsRunBounds, KeepsSearchBounds, MayBeAsked};
-ghost use Rattle.command_words.specs.Words.{AreSizes, Ask, AskOptions, AskRun, AskSearch, AskStep};
+ghost use Rattle.command_words.specs.Words.{AreSizes, Ask, AskOptions, AskRun, AskSearch, AskShow, AskStep};
 ghost use Rattle.command_words.specs.Words.{IsArg, IsAskedOf, IsLayout, IsNumber, IsProgram, MayFail};
-ghost use Rattle.command_words.specs.Words.{flag_rule, number_rule, replay_app, run_app, search_app, step_app, text_rule, with_options, word_rule};
+ghost use Rattle.command_words.specs.Words.{flag_rule, number_rule, replay_app, run_app, search_app, show_app, step_app, text_rule, with_options, word_rule};
 ghost use Rattle.clap.specs.Words.{app_of, found_of, kind_of, rows_of, subcommand_rows_of};
 
 use crate::help;
@@ -53,6 +53,8 @@ pub enum Request<'a> {
     Search(SearchRequest<'a>),
     /// To check a trace.
     Replay(ReplayRequest<'a>),
+    /// To draw a trace.
+    Show(ShowRequest<'a>),
 }
 
 /// What `replay` is asked to do.
@@ -60,6 +62,17 @@ pub enum Request<'a> {
 pub struct ReplayRequest<'a> {
     /// The name of the file that has the trace.
     pub trace: &'a str,
+}
+
+/// What `show` is asked to do.
+#[derive(Clone, Copy, Debug, PartialEq, Eq)]
+pub struct ShowRequest<'a> {
+    /// The name of the file that has the trace.
+    pub trace: &'a str,
+    /// The name of the file that a picture goes to as well, if it goes to one.
+    pub svg: Option<&'a str>,
+    /// Whether the text is drawn with ASCII alone.
+    pub ascii: bool,
 }
 
 /// What `step` is asked to do.
@@ -156,6 +169,7 @@ fn request_of<'a>(matches: &ArgMatches<'a>) -> Option<Request<'a>>
         ("replay", replay) => Some(Request::Replay(ReplayRequest {
             trace: replay.get_str("TRACE")?,
         })),
+        ("show", show) => Some(Request::Show(show_request(show)?)),
         _ => None,
     }
 }
@@ -204,6 +218,18 @@ fn search_request<'a>(search: &ArgMatches<'a>) -> Option<SearchRequest<'a>>
         limit: number(search, "limit", LIMIT)?,
         jobs: number(search, "jobs", JOBS)?,
         options: options(search)?,
+    })
+}
+
+/// What `show` is asked to do, by the values of its options.
+fn show_request<'a>(show: &ArgMatches<'a>) -> Option<ShowRequest<'a>>
+    ensures asked { IfSome result (AskShow (rows_of (found_of show.now))) }
+    ensures complete { (request : ShowRequest) → AskShow (rows_of (found_of show.now)) request → IsSome result }
+{
+    Some(ShowRequest {
+        trace: show.get_str("TRACE")?,
+        svg: show.get_str("svg"),
+        ascii: show.get_flag("ascii"),
     })
 }
 
@@ -263,7 +289,8 @@ fn program<'a>(alloc: Global) -> Result<Command<'a>, AllocError>
         .subcommand(step_command(alloc, sizes)?)?
         .subcommand(run_command(alloc, sizes)?)?
         .subcommand(search_command(alloc, sizes)?)?
-        .subcommand(replay_command(alloc)?)
+        .subcommand(replay_command(alloc)?)?
+        .subcommand(show_command(alloc)?)
 }
 
 /// `replay`, with its file.
@@ -274,6 +301,18 @@ fn replay_command<'a>(alloc: Global) -> Result<Command<'a>, AllocError>
         .about(help::REPLAY)
         .after_help(help::AFTER_REPLAY)
         .arg(file(alloc, "TRACE", help::REPLAYED))
+}
+
+/// `show`, with its file and its options.
+fn show_command<'a>(alloc: Global) -> Result<Command<'a>, AllocError>
+    ensures { IfOk result (λ command. app_of command ≡ show_app) }
+{
+    Command::new(alloc, "show")
+        .about(help::SHOW)
+        .after_help(help::AFTER_SHOW)
+        .arg(file(alloc, "TRACE", help::REPLAYED))?
+        .arg(text_option(alloc, "svg", "PATH", help::SVG))?
+        .arg(flag(alloc, "ascii", help::ASCII))
 }
 
 /// The file that a command is about.

@@ -2,6 +2,7 @@
 //! programs.
 #![tactic(auto)]
 
+mod locale;
 mod system;
 
 use litmus_command::command::{OUT_OF_MEMORY, USAGE, command};

@@ -3,6 +3,7 @@
 ghost use Rattle.std.specs.Prelude.{◌≡◌, None};
 ghost use Rattle.report_text.specs.Sink.{CountsFailure};
 
+use crate::locale;
 use litmus_command::complaint::Complaint;
 use litmus_command::desk::{Desk, ReadFault};
 use litmus_command::{Progress, SearchProgress};
@@ -178,6 +179,10 @@ impl Desk for System {
                 "kcsan_litmus: no report; 'kcsan_litmus search' tries every schedule with few switches\n",
             );
         }
+    }
+
+    fn shows_utf8(&self) -> bool {
+        locale::shows_utf8(&self.output.rt)
     }
 
     fn complain(&mut self, complaint: Complaint) {

@@ -19,6 +19,9 @@ use Rattle.run_tally.specs.of_program_sites_declared.error.RunError.{RunError}
 use Rattle.run_tally.specs.of_program_sites_declared.error.RunError.TheVariants as run
 use Rattle.run_tally.specs.of_trace_replay_declared.accepted.TraceError.{TraceError}
 use Rattle.run_tally.specs.of_trace_replay_declared.accepted.TraceError.TheVariants as trace
+use Rattle.picture_text.specs.of_picture_declared.error.PictureError.{PictureError}
+use Rattle.picture_text.specs.of_picture_declared.error.PictureError.TheVariants as picture
+use Rattle.litmus_command.specs.Command.{picture_status_of}
 use Rattle.command_words.specs.declared.request.RunOptions.{RunOptions}
 use Rattle.litmus_command.specs.Command.{FileIsRun, FileIsRunInPart, IsGiven, IsGivenInPart, once_read, trace_path}
 use Rattle.litmus_command.specs.Engine.{IsRefused, Stops, StopsReady, StopsRun}
@@ -148,6 +151,11 @@ pub reads_no_sink : (fault : ReadFault) → status_of (read_failure fault) ≡ 7
 reads_no_sink fault.OutOfMemory is = omega (arith, is)
 reads_no_sink fault.CannotRead is = omega (arith, is)
 
+-- what can't be read is no mistake in the words
+pub reads_no_usage : (fault : ReadFault) → status_of (read_failure fault) ≡ 64 → ⊥
+reads_no_usage fault.OutOfMemory is = omega (arith, is)
+reads_no_usage fault.CannotRead is = omega (arith, is)
+
 -- a failure ends with one of these statuses
 text_known : (error : ParseError) → IsKnown (text_status_of error)
 text_known parse.OutOfMemory = inr (inr (inl refl))
@@ -182,6 +190,8 @@ failures_are_known failure.CannotWrite = inr (inr (inr refl))
 failures_are_known failure.OutOfMemory = inr (inr (inl refl))
 failures_are_known (failure.Engine error) = engine_known error
 failures_are_known (failure.Trace error) = trace_known error
+failures_are_known (failure.Picture (picture.Trace error)) = trace_known error
+failures_are_known (failure.Picture picture.TooLong) = inl (omega arith, omega arith)
 
 -- which is neither 0 nor 2
 pub known_above : (status : ℕ) → IsKnown status → 64 ≤ status
@@ -321,40 +331,40 @@ no_sink_stops {X} program settings entries result stops is =
     subst (λ (r : Result X EngineError). IfErr r (Stops program settings entries)) is stops
 
 -- the state of a desk that a file was read from
-pub is_once_read : (written other : Option (List ℕ)) (failures more : ℕ) (files later : Option (List FileEvent)) (file text : List ℕ)
-    → other ≡ written → more ≡ failures → later ≡ noted files (Gave file file_bytes text)
+pub is_once_read : (written other : Option (List ℕ)) (failures more : ℕ) (files later : Option (List FileEvent)) (file : List ℕ) (limit : ℕ)
+    (text : List ℕ) → other ≡ written → more ≡ failures → later ≡ noted files (Gave file limit text)
     → let before : State = record { written = written; failures = failures; files = files } in
-    let after : State = record { written = other; failures = more; files = later } in after ≡ once_read file text before
-is_once_read written other failures more files later file text same_written same_failures gave =
+    let after : State = record { written = other; failures = more; files = later } in after ≡ once_read file limit text before
+is_once_read written other failures more files later file limit text same_written same_failures gave =
     let State_of : Option (List ℕ) → ℕ → Option (List FileEvent) → State = λ w n f. record { written = w; failures = n; files = f } in
     ap (λ w. State_of w more later) same_written
     ∙ (ap (λ n. State_of written n later) same_failures ∙ ap (λ f. State_of written failures f) gave)
 
 -- what is left of a file's run is given, where it was read so
-module _ (file : List ℕ) (options : RunOptions) (Left : List ℕ → Bool → List ℕ → Option (List ℕ) → Type 0) (text output : List ℕ) (raced : Bool)
-    (trace : Option (List ℕ)) (left : Left text raced output trace) (result : Result Bool Failure) (before middle after : State)
-    (is_read : middle ≡ once_read file text before) where
-  pub given_done : IfOk result (λ found. found ≡ raced) → OnOk result (IsGiven (trace_path options) output trace middle after)
-      → IfOk result (λ found. FileIsRun file options Left found before after)
+module _ (file : List ℕ) (limit : ℕ) (path : Option (List ℕ)) (Left : List ℕ → Bool → List ℕ → Option (List ℕ) → Type 0)
+    (text output : List ℕ) (raced : Bool) (trace : Option (List ℕ)) (left : Left text raced output trace) (result : Result Bool Failure) (before middle after : State)
+    (is_read : middle ≡ once_read file limit text before) where
+  pub given_done : IfOk result (λ found. found ≡ raced) → OnOk result (IsGiven path output trace middle after)
+      → IfOk result (λ found. FileIsRun file limit path Left found before after)
   given_done told given = both result told given
     where
-      both : (r : Result Bool Failure) → IfOk r (λ found. found ≡ raced) → OnOk r (IsGiven (trace_path options) output trace middle after)
-          → IfOk r (λ found. FileIsRun file options Left found before after)
+      both : (r : Result Bool Failure) → IfOk r (λ found. found ≡ raced) → OnOk r (IsGiven path output trace middle after)
+          → IfOk r (λ found. FileIsRun file limit path Left found before after)
       both (Ok found) same given = record {
         text = text;
         output = output;
         trace = trace;
         left = subst (λ b. Left text b output trace) (sym same) left;
-        given = subst (λ m. IsGiven (trace_path options) output trace m after) is_read given;
+        given = subst (λ m. IsGiven path output trace m after) is_read given;
       }
       both (Err failure) same given = tt
 
-  pub given_in_part : OnErr result (IsGivenInPart (trace_path options) output trace middle after)
-      → IfErr result (λ failure. status_of failure ≡ 74 → FileIsRunInPart file options Left before after)
+  pub given_in_part : OnErr result (IsGivenInPart path output trace middle after)
+      → IfErr result (λ failure. status_of failure ≡ 74 → FileIsRunInPart file limit path Left before after)
   given_in_part part = both result part
     where
-      both : (r : Result Bool Failure) → OnErr r (IsGivenInPart (trace_path options) output trace middle after)
-          → IfErr r (λ failure. status_of failure ≡ 74 → FileIsRunInPart file options Left before after)
+      both : (r : Result Bool Failure) → OnErr r (IsGivenInPart path output trace middle after)
+          → IfErr r (λ failure. status_of failure ≡ 74 → FileIsRunInPart file limit path Left before after)
       both (Ok found) part = tt
       both (Err failure) part = λ unwritten. record {
         text = text;
@@ -362,7 +372,7 @@ module _ (file : List ℕ) (options : RunOptions) (Left : List ℕ → Bool → 
         output = output;
         trace = trace;
         left = left;
-        given = subst (λ m. IsGivenInPart (trace_path options) output trace m after) is_read part;
+        given = subst (λ m. IsGivenInPart path output trace m after) is_read part;
       }
 
 -- what fails there is a write
@@ -396,7 +406,7 @@ failed_reads (Err failure) Counts first middle last read given failed = record {
 -- what a search leaves is given, where its file was read so
 module _ (request : SearchRequest) (text output : List ℕ) (raced stopped : Bool) (trace : Option (List ℕ))
     (found : IsFound request stopped text raced output trace) (result : Result ℕ Failure) (before middle after : State)
-    (is_read : middle ≡ once_read request.file.now text before) where
+    (is_read : middle ≡ once_read request.file.now file_bytes text before) where
   pub found_done : IfOk result (λ status. status ≡ search_status_of raced stopped)
       → OnOk result (IsGiven (trace_path request.options) output trace middle after)
       → IfOk result (λ status. SearchEnds request status before after)
@@ -420,12 +430,12 @@ module _ (request : SearchRequest) (text output : List ℕ) (raced stopped : Boo
 
   pub found_in_part : OnErr result (IsGivenInPart (trace_path request.options) output trace middle after)
       → IfErr result (λ failure. status_of failure ≡ 74
-      → (stopped : Bool) × FileIsRunInPart request.file.now request.options (IsFound request stopped) before after)
+      → (stopped : Bool) × FileIsRunInPart request.file.now file_bytes (trace_path request.options) (IsFound request stopped) before after)
   found_in_part part = both result part
     where
       both : (r : Result ℕ Failure) → OnErr r (IsGivenInPart (trace_path request.options) output trace middle after)
           → IfErr r (λ failure. status_of failure ≡ 74
-          → (stopped : Bool) × FileIsRunInPart request.file.now request.options (IsFound request stopped) before after)
+          → (stopped : Bool) × FileIsRunInPart request.file.now file_bytes (trace_path request.options) (IsFound request stopped) before after)
       both (Ok status) part = tt
       both (Err failure) part = λ unwritten. (
         stopped,
@@ -438,3 +448,10 @@ module _ (request : SearchRequest) (text output : List ℕ) (raced stopped : Boo
           given = subst (λ m. IsGivenInPart (trace_path request.options) output trace m after) is_read part;
         },
       )
+
+-- no trace is undrawn for want of a sink, nor for its words
+pub draws_no_sink : (error : PictureError) → picture_status_of error ≡ 74 → ⊥
+draws_no_sink (picture.Trace trace.OutOfMemory) is = omega (arith, is)
+draws_no_sink (picture.Trace (trace.BadTrace line)) is = omega (arith, is)
+draws_no_sink (picture.Trace (trace.FalseReport line)) is = omega (arith, is)
+draws_no_sink picture.TooLong is = omega (arith, is)

@@ -14,6 +14,7 @@ use Rattle.command_words.specs.declared.request.Request.TheVariants as requests
 use Rattle.command_words.specs.declared.request.RunOptions.{RunOptions}
 use Rattle.command_words.specs.declared.request.RunRequest.{RunRequest}
 use Rattle.command_words.specs.declared.request.SearchRequest.{SearchRequest}
+use Rattle.command_words.specs.declared.request.ShowRequest.{ShowRequest}
 use Rattle.command_words.specs.declared.request.StepRequest.{StepRequest}
 use Rattle.run_tally.specs.of_litmus_parse_Grammar.{SpellsProgram}
 use Rattle.run_tally.specs.of_litmus_parse_Text.{file_bytes}
@@ -40,6 +41,12 @@ use Rattle.run_tally.specs.of_trace_replay_declared.accepted.TraceError.TheVaria
 use Rattle.litmus_command.specs.Engine.{IsRefused, TextLeaves}
 use Rattle.litmus_command.specs.Files.{FileEvent, Gave, Has, OnlyRead, noted}
 use Rattle.litmus_command.specs.Replay.{IsLineOf}
+use Rattle.litmus_command.specs.Show.{IsDrawn}
+use Rattle.picture_text.specs.declared.cells.Style.{Style}
+use Rattle.picture_text.specs.declared.cells.Style.TheVariants.{Ascii}
+use Rattle.picture_text.specs.of_picture_Drawn.{IsUndrawn}
+use Rattle.picture_text.specs.of_picture_declared.error.PictureError.{PictureError}
+use Rattle.picture_text.specs.of_picture_declared.error.PictureError.TheVariants as picture
 use Rattle.litmus_command.specs.Told.{heard}
 use Rattle.litmus_command.specs.declared.command.Failure.{Failure}
 use Rattle.litmus_command.specs.declared.command.Failure.TheVariants as failure
@@ -79,6 +86,11 @@ trace_status_of trace.OutOfMemory = 71
 trace_status_of (trace.BadTrace line) = 65
 trace_status_of (trace.FalseReport line) = 65
 
+-- the status for a trace that is not drawn
+abbrev pub picture_status_of : PictureError → ℕ
+picture_status_of (picture.Trace error) = trace_status_of error
+picture_status_of picture.TooLong = 65
+
 -- the status for a failure
 abbrev pub status_of : Failure → ℕ
 status_of failure.BadSchedule = 64
@@ -88,6 +100,7 @@ status_of failure.CannotWrite = 74
 status_of failure.OutOfMemory = 71
 status_of (failure.Engine error) = engine_status_of error
 status_of (failure.Trace error) = trace_status_of error
+status_of (failure.Picture error) = picture_status_of error
 
 -- the status that a complaint comes with
 abbrev pub complaint_status_of : Complaint → ℕ
@@ -197,32 +210,35 @@ IsGivenInPart path output trace before after =
     ((is_some trace ≡ true) × (after.written ≡ before.written))
     ⊎ (HoldsBeginning output before.written after.written × (after.files ≡ with_trace before.files path trace))
 
--- once the file of a name gave this text
-abbrev pub once_read : (file text : List ℕ) → State → State
-once_read file text before = record before { files = noted before.files (Gave file file_bytes text) }
+-- once the file of a name gave this text, of which at most so many bytes and one were asked for
+abbrev pub once_read : (file : List ℕ) (limit : ℕ) (text : List ℕ) → State → State
+once_read file limit text before = record before { files = noted before.files (Gave file limit text) }
 
 abbrev pub trace_path : RunOptions → Option (List ℕ)
 trace_path options = option_map (λ path. path.now) options.trace
 
--- The file that is asked for was read, and its program was run as it is asked. What is left of that was given, which has a report or
--- none.
-pub record FileIsRun (file : List ℕ) (options : RunOptions) (Left : List ℕ → Bool → List ℕ → Option (List ℕ) → Type 0) (raced : Bool)
-    (before after : State) : Type 0 where
+abbrev pub svg_path : ShowRequest → Option (List ℕ)
+svg_path request = option_map (λ path. path.now) request.svg
+
+-- The file that is asked for was read, and was run, or drawn, as it is asked. What is left of that was given, which has a report or none:
+-- an output, and what goes to the file of this path, if there is one.
+pub record FileIsRun (file : List ℕ) (limit : ℕ) (path : Option (List ℕ)) (Left : List ℕ → Bool → List ℕ → Option (List ℕ) → Type 0)
+    (raced : Bool) (before after : State) : Type 0 where
   pub text : List ℕ
   pub output : List ℕ
   pub trace : Option (List ℕ)
   pub left : Left text raced output trace
-  pub given : IsGiven (trace_path options) output trace (once_read file text before) after
+  pub given : IsGiven path output trace (once_read file limit text before) after
 
 -- and it could not all be given
-pub record FileIsRunInPart (file : List ℕ) (options : RunOptions) (Left : List ℕ → Bool → List ℕ → Option (List ℕ) → Type 0)
-    (before after : State) : Type 0 where
+pub record FileIsRunInPart (file : List ℕ) (limit : ℕ) (path : Option (List ℕ))
+    (Left : List ℕ → Bool → List ℕ → Option (List ℕ) → Type 0) (before after : State) : Type 0 where
   pub text : List ℕ
   pub raced : Bool
   pub output : List ℕ
   pub trace : Option (List ℕ)
   pub left : Left text raced output trace
-  pub given : IsGivenInPart (trace_path options) output trace (once_read file text before) after
+  pub given : IsGivenInPart path output trace (once_read file limit text before) after
 
 -- the text spells no program
 abbrev pub SpellsNone : List ℕ → Type 0
@@ -284,9 +300,25 @@ pub record ReplayIsCut (request : ReplayRequest) (before after : State) : Type 0
   pub said : IsSaid request bytes line before after
   pub begun : HoldsBeginning line before.written after.written
 
+-- This is left of a trace that is drawn as it is asked: the text, with ASCII alone where that is asked for, and the SVG, if it is asked
+-- for. No report is told of.
+pub record IsShown (request : ShowRequest) (bytes : List ℕ) (raced : Bool) (output : List ℕ) (svg : Option (List ℕ)) : Type 0 where
+  pub style : Style
+  pub ascii : request.ascii ≡ true → style ≡ Ascii
+  pub drawn : IsDrawn bytes style (is_some request.svg) output svg
+  pub unraced : raced ≡ false
+
+-- the file that is asked for was read, and is not drawn, for a reason that ends with this status
+pub record ShowIsRefused (request : ShowRequest) (status : ℕ) (before after : State) : Type 0 where
+  pub bytes : List ℕ
+  pub error : PictureError
+  pub undrawn : IsUndrawn bytes error
+  pub status_is : status ≡ picture_status_of error
+  pub files : after.files ≡ noted before.files (Gave request.trace.now size_limit bytes)
+
 -- what a search was asked to find was found, with a report or without one, and others remain or none
 abbrev pub SearchIsDone : SearchRequest → (raced stopped : Bool) → State → State → Type 0
-SearchIsDone request raced stopped before after = FileIsRun request.file.now request.options (IsFound request stopped) raced before after
+SearchIsDone request raced stopped before after = FileIsRun request.file.now file_bytes (trace_path request.options) (IsFound request stopped) raced before after
 
 -- the status that a search ends with
 abbrev pub search_status_of : (raced stopped : Bool) → ℕ
@@ -304,12 +336,14 @@ pub record SearchEnds (request : SearchRequest) (status : ℕ) (before after : S
 -- what is asked was done, with a report or without one; without one in none of all lists, where it is a search
 abbrev pub IsDone : Request → Bool → State → State → Type 0
 IsDone (requests.Step request) raced before after =
-    FileIsRun request.file.now request.options (IsLeft request) raced before after
-IsDone (requests.Run request) raced before after = FileIsRun request.file.now request.options (AreLeft request) raced before after
+    FileIsRun request.file.now file_bytes (trace_path request.options) (IsLeft request) raced before after
+IsDone (requests.Run request) raced before after = FileIsRun request.file.now file_bytes (trace_path request.options) (AreLeft request) raced before after
 IsDone (requests.Search request) true before after = (stopped : Bool) × SearchIsDone request true stopped before after
 IsDone (requests.Search request) false before after = SearchIsDone request false false before after
 IsDone (requests.Replay request) true before after = ⊥
 IsDone (requests.Replay request) false before after = ReplayIsDone request before after
+IsDone (requests.Show request) raced before after =
+    FileIsRun request.trace.now size_limit (svg_path request) (IsShown request) raced before after
 
 -- a search that is asked for was stopped at its limit, with no report so far
 abbrev pub IsStopped : Request → State → State → Type 0
@@ -317,14 +351,17 @@ IsStopped (requests.Step request) before after = ⊥
 IsStopped (requests.Run request) before after = ⊥
 IsStopped (requests.Search request) before after = SearchIsDone request false true before after
 IsStopped (requests.Replay request) before after = ⊥
+IsStopped (requests.Show request) before after = ⊥
 
 -- what is asked was done, and not all of it could be written
 abbrev pub IsCut : Request → State → State → Type 0
-IsCut (requests.Step request) before after = FileIsRunInPart request.file.now request.options (IsLeft request) before after
-IsCut (requests.Run request) before after = FileIsRunInPart request.file.now request.options (AreLeft request) before after
+IsCut (requests.Step request) before after = FileIsRunInPart request.file.now file_bytes (trace_path request.options) (IsLeft request) before after
+IsCut (requests.Run request) before after = FileIsRunInPart request.file.now file_bytes (trace_path request.options) (AreLeft request) before after
 IsCut (requests.Search request) before after =
-    (stopped : Bool) × FileIsRunInPart request.file.now request.options (IsFound request stopped) before after
+    (stopped : Bool) × FileIsRunInPart request.file.now file_bytes (trace_path request.options) (IsFound request stopped) before after
 IsCut (requests.Replay request) before after = ReplayIsCut request before after
+IsCut (requests.Show request) before after =
+    FileIsRunInPart request.trace.now size_limit (svg_path request) (IsShown request) before after
 
 -- what is asked was refused of the file that it is about
 abbrev pub IsRefusedOf : Request → (status : ℕ) → State → State → Type 0
@@ -332,6 +369,7 @@ IsRefusedOf (requests.Step request) status before after = FileIsRefused request.
 IsRefusedOf (requests.Run request) status before after = FileIsRefused request.file.now (RunRefuses request) status before after
 IsRefusedOf (requests.Search request) status before after = FileIsRefused request.file.now (SearchRefuses request) status before after
 IsRefusedOf (requests.Replay request) status before after = ReplayIsRefused request status before after
+IsRefusedOf (requests.Show request) status before after = ShowIsRefused request status before after
 
 -- the text spells no places, or no schedule
 abbrev pub SpellsNoPlaces : List ℕ → Type 0
@@ -346,6 +384,7 @@ DoesNotRead (requests.Step request) = SpellsNoSchedule request.schedule.now ⊎ 
 DoesNotRead (requests.Run request) = SpellsNoPlaces request.options.places.now
 DoesNotRead (requests.Search request) = SpellsNoPlaces request.options.places.now
 DoesNotRead (requests.Replay request) = ⊥
+DoesNotRead (requests.Show request) = ⊥
 
 -- Schedule or place list don't read, and no file was touched; or the file that is asked for was read, and they don't suit its program.
 abbrev pub IsMisused : Request → State → State → Type 0
@@ -357,6 +396,7 @@ DoesRead (requests.Step request) = (settings : Settings) × (entries : List Entr
 DoesRead (requests.Run request) = (settings : Settings) × AskSettings request.options settings
 DoesRead (requests.Search request) = (settings : Settings) × AskSettings request.options settings
 DoesRead (requests.Replay request) = Unit {0}
+DoesRead (requests.Show request) = Unit {0}
 
 -- the read of a file failed where the status is 66, and nowhere else
 pub record Reads (status : ℕ) (before after : ℕ) : Type 0 where

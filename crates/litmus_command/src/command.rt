@@ -7,11 +7,13 @@ ghost use Rattle.clap.specs.Words.{kind_of};
 ghost use Rattle.litmus_command.specs.Command.{AreLeft, AskForOne, AskSettings, AsksFor, EndsAs, FileIsRefused, FileIsRun, FileIsRunInPart};
 ghost use Rattle.litmus_command.specs.Command.{HelpIsCut, HelpIsGiven, IsCut, IsDone, IsGiven, IsGivenInPart, IsLeft, IsOfFile, IsRefusedOf, IsStopped};
 ghost use Rattle.litmus_command.specs.Command.{DoesNotRead, DoesRead, IsFault, IsMisused, NothingIsWritten, Reads, ReplayIsCut, ReplayIsRefused, RunRefuses};
-ghost use Rattle.litmus_command.specs.Command.{SearchEnds, SearchRefuses, SpellsNoPlaces, StepRefuses, Tells, UsageIsTold};
+ghost use Rattle.litmus_command.specs.Command.{SearchEnds, SearchRefuses, ShowIsRefused, SpellsNoPlaces, StepRefuses, Tells, UsageIsTold};
 ghost use Rattle.litmus_command.specs.Command.{engine_status_of, read_failure, run_status_of, settings_of, state_of, status_of, text_status_of};
-ghost use Rattle.litmus_command.specs.Command.{search_status_of, times_of, trace_status_of, wanted_of, with_trace};
+ghost use Rattle.litmus_command.specs.Command.{picture_status_of, search_status_of, times_of, trace_path, trace_status_of, wanted_of, with_trace};
 ghost use Rattle.litmus_command.specs.Told.{heard};
-ghost use Rattle.litmus_command.specs.declared.command.Failure.TheVariants.{Engine, OutOfMemory, Trace};
+ghost use Rattle.litmus_command.specs.declared.command.Failure.TheVariants.{Engine, OutOfMemory, Picture, Trace};
+ghost use Rattle.picture_text.specs.declared.cells.Style.TheVariants.{Ascii};
+ghost use Rattle.run_tally.specs.of_litmus_parse_Text.{file_bytes};
 ghost use Rattle.report_text.specs.Sink.{CountsFailure};
 ghost use Rattle.std.specs.Option.{option_map};
 ghost use Rattle.step_schedule.specs.Schedule.{entries_of};
@@ -20,10 +22,13 @@ use crate::complaint::Complaint;
 use crate::desk::{Desk, ReadFault};
 use crate::engine::run_text;
 use crate::replay::replayed;
+use crate::show::drawn;
 use clap::error::ErrorKind;
 use command_words::{
-    ReplayRequest, Request, RunOptions, RunRequest, SearchRequest, StepRequest, asked,
+    ReplayRequest, Request, RunOptions, RunRequest, SearchRequest, ShowRequest, StepRequest, asked,
 };
+use picture_text::Style;
+use picture_text::picture::PictureError;
 use place_list::parse_places;
 use place_list::program_layout::Place;
 use run_tally::litmus_parse::{FILE_BYTES, ParseError};
@@ -83,6 +88,8 @@ pub enum Failure {
     Engine(EngineError),
     #[error("{0}")]
     Trace(TraceError),
+    #[error("{0}")]
+    Picture(PictureError),
 }
 
 impl From<AllocError> for Failure {
@@ -120,6 +127,14 @@ impl From<TraceError> for Failure {
     }
 }
 
+impl From<PictureError> for Failure {
+    ghost from_gives = { λ error failure. failure ≡ Picture error };
+
+    fn from(error: PictureError) -> Failure {
+        Failure::Picture(error)
+    }
+}
+
 impl Failure {
     /// The status that the program ends with.
     fn status(self) -> u8
@@ -132,6 +147,7 @@ impl Failure {
             Failure::OutOfMemory => OUT_OF_MEMORY,
             Failure::Engine(error) => engine_status(error),
             Failure::Trace(error) => trace_status(error),
+            Failure::Picture(error) => picture_status(error),
         }
     }
 }
@@ -182,14 +198,24 @@ fn trace_status(error: TraceError) -> u8
     }
 }
 
+/// The status for a trace that is not drawn.
+fn picture_status(error: PictureError) -> u8
+    ensures { result ≡ picture_status_of error }
+{
+    match error {
+        PictureError::Trace(error) => trace_status(error),
+        PictureError::TooLong => REFUSED,
+    }
+}
+
 /// The whole program: does what the words ask for, and answers the status that the program ends
 /// with. The first word is the program's name.
 ///
-/// 0: no report, a trace that is accepted, or help. 2: a report. 64: usage, a schedule that doesn't read or names a
-/// task that isn't there, or a place that doesn't read or doesn't suit. 65: the file is refused. 66: it can't be read.
-/// 70: a task is stuck. 71: out of memory, or a thread couldn't be started. 74: output can't be written. 75: a search
-/// was stopped at its limit, and no list that it went over has a report. At 64 to 71 nothing goes to standard output,
-/// and no trace is written. At 74 standard output has what it had, or a beginning of what should have gone there.
+/// 0: no report, a trace that is accepted or drawn, or help. 2: a report. 64: usage, a schedule that doesn't read or
+/// names a task that isn't there, or a place that doesn't read or doesn't suit. 65: the file is refused. 66: it can't
+/// be read. 70: a task is stuck. 71: out of memory, or a thread couldn't be started. 74: output can't be written. 75: a
+/// search was stopped at its limit, and no list that it went over has a report. At 64 to 71 nothing goes to standard
+/// output, and no file is written. At 74 standard output has what it had, or a beginning of what should have gone there.
 pub fn command<R: Threads + Wait + Sync, S: AsStr, D: Desk>(
     rt: &R,
     alloc: Global,
@@ -263,6 +289,7 @@ pub fn carry_out<R: Threads + Wait + Sync, D: Desk>(
         // A search may end with 75, which is no failure: all that was found is written, and nothing is complained of.
         Request::Search(request) => return carry_search(rt, alloc, request, desk),
         Request::Replay(request) => replay(alloc, request, desk),
+        Request::Show(request) => show(alloc, request, desk),
     };
     match done {
         Ok(true) => REPORTED,
@@ -414,14 +441,14 @@ fn give<D: Desk>(path: Option<&str>, written: &Written, desk: &mut D) -> Result<
 /// Steps a file, and gives what is left of that. Whether there was a report.
 fn step<D: Desk>(alloc: Global, request: &StepRequest<'_>, desk: &mut D) -> Result<bool, Failure>
     requires { KeepsBounds request.now.options }
-    ensures done { IfOk result (λ raced. FileIsRun request.now.file.now request.now.options (IsLeft request.now) raced (state_of D.written D.failures D.files desk.old)
+    ensures done { IfOk result (λ raced. FileIsRun request.now.file.now file_bytes (trace_path request.now.options) (IsLeft request.now) raced (state_of D.written D.failures D.files desk.old)
         (state_of D.written D.failures D.files desk.new)) }
     ensures silent { IfErr result (λ failure. status_of failure ≢ 74
         → NothingIsWritten (state_of D.written D.failures D.files desk.old) (state_of D.written D.failures D.files desk.new)) }
     ensures failed { IfErr result (λ failure.
         status_of failure ≡ 74 → CountsFailure (D.failures desk.old) (D.failures desk.new)) }
     ensures cut { IfErr result (λ failure. status_of failure ≡ 74
-        → FileIsRunInPart request.now.file.now request.now.options (IsLeft request.now) (state_of D.written D.failures D.files desk.old) (state_of D.written D.failures D.files desk.new)) }
+        → FileIsRunInPart request.now.file.now file_bytes (trace_path request.now.options) (IsLeft request.now) (state_of D.written D.failures D.files desk.old) (state_of D.written D.failures D.files desk.new)) }
     ensures refused { IfErr result (λ failure. IsOfFile (status_of failure) → FileIsRefused request.now.file.now (StepRefuses request.now) (status_of failure)
         (state_of D.written D.failures D.files desk.old) (state_of D.written D.failures D.files desk.new)) }
     ensures misused { IfErr result (λ failure. status_of failure ≡ 64 → IsMisused (Request.Step request.now)
@@ -467,14 +494,14 @@ fn run<R: Threads + Wait + Sync, D: Desk>(
     desk: &mut D,
 ) -> Result<bool, Failure>
     requires { KeepsRunBounds request.now }
-    ensures done { IfOk result (λ raced. FileIsRun request.now.file.now request.now.options (AreLeft request.now) raced (state_of D.written D.failures D.files desk.old)
+    ensures done { IfOk result (λ raced. FileIsRun request.now.file.now file_bytes (trace_path request.now.options) (AreLeft request.now) raced (state_of D.written D.failures D.files desk.old)
         (state_of D.written D.failures D.files desk.new)) }
     ensures silent { IfErr result (λ failure. status_of failure ≢ 74
         → NothingIsWritten (state_of D.written D.failures D.files desk.old) (state_of D.written D.failures D.files desk.new)) }
     ensures failed { IfErr result (λ failure.
         status_of failure ≡ 74 → CountsFailure (D.failures desk.old) (D.failures desk.new)) }
     ensures cut { IfErr result (λ failure. status_of failure ≡ 74
-        → FileIsRunInPart request.now.file.now request.now.options (AreLeft request.now) (state_of D.written D.failures D.files desk.old) (state_of D.written D.failures D.files desk.new)) }
+        → FileIsRunInPart request.now.file.now file_bytes (trace_path request.now.options) (AreLeft request.now) (state_of D.written D.failures D.files desk.old) (state_of D.written D.failures D.files desk.new)) }
     ensures refused { IfErr result (λ failure. IsOfFile (status_of failure) → FileIsRefused request.now.file.now (RunRefuses request.now) (status_of failure)
         (state_of D.written D.failures D.files desk.old) (state_of D.written D.failures D.files desk.new)) }
     ensures misused { IfErr result (λ failure. status_of failure ≡ 64 → IsMisused (Request.Run request.now)
@@ -599,6 +626,42 @@ fn replay<D: Desk>(
         Ok(()) => Ok(false),
         Err(_) => Err(Failure::CannotWrite),
     }
+}
+
+/// How a trace is drawn, as it is asked for, or else as the desk can show it.
+fn style_for<D: Desk>(request: &ShowRequest<'_>, desk: &D) -> Style
+    ensures { request.now.ascii ≡ true → result ≡ Ascii }
+{
+    if request.ascii || !desk.shows_utf8() {
+        Style::Ascii
+    } else {
+        Style::Lines
+    }
+}
+
+/// Draws a trace, and gives what is left of that. No report is told of.
+fn show<D: Desk>(alloc: Global, request: &ShowRequest<'_>, desk: &mut D) -> Result<bool, Failure>
+    ensures done { IfOk result (λ raced. IsDone (Request.Show request.now) raced (state_of D.written D.failures D.files desk.old)
+        (state_of D.written D.failures D.files desk.new)) }
+    ensures silent { IfErr result (λ failure. status_of failure ≢ 74
+        → NothingIsWritten (state_of D.written D.failures D.files desk.old) (state_of D.written D.failures D.files desk.new)) }
+    ensures failed { IfErr result (λ failure.
+        status_of failure ≡ 74 → CountsFailure (D.failures desk.old) (D.failures desk.new)) }
+    ensures cut { IfErr result (λ failure. status_of failure ≡ 74 → IsCut (Request.Show request.now)
+        (state_of D.written D.failures D.files desk.old) (state_of D.written D.failures D.files desk.new)) }
+    ensures refused { IfErr result (λ failure. IsOfFile (status_of failure) → ShowIsRefused request.now (status_of failure)
+        (state_of D.written D.failures D.files desk.old) (state_of D.written D.failures D.files desk.new)) }
+    ensures misused { IfErr result (λ failure. status_of failure ≡ 64 → IsMisused (Request.Show request.now)
+        (state_of D.written D.failures D.files desk.old) (state_of D.written D.failures D.files desk.new)) }
+    ensures unread { IfErr result (λ failure. status_of failure ≡ 66 → DoesRead (Request.Show request.now)) }
+    ensures reads { IfErr result (λ failure. Reads (status_of failure) (D.faults desk.old) (D.faults desk.new)) }
+    ensures faults { OnOk result (D.faults desk.new ≡ D.faults desk.old) }
+    ensures told { D.told desk.new ≡ D.told desk.old }
+{
+    let bytes = desk.read_file(alloc, request.trace, SIZE_LIMIT)?;
+    let style = style_for(request, &*desk);
+    let written = drawn(alloc, &bytes, style, request.svg.is_some())?;
+    give(request.svg, &written, desk)
 }
 
 /// Help goes to standard output, and what is wrong with the words to standard error.

@@ -72,6 +72,9 @@ pub trait Desk: Progress + SearchProgress {
     /// Is told that runs gave no report, where a search might. What it says of that is no complaint.
     fn advise_search(&self);
 
+    /// Whether signs beyond ASCII can be shown where standard output goes.
+    fn shows_utf8(&self) -> bool;
+
     /// Tells standard error.
     fn complain(&mut self, complaint: Complaint)
         ensures told { told self.new ≡ heard (told self.old) complaint }

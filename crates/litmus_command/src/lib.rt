@@ -1,5 +1,5 @@
 //! The command line of `kcsan_litmus` over any desk: what is asked, the run of a litmus text, the search over its
-//! schedules, the check of a trace, and what is written of them.
+//! schedules, the check of a trace, its picture, and what is written of them.
 #![tactic(auto)]
 
 pub mod command;
@@ -7,6 +7,7 @@ pub mod complaint;
 pub mod desk;
 pub mod engine;
 pub mod replay;
+pub mod show;
 
 pub use run_tally::run_output::EngineError;
 pub use run_tally::{Progress, litmus_step};

@@ -15,6 +15,9 @@ const UNWRITABLE: u8 = 74;
 /// What standard error says then.
 const CANNOT_WRITE: &[u8] = b"kcsan_litmus: cannot write\n";
 
+/// What a picture in SVG begins with.
+const PICTURE: &[u8] = b"<svg ";
+
 /// The words, the program's name first, the file, where there is one, and what is to come of them.
 #[derive(Drop)]
 pub struct Row<'t> {
@@ -143,16 +146,16 @@ impl<'t> Row<'t> {
     }
 }
 
-/// A trace that was written is accepted.
+/// A trace that was written is accepted. A picture is none.
 fn is_accepted<R: Threads + Wait + Sync>(rt: &R, alloc: Global, trace: Option<&[u8]>) -> bool {
     match trace {
-        Some(_) => command(
+        Some(bytes) if !bytes.starts_with(PICTURE) => command(
             rt,
             alloc,
             &["kcsan_litmus", "replay", "t"],
             &mut Table::new(alloc, Given::of(trace)),
         ) == 0,
-        None => true,
+        _ => true,
     }
 }
 

@@ -17,15 +17,18 @@ returns c =
     let run = c.in_ok-run_command.ensures in
     let search = c.in_ok-search_command.ensures in
     let replay = c.in_ok-replay_command.ensures in
+    let show = c.in_ok-show_command.ensures in
     let with_step = c.in_ok-subcommand.ensures.shape (third_is_not _ _ _ _ (ap (λ (a : App). a.top.is_plain) step))
     ∙ ap₂ with_subcommand first (ap (λ (a : App). a.top) step) in
     let with_run = c.in_ok-subcommand-2.ensures.shape (third_is_not _ _ _ _ (ap (λ (a : App). a.top.is_plain) run))
     ∙ ap₂ with_subcommand with_step (ap (λ (a : App). a.top) run) in
     let with_search = c.in_ok-subcommand-3.ensures.shape (third_is_not _ _ _ _ (ap (λ (a : App). a.top.is_plain) search))
     ∙ ap₂ with_subcommand with_run (ap (λ (a : App). a.top) search) in
-    IfOk-weaker c.subcommand-4.result _ _ (λ command adds. record {
+    let with_replay = c.in_ok-subcommand-4.ensures.shape (third_is_not _ _ _ _ (ap (λ (a : App). a.top.is_plain) replay))
+    ∙ ap₂ with_subcommand with_search (ap (λ (a : App). a.top) replay) in
+    IfOk-weaker c.subcommand-5.result _ _ (λ command adds. record {
       sizes = c.as_slice-sizes.result;
       sizes_are = ap (map (λ size. size.now)) c.as_slice-sizes.ensures;
-      is = adds.shape (third_is_not _ _ _ _ (ap (λ (a : App). a.top.is_plain) replay))
-          ∙ ap₂ with_subcommand with_search (ap (λ (a : App). a.top) replay);
-    }) c.subcommand-4.ensures
+      is = adds.shape (third_is_not _ _ _ _ (ap (λ (a : App). a.top.is_plain) show))
+          ∙ ap₂ with_subcommand with_replay (ap (λ (a : App). a.top) show);
+    }) c.subcommand-5.ensures

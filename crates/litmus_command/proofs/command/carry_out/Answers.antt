@@ -4,7 +4,7 @@ use Rattle.litmus_command.proofs.ResultLemmas.{ends_so, err_at, known_above, kno
 use Rattle.litmus_command.specs.Command.{NothingIsWritten, state_of, status_of}
 use Rattle.report_text.specs.Sink.{CountsFailure}
 use Rattle.litmus_command.proofs.command.carry_out.Goals as goal
-use Rattle.litmus_command.proofs.command.carry_out.Goals.{in-Step, in-Run, in-Replay}
+use Rattle.litmus_command.proofs.command.carry_out.Goals.{in-Step, in-Run, in-Replay, in-Show}
 
 pub returns-in-Err-clause-reported : goal.returns-in-Err-clause-reported
 returns-in-Err-clause-reported g c = λ is.
@@ -50,4 +50,13 @@ returns-in-Err-clause-ends g c =
           w.replay-done.ensures.silent)
           (err_at (λ failure. status_of failure ≡ 74 → CountsFailure before.failures middle.failures) w.replay-done.result c.in-Err.failure is
           w.replay-done.ensures.failed)
+      | in-Show w ↦
+          let middle = state_of g.D.Desk.written g.D.Desk.failures g.D.Desk.files w.show-done.new.desk in
+          let is : w.show-done.result ≡ Err c.in-Err.failure = search rules in
+          let same : after ≡ middle = search rules in
+          ends_so c.in-Err.failure c.fail.result before middle after c.fail.ensures.status c.fail.ensures.known same
+          (err_at (λ failure. status_of failure ≢ 74 → NothingIsWritten before middle) w.show-done.result c.in-Err.failure is
+          w.show-done.ensures.silent)
+          (err_at (λ failure. status_of failure ≡ 74 → CountsFailure before.failures middle.failures) w.show-done.result c.in-Err.failure is
+          w.show-done.ensures.failed)
     ]

@@ -4,10 +4,11 @@ use Rattle.std.specs.Option.{option_map}
 use Rattle.litmus_command.proofs.ResultLemmas.{err_holds, failed_counts, failed_of_no_file, failed_reads, failed_silent, given_done, given_in_part, is_once_read}
 use Rattle.litmus_command.proofs.ResultLemmas.{reads_no_sink, some_items, spells_none_often, writes_no_sink}
 use Rattle.litmus_command.proofs.command.run.Goals as goal
-use Rattle.litmus_command.specs.Command.{FileIsRefused, AreLeft, RunRefuses, once_read, read_failure, state_of}
+use Rattle.litmus_command.specs.Command.{FileIsRefused, AreLeft, RunRefuses, once_read, read_failure, state_of, trace_path}
 use Rattle.litmus_command.specs.declared.command.Failure.TheVariants.{Engine}
 use Rattle.litmus_command.specs.declared.desk.ReadFault.TheVariants as fault
 use Rattle.report_text.specs.Sink.{CountsFailure}
+use Rattle.run_tally.specs.of_litmus_parse_Text.{file_bytes}
 use Rattle.run_tally.specs.of_program_sites_declared.settings.Settings.{Settings}
 use Rattle.run_tally.specs.Errors.{IsRefused}
 use Rattle.run_tally.specs.Output.{TextLeaves}
@@ -38,9 +39,9 @@ returns-clause-done g c =
       asks = c.in_ok-settings.ensures.asks;
       leaves = leaves_as_asked c.deref.ensures.value c.times_for-times.ensures wanted c.in_ok-written.ensures.leaves;
     } in
-    let read : middle ≡ once_read request.file.now text before = is_once_read before.written middle.written before.failures middle.failures before.files
-    middle.files request.file.now text c.read_file.ensures.written c.read_file.ensures.failures c.in_ok-text.ensures.gave in
-    given_done request.file.now request.options (AreLeft request) text output written.raced trace left c.give.result before middle after read
+    let read : middle ≡ once_read request.file.now file_bytes text before = is_once_read before.written middle.written before.failures middle.failures before.files
+    middle.files request.file.now file_bytes text c.read_file.ensures.written c.read_file.ensures.failures c.in_ok-text.ensures.gave in
+    given_done request.file.now file_bytes (trace_path request.options) (AreLeft request) text output written.raced trace left c.give.result before middle after read
     c.give.ensures.raced c.give.ensures.given
 
 pub returns-clause-cut : goal.returns-clause-cut
@@ -59,9 +60,9 @@ returns-clause-cut g c =
       asks = c.in_ok-settings.ensures.asks;
       leaves = leaves_as_asked c.deref.ensures.value c.times_for-times.ensures wanted c.in_ok-written.ensures.leaves;
     } in
-    let read : middle ≡ once_read request.file.now text before = is_once_read before.written middle.written before.failures middle.failures before.files
-    middle.files request.file.now text c.read_file.ensures.written c.read_file.ensures.failures c.in_ok-text.ensures.gave in
-    given_in_part request.file.now request.options (AreLeft request) text output written.raced trace left c.give.result before middle after read
+    let read : middle ≡ once_read request.file.now file_bytes text before = is_once_read before.written middle.written before.failures middle.failures before.files
+    middle.files request.file.now file_bytes text c.read_file.ensures.written c.read_file.ensures.failures c.in_ok-text.ensures.gave in
+    given_in_part request.file.now file_bytes (trace_path request.options) (AreLeft request) text output written.raced trace left c.give.result before middle after read
     c.give.ensures.part
 
 pub returns-clause-silent : goal.returns-clause-silent

@@ -4,10 +4,11 @@ use Rattle.std.specs.Option.{option_map}
 use Rattle.litmus_command.proofs.ResultLemmas.{err_holds, failed_counts, failed_of_no_file, failed_reads, failed_silent, found_done, found_in_part, is_once_read}
 use Rattle.litmus_command.proofs.ResultLemmas.{reads_no_sink, spells_none_searched, writes_no_sink}
 use Rattle.litmus_command.proofs.command.search.Goals as goal
-use Rattle.litmus_command.specs.Command.{FileIsRefused, IsFound, SearchRefuses, once_read, read_failure, state_of}
+use Rattle.litmus_command.specs.Command.{FileIsRefused, IsFound, SearchRefuses, once_read, read_failure, state_of, trace_path}
 use Rattle.litmus_command.specs.declared.command.Failure.TheVariants.{Engine}
 use Rattle.litmus_command.specs.declared.desk.ReadFault.TheVariants as fault
 use Rattle.report_text.specs.Sink.{CountsFailure}
+use Rattle.run_tally.specs.of_litmus_parse_Text.{file_bytes}
 use Rattle.run_tally.specs.of_program_sites_declared.settings.Settings.{Settings}
 use Rattle.search_run.specs.Texts.{IsRefused, TextIsSearched}
 use Rattle.search_run.specs.declared.wanted.Wanted.{Wanted}
@@ -35,8 +36,8 @@ returns-clause-done g c =
       asks = c.in_ok-settings.ensures.asks;
       found = found_as_asked c.deref.ensures.value c.wanted_for-wanted.ensures c.in_ok-found.ensures.searched;
     } in
-    let read : middle ≡ once_read request.file.now text before = is_once_read before.written middle.written before.failures middle.failures before.files
-    middle.files request.file.now text c.read_file.ensures.written c.read_file.ensures.failures c.in_ok-text.ensures.gave in
+    let read : middle ≡ once_read request.file.now file_bytes text before = is_once_read before.written middle.written before.failures middle.failures before.files
+    middle.files request.file.now file_bytes text c.read_file.ensures.written c.read_file.ensures.failures c.in_ok-text.ensures.gave in
     found_done request text output written.raced c.in_ok-found.found.stopped trace found c.give_found.result before middle after read
     c.give_found.ensures.status c.give_found.ensures.given
 
@@ -55,8 +56,8 @@ returns-clause-cut g c =
       asks = c.in_ok-settings.ensures.asks;
       found = found_as_asked c.deref.ensures.value c.wanted_for-wanted.ensures c.in_ok-found.ensures.searched;
     } in
-    let read : middle ≡ once_read request.file.now text before = is_once_read before.written middle.written before.failures middle.failures before.files
-    middle.files request.file.now text c.read_file.ensures.written c.read_file.ensures.failures c.in_ok-text.ensures.gave in
+    let read : middle ≡ once_read request.file.now file_bytes text before = is_once_read before.written middle.written before.failures middle.failures before.files
+    middle.files request.file.now file_bytes text c.read_file.ensures.written c.read_file.ensures.failures c.in_ok-text.ensures.gave in
     found_in_part request text output written.raced c.in_ok-found.found.stopped trace found c.give_found.result before middle after read
     c.give_found.ensures.part
 

@@ -2,12 +2,13 @@
 use Rattle.std.proofs.Common.{◌≡◌, ◌∙◌, ℕ, Bool, Err, List, Ok, Option, ap, arith, inr, is_some, refl, rules, subst, sym}
 use Rattle.std.specs.Option.{option_map}
 use Rattle.litmus_command.proofs.ResultLemmas.{err_holds, failed_counts, failed_of_no_file, failed_reads, failed_silent, given_done, given_in_part, is_once_read}
-use Rattle.litmus_command.proofs.ResultLemmas.{reads_no_sink, some_items, spells_none, writes_no_sink}
+use Rattle.litmus_command.proofs.ResultLemmas.{reads_no_sink, reads_no_usage, some_items, spells_none, writes_no_sink}
 use Rattle.litmus_command.proofs.command.step.Goals as goal
-use Rattle.litmus_command.specs.Command.{FileIsRefused, IsLeft, StepRefuses, once_read, read_failure, state_of}
+use Rattle.litmus_command.specs.Command.{FileIsRefused, IsLeft, StepRefuses, once_read, read_failure, state_of, trace_path}
 use Rattle.litmus_command.specs.declared.command.Failure.TheVariants.{Engine}
 use Rattle.litmus_command.specs.declared.desk.ReadFault.TheVariants as fault
 use Rattle.report_text.specs.Sink.{CountsFailure}
+use Rattle.run_tally.specs.of_litmus_parse_Text.{file_bytes}
 use Rattle.litmus_command.specs.Engine.{IsRefused, TextLeaves}
 use Rattle.step_schedule.specs.Schedule.{entries_of}
 
@@ -31,9 +32,9 @@ returns-clause-done g c =
           c.deref.ensures.value c.in_ok-written.ensures.leaves;
       traced = some_items written.trace ∙ c.in_ok-written.ensures.traced ∙ wanted;
     } in
-    let read : middle ≡ once_read request.file.now text before = is_once_read before.written middle.written before.failures middle.failures before.files
-    middle.files request.file.now text c.read_file.ensures.written c.read_file.ensures.failures c.in_ok-text.ensures.gave in
-    given_done request.file.now request.options (IsLeft request) text output written.raced trace left c.give.result before middle after read
+    let read : middle ≡ once_read request.file.now file_bytes text before = is_once_read before.written middle.written before.failures middle.failures before.files
+    middle.files request.file.now file_bytes text c.read_file.ensures.written c.read_file.ensures.failures c.in_ok-text.ensures.gave in
+    given_done request.file.now file_bytes (trace_path request.options) (IsLeft request) text output written.raced trace left c.give.result before middle after read
     c.give.ensures.raced c.give.ensures.given
 
 pub returns-clause-cut : goal.returns-clause-cut
@@ -56,9 +57,9 @@ returns-clause-cut g c =
           c.deref.ensures.value c.in_ok-written.ensures.leaves;
       traced = some_items written.trace ∙ c.in_ok-written.ensures.traced ∙ wanted;
     } in
-    let read : middle ≡ once_read request.file.now text before = is_once_read before.written middle.written before.failures middle.failures before.files
-    middle.files request.file.now text c.read_file.ensures.written c.read_file.ensures.failures c.in_ok-text.ensures.gave in
-    given_in_part request.file.now request.options (IsLeft request) text output written.raced trace left c.give.result before middle after read
+    let read : middle ≡ once_read request.file.now file_bytes text before = is_once_read before.written middle.written before.failures middle.failures before.files
+    middle.files request.file.now file_bytes text c.read_file.ensures.written c.read_file.ensures.failures c.in_ok-text.ensures.gave in
+    given_in_part request.file.now file_bytes (trace_path request.options) (IsLeft request) text output written.raced trace left c.give.result before middle after read
     c.give.ensures.part
 
 pub returns-clause-silent : goal.returns-clause-silent
@@ -146,3 +147,9 @@ returns-clause-reads g c =
     failed_reads c.give.result (CountsFailure (g.D.Desk.failures c.read_file.new.self) (g.D.Desk.failures c.give.new.desk))
     (g.D.Desk.faults c.args.desk.now) (g.D.Desk.faults c.read_file.new.self) (g.D.Desk.faults c.give.new.desk)
     (c.in_ok-text.ensures.works (λ h. let no : Ok c.in_ok-text.text ≡ Err fault.CannotRead = h in cc)) c.give.ensures.faults c.give.ensures.failed
+
+pub returns-in_err-text-clause-misused : goal.returns-in_err-text-clause-misused
+returns-in_err-text-clause-misused g c =
+    let fault = c.in_err-text.field-0.0 in
+    err_holds _ c.from_residual-in_err-text.result (read_failure fault) c.from_residual-in_err-text.ensures.1
+    (λ is. absurd (reads_no_usage fault is))

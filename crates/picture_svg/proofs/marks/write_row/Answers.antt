@@ -1,0 +1,15 @@
+-- a bar goes down to the row of its access's end
+use Rattle.std.proofs.Common.{◌∙◌, ℕ, ap, sym}
+use Rattle.picture.specs.Ordered.{rows_before}
+use Rattle.picture.specs.declared.rows.Mark.{Mark}
+use Rattle.picture.proofs.of_report_text_SinkSteps.{writes_same}
+use Rattle.picture_svg.specs.Bars.{bar}
+use Rattle.picture_svg.specs.Marks.{mark_text}
+use Rattle.picture_svg.proofs.marks.write_row.Goals as goal
+
+pub returns-in-Begin : goal.returns-in-Begin
+returns-in-Begin g c = writes_same g.K.Sink.written g.K.Sink.failures _ _ _ _ _
+    (ap (λ (bottom : ℕ). bar c.in-Begin.stamped c.args.place bottom)
+    (c.rows_before.ensures ∙ ap (λ (stamp : ℕ). rows_before c.args.rows.now stamp) c.end.ensures)
+    ∙ sym (ap (λ (mark : Mark). mark_text c.args.rows.now c.args.place mark) c.in-Begin.is))
+    c.write_bar.ensures

@@ -1,0 +1,9 @@
+-- those so far are drawn
+use Rattle.std.proofs.Common.{take}
+use Rattle.picture.specs.of_report_text_Sink.{Takes}
+use Rattle.picture_svg.specs.Marks.{rows_marks}
+use Rattle.picture_svg.proofs.marks.write_rows.Given as goal
+
+abbrev pub invariant-loop-place : goal.invariant-loop-place
+invariant-loop-place g l =
+    Takes g.K.Sink.written g.K.Sink.failures (rows_marks l.rows 0 (take l.place l.rows)) l.fn.sink l.sink

@@ -1,0 +1,17 @@
+-- the pieces spell the watchpoint
+use Rattle.std.proofs.Common.{◌∙◌, ap}
+use Rattle.picture.proofs.of_report_text_SinkSteps.{writes_same}
+use Rattle.picture.specs.Ordered.{rows_before}
+use Rattle.picture.specs.Words.{outcome_words}
+use Rattle.picture_svg.specs.Bars.{lane}
+use Rattle.picture_svg.proofs.Spelled.{watch_is}
+use Rattle.picture_svg.proofs.watches.write_watch.Goals as goal
+
+pub returns : goal.returns
+returns g c = writes_same g.K.Sink.written g.K.Sink.failures _ _ _ _ _
+    (watch_is c.args.rows.now c.args.watch.now _ _ _ _ _ _ c.place_of-place.ensures
+    (c.outcome_words-outcome.ensures ∙ ap outcome_words c.outcome.ensures) c.index.ensures
+    (c.lane.ensures ∙ ap lane (rw c.access.ensures at c.task.ensures.value))
+    (rw c.begin.ensures at c.rows_before-top.ensures)
+    (c.saturating_sub-height.ensures ∙ rw (c.rows_before.ensures, c.end.ensures, c.rows_before-top.ensures, c.begin.ensures)))
+    c.write_parts.ensures

@@ -1,0 +1,2 @@
+pub mod LongText
+pub mod Spelled

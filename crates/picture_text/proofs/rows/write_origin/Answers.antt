@@ -1,0 +1,11 @@
+-- each part is what its call left, up to the one that failed
+use Rattle.picture.proofs.of_report_text_SinkSteps.{fails_first, writes_after, writes_error}
+use Rattle.picture_text.proofs.rows.write_origin.Goals as goal
+
+pub returns-in_err-write_changed : goal.returns-in_err-write_changed
+returns-in_err-write_changed g c =
+    writes_error g.K.Sink.written g.K.Sink.failures _ _ _ _ c.from_residual.ensures.0
+    (fails_first g.K.Sink.written g.K.Sink.failures _ _ _ _ c.in_err-write_changed.ensures)
+
+pub returns : goal.returns
+returns g c = writes_after g.K.Sink.written g.K.Sink.failures _ _ _ _ _ _ c.in_ok-write_changed.ensures c.write_values.ensures

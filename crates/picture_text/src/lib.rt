@@ -1,0 +1,15 @@
+//! The picture of a trace, as text.
+#![tactic(auto)]
+
+mod cells;
+mod lines;
+mod rows;
+#[cfg(test)]
+mod tests;
+mod watches;
+mod write;
+
+pub use cells::Style;
+pub use picture;
+pub use picture::report_text;
+pub use write::write_picture;
