@@ -301,7 +301,7 @@ pub record ReplayIsCut (request : ReplayRequest) (before after : State) : Type 0
   pub begun : HoldsBeginning line before.written after.written
 
 -- This is left of a trace that is drawn as it is asked: the text, with ASCII alone where that is asked for, and the SVG, if it is asked
--- for. No report is told of.
+-- for. A report that the trace tells of doesn't count as one here.
 pub record IsShown (request : ShowRequest) (bytes : List ℕ) (raced : Bool) (output : List ℕ) (svg : Option (List ℕ)) : Type 0 where
   pub style : Style
   pub ascii : request.ascii ≡ true → style ≡ Ascii

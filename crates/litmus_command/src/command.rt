@@ -215,7 +215,7 @@ fn picture_status(error: PictureError) -> u8
 /// names a task that isn't there, or a place that doesn't read or doesn't suit. 65: the file is refused. 66: it can't
 /// be read. 70: a task is stuck. 71: out of memory, or a thread couldn't be started. 74: output can't be written. 75: a
 /// search was stopped at its limit, and no list that it went over has a report. At 64 to 71 nothing goes to standard
-/// output, and no file is written. At 74 standard output has what it had, or a beginning of what should have gone there.
+/// output, and no file is written. At 74 standard output has what it had, or a beginning of what should stand there.
 pub fn command<R: Threads + Wait + Sync, S: AsStr, D: Desk>(
     rt: &R,
     alloc: Global,
@@ -639,7 +639,7 @@ fn style_for<D: Desk>(request: &ShowRequest<'_>, desk: &D) -> Style
     }
 }
 
-/// Draws a trace, and gives what is left of that. No report is told of.
+/// Draws a trace, and gives what is left of that. A report that the trace tells of doesn't count as one here.
 fn show<D: Desk>(alloc: Global, request: &ShowRequest<'_>, desk: &mut D) -> Result<bool, Failure>
     ensures done { IfOk result (λ raced. IsDone (Request.Show request.now) raced (state_of D.written D.failures D.files desk.old)
         (state_of D.written D.failures D.files desk.new)) }

@@ -33,7 +33,7 @@ race_placed accesses report setter finder seen is s f row s_named f_named holds 
     let s_later : s.begin < s.end = subst (λ (t : Stamped). t.begin < t.end) (sym s_same) race.2.ends_later in
     let f_later : f.begin < f.end = subst (λ (t : Stamped). t.begin < t.end) (sym f_same) race.3.ends_later in
     let both = at_once s f row.stamp once s_later f_later stamp in
-    let placed : IsRowOf accesses (Two setter finder seen) row = (s, f, s_named, f_named, mark, both.0, both.1) in
+    let placed : IsRowOf accesses (Two setter finder seen) row = (s, f, s_named, f_named, mark, stamp, both.0, both.1) in
     subst (λ r. IsRowOf accesses r row) (sym is) placed
 
 pub origin_placed : (accesses : List Stamped) (report : Report) (setter old new : ℕ) → report ≡ Unknown setter old new
@@ -44,5 +44,5 @@ origin_placed accesses report setter old new is s row s_named holds mark stamp =
     let same : s ≡ change.0 = change.1.only s s_named in
     let later : s.begin < s.end = subst (λ (t : Stamped). t.begin < t.end) (sym same) change.1.ends_later in
     let placed : IsRowOf accesses (Unknown setter old new) row =
-    (s, s_named, mark, record { begun = omega arith; goes_on = omega arith }) in
+    (s, s_named, mark, stamp, record { begun = omega arith; goes_on = omega arith }) in
     subst (λ r. IsRowOf accesses r row) (sym is) placed

@@ -1,5 +1,6 @@
 -- what is read of a true trace, and what is drawn of it
-use Rattle.std.proofs.Common.{◌<◌, ◌≤◌, ℕ, List, length, map, subst, sym}
+use Rattle.std.proofs.Common.{◌<◌, ◌≤◌, ℕ, List, arith, length, map, slice_index_or, subst, sym}
+use Rattle.std.specs.List.Sorted.{IsNonDecreasingBy}
 use Rattle.report_text.specs.Faults.{IsTrueTrace}
 use Rattle.report_text.specs.TraceText.{Head}
 use Rattle.report_text.specs.declared.line.Line.{Line}
@@ -11,10 +12,14 @@ use Rattle.picture.specs.Columns.{IsColumnOf, tasks}
 use Rattle.picture.specs.Drawn.{IsPictureOf, IsTooLong, Shows, access_limit}
 use Rattle.picture.specs.Ordered.{IsOrdered}
 use Rattle.picture.specs.Parts.{ArePartsOf, AreSpelled}
+use Rattle.picture.specs.Rows.{place, rank}
 use Rattle.picture.specs.Running.{IsInOrder}
 use Rattle.picture.specs.Sound.{IsSound}
 use Rattle.picture.specs.declared.draw.Picture.{Picture}
 use Rattle.picture.specs.declared.parts.Parts.{Parts}
+use Rattle.picture.specs.declared.rows.Mark.{Mark}
+use Rattle.picture.specs.declared.rows.Mark.TheVariants.{Begin, End, Origin, Race}
+use Rattle.picture.specs.declared.rows.Row.{Row}
 use Rattle.picture.proofs.Reading.{spelled_behind, true_plain}
 use Rattle.picture.proofs.Soundness.{sound}
 use Rattle.picture.proofs.Zips.{zip_all}
@@ -61,9 +66,22 @@ pictured bytes parts picture h within shown =
       shown = rw (sym are.accesses, sym are.arms, sym are.takes, sym are.reports) shown;
     }
 
+rank_small : (mark : Mark) → rank mark ≤ 1
+rank_small (Begin s) = omega arith
+rank_small (End s) = omega arith
+rank_small (Race s f) = omega arith
+rank_small (Origin s old new) = omega arith
+
+-- rows that rise by their places rise by their stamps
+stamps_rise : (rows : List Row) → IsNonDecreasingBy place rows → IsNonDecreasingBy (λ (row : Row). row.stamp) rows
+stamps_rise rows rising i j d before within =
+    let there = rising i j d before within in
+    let small = rank_small (slice_index_or rows j d).mark in
+    omega (arith, there, small)
+
 pub ordered : (parts : Parts) (picture : Picture)
     → Shows parts.accesses.items parts.arms.items parts.takes.items parts.reports.items picture → IsOrdered picture
 ordered parts picture shown = record {
-  rows_rise = shown.rows.rising;
+  rows_rise = stamps_rise picture.rows.items shown.rows.rising;
   columns_rise = zip_all (IsColumnOf parts.accesses.items) IsInOrder (λ task column is. is.in_order) tasks picture.columns.items shown.columns;
 }

@@ -6,7 +6,7 @@ ghost use Rattle.std.specs.List.Sorted.{IsNonDecreasingBy};
 ghost use Rattle.access_types.specs.Stamped as spec;
 ghost use Rattle.picture.specs.Named.{AreNamed};
 ghost use Rattle.picture.specs.Ordered as order;
-ghost use Rattle.picture.specs.Rows.{AreRows, IsRowOf, rows_of};
+ghost use Rattle.picture.specs.Rows.{AreRows, IsRowOf, place, rank, rows_of};
 ghost use Rattle.picture.specs.Sound.{ReportHolds};
 
 use crate::named::Named;
@@ -31,6 +31,27 @@ pub enum Mark {
 pub struct Row {
     pub stamp: u64,
     pub mark: Mark,
+}
+
+impl Mark {
+    /// At one stamp, what is reported comes behind what begins or ends: so it stands where its accesses are drawn.
+    fn rank(&self) -> u64
+        ensures { result ≡ rank self.now }
+    {
+        match self {
+            Mark::Begin(_) | Mark::End(_) => 0,
+            Mark::Race { .. } | Mark::Origin { .. } => 1,
+        }
+    }
+}
+
+impl Row {
+    /// Where it comes among rows.
+    fn place(&self) -> u128
+        ensures { result ≡ place self.now }
+    {
+        2 * (self.stamp as u128) + self.mark.rank() as u128
+    }
 }
 
 /// The rows of accesses: their begins and their ends.
@@ -73,7 +94,7 @@ fn origin_row(setter: Stamped, old: u64, new: u64) -> Row
     }
 }
 
-/// The row of a report, at a stamp at which its accesses are in progress.
+/// The row of a report, where the later of its accesses begins: both are in progress there.
 fn report_row(named: &Named, report: &Report) -> Row
     requires { (accesses : List spec.Stamped) × AreNamed accesses named.now × ReportHolds accesses report.now }
     ensures { (accesses : List spec.Stamped) → AreNamed accesses named.now → ReportHolds accesses report.now
@@ -99,8 +120,7 @@ fn report_rows(alloc: Global, named: &Named, reports: &[Report]) -> Result<Vec<R
     Ok(rows)
 }
 
-/// The rows of accesses and reports, by their stamps. Where an access begins and a report stands at one stamp, the
-/// access comes first.
+/// The rows of accesses and reports, by their stamps, and at one stamp by their ranks.
 pub(crate) fn rows(
     alloc: Global,
     named: &Named,
@@ -113,7 +133,11 @@ pub(crate) fn rows(
     let mut rows = access_rows(alloc, accesses)?;
     let of_reports = report_rows(alloc, named, reports)?;
     rows.extend_from_slice(&of_reports)?;
-    rows.sort_by_key(|row| row.stamp)?;
+    rows.sort_by_key(
+        |row: &Row| -> u128
+            ensures { result ≡ place row.now }
+        { row.place() },
+    )?;
     Ok(rows)
 }
 

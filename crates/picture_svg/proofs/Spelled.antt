@@ -1,5 +1,5 @@
 -- pieces spell what is written: lemmas over the parts, which are plain texts and numbers here
-use Rattle.std.proofs.Common.{◌≡◌, ◌==◌, ◌+◌, ◌-◌, ◌/◌, ◌++◌, ◌∙◌, ℕ, true, false, List, [], ap, append_assoc, append-nil, codes, length, sym}
+use Rattle.std.proofs.Common.{◌≡◌, ◌==◌, ◌+◌, ◌-◌, ◌/◌, ◌++◌, ◌∙◌, ℕ, true, false, List, [], ap, append_assoc, append-nil, codes, length, refl, sym}
 use Rattle.std.specs.Prelude.{max, vec_len}
 use Rattle.std.specs.Fmt.{decimal}
 use Rattle.picture.specs.Ordered.{rows_before}
@@ -13,8 +13,9 @@ use Rattle.picture.specs.declared.watches.Taking.{Taking}
 use Rattle.picture.specs.declared.watches.Watch.{Watch}
 use Rattle.picture_svg.specs.Bars.{bar, class, lane}
 use Rattle.picture_svg.specs.Reports.{origin, race, race_name, race_title}
-use Rattle.picture_svg.specs.Svg.{heading}
+use Rattle.picture_svg.specs.Svg.{heading, looks}
 use Rattle.picture_svg.specs.Watches.{taking_text, watch_text}
+use Rattle.picture_svg.specs.declared.write.TheConstants.{LOOKS}
 
 -- ---- bars
 
@@ -134,3 +135,9 @@ pub heading_none : (column : Column) → (vec_len column.begins == 0) ≡ true �
 heading_none column none =
     let is : (length column.begins.items == 0) ≡ true = ap (λ n. n == 0) (sym column.begins.ok.0) ∙ none in
     rw is
+
+-- ---- looks
+
+pub looks_are : LOOKS.now ≡ looks
+unfolding looks
+looks_are = refl

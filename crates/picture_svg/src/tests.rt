@@ -17,7 +17,7 @@ end
 ";
 
 const RACE_SVG: &str =
-    "<svg xmlns=\"http://www.w3.org/2000/svg\" width=\"57em\" height=\"9em\" font-size=\"20\" font-family=\"monospace\">
+    "<svg xmlns=\"http://www.w3.org/2000/svg\" width=\"60em\" height=\"9em\" font-size=\"20\" font-family=\"monospace\">
 <style>.page{fill:#fff;fill-opacity:1}text{fill:#222}tspan{font-size:12px}rect{fill-opacity:.6}.lane{stroke:#bbb}.plain rect{fill:#9cf;stroke:#036}.marked rect{fill:#cfc;stroke:#063;stroke-width:3;stroke-dasharray:6 4}.assertion rect{fill:#fd9;stroke:#630;stroke-dasharray:2 3}.watch rect{fill:#222;fill-opacity:1}.take line{stroke:#222}.tip{fill:#222}.race line{stroke:#c00;stroke-width:3}.race text{fill:#c00}@media (prefers-color-scheme:dark){.page{fill:#111}text{fill:#eee}.lane{stroke:#555}.plain rect{fill:#247;stroke:#9cf}.marked rect{fill:#253;stroke:#cfc}.assertion rect{fill:#642;stroke:#fd9}.watch rect{fill:#eee}.take line{stroke:#eee}.tip{fill:#eee}.race line{stroke:#f66}.race text{fill:#f66}}</style>
 <defs><marker id=\"tip\" viewBox=\"0 0 8 8\" refX=\"8\" refY=\"4\" markerWidth=\"8\" markerHeight=\"8\" orient=\"auto\"><path class=\"tip\" d=\"M0 0L8 4L0 8z\"/></marker></defs>
 <rect class=\"page\" width=\"100%\" height=\"100%\"/>

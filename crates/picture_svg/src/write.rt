@@ -14,7 +14,7 @@ use picture::report_text::pieces::{Piece, write_pieces};
 use picture::report_text::{Sink, WriteError, write_all};
 use picture::{Column, Picture};
 
-/// How everything looks, in light and in dark, and the tip of an arrow.
+/// How everything looks, in light and in dark; the tip of an arrow; and the page behind all.
 const LOOKS: &str = "<style>\
 .page{fill:#fff;fill-opacity:1}text{fill:#222}tspan{font-size:12px}rect{fill-opacity:.6}\
 .lane{stroke:#bbb}\
@@ -36,14 +36,14 @@ const LOOKS: &str = "<style>\
 <path class=\"tip\" d=\"M0 0L8 4L0 8z\"/></marker></defs>\n\
 <rect class=\"page\" width=\"100%\" height=\"100%\"/>\n";
 
-/// How wide the lanes are with one more, where they were so wide without it. The words of an access need 36 em at
-/// most; those of a lane inside run on over the next one.
+/// How wide the lanes are with one more, where they were so wide without it. The words of an access end 38 em
+/// behind the beginning of its lane at most; those of a lane inside run on over the next one.
 fn wider(width: u64, column: &Column) -> u64
     ensures { result ≡ spec.wider width column.now }
 {
     match column.begins.is_empty() {
         true => width,
-        false => lane(column.task) + 36,
+        false => lane(column.task) + 39,
     }
 }
 

@@ -3,8 +3,7 @@ use Rattle.std.proofs.Common.{◌≡◌, ◌++◌, ◌∙◌, ap, rules, subst}
 use Rattle.std.specs.List.{flat_map}
 use Rattle.std.specs.List.Sorted.{IsPermutation}
 use Rattle.std.proofs.lemmas.List.Sorted.{IsNonDecreasingBy-from_sort_by_key}
-use Rattle.picture.specs.Rows.{rows_of}
-use Rattle.picture.specs.declared.rows.Row.{Row}
+use Rattle.picture.specs.Rows.{place, rows_of}
 use Rattle.picture.proofs.rows.rows.Goals as goal
 
 pub returns : goal.returns
@@ -16,6 +15,6 @@ returns c =
       of_reports = c.in_ok-of_reports.of_reports.items;
       each_report = c.in_ok-of_reports.ensures c.args.accesses.now c.requires.0 c.requires.1;
       each_once = subst (λ xs. IsPermutation xs c.sort_by_key.new.self.items) whole c.in_ok-sort_by_key.ensures.permutation;
-      rising = IsNonDecreasingBy-from_sort_by_key (λ (row : Row). row.stamp) c.sort_by_key.new.self.items c.in_ok-sort_by_key.ensures.sorted
+      rising = IsNonDecreasingBy-from_sort_by_key place c.sort_by_key.new.self.items c.in_ok-sort_by_key.ensures.sorted
           (λ a r q k. search rules);
     }
