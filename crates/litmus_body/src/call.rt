@@ -9,7 +9,7 @@ ghost use Rattle.litmus_expression.specs.States.{state_of};
 ghost use Rattle.litmus_body.specs.CallReader as reader;
 ghost use Rattle.litmus_body.specs.StatementReader as statements;
 
-use litmus_cursor::{CallWord, Excess, Refusal};
+use litmus_cursor::{CallWord, Excess, Expected, Refusal};
 use litmus_expression::{Process, Surroundings, Takes};
 use litmus_lex::Sign;
 use litmus_syntax::{Call, Mark};
@@ -43,19 +43,21 @@ pub fn read_call(
     ensures reads { Answers result (λ call. (call, state_of process.new))
         (reader.call_at (place_of around.now).turns (place_of around.now).scopes word (state_of process.old)) }
 {
-    count_call(process, word, around)?;
+    let at = process.cursor.at();
+    count_call(process, word, around, at)?;
     process.cursor.advance();
     process.cursor.take(Sign::OpenParen)?;
-    let call = call_of_word(process, word, around)?;
+    let call = call_of_word(process, word, around, at)?;
     process.cursor.take(Sign::CloseParen)?;
     Ok(call)
 }
 
-/// Counts the scope and the access of an assertion.
+/// Counts the scope and the access of an assertion, which begins at the place.
 fn count_call(
     process: &mut Process<'_>,
     word: CallWord,
     around: &Surroundings,
+    at: usize,
 ) -> Result<(), Refusal>
     ensures stays { process.new.cursor ≡ process.old.cursor }
     ensures reads { Answers result (λ _. state_of process.new)
@@ -64,21 +66,22 @@ fn count_call(
     match word {
         CallWord::AssertWriter { scoped } | CallWord::AssertAccess { scoped } => {
             if scoped {
-                let _ = around.asserting()?;
+                let _ = around.asserting(at)?;
             }
-            process.count_access(around)
+            process.count_access_at(around, at)
         }
-        CallWord::AssertBits => process.count_access(around),
+        CallWord::AssertBits => process.count_access_at(around, at),
         _ => Ok(()),
     }
 }
 
-/// What stands between the parentheses of a call.
+/// What stands between the parentheses of a call that begins at the place.
 #[tactic(auto, unfolding(crate::specs::CallReader::arguments))]
 fn call_of_word(
     process: &mut Process<'_>,
     word: CallWord,
     around: &Surroundings,
+    at: usize,
 ) -> Result<Call, Refusal>
     ensures moves { OnOk result (count_left process.new.cursor ≤ count_left process.old.cursor) }
     ensures reads { Answers result (λ call. (call, state_of process.new))
@@ -87,7 +90,7 @@ fn call_of_word(
     match word {
         CallWord::Barrier(barrier) => Ok(Call::Barrier(barrier)),
         // No word has a count.
-        CallWord::Mark(Mark::Next(_)) => Err(process.cursor.offence()),
+        CallWord::Mark(Mark::Next(_)) => Err(process.cursor.offence(Expected::Statement)),
         CallWord::Mark(mark) => Ok(Call::Mark(mark)),
         CallWord::AtomicNext => Ok(Call::Mark(Mark::Next(process.cursor.take_number()?))),
         CallWord::Lock => {
@@ -112,16 +115,17 @@ fn call_of_word(
             let mask = process.cursor.take_number()?;
             Ok(Call::AssertBits { variable, mask })
         }
-        CallWord::Check { write } => read_check(process, write, around),
+        CallWord::Check { write } => read_check(process, write, around, at),
     }
 }
 
-/// `VAR , NUMBER` of a check. One of size 0 has no access.
+/// `VAR , NUMBER` of a check that begins at the place. One of size 0 has no access.
 #[tactic(auto, unfolding(crate::specs::CallReader::check))]
 fn read_check(
     process: &mut Process<'_>,
     write: bool,
     around: &Surroundings,
+    at: usize,
 ) -> Result<Call, Refusal>
     ensures moves { OnOk result (count_left process.new.cursor < count_left process.old.cursor) }
     ensures reads { Answers result (λ call. (call, state_of process.new))
@@ -129,12 +133,13 @@ fn read_check(
 {
     let variable = process.take_variable(Takes::Memory)?;
     process.cursor.take(Sign::Comma)?;
+    let excess = process.cursor.excess(Excess::Check);
     let size = process.cursor.take_number()?;
     if size > CHECK_SIZE {
-        return Err(Refusal::Limit(Excess::Check));
+        return Err(excess);
     }
     if size > 0 {
-        process.count_access(around)?;
+        process.count_access_at(around, at)?;
     }
     Ok(Call::Check {
         write,

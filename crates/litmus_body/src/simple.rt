@@ -11,7 +11,7 @@ ghost use Rattle.litmus_body.specs.SimpleReader as reader;
 ghost use Rattle.litmus_body.specs.Statements.{alone, raced};
 ghost use Rattle.litmus_body.specs.StoreReader as stores;
 
-use litmus_cursor::{Refusal, StoreWord, Word};
+use litmus_cursor::{Expected, Refusal, StoreWord, Word};
 use litmus_expression::{Process, Surroundings, Takes};
 use litmus_lex::{Sign, Token};
 use litmus_syntax::{Assignment, Fetch, Load, ReadForm, Statement, WriteForm};
@@ -69,12 +69,12 @@ pub fn read_simple(process: &mut Process<'_>, around: &Surroundings) -> Result<S
         Token::Name(_) => match process.cursor.word() {
             Some(Word::Store(word)) => Ok(Simple::Assignment(read_store(process, word, around)?)),
             Some(Word::DataRace | Word::Load(_)) => Ok(Simple::Load(process.load(around)?)),
-            Some(_) => Err(process.cursor.offence()),
+            Some(_) => Err(process.cursor.offence(Expected::Simple)),
             None => Ok(Simple::Assignment(read_register_assignment(process, around)?)),
         },
         _ => {
-            process.cursor.refuse_address()?;
-            Err(process.cursor.offence())
+            process.cursor.refuse_address(Expected::Simple)?;
+            Err(process.cursor.offence(Expected::Simple))
         }
     }
 }
@@ -89,7 +89,7 @@ fn read_register_assignment(
     ensures reads { Answers result (λ found. (assignment_of found, state_of process.new))
         (reader.register_assignment (place_of around.now) (state_of process.old)) }
 {
-    process.cursor.refuse_call()?;
+    process.cursor.refuse_call(Expected::Simple)?;
     let register = process.take_changed_register(around)?;
     process.cursor.take(Sign::Assign)?;
     let value = process.expression(around)?;
@@ -104,7 +104,8 @@ fn read_starred(process: &mut Process<'_>, around: &Surroundings) -> Result<Simp
     ensures reads { Answers result (λ found. (enclosable_of found, state_of process.new))
         (reader.starred (place_of around.now) (state_of process.old)) }
 {
-    process.count_access(around)?;
+    let at = process.cursor.at();
+    process.count_access_at(around, at)?;
     process.take_star()?;
     let variable = process.take_variable(Takes::Integers)?;
     if process.cursor.accept(Sign::Assign) {
@@ -136,7 +137,8 @@ fn read_increment(process: &mut Process<'_>, around: &Surroundings) -> Result<Si
     ensures reads { Answers result (λ found. (enclosable_of found, state_of process.new))
         (reader.increment (place_of around.now) (state_of process.old)) }
 {
-    process.count_access(around)?;
+    let at = process.cursor.at();
+    process.count_access_at(around, at)?;
     process.cursor.take(Sign::OpenParen)?;
     process.take_star()?;
     let variable = process.take_variable(Takes::Integers)?;
@@ -156,7 +158,8 @@ fn read_store(
     ensures reads { Answers result (λ found. (assignment_of found, state_of process.new))
         (stores.store_at (place_of around.now).turns (place_of around.now).depth word (state_of process.old)) }
 {
-    process.count_access(around)?;
+    let at = process.cursor.at();
+    process.count_access_at(around, at)?;
     process.cursor.advance();
     process.cursor.take(Sign::OpenParen)?;
     let assignment = store_of_word(process, word, around)?;
@@ -206,7 +209,7 @@ fn read_write(
         (stores.write (place_of around.now).turns (place_of around.now).depth form (state_of process.old)) }
 {
     match form {
-        WriteForm::Plain => Err(process.cursor.offence()),
+        WriteForm::Plain => Err(process.cursor.offence(Expected::Simple)),
         WriteForm::Once => {
             process.take_star()?;
             read_written(process, Takes::Integers, form, around)

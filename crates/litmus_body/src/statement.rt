@@ -13,7 +13,7 @@ ghost use Rattle.litmus_body.specs.StatementReader as reader;
 
 use crate::call::{is_scoped, read_call};
 use crate::simple::read_simple;
-use litmus_cursor::{CallWord, Cursor, Refusal, VariableType, Word};
+use litmus_cursor::{CallWord, Cursor, Expected, Fault, Refusal, VariableType, Word};
 use litmus_expression::{Process, Surroundings};
 use litmus_lex::{Sign, Token};
 use litmus_syntax::{Assignment, Call, Statement};
@@ -85,16 +85,16 @@ pub fn read_block(
         (reader.block_at (place_of around) (state_of process.old)) }
 {
     if !process.cursor.is_at(Sign::OpenBrace) {
-        return Err(process.cursor.offence());
+        return Err(process.cursor.offence(Expected::Sign(Sign::OpenBrace)));
     }
-    let mut inside = around.deeper()?;
+    let mut inside = around.deeper(process.cursor.at())?;
     process.cursor.advance();
     let mut statements = Vec::new(process.alloc);
     while !process.cursor.accept(Sign::CloseBrace) {
         if let Some(statement) = read_statement(process, inside)? {
             if begins_scope(&statement) {
                 // As in the kernel it holds to the end of its block: what follows in this block has it in force.
-                inside = inside.asserting()?;
+                inside = inside.asserting(process.cursor.at())?;
             }
             statements.push(statement)?;
         }
@@ -115,7 +115,7 @@ fn read_body(process: &mut Process<'_>, around: Surroundings) -> Result<Vec<Stat
     }
     // A token that begins no statement offends before it could open a block.
     let _ = opening_of(process)?;
-    let inside = around.deeper()?;
+    let inside = around.deeper(process.cursor.at())?;
     let mut statements = Vec::new(process.alloc);
     if let Some(statement) = read_statement(process, inside)? {
         statements.push(statement)?;
@@ -157,19 +157,19 @@ fn opening_of(process: &Process<'_>) -> Result<Opening, Refusal>
         Token::Sign(Sign::Semicolon) => Ok(Opening::Empty),
         Token::Sign(Sign::Star | Sign::OpenParen) => Ok(Opening::Counted(Counted::Simple)),
         Token::Name(name) => match process.cursor.word() {
-            Some(word) => opening_of_word(word).ok_or(process.cursor.offence()),
+            Some(word) => opening_of_word(word).ok_or(process.cursor.offence(Expected::Statement)),
             None => {
-                process.cursor.refuse_call()?;
+                process.cursor.refuse_call(Expected::Statement)?;
                 // A variable's name alone is no access: only `*x` and the calls touch memory.
                 if process.parameter(name).is_some() {
-                    return Err(process.cursor.offence());
+                    return Err(process.cursor.syntax(Fault::Variable, Expected::Statement));
                 }
                 Ok(Opening::Counted(Counted::Simple))
             }
         },
         _ => {
-            process.cursor.refuse_address()?;
-            Err(process.cursor.offence())
+            process.cursor.refuse_address(Expected::Statement)?;
+            Err(process.cursor.offence(Expected::Statement))
         }
     }
 }
@@ -228,7 +228,9 @@ fn read_declaration(
         }));
     }
     take_more_declared(process, around)?;
-    process.cursor.take(Sign::Semicolon)?;
+    process
+        .cursor
+        .take_where(Sign::Semicolon, Expected::DeclarationEnd)?;
     Ok(None)
 }
 
@@ -255,7 +257,7 @@ fn take_declared_register(
     ensures reads { Answers result (λ register. (register, state_of process.new))
         (take_changed (place_of around.now).counters (state_of process.old)) }
 {
-    process.cursor.refuse_pointer()?;
+    process.cursor.refuse_pointer(Expected::Register)?;
     process.take_changed_register(around)
 }
 
@@ -366,9 +368,9 @@ fn read_bound(
     take_counter_again(process, register)?;
     process.cursor.take_of_form(Sign::Less)?;
     let Token::Number(turns) = process.cursor.token() else {
-        return Err(process.cursor.form_offence());
+        return Err(process.cursor.form_offence(Expected::Number));
     };
-    let repeats = around.turns_of(turns)?;
+    let repeats = around.turns_of(turns, process.cursor.at())?;
     process.cursor.advance();
     process.cursor.take_of_form(Sign::Semicolon)?;
     Ok(LoopHeader {
@@ -398,7 +400,7 @@ fn take_counter(process: &mut Process<'_>, around: &Surroundings) -> Result<usiz
         (take_changed (place_of around.now).counters (state_of process.old)) }
 {
     let Some(_name) = process.register_name() else {
-        return Err(process.cursor.form_offence());
+        return Err(process.cursor.form_offence(Expected::Register));
     };
     process.take_changed_register(around)
 }
@@ -415,7 +417,7 @@ fn take_counter_again(process: &mut Process<'_>, register: usize) -> Result<(), 
             process.cursor.advance();
             Ok(())
         }
-        _ => Err(process.cursor.form_offence()),
+        _ => Err(process.cursor.form_offence(Expected::Counter)),
     }
 }
 
@@ -429,7 +431,7 @@ fn take_zero(cursor: &mut Cursor<'_>) -> Result<(), Refusal>
             cursor.advance();
             Ok(())
         }
-        _ => Err(cursor.form_offence()),
+        _ => Err(cursor.form_offence(Expected::Zero)),
     }
 }
 

@@ -1,9 +1,11 @@
 -- What a cursor has left to read: its spots, how many they are, and the token that is next, or the end.
-use Rattle.std.specs.Prelude.{ℕ, List, [], ◌∷◌, Bool, true, false, length}
+use Rattle.std.specs.Prelude.{ℕ, List, [], ◌∷◌, Bool, Option, Some, None, true, false, length}
 use Rattle.litmus_lex.specs.declared.token.Token.{Token}
 use Rattle.litmus_lex.specs.declared.token.Token.TheVariants.{Name, Number, Sign, TooLarge, Stray, Unclosed, End}
 use Rattle.litmus_cursor.specs.declared.cursor.Spot.{Spot}
 use Rattle.litmus_cursor.specs.declared.cursor.Cursor.{Cursor}
+use Rattle.litmus_cursor.specs.declared.cursor.Refusal.{Refusal}
+use Rattle.litmus_cursor.specs.declared.cursor.Refusal.TheVariants.{OutOfMemory, Syntax, Unsupported, Limit}
 
 -- the tokens that are left, without the end
 abbrev pub spots_left : Cursor → List Spot
@@ -32,3 +34,19 @@ next_of (spot ∷ rest) = spot.token
 abbrev pub rest_of : List Spot → List Spot
 rest_of [] = []
 rest_of (spot ∷ rest) = rest
+
+-- where the first of these tokens begins, or the text ends
+abbrev pub begin_of : List Spot → ℕ → ℕ
+begin_of [] end = end
+begin_of (spot ∷ rest) end = spot.at
+
+-- where the token that is next begins
+abbrev pub place_left : Cursor → ℕ
+place_left cursor = begin_of cursor.left.now cursor.end
+
+-- where the token begins that offends
+abbrev pub refused_at : Refusal → Option ℕ
+refused_at OutOfMemory = None
+refused_at (Syntax at fault expected) = Some at
+refused_at (Unsupported at unread expected) = Some at
+refused_at (Limit at excess) = Some at

@@ -5,6 +5,7 @@ ghost use Rattle.litmus_lex.specs.Tokens.{Placed};
 ghost use Rattle.litmus_cursor.specs.Spots.{AreSpots, AreTokensFrom};
 ghost use Rattle.litmus_cursor.specs.declared.cursor.Refusal.TheVariants.{OutOfMemory};
 
+use crate::reason::{Expected, Fault, Unread, fault_of, unread_of};
 use crate::words::{Word, word_of};
 use litmus_lex::{Place, Sign, Token, next_token};
 use std::alloc::{AllocError, AllocFailed, Global};
@@ -21,6 +22,9 @@ pub enum Excess {
     Scoped,
     Number,
     Check,
+    /// Turns of the loops round one statement.
+    Turns,
+    /// Turns of the loops round all statements with an access.
     Repeats,
 }
 
@@ -28,9 +32,20 @@ pub enum Excess {
 #[derive(Clone, Copy, Debug, PartialEq, Eq)]
 pub enum Refusal {
     OutOfMemory,
-    Syntax { at: usize },
-    Unsupported { at: usize },
-    Limit(Excess),
+    Syntax {
+        at: usize,
+        fault: Fault,
+        expected: Expected,
+    },
+    Unsupported {
+        at: usize,
+        unread: Unread,
+        expected: Expected,
+    },
+    Limit {
+        at: usize,
+        excess: Excess,
+    },
 }
 
 impl From<AllocError> for Refusal {
@@ -87,9 +102,9 @@ pub struct Cursor<'a> {
 }
 
 impl<'a> Cursor<'a> {
-    ghost use Rattle.std.specs.Prelude.{true, IfSome, OnErr, if◌then◌else◌, option_map};
+    ghost use Rattle.std.specs.Prelude.{true, IfSome, OnErr, Some, if◌then◌else◌, option_map};
     ghost use Rattle.litmus_lex.specs.declared.sign.Sign.TheVariants.{Ampersand, Star};
-    ghost use Rattle.litmus_cursor.specs.Cursor.{count_left, is_end, next_of, rest_of, spots_left};
+    ghost use Rattle.litmus_cursor.specs.Cursor.{count_left, is_end, next_of, place_left, refused_at, rest_of, spots_left};
     ghost use Rattle.litmus_cursor.specs.Front.{Answers, begins_call, first, is_sign, others, symbol_of_token, symbols_left, take_sign, take_signed, word_at, identifier_at, now};
     ghost use Rattle.litmus_cursor.specs.Words as words;
     ghost use Rattle.litmus_cursor.specs.Front as front;
@@ -131,7 +146,9 @@ impl<'a> Cursor<'a> {
     }
 
     /// Where the next token begins.
-    pub fn at(&self) -> usize {
+    pub fn at(&self) -> usize
+        ensures { result ≡ place_left self.now }
+    {
         match self.left {
             [next, ..] => next.at,
             [] => self.end,
@@ -231,10 +248,19 @@ impl<'a> Cursor<'a> {
         ensures moves { OnOk result (count_left self.new < count_left self.old) }
         ensures reads { Answers result (λ _. symbols_left self.new) (take_sign sign (symbols_left self.old)) }
     {
+        self.take_where(sign, Expected::Sign(sign))
+    }
+
+    /// Takes the sign, where this is expected.
+    #[tactic(auto, unfolding(crate::specs::Front::take_sign))]
+    pub fn take_where(&mut self, sign: Sign, expected: Expected) -> Result<(), Refusal>
+        ensures moves { OnOk result (count_left self.new < count_left self.old) }
+        ensures reads { Answers result (λ _. symbols_left self.new) (take_sign sign (symbols_left self.old)) }
+    {
         if self.accept(sign) {
             Ok(())
         } else {
-            Err(self.offence())
+            Err(self.offence(expected))
         }
     }
 
@@ -245,7 +271,7 @@ impl<'a> Cursor<'a> {
         ensures reads { Answers result (λ value. (value, symbols_left self.new)) (front.take_number (symbols_left self.old)) }
     {
         let Token::Number(number) = self.token() else {
-            return Err(self.offence());
+            return Err(self.offence(Expected::Number));
         };
         self.advance();
         Ok(number)
@@ -265,33 +291,61 @@ impl<'a> Cursor<'a> {
 
     /// The refusal of the next token where the grammar doesn't have it. A number that is too large and
     /// some words are refused alike wherever they offend.
-    pub fn offence(&self) -> Refusal {
+    pub fn offence(&self, expected: Expected) -> Refusal
+        ensures { refused_at result ≡ Some (place_left self.now) }
+    {
         match self.token() {
-            Token::TooLarge => Refusal::Limit(Excess::Number),
+            Token::TooLarge => self.excess(Excess::Number),
             Token::Name(name) => match word_of(name) {
-                Some(Word::Foreign | Word::For) => self.unsupported(),
-                _ => self.syntax(),
+                Some(Word::Foreign | Word::For) => self.unsupported(unread_of(name), expected),
+                _ => self.syntax(Fault::Token, expected),
             },
-            _ => self.syntax(),
+            token => self.syntax(fault_of(token), expected),
         }
     }
 
     /// The refusal of the next token as one that no litmus format has here.
-    pub fn syntax(&self) -> Refusal {
-        Refusal::Syntax { at: self.at() }
+    pub fn syntax(&self, fault: Fault, expected: Expected) -> Refusal
+        ensures { result ≡ Refusal.Syntax (place_left self.now) fault expected }
+    {
+        Refusal::Syntax {
+            at: self.at(),
+            fault,
+            expected,
+        }
     }
 
     /// The refusal of the next token as one that this format doesn't take here.
-    pub fn unsupported(&self) -> Refusal {
-        Refusal::Unsupported { at: self.at() }
+    pub fn unsupported(&self, unread: Unread, expected: Expected) -> Refusal
+        ensures { result ≡ Refusal.Unsupported (place_left self.now) unread expected }
+    {
+        Refusal::Unsupported {
+            at: self.at(),
+            unread,
+            expected,
+        }
+    }
+
+    /// The refusal of the next token as one too much.
+    pub fn excess(&self, excess: Excess) -> Refusal
+        ensures { result ≡ Refusal.Limit (place_left self.now) excess }
+    {
+        Refusal::Limit {
+            at: self.at(),
+            excess,
+        }
     }
 
     /// The refusal of the next token where a form of statement has exactly one token.
-    pub fn form_offence(&self) -> Refusal {
+    pub fn form_offence(&self, expected: Expected) -> Refusal
+        ensures { refused_at result ≡ Some (place_left self.now) }
+    {
         match self.token() {
-            Token::TooLarge => Refusal::Limit(Excess::Number),
-            Token::Stray | Token::Unclosed | Token::End => self.syntax(),
-            _ => self.unsupported(),
+            Token::TooLarge => self.excess(Excess::Number),
+            Token::Stray => self.syntax(Fault::Stray, expected),
+            Token::Unclosed => self.syntax(Fault::Unclosed, expected),
+            Token::End => self.syntax(Fault::End, expected),
+            _ => self.unsupported(Unread::LoopForm, expected),
         }
     }
 
@@ -304,39 +358,39 @@ impl<'a> Cursor<'a> {
         if self.accept(sign) {
             Ok(())
         } else {
-            Err(self.form_offence())
+            Err(self.form_offence(Expected::Sign(sign)))
         }
     }
 
     /// An address of a variable, where a variable may stand, is unsupported.
-    pub fn refuse_address(&self) -> Result<(), Refusal>
+    pub fn refuse_address(&self, expected: Expected) -> Result<(), Refusal>
         ensures { OnErr result (IsTrue (is_sign Ampersand (first (symbols_left self.now)))) }
     {
         if self.is_before_name(Sign::Ampersand) {
-            Err(self.unsupported())
+            Err(self.unsupported(Unread::Address, expected))
         } else {
             Ok(())
         }
     }
 
     /// A pointer, where a name is declared, is unsupported.
-    pub fn refuse_pointer(&self) -> Result<(), Refusal>
+    pub fn refuse_pointer(&self, expected: Expected) -> Result<(), Refusal>
         ensures { OnErr result (IsTrue (is_sign Star (first (symbols_left self.now)))) }
     {
         if self.is_before_name(Sign::Star) || self.is_at_two_stars() {
-            Err(self.unsupported())
+            Err(self.unsupported(Unread::Pointer, expected))
         } else {
             Ok(())
         }
     }
 
     /// A call of a function that the format doesn't have is unsupported.
-    pub fn refuse_call(&self) -> Result<(), Refusal>
+    pub fn refuse_call(&self, expected: Expected) -> Result<(), Refusal>
         ensures ok { OnOk result (begins_call (symbols_left self.now) ≡ false) }
         ensures err { OnErr result (begins_call (symbols_left self.now) ≡ true) }
     {
         if self.is_at_call() {
-            Err(self.unsupported())
+            Err(self.unsupported(Unread::Call, expected))
         } else {
             Ok(())
         }

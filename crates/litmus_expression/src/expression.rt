@@ -9,7 +9,7 @@ ghost use Rattle.litmus_expression.specs.States.{state_of};
 ghost use Rattle.litmus_cursor.specs.Cursor.{count_left, is_end};
 
 use crate::process::{Process, Surroundings, Takes};
-use litmus_cursor::{Cursor, Excess, LoadWord, Refusal, Word};
+use litmus_cursor::{Cursor, Excess, Expected, LoadWord, Refusal, Unread, Word};
 use litmus_lex::{Sign, Token};
 use litmus_syntax::{
     BinaryOperator, Expression, Fetch, Load, Loading, Pure, ReadForm, UnaryOperator,
@@ -33,12 +33,15 @@ impl Rest {
     ghost use Rattle.litmus_cursor.specs.Front.{Answers};
     ghost use Rattle.litmus_expression.specs.ExpressionReader as reader;
 
-    /// Counts an operator.
-    fn take_operator(&mut self) -> Result<(), Refusal>
+    /// Counts an operator, which stands at the place.
+    fn take_operator(&mut self, at: usize) -> Result<(), Refusal>
         ensures { Answers result (λ _. self.new) (reader.take_operator self.old) }
     {
         if self.operators == 0 {
-            return Err(Refusal::Limit(Excess::Operators));
+            return Err(Refusal::Limit {
+                at,
+                excess: Excess::Operators,
+            });
         }
         self.operators -= 1;
         Ok(())
@@ -219,7 +222,7 @@ impl<'a> Process<'a> {
         ensures moves { OnOk result (count_left self.new.cursor < count_left self.old.cursor) }
         ensures reads { Answers result (λ found. (pure_of found, state_of self.new)) (reader.pure_at around.now.turns around.now.depth (state_of self.old)) }
     {
-        let unsupported = self.cursor.unsupported();
+        let unsupported = self.cursor.unsupported(Unread::Load, Expected::Pure);
         let mut rest = Rest {
             operators: OPERATORS,
             may_load: false,
@@ -268,8 +271,8 @@ impl<'a> Process<'a> {
     {
         let mut left = operand;
         while let Some(operator) = operator_at(self.cursor.token(), level) {
-            let unsupported = self.cursor.unsupported();
-            rest.take_operator()?;
+            let unsupported = self.cursor.unsupported(Unread::Load, Expected::Pure);
+            rest.take_operator(self.cursor.at())?;
             self.cursor.advance();
             let right = self.level(level - 1, around, rest)?;
             left = combined(self.alloc, left, operator, right)?.ok_or(unsupported)?;
@@ -287,10 +290,10 @@ impl<'a> Process<'a> {
         let Some(operator) = unary_operator(self.cursor.token()) else {
             let operand = self.operand(around, rest)?;
             // Another operator may stand here.
-            self.refuse_foreign_operator()?;
+            self.refuse_foreign_operator(Expected::Operator)?;
             return Ok(operand);
         };
-        rest.take_operator()?;
+        rest.take_operator(self.cursor.at())?;
         self.cursor.advance();
         let operand = self.prefixed(around, rest)?;
         Ok(applied(self.alloc, operator, operand)?)
@@ -309,7 +312,7 @@ impl<'a> Process<'a> {
                 Ok(Expression::Pure(Pure::Number(number)))
             }
             Token::Sign(Sign::OpenParen) => {
-                let inside = around.deeper()?;
+                let inside = around.deeper(self.cursor.at())?;
                 self.cursor.advance();
                 let expression = self.level(WEAKEST, &inside, rest)?;
                 self.cursor.take(Sign::CloseParen)?;
@@ -318,13 +321,13 @@ impl<'a> Process<'a> {
             Token::Sign(Sign::Star) => self.loading(around, rest),
             Token::Name(_) => match self.cursor.word() {
                 Some(Word::DataRace | Word::Load(_)) => self.loading(around, rest),
-                Some(_) => Err(self.cursor.offence()),
+                Some(_) => Err(self.cursor.offence(Expected::Expression)),
                 None => self.register_operand(),
             },
             _ => {
-                self.refuse_foreign_operator()?;
-                self.cursor.refuse_address()?;
-                Err(self.cursor.offence())
+                self.refuse_foreign_operator(Expected::Expression)?;
+                self.cursor.refuse_address(Expected::Expression)?;
+                Err(self.cursor.offence(Expected::Expression))
             }
         }
     }
@@ -335,7 +338,7 @@ impl<'a> Process<'a> {
         ensures moves { OnOk result (count_left self.new.cursor < count_left self.old.cursor) }
         ensures reads { Answers result (λ found. (expression_of found, state_of self.new)) (reader.register_operand (state_of self.old)) }
     {
-        self.cursor.refuse_call()?;
+        self.cursor.refuse_call(Expected::Expression)?;
         Ok(Expression::Pure(Pure::Register(self.take_register()?)))
     }
 
@@ -347,7 +350,7 @@ impl<'a> Process<'a> {
         ensures reads { Answers result (λ found. (expression_of found, state_of self.new, rest.new)) (reader.loading_at around.now.turns around.now.depth (state_of self.old) rest.old) }
     {
         if !rest.may_load {
-            return Err(self.cursor.unsupported());
+            return Err(self.cursor.unsupported(Unread::Load, Expected::Pure));
         }
         rest.may_load = false;
         Ok(Expression::Loading(Loading::Load(self.load(around)?)))
@@ -363,6 +366,8 @@ impl<'a> Process<'a> {
     {
         self.count_access(around)?;
         let data_races = open_data_races(&mut self.cursor)?;
+        let at = self.cursor.at();
+        self.note_access(at)?;
         let fetch = self.fetch(around)?;
         close_data_races(&mut self.cursor, data_races)?;
         Ok(Load { data_races, fetch })
@@ -386,11 +391,11 @@ impl<'a> Process<'a> {
                 self.cursor.take(Sign::CloseParen)?;
                 Ok(fetch)
             }
-            Some(_) => Err(self.cursor.offence()),
+            Some(_) => Err(self.cursor.offence(Expected::Load)),
             None => {
-                self.cursor.refuse_call()?;
-                self.cursor.refuse_address()?;
-                Err(self.cursor.offence())
+                self.cursor.refuse_call(Expected::Load)?;
+                self.cursor.refuse_address(Expected::Load)?;
+                Err(self.cursor.offence(Expected::Load))
             }
         }
     }
@@ -404,7 +409,7 @@ impl<'a> Process<'a> {
     {
         match word {
             // No word is a plain read.
-            LoadWord::Read(ReadForm::Plain) => Err(self.cursor.offence()),
+            LoadWord::Read(ReadForm::Plain) => Err(self.cursor.offence(Expected::Load)),
             LoadWord::Read(ReadForm::Once) => {
                 self.take_star()?;
                 self.read(ReadForm::Once)
@@ -454,17 +459,17 @@ impl<'a> Process<'a> {
         if self.cursor.accept(Sign::Star) {
             return Ok(());
         }
-        self.cursor.refuse_address()?;
-        Err(self.cursor.offence())
+        self.cursor.refuse_address(Expected::Sign(Sign::Star))?;
+        Err(self.cursor.offence(Expected::Sign(Sign::Star)))
     }
 
     /// Refuses an operator that no expression takes, where an operator or an operand may stand.
-    fn refuse_foreign_operator(&self) -> Result<(), Refusal>
+    fn refuse_foreign_operator(&self, expected: Expected) -> Result<(), Refusal>
         ensures ok { OnOk result (reader.is_foreign (first (symbols_left self.now.cursor)) ≡ false) }
         ensures err { OnErr result (IsTrue (reader.is_foreign (first (symbols_left self.now.cursor)))) }
     {
         if is_foreign_operator(self.cursor.token()) {
-            Err(self.cursor.unsupported())
+            Err(self.cursor.unsupported(Unread::Operator, expected))
         } else {
             Ok(())
         }

@@ -5,8 +5,8 @@ ghost use Rattle.litmus_cursor.specs.Words.{is_same};
 ghost use Rattle.litmus_cursor.specs.Cursor.{count_left};
 ghost use Rattle.litmus_syntax.specs.Limits.{nesting_limit, registers_limit, repeats_limit, scoped_limit, statements_limit, turns_limit};
 
-use litmus_cursor::{Cursor, Excess, Refusal, VariableType};
-use std::alloc::Global;
+use litmus_cursor::{Cursor, Excess, Expected, Fault, Refusal, Unread, VariableType};
+use std::alloc::{AllocError, Global};
 
 /// How many registers a task can have.
 pub const REGISTERS: usize = 32;
@@ -61,6 +61,16 @@ impl Takes {
                 self == Takes::Integers || self == Takes::Memory,
         }
     }
+
+    /// What stands where a variable of these types does.
+    fn expected(self) -> Expected {
+        match self {
+            Takes::Integers => Expected::IntegerVariable,
+            Takes::Atomics => Expected::AtomicVariable,
+            Takes::Locks => Expected::LockVariable,
+            Takes::Memory => Expected::MemoryVariable,
+        }
+    }
 }
 
 /// What stands round a place in a body.
@@ -96,8 +106,8 @@ impl Surroundings {
         }
     }
 
-    /// The same with one more block or parenthesis open.
-    pub fn deeper(self) -> Result<Surroundings, Refusal>
+    /// The same with one more block or parenthesis open, which begins at the place.
+    pub fn deeper(self, at: usize) -> Result<Surroundings, Refusal>
         ensures reads { Answers result place_of (places.deeper (place_of self)) }
         ensures inside { IfOk result (λ inside. inside.depth ≡ self.depth + 1) }
         ensures turns { IfOk result (λ inside. inside.turns ≡ self.turns) }
@@ -105,7 +115,10 @@ impl Surroundings {
         ensures err { OnErr result (IsTrue (self.depth == nesting_limit)) }
     {
         if self.depth == NESTING {
-            return Err(Refusal::Limit(Excess::Nesting));
+            return Err(Refusal::Limit {
+                at,
+                excess: Excess::Nesting,
+            });
         }
         let counters = self.counters;
         Ok(Surroundings {
@@ -116,12 +129,15 @@ impl Surroundings {
         })
     }
 
-    /// The same with one more scoped assertion in force.
-    pub fn asserting(self) -> Result<Surroundings, Refusal>
+    /// The same with one more scoped assertion in force, which begins at the place.
+    pub fn asserting(self, at: usize) -> Result<Surroundings, Refusal>
         ensures { Answers result place_of (places.asserting (place_of self)) }
     {
         if self.scoped == SCOPED {
-            return Err(Refusal::Limit(Excess::Scoped));
+            return Err(Refusal::Limit {
+                at,
+                excess: Excess::Scoped,
+            });
         }
         let counters = self.counters;
         Ok(Surroundings {
@@ -132,8 +148,8 @@ impl Surroundings {
         })
     }
 
-    /// How often a loop of so many turns here repeats its body.
-    pub fn turns_of(&self, turns: u64) -> Result<u64, Refusal>
+    /// How often a loop of so many turns, a number at the place, repeats its body.
+    pub fn turns_of(&self, turns: u64, at: usize) -> Result<u64, Refusal>
         ensures within { IfOk result (λ repeats. repeats ≤ turns_limit) }
         ensures reads { Answers result (λ repeats. repeats) (places.repeats_of (place_of self.now) turns) }
     {
@@ -141,7 +157,10 @@ impl Surroundings {
         // since a loop round them that makes no turn brings the product to 0.
         match self.turns.checked_mul(turns) {
             Some(repeats) if turns <= TURNS && repeats <= TURNS => Ok(repeats),
-            _ => Err(Refusal::Limit(Excess::Repeats)),
+            _ => Err(Refusal::Limit {
+                at,
+                excess: Excess::Turns,
+            }),
         }
     }
 
@@ -198,6 +217,8 @@ pub struct Process<'a> {
     pub parameters: Vec<Parameter<'a>>,
     /// The names of the registers, each at its number.
     pub registers: Vec<&'a [u8]>,
+    /// Where each access begins that was noted.
+    places: Vec<usize>,
     /// How many statements were counted.
     statements: usize,
     /// How often the statements that hold an access are repeated, in all.
@@ -225,6 +246,7 @@ impl<'a> Process<'a> {
             cursor,
             parameters,
             registers: Vec::new(alloc),
+            places: Vec::new(alloc),
             statements: 0,
             repeats: 0,
         }
@@ -236,7 +258,7 @@ impl<'a> Process<'a> {
         ensures reads { Answers result (λ _. state_of self.new) (places.count_statement (state_of self.old)) }
     {
         if self.statements == STATEMENTS {
-            return Err(Refusal::Limit(Excess::Statements));
+            return Err(self.cursor.excess(Excess::Statements));
         }
         self.statements += 1;
         Ok(())
@@ -247,12 +269,48 @@ impl<'a> Process<'a> {
         ensures stays { self.new.cursor ≡ self.old.cursor }
         ensures reads { Answers result (λ _. state_of self.new) (reader.count_access around.now.turns (state_of self.old)) }
     {
+        let at = self.cursor.at();
+        self.count_turns(around, at)
+    }
+
+    /// Counts an access, and notes that it begins at the place.
+    pub fn count_access_at(&mut self, around: &Surroundings, at: usize) -> Result<(), Refusal>
+        ensures stays { self.new.cursor ≡ self.old.cursor }
+        ensures reads { Answers result (λ _. state_of self.new) (reader.count_access around.now.turns (state_of self.old)) }
+    {
+        self.count_turns(around, at)?;
+        self.note_access(at)?;
+        Ok(())
+    }
+
+    /// Counts the turns of the loops round an access, which begins at the place.
+    fn count_turns(&mut self, around: &Surroundings, at: usize) -> Result<(), Refusal>
+        ensures stays { self.new.cursor ≡ self.old.cursor }
+        ensures reads { Answers result (λ _. state_of self.new) (reader.count_access around.now.turns (state_of self.old)) }
+    {
         // Room for all accesses that a task can begin is taken before its first step: this bounds it.
         if self.repeats + around.turns > REPEATS {
-            return Err(Refusal::Limit(Excess::Repeats));
+            return Err(Refusal::Limit {
+                at,
+                excess: Excess::Repeats,
+            });
         }
         self.repeats += around.turns;
         Ok(())
+    }
+
+    /// Notes where an access begins that is counted.
+    pub fn note_access(&mut self, at: usize) -> Result<(), AllocError>
+        ensures stays { self.new.cursor ≡ self.old.cursor }
+        ensures same { state_of self.new ≡ state_of self.old }
+    {
+        self.places.push(at)?;
+        Ok(())
+    }
+
+    /// Where each access begins that was noted, in the order of the text.
+    pub fn into_places(self) -> Vec<usize> {
+        self.places
     }
 
     /// The parameter of a name.
@@ -270,14 +328,14 @@ impl<'a> Process<'a> {
         ensures reads { Answers result (λ variable. (variable, state_of self.new)) (reader.take_variable takes (state_of self.old)) }
     {
         let Some(name) = self.cursor.identifier() else {
-            self.cursor.refuse_address()?;
-            return Err(self.cursor.offence());
+            self.cursor.refuse_address(takes.expected())?;
+            return Err(self.cursor.offence(takes.expected()));
         };
         let Some(parameter) = self.parameter(name) else {
-            return Err(self.cursor.offence());
+            return Err(self.cursor.syntax(Fault::Unknown, takes.expected()));
         };
         if !takes.contains(parameter.variable_type) {
-            return Err(self.cursor.unsupported());
+            return Err(self.cursor.unsupported(Unread::OtherType, takes.expected()));
         }
         self.cursor.advance();
         Ok(parameter.variable)
@@ -302,6 +360,14 @@ impl<'a> Process<'a> {
         find_name(&self.registers, name)
     }
 
+    /// The refusal of the next token where a register stands.
+    fn register_offence(&self) -> Refusal {
+        match self.cursor.identifier() {
+            Some(_parameter) => self.cursor.syntax(Fault::Variable, Expected::Register),
+            None => self.cursor.offence(Expected::Register),
+        }
+    }
+
     /// The register that is next. The first appearance of one gives it the next number.
     #[tactic(auto, unfolding(crate::specs::NameReader::register_at))]
     pub fn register(&mut self) -> Result<usize, Refusal>
@@ -311,13 +377,13 @@ impl<'a> Process<'a> {
         ensures reads { Answers result (λ register. (register, state_of self.new)) (reader.register_at (state_of self.old)) }
     {
         let Some(name) = self.register_name() else {
-            return Err(self.cursor.offence());
+            return Err(self.register_offence());
         };
         if let Some(register) = self.register_of(name) {
             return Ok(register);
         }
         if self.registers.len() == REGISTERS {
-            return Err(Refusal::Limit(Excess::Registers));
+            return Err(self.cursor.excess(Excess::Registers));
         }
         let register = self.registers.len();
         self.registers.push(name)?;
@@ -346,7 +412,7 @@ impl<'a> Process<'a> {
         let register = self.register()?;
         // A loop whose body can't change its register makes just the turns that its text says.
         if around.is_counter(register) {
-            return Err(self.cursor.unsupported());
+            return Err(self.cursor.unsupported(Unread::Counter, Expected::Register));
         }
         self.cursor.advance();
         Ok(register)

@@ -7,3 +7,4 @@ pub mod Tokens
 pub mod Head
 pub mod Found
 pub mod Source
+pub mod Lines

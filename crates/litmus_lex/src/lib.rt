@@ -13,7 +13,7 @@ mod token;
 
 pub use head::{Head, read_head};
 pub use laws::{a_text_has_one_reading, bytes_have_one_list_of_tokens};
-pub use lines::line_of;
+pub use lines::{column_of, line_of};
 pub use next::next_token;
 pub use sign::Sign;
 pub use source::{ReadError, Source, SourceFault, read_all};

@@ -2,7 +2,6 @@
 use Rattle.std.proofs.Common.{◌≡◌, ◌∙◌, ◌≤◌, ℕ, List, [], ◌∷◌, Option, Some, length, map, refl, sym, ap, subst}
 use Rattle.std.specs.Prelude.{All, Err, IfErr, IfOk, Ok, Result}
 use Rattle.litmus_syntax.specs.Views.{program_of}
-use Rattle.litmus_syntax.specs.declared.program.Program.{Program}
 use Rattle.litmus_cursor.specs.declared.cursor.Refusal.{Refusal}
 use Rattle.litmus_cursor.specs.declared.cursor.Refusal.TheVariants.{Limit, OutOfMemory, Syntax, Unsupported}
 use Rattle.litmus_lex.specs.declared.token.Part.{Part}
@@ -20,6 +19,7 @@ use Rattle.litmus_cursor.specs.Front.{symbol_of_spot, symbol_of_token}
 use Rattle.litmus_cursor.specs.Spots.{AreSpots, AreTokensFrom}
 use Rattle.litmus_cursor.specs.Words.{Symbol, symbol_of}
 use Rattle.litmus_expression.proofs.Taken.{same_given}
+use Rattle.litmus_parse.specs.declared.answer.Reading.{Reading}
 use Rattle.litmus_parse.specs.Grammar.{Grammar, SpellsProgram, symbol_at}
 use Rattle.litmus_parse.specs.Refused.{HasUtf8Names, Refuses}
 use Rattle.litmus_parse.specs.Text.{IsTextByte}
@@ -64,15 +64,15 @@ text_is_spelled text place name spots p size bytes init head are found read =
     }
 
 -- what a text is read as, if it is read
-pub result_is_spelled : (text : List ℕ) (place : Place) (title name : List ℕ) (spots left : List Spot) (result : Result Program Refusal)
+pub result_is_spelled : (text : List ℕ) (place : Place) (title name : List ℕ) (spots left : List Spot) (result : Result Reading Refusal)
     → length text ≤ file_bytes → All IsTextByte text → place.part ≡ Init → IsHead text title place.at → AreTokensFrom text place spots
     → ((found : List Placed) × AreSpots spots found) → name ≡ title → left ≡ spots
-    → IfOk result (λ p. program_at name (map symbol_of_spot left) ≡ Some (program_of p))
-    → IfOk result (λ p. SpellsProgram text (program_of p))
-result_is_spelled text place title name spots left (Ok p) size bytes init head are found named stand reads =
-    text_is_spelled text place name spots (program_of p) size bytes init
+    → IfOk result (λ r. program_at name (map symbol_of_spot left) ≡ Some (program_of r.program))
+    → IfOk result (λ r. SpellsProgram text (program_of r.program))
+result_is_spelled text place title name spots left (Ok r) size bytes init head are found named stand reads =
+    text_is_spelled text place name spots (program_of r.program) size bytes init
     (subst (λ (n : List ℕ). IsHead text n place.at) (sym named) head) are found
-    (subst (λ (l : List Spot). program_at name (map symbol_of_spot l) ≡ Some (program_of p)) stand reads)
+    (subst (λ (l : List Spot). program_at name (map symbol_of_spot l) ≡ Some (program_of r.program)) stand reads)
 result_is_spelled text place title name spots left (Err refusal) size bytes init head are found named stand reads = tt
 
 -- ---- the other way round
@@ -96,12 +96,12 @@ spelled_is_read text place title name spots left init only are named stand p spe
 -- a refusal that isn't want of memory can't be
 pub memory_alone : (refusal : Refusal) → ((refusal ≡ OutOfMemory → ⊥) → ⊥) → refusal ≡ OutOfMemory
 memory_alone OutOfMemory never = refl
-memory_alone (Syntax at) never = absurd (never (λ e. cc))
-memory_alone (Unsupported at) never = absurd (never (λ e. cc))
-memory_alone (Limit excess) never = absurd (never (λ e. cc))
+memory_alone (Syntax at fault expected) never = absurd (never (λ e. cc))
+memory_alone (Unsupported at unread expected) never = absurd (never (λ e. cc))
+memory_alone (Limit at excess) never = absurd (never (λ e. cc))
 
 -- what a text that spells a program is answered with
-pub complete_if : (result : Result Program Refusal) (read : Option tree.Program) (p : tree.Program) → read ≡ Some p → HasUtf8Names p
+pub complete_if : (result : Result Reading Refusal) (read : Option tree.Program) (p : tree.Program) → read ≡ Some p → HasUtf8Names p
     → IfErr result (λ refusal. Refuses refusal read) → IfErr result (λ refusal. refusal ≡ OutOfMemory)
 complete_if (Ok found) read p is names refuses = tt
 complete_if (Err refusal) read p is names refuses = memory_alone refusal (λ other. refuses other p is names)

@@ -18,6 +18,7 @@ pub mod Typed
 pub mod TextReader
 pub mod Distinct
 pub mod Refused
+pub mod Answer
 pub use Rattle.litmus_syntax.specs.of_access_types_declared as of_access_types_declared
 pub use Rattle.litmus_lex.specs.Bytes as of_litmus_lex_Bytes
 pub use Rattle.litmus_lex.specs.Gap as of_litmus_lex_Gap

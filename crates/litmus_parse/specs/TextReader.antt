@@ -13,7 +13,7 @@ use Rattle.litmus_expression.specs.Names.{Names}
 use Rattle.litmus_expression.specs.States.{State, state_of}
 use Rattle.litmus_parse.specs.declared.initialization.Header.{Header}
 use Rattle.litmus_parse.specs.declared.text.Processes.{Processes}
-use Rattle.litmus_parse.specs.declared.text.Reading.{Reading}
+use Rattle.litmus_parse.specs.declared.text.Pieces.{Pieces}
 use Rattle.litmus_parse.specs.ConditionReader.{quantifier_at}
 use Rattle.litmus_parse.specs.Entries.{Entry, has_two_types, table_of}
 use Rattle.litmus_parse.specs.Grammar.{task_of}
@@ -89,7 +89,7 @@ pub record Parts : Type 0 where
   pub quantifier : Quantifier
   pub condition : tree.Proposition
 
-abbrev pub parts_of : Reading → Parts
+abbrev pub parts_of : Pieces → Parts
 parts_of read = record {
   names = names_of read.declarations;
   table = table_of read.declarations;

@@ -11,7 +11,7 @@ ghost use Rattle.litmus_parse.specs.PropositionReader.{asked_of, asked_past};
 ghost use Rattle.litmus_parse.specs.VariableReader.{known_variable, locks_of, names_of};
 
 use crate::declaration::Declarations;
-use litmus_cursor::{Cursor, Excess, Refusal, Word};
+use litmus_cursor::{Cursor, Excess, Expected, Fault, Refusal, Unread, Word};
 use litmus_expression::{NESTING, OPERATORS, Process};
 use litmus_lex::{Sign, Token};
 use litmus_syntax::{Proposition, Quantifier};
@@ -33,8 +33,8 @@ fn is_at_forall(cursor: &Cursor<'_>) -> bool
     matches!(cursor.word(), Some(Word::Forall))
 }
 
-/// Takes `exists`.
-fn take_exists(cursor: &mut Cursor<'_>) -> Result<(), Refusal>
+/// Takes `exists`, where this is expected.
+fn take_exists(cursor: &mut Cursor<'_>, expected: Expected) -> Result<(), Refusal>
     ensures { Answers result (λ _. symbols_left cursor.new) (reader.take_exists (symbols_left cursor.old)) }
 {
     match cursor.word() {
@@ -42,7 +42,7 @@ fn take_exists(cursor: &mut Cursor<'_>) -> Result<(), Refusal>
             cursor.advance();
             Ok(())
         }
-        _ => Err(cursor.offence()),
+        _ => Err(cursor.offence(expected)),
     }
 }
 
@@ -52,6 +52,15 @@ fn is_at_true(cursor: &Cursor<'_>) -> bool
     ensures some { IsTrue result → 0 < count_left cursor.now }
 {
     matches!(cursor.word(), Some(Word::True))
+}
+
+/// What stands where an atom over a variable begins, or behind its `[`.
+fn atom_of(is_bracketed: bool) -> Expected {
+    if is_bracketed {
+        Expected::Variable
+    } else {
+        Expected::Proposition
+    }
 }
 
 /// Whether `false` is next.
@@ -75,13 +84,12 @@ impl<'a> Condition<'a> {
             self.cursor.advance();
             return Ok(Quantifier::Forall);
         }
-        let is_denied = self.cursor.accept(Sign::Tilde);
-        take_exists(&mut self.cursor)?;
-        Ok(if is_denied {
-            Quantifier::NotExists
-        } else {
-            Quantifier::Exists
-        })
+        if self.cursor.accept(Sign::Tilde) {
+            take_exists(&mut self.cursor, Expected::Exists)?;
+            return Ok(Quantifier::NotExists);
+        }
+        take_exists(&mut self.cursor, Expected::Condition)?;
+        Ok(Quantifier::Exists)
     }
 
     /// The proposition, behind which the text ends.
@@ -98,7 +106,7 @@ impl<'a> Condition<'a> {
         if self.cursor.left() == 0 {
             Ok(proposition)
         } else {
-            Err(self.cursor.offence())
+            Err(self.cursor.offence(Expected::End))
         }
     }
 
@@ -163,7 +171,7 @@ impl<'a> Condition<'a> {
         }
         // Each parenthesis is a call inside a call: this bounds the stack, as the limit of operators does for `~`.
         if depth >= NESTING {
-            return Err(Refusal::Limit(Excess::Nesting));
+            return Err(self.cursor.excess(Excess::Nesting));
         }
         self.cursor.advance();
         let inside = self.disjunction(depth + 1, operators)?;
@@ -182,7 +190,7 @@ impl<'a> Condition<'a> {
             (propositions.take_connective (asked_of self.old operators.old)) }
     {
         if *operators == 0 {
-            return Err(Refusal::Limit(Excess::Operators));
+            return Err(self.cursor.excess(Excess::Operators));
         }
         *operators -= 1;
         self.cursor.advance();
@@ -228,7 +236,7 @@ impl<'a> Condition<'a> {
             (propositions.variable_atom (names_of self.old.declarations) (locks_of self.old.declarations)
             is_bracketed (asked_of self.old operators)) }
     {
-        let variable = self.variable()?;
+        let variable = self.variable(atom_of(is_bracketed))?;
         if is_bracketed {
             self.cursor.take(Sign::CloseBracket)?;
         }
@@ -247,7 +255,7 @@ impl<'a> Condition<'a> {
             (propositions.register_atom number (asked_past (asked_of self.old operators))) }
     {
         if number >= self.processes.len() as u64 {
-            return Err(self.cursor.offence());
+            return Err(self.cursor.syntax(Fault::Task, Expected::Task));
         }
         let task = number as usize;
         self.cursor.advance();
@@ -270,7 +278,7 @@ impl<'a> Condition<'a> {
         ensures reads { Answers result (λ register. (register, asked_of self.new operators))
             (propositions.register_in task (asked_of self.old operators)) }
     {
-        let offence = self.cursor.offence();
+        let offence = self.cursor.offence(Expected::Register);
         let Some(process) = self.processes.get_mut(task) else {
             return Err(offence);
         };
@@ -281,9 +289,9 @@ impl<'a> Condition<'a> {
         Ok(register)
     }
 
-    /// A variable that the text has named. A lock is unsupported.
+    /// A variable that the text has named, where this is expected. A lock is unsupported.
     #[tactic(auto, unfolding(crate::specs::VariableReader::known_variable))]
-    fn variable(&mut self) -> Result<usize, Refusal>
+    fn variable(&mut self, expected: Expected) -> Result<usize, Refusal>
         ensures moves { OnOk result (count_left self.new.cursor < count_left self.old.cursor) }
         ensures stays { self.new.declarations ≡ self.old.declarations }
         ensures processes { self.new.processes ≡ self.old.processes }
@@ -291,13 +299,16 @@ impl<'a> Condition<'a> {
             (known_variable (names_of self.old.declarations) (locks_of self.old.declarations) (symbols_left self.old.cursor)) }
     {
         let Some(name) = self.cursor.identifier() else {
-            return Err(self.cursor.offence());
+            return Err(self.cursor.offence(expected));
         };
         let Some(variable) = self.declarations.find(name) else {
-            return Err(self.cursor.offence());
+            return Err(self.cursor.syntax(Fault::Unknown, Expected::Variable));
         };
         if self.declarations.is_lock(variable) {
-            return Err(self.cursor.unsupported());
+            return Err(
+                self.cursor
+                    .unsupported(Unread::LockValue, Expected::MemoryVariable),
+            );
         }
         self.cursor.advance();
         Ok(variable)

@@ -13,7 +13,7 @@ ghost use Rattle.litmus_parse.specs.TextReader as texts;
 ghost use Rattle.litmus_parse.specs.VariableReader as reader;
 ghost use Rattle.litmus_parse.specs.VariableReader.{locks_of, names_of};
 
-use litmus_cursor::{Excess, Refusal, VariableType};
+use litmus_cursor::{Excess, Expected, Fault, Refusal, Unread, VariableType};
 use litmus_syntax::{Contents, Name, Variable};
 use std::alloc::Global;
 
@@ -124,7 +124,7 @@ impl<'a> Declared<'a> {
         self.settle_type(variable_type, at)?;
         // The value was taken before anything said that this is a lock, so it is the parameter that offends.
         if variable_type == VariableType::Lock && self.is_given {
-            return Err(Refusal::Unsupported { at });
+            return Err(unsupported_name(at, Unread::LockValue));
         }
         self.is_parameter = true;
         Ok(())
@@ -139,7 +139,7 @@ impl<'a> Declared<'a> {
         // All tasks share a variable's bytes, so it has one type.
         if let Some(given) = self.variable_type {
             if given != variable_type {
-                return Err(Refusal::Unsupported { at });
+                return Err(unsupported_name(at, Unread::TwoTypes));
             }
         }
         self.variable_type = Some(variable_type);
@@ -182,6 +182,15 @@ impl<'a> Declared<'a> {
     }
 }
 
+/// The refusal of the name of a variable at this place.
+pub fn unsupported_name(at: usize, unread: Unread) -> Refusal {
+    Refusal::Unsupported {
+        at,
+        unread,
+        expected: Expected::Variable,
+    }
+}
+
 /// A value cut to the size of a type.
 fn contents(variable_type: VariableType, value: u64) -> Contents
     ensures { result ≡ contents_of variable_type value }
@@ -202,7 +211,11 @@ pub fn name_of(alloc: Global, bytes: &[u8]) -> Result<Name, Refusal>
     ensures err { IfErr result (λ refusal. IsUtf8 bytes.now → refusal ≡ OutOfMemory) }
 {
     let Ok(text) = str::from_utf8(bytes) else {
-        return Err(Refusal::Syntax { at: 0 });
+        return Err(Refusal::Syntax {
+            at: 0,
+            fault: Fault::Stray,
+            expected: Expected::Variable,
+        });
     };
     Ok(Name::from_string(String::from_str(alloc, text)?))
 }
@@ -275,9 +288,9 @@ impl<'a> Declarations<'a> {
         find_declared(&self.variables, name)
     }
 
-    /// The number of a name. Its first appearance gives it the next one.
+    /// The number of a name, which stands at the place. Its first appearance gives it the next one.
     #[tactic(auto, unfolding(crate::specs::VariableReader::number_at))]
-    pub fn number(&mut self, name: &'a [u8]) -> Result<usize, Refusal>
+    pub fn number(&mut self, name: &'a [u8], at: usize) -> Result<usize, Refusal>
         ensures reads { Answers result (λ number. (number, names_of self.new)) (reader.number_at (names_of self.old) name.now) }
         ensures table { OnOk result (table_of self.new
             ≡ entries.grown (table_of self.old) (index_of (names_of self.old) name.now)) }
@@ -286,7 +299,10 @@ impl<'a> Declarations<'a> {
             return Ok(number);
         }
         if self.variables.len() == VARIABLES {
-            return Err(Refusal::Limit(Excess::Variables));
+            return Err(Refusal::Limit {
+                at,
+                excess: Excess::Variables,
+            });
         }
         let number = self.variables.len();
         self.variables.push(Declared::new(name))?;

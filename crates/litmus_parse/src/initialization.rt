@@ -10,7 +10,7 @@ ghost use Rattle.litmus_parse.specs.ItemReader.{heading_of};
 ghost use Rattle.litmus_parse.specs.ParameterReader as reading;
 
 use crate::declaration::Declarations;
-use litmus_cursor::{Cursor, Refusal, VariableType, Word};
+use litmus_cursor::{Cursor, Expected, Fault, Refusal, Unread, VariableType, Word};
 use litmus_expression::Parameter;
 use litmus_lex::{Sign, Token};
 use std::alloc::Global;
@@ -41,7 +41,7 @@ impl<'a> Header<'a> {
         while !self.cursor.accept(Sign::CloseBrace) {
             self.item()?;
             if !self.cursor.accept(Sign::Semicolon) {
-                return self.cursor.take(Sign::CloseBrace);
+                return self.cursor.take_where(Sign::CloseBrace, Expected::ItemEnd);
             }
         }
         Ok(())
@@ -63,9 +63,9 @@ impl<'a> Header<'a> {
     /// The refusal of the next token where the name of an item may stand. A label is unsupported.
     fn item_offence(&self) -> Refusal {
         if self.cursor.is_at_label() {
-            self.cursor.unsupported()
+            self.cursor.unsupported(Unread::Label, Expected::Variable)
         } else {
-            self.cursor.offence()
+            self.cursor.offence(Expected::Variable)
         }
     }
 
@@ -77,7 +77,7 @@ impl<'a> Header<'a> {
         ensures reads { Answers result (λ number. (number, heading_of self.new)) (items.variable_in (heading_of self.old)) }
     {
         let Some(_name) = self.cursor.identifier() else {
-            self.cursor.refuse_pointer()?;
+            self.cursor.refuse_pointer(Expected::Variable)?;
             return Err(self.item_offence());
         };
         self.variable()
@@ -111,7 +111,10 @@ impl<'a> Header<'a> {
             return Ok(());
         }
         if variable_type == Some(VariableType::Lock) {
-            return Err(self.cursor.unsupported());
+            return Err(
+                self.cursor
+                    .unsupported(Unread::LockValue, Expected::ItemEnd),
+            );
         }
         self.cursor.advance();
         let value = self.value()?;
@@ -144,9 +147,10 @@ impl<'a> Header<'a> {
         ensures reads { Answers result (λ number. (number, heading_of self.new)) (items.variable_in (heading_of self.old)) }
     {
         let Some(name) = self.cursor.identifier() else {
-            return Err(self.cursor.offence());
+            return Err(self.cursor.offence(Expected::Variable));
         };
-        self.declarations.number(name)
+        let at = self.cursor.at();
+        self.declarations.number(name, at)
     }
 
     /// `[-] NUMBER` or `ATOMIC_INIT ( [-] NUMBER )`. Another name and an address are unsupported, and not syntax: the
@@ -162,11 +166,11 @@ impl<'a> Header<'a> {
             return self.enclosed_value();
         }
         match self.cursor.token() {
-            Token::Name(_) => Err(self.cursor.unsupported()),
+            Token::Name(_) => Err(self.cursor.unsupported(Unread::Name, Expected::Value)),
             Token::Number(_) | Token::Sign(Sign::Minus) => self.cursor.take_signed_number(),
             _ => {
-                self.cursor.refuse_address()?;
-                Err(self.cursor.offence())
+                self.cursor.refuse_address(Expected::Value)?;
+                Err(self.cursor.offence(Expected::Value))
             }
         }
     }
@@ -210,7 +214,8 @@ impl<'a> Header<'a> {
             let parameter = self.parameter(&parameters)?;
             parameters.push(parameter)?;
             if !self.cursor.accept(Sign::Comma) {
-                self.cursor.take(Sign::CloseParen)?;
+                self.cursor
+                    .take_where(Sign::CloseParen, Expected::ParameterEnd)?;
                 return Ok(parameters);
             }
         }
@@ -224,7 +229,7 @@ impl<'a> Header<'a> {
             (reading.parameter_at (map parameter_of before.now) (heading_of self.old)) }
     {
         let Some(variable_type) = self.accept_type() else {
-            return Err(self.cursor.offence());
+            return Err(self.cursor.offence(Expected::Type));
         };
         self.cursor.take(Sign::Star)?;
         self.parameter_of_type(before, variable_type)
@@ -233,9 +238,9 @@ impl<'a> Header<'a> {
     /// The refusal of the next token where the name of a parameter may stand. A second `*` is unsupported.
     fn parameter_offence(&self) -> Refusal {
         if self.cursor.is_at(Sign::Star) {
-            self.cursor.unsupported()
+            self.cursor.unsupported(Unread::Pointer, Expected::Variable)
         } else {
-            self.cursor.offence()
+            self.cursor.offence(Expected::Variable)
         }
     }
 
@@ -253,12 +258,12 @@ impl<'a> Header<'a> {
         let Some(name) = self.cursor.identifier() else {
             return Err(self.parameter_offence());
         };
-        let variable = self.declarations.number(name)?;
         let at = self.cursor.at();
+        let variable = self.declarations.number(name, at)?;
         self.declarations
             .name_parameter(variable, variable_type, at)?;
         if has_variable(before, variable) {
-            return Err(self.cursor.offence());
+            return Err(self.cursor.syntax(Fault::Twice, Expected::Variable));
         }
         self.cursor.advance();
         Ok(Parameter {

@@ -1,6 +1,7 @@
 //! Litmus texts, read into programs.
 #![tactic(auto)]
 
+mod answer;
 mod condition;
 mod declaration;
 mod initialization;
@@ -9,6 +10,8 @@ pub mod laws_of_parts;
 pub mod limits;
 mod text;
 
+pub use answer::{Reading, Reason, Refused};
+pub use litmus_cursor::{Excess, Expected, Fault, Unread};
 pub use litmus_print::print;
 pub use litmus_syntax::{Limit, ParseError, Program};
-pub use text::{FILE_BYTES, parse};
+pub use text::{FILE_BYTES, parse, read_text};

@@ -1,14 +1,15 @@
 //! Whole litmus texts.
 
-ghost use Rattle.std.specs.Prelude.{◌≡◌, ◌≢◌, ◌≤◌, ◌<◌, ◌↔◌, ℕ, Some, length, map, vec_len, All, Any, IfErr, IfOk, IsTrue, IsErrOf, OnOk};
+ghost use Rattle.std.specs.Prelude.{◌≡◌, ◌≢◌, ◌≤◌, ◌<◌, ◌↔◌, ℕ, Some, length, map, vec_len, All, Any, IfErr, IfOk, IsTrue, IsErrOf, OnOk, IsErrAnd, IfNone, IfSome, min};
 ghost use Rattle.std.specs.Str.{IsUtf8};
 ghost use Rattle.litmus_syntax.specs.Limits.{KeepsLimits, tasks_limit};
 ghost use Rattle.litmus_syntax.specs.Tree as tree;
 ghost use Rattle.litmus_syntax.specs.Views.{block_of, program_of, task_of};
-ghost use Rattle.litmus_cursor.specs.Cursor.{count_left};
+ghost use Rattle.litmus_cursor.specs.Cursor.{count_left, refused_at};
 ghost use Rattle.litmus_cursor.specs.Front.{Answers, first, now, symbols_left};
 ghost use Rattle.litmus_cursor.specs.declared.cursor.Refusal.TheVariants.{OutOfMemory};
 ghost use Rattle.litmus_expression.specs.States.{parameter_of, state_of};
+ghost use Rattle.litmus_parse.specs.Answer.{IsFirstForeign, error_of};
 ghost use Rattle.litmus_parse.specs.Grammar.{SpellsProgram, variable_of};
 ghost use Rattle.litmus_parse.specs.Grammar.{task_of as reads_task};
 ghost use Rattle.litmus_parse.specs.Headers.{process_name};
@@ -18,15 +19,16 @@ ghost use Rattle.litmus_parse.specs.ProcessReader.{is_process, process_at, proce
 ghost use Rattle.litmus_parse.specs.TextReader.{bodies_of, course_of, parts_at, parts_of, program_at};
 ghost use Rattle.litmus_parse.specs.Text.{file_bytes, IsTextByte};
 
+use crate::answer::{Reading, Reason, Refused};
 use crate::condition::Condition;
-use crate::declaration::{Declarations, name_of};
+use crate::declaration::{Declarations, name_of, unsupported_name};
 use crate::initialization::Header;
 use crate::laws::a_text_spells_one_program;
 use crate::laws_of_parts::a_text_spells_what_keeps_limits;
 use litmus_body::read_block;
-use litmus_cursor::{Cursor, Excess, Refusal, tokens};
+use litmus_cursor::{Cursor, Excess, Expected, Fault, Refusal, Unread, tokens};
 use litmus_expression::{Parameter, Process, Surroundings};
-use litmus_lex::{line_of, read_head};
+use litmus_lex::read_head;
 use litmus_syntax::{
     Limit, Name, ParseError, Program, Proposition, Quantifier, Sequence, Statement, Task,
 };
@@ -50,19 +52,53 @@ pub fn parse(alloc: Global, text: &[u8]) -> Result<Program, ParseError>
     ensures complete { (program : tree.Program) → SpellsProgram text.now program
         → IfOk result (λ found. program_of found ≡ program) × IfErr result (λ error. error ≡ ParseError.OutOfMemory) }
 {
+    match read_text(alloc, text) {
+        Ok(reading) => Ok(reading.program),
+        Err(refused) => Err(refused.error),
+    }
+}
+
+/// Reads a litmus text as `parse` does, and says where its sites stand, or where and why it is refused.
+pub fn read_text(alloc: Global, text: &[u8]) -> Result<Reading, Refused>
+    ensures file_limit { IsErrAnd result (λ refused. refused.error ≡ ParseError.Limit Limit.File) ↔ (file_bytes < length text.now) }
+    ensures not_ascii { IsErrAnd result (λ refused. refused.error ≡ ParseError.NotAscii) ↔
+        ((length text.now ≤ file_bytes) × Any (λ byte. ¬ IsTextByte byte) text.now) }
+    ensures keeps_limits { IfOk result (λ reading. KeepsLimits (program_of reading.program)) }
+    ensures spelled { IfOk result (λ reading. SpellsProgram text.now (program_of reading.program)) }
+    ensures complete { (program : tree.Program) → SpellsProgram text.now program
+        → IfOk result (λ reading. program_of reading.program ≡ program) × IfErr result (λ refused. refused.error ≡ ParseError.OutOfMemory) }
+
+    ensures within { IfErr result (λ refused. refused.at ≤ length text.now) }
+    ensures error { IfErr result (λ refused. refused.error ≡ error_of text.now refused.at refused.reason) }
+    ensures too_long { IfErr result (λ refused. refused.reason ≡ Reason.File → refused.at ≡ file_bytes) }
+    ensures foreign { IfErr result (λ refused. refused.reason ≡ Reason.NotAscii → IsFirstForeign text.now refused.at) }
+{
     a_text_spells_one_program();
     a_text_spells_what_keeps_limits();
     // The size comes first, so that all after it works on a bounded text; then the bytes, so that names are ASCII.
     if text.len() > FILE_BYTES {
-        return Err(ParseError::Limit(Limit::File));
+        return Err(Refused::new(text, FILE_BYTES, Reason::File));
     }
-    if text.iter().any(|byte| !is_text_byte(*byte)) {
-        return Err(ParseError::NotAscii);
+    if let Some(at) = first_foreign(text) {
+        return Err(Refused::new(text, at, Reason::NotAscii));
     }
     match read(alloc, text) {
-        Ok(program) => Ok(program),
+        Ok(reading) => Ok(reading),
         Err(refusal) => Err(placed(text, refusal)),
     }
+}
+
+/// Where the first byte stands that no text has.
+fn first_foreign(text: &[u8]) -> Option<usize>
+    ensures found { IfSome result (IsFirstForeign text.now) }
+    ensures none { IfNone result (All IsTextByte text.now) }
+{
+    for (at, byte) in text.iter().enumerate() {
+        if !is_text_byte(*byte) {
+            return Some(at);
+        }
+    }
+    None
 }
 
 /// A text may have the byte: tab, LF, CR, and a blank to `~`.
@@ -72,51 +108,62 @@ fn is_text_byte(byte: u8) -> bool
     matches!(byte, b'\t' | b'\n' | b'\r' | b' '..=b'~')
 }
 
-/// The error for a text that is refused, with the line where the token that offends begins.
-fn placed(text: &[u8], refusal: Refusal) -> ParseError
-    ensures memory { refusal ≡ Refusal.OutOfMemory → result ≡ ParseError.OutOfMemory }
-    ensures not_file { result ≢ ParseError.Limit Limit.File }
-    ensures not_ascii { result ≢ ParseError.NotAscii }
+/// What is answered of a text with the refusal.
+#[tactic(auto, using(crate::proofs::NeverFile::never_file))]
+fn placed(text: &[u8], refusal: Refusal) -> Refused
+    ensures memory { refusal ≡ Refusal.OutOfMemory → result.error ≡ ParseError.OutOfMemory }
+    ensures not_file { result.error ≢ ParseError.Limit Limit.File }
+    ensures not_ascii { result.error ≢ ParseError.NotAscii }
+    ensures place { IfSome (refused_at refusal) (λ at. result.at ≡ min at (length text.now)) }
+    ensures within { result.at ≤ length text.now }
+    ensures error { result.error ≡ error_of text.now result.at result.reason }
+    ensures reason { (result.reason ≢ Reason.File) × (result.reason ≢ Reason.NotAscii) }
 {
     match refusal {
-        Refusal::OutOfMemory => ParseError::OutOfMemory,
-        Refusal::Syntax { at } => ParseError::Syntax {
-            line: line_of(text, at.min(text.len())) as u64,
-        },
-        Refusal::Unsupported { at } => ParseError::Unsupported {
-            line: line_of(text, at.min(text.len())) as u64,
-        },
-        Refusal::Limit(excess) => ParseError::Limit(limit_of(excess)),
+        Refusal::OutOfMemory => Refused::new(text, 0, Reason::OutOfMemory),
+        Refusal::Syntax {
+            at,
+            fault,
+            expected,
+        } => Refused::new(text, at.min(text.len()), Reason::Syntax { fault, expected }),
+        Refusal::Unsupported {
+            at,
+            unread,
+            expected,
+        } => Refused::new(
+            text,
+            at.min(text.len()),
+            Reason::Unsupported { unread, expected },
+        ),
+        Refusal::Limit { at, excess } => {
+            Refused::new(text, at.min(text.len()), Reason::Limit(excess))
+        }
     }
 }
 
-/// The limit that is passed.
-fn limit_of(excess: Excess) -> Limit
-    ensures { result ≢ Limit.File }
-{
-    match excess {
-        Excess::Tasks => Limit::Tasks,
-        Excess::Statements => Limit::Statements,
-        Excess::Variables => Limit::Variables,
-        Excess::Registers => Limit::Registers,
-        Excess::Nesting => Limit::Nesting,
-        Excess::Operators => Limit::Operators,
-        Excess::Scoped => Limit::Scoped,
-        Excess::Number => Limit::Number,
-        Excess::Check => Limit::Check,
-        Excess::Repeats => Limit::Repeats,
+/// The refusal of a head at the place.
+fn head_offence(text: &[u8], at: usize) -> Refusal {
+    let fault = if at < text.len() {
+        Fault::Token
+    } else {
+        Fault::End
+    };
+    Refusal::Syntax {
+        at,
+        fault,
+        expected: Expected::Head,
     }
 }
 
 /// Reads the whole text, from left to right.
-fn read(alloc: Global, text: &[u8]) -> Result<Program, Refusal>
+fn read(alloc: Global, text: &[u8]) -> Result<Reading, Refusal>
     ensures spelled { length text.now ≤ file_bytes → All IsTextByte text.now
-        → IfOk result (λ program. SpellsProgram text.now (program_of program)) }
+        → IfOk result (λ reading. SpellsProgram text.now (program_of reading.program)) }
     ensures complete { (program : tree.Program) → SpellsProgram text.now program → IfErr result (λ refusal. refusal ≡ OutOfMemory) }
 {
     let head = match read_head(text) {
         Ok(head) => head,
-        Err(at) => return Err(Refusal::Syntax { at }),
+        Err(at) => return Err(head_offence(text, at)),
     };
     let spots = tokens(alloc, text, head.after)?;
     let cursor = Cursor::new(&spots, text.len());
@@ -125,7 +172,7 @@ fn read(alloc: Global, text: &[u8]) -> Result<Program, Refusal>
 
 /// What is read of a text, of which its program is put together.
 #[derive(Drop)]
-struct Reading<'a> {
+struct Pieces<'a> {
     declarations: Declarations<'a>,
     processes: Vec<Process<'a>>,
     bodies: Vec<Vec<Statement>>,
@@ -135,7 +182,7 @@ struct Reading<'a> {
 
 /// Reads the tokens of a text. Each limit and each type is looked at where it is read.
 #[tactic(auto, using(crate::proofs::Tables::locks_are), unfolding(crate::specs::TextReader::parts_at))]
-fn parts<'a>(alloc: Global, cursor: Cursor<'a>) -> Result<Reading<'a>, Refusal>
+fn parts<'a>(alloc: Global, cursor: Cursor<'a>) -> Result<Pieces<'a>, Refusal>
     ensures sized { IfOk result (λ read. vec_len read.processes ≡ vec_len read.bodies) }
     ensures reads { Answers result parts_of (parts_at (symbols_left cursor.entry)) }
 {
@@ -157,9 +204,9 @@ fn parts<'a>(alloc: Global, cursor: Cursor<'a>) -> Result<Reading<'a>, Refusal>
     // Only now are all parameters known, and one may still settle the type of an item without one. So two items that
     // contradict each other are refused at the end, at the place of the second.
     if let Some(at) = condition.declarations.contradiction() {
-        return Err(Refusal::Unsupported { at });
+        return Err(unsupported_name(at, Unread::TwoTypes));
     }
-    Ok(Reading {
+    Ok(Pieces {
         declarations: condition.declarations,
         processes: condition.processes,
         bodies,
@@ -170,19 +217,35 @@ fn parts<'a>(alloc: Global, cursor: Cursor<'a>) -> Result<Reading<'a>, Refusal>
 
 /// Reads the tokens of a text whose test has the name.
 #[tactic(auto, using(crate::proofs::Refusals::program_reads, crate::proofs::Refusals::nothing_reads))]
-fn whole(alloc: Global, name: Name, cursor: Cursor<'_>) -> Result<Program, Refusal>
-    ensures reads { IfOk result (λ program. program_at name (symbols_left cursor.entry) ≡ Some (program_of program)) }
+fn whole(alloc: Global, name: Name, cursor: Cursor<'_>) -> Result<Reading, Refusal>
+    ensures reads { IfOk result (λ reading. program_at name (symbols_left cursor.entry) ≡ Some (program_of reading.program)) }
     ensures refuses { IfErr result (λ refusal. Refuses refusal (program_at name (symbols_left cursor.entry))) }
 {
     let read = parts(alloc, cursor)?;
     let bodies = read.bodies;
-    Ok(Program {
+    let program = Program {
         name,
         variables: Sequence::from_vec(read.declarations.variables(alloc)?),
         tasks: Sequence::from_vec(tasks(alloc, &read.processes, bodies)?),
         quantifier: read.quantifier,
         condition: read.proposition,
+    };
+    Ok(Reading {
+        program,
+        places: places_of(alloc, read.processes)?,
     })
+}
+
+/// Where the accesses of each process begin.
+fn places_of(alloc: Global, mut processes: Vec<Process<'_>>) -> Result<Vec<Vec<usize>>, AllocError>
+    ensures { IfOk result (λ places. vec_len places ≡ vec_len processes.entry) }
+{
+    let mut places = Vec::new(alloc);
+    while !processes.is_empty() {
+        let process = processes.remove(0);
+        places.push(process.into_places())?;
+    }
+    Ok(places)
 }
 
 /// The processes of a text, with their bodies.
@@ -240,7 +303,7 @@ fn read_processes<'a>(header: &mut Header<'a>) -> Result<Processes<'a>, Refusal>
     let mut bodies = Vec::new(alloc);
     while is_at_process(&header.cursor, processes.len()) {
         if processes.len() == TASKS {
-            return Err(Refusal::Limit(Excess::Tasks));
+            return Err(header.cursor.excess(Excess::Tasks));
         }
         header.cursor.advance();
         let (process, body) = read_process(header)?;
@@ -248,7 +311,7 @@ fn read_processes<'a>(header: &mut Header<'a>) -> Result<Processes<'a>, Refusal>
         bodies.push(body)?;
     }
     if processes.is_empty() {
-        return Err(header.cursor.offence());
+        return Err(header.cursor.offence(Expected::Process));
     }
     Ok(Processes { processes, bodies })
 }

@@ -18,6 +18,10 @@ pub enum Kind {
     Prints(Frame, Frame),
     /// The statements with an access are of these kinds, in their order.
     Sites(Frame),
+    /// The accesses of its sites begin at these lines and columns.
+    Places(Frame),
+    /// It is refused there, for this reason.
+    Offends(Frame),
 }
 
 impl Frame {
@@ -90,6 +94,13 @@ pub fn kind_of(word: &str) -> Option<Kind> {
         "statements" => Some(Kind::Prints(BODY, LINES)),
         "expression" => Some(Kind::Prints(EXPRESSION, VALUE)),
         "sites" => Some(Kind::Sites(BODY)),
+        "places" => Some(Kind::Places(BODY)),
+        "places_in_text" => Some(Kind::Places(WHOLE)),
+        "text_offends" => Some(Kind::Offends(WHOLE)),
+        "body_offends" => Some(Kind::Offends(BODY)),
+        "items_offend" => Some(Kind::Offends(ITEMS)),
+        "parameters_offend" => Some(Kind::Offends(PARAMETERS)),
+        "condition_offends" => Some(Kind::Offends(CONDITION)),
         _ => None,
     }
 }

@@ -1,13 +1,17 @@
 //! Rows: texts, and what comes of them.
 
 use crate::frame::{Kind, kind_of};
-use litmus_parse::{ParseError, Program, parse, print};
+use litmus_lex::{column_of, line_of};
+use litmus_parse::{ParseError, Program, Reading, Refused, parse, print, read_text};
 use litmus_syntax::Statement;
 use std::alloc::{AllocError, Global};
 use test_escapes::unescaped;
 
 /// What is wanted of a text that only has to be read.
 const READS: &str = "reads";
+
+/// What comes of a text where there are other places than sites.
+const OTHER_PLACES: &str = "reads, with other places than sites";
 
 /// What is asked of a text.
 #[derive(Clone, Copy)]
@@ -18,6 +22,10 @@ enum Question {
     Prints,
     /// Which kinds of statements have its accesses.
     Sites,
+    /// Where its accesses begin.
+    Places,
+    /// Where and why it is refused.
+    Offends,
 }
 
 /// A text, what is asked of it, and what is to come of it.
@@ -42,6 +50,8 @@ impl Row {
         let (frame, question, wanted) = match kind {
             Kind::Reads(frame) => (frame, Question::Reads, wanted),
             Kind::Sites(frame) => (frame, Question::Sites, wanted),
+            Kind::Places(frame) => (frame, Question::Places, wanted),
+            Kind::Offends(frame) => (frame, Question::Offends, wanted),
             Kind::Prints(frame, printed) => (
                 frame,
                 Question::Prints,
@@ -58,16 +68,86 @@ impl Row {
 
 /// What comes of a row's text.
 pub fn outcome(alloc: Global, row: &Row) -> Result<String, AllocError> {
-    let program = match parse(alloc, row.text.as_bytes()) {
-        Err(ParseError::OutOfMemory) => return Err(AllocError),
-        Err(refusal) => return format!(in alloc; "{refusal}"),
-        Ok(program) => program,
-    };
-    match row.question {
-        Question::Reads => String::from_str(alloc, READS),
-        Question::Prints => printed(alloc, &program),
-        Question::Sites => sites(alloc, &program),
+    let text = row.text.as_bytes();
+    match read_text(alloc, text) {
+        Err(refused) => refusal(alloc, row.question, text, &refused),
+        Ok(reading) => {
+            if has_other_places(alloc, &reading)? {
+                return String::from_str(alloc, OTHER_PLACES);
+            }
+            reads(alloc, row.question, text, &reading)
+        }
     }
+}
+
+/// What comes of a text that is refused: the error, or the line, the column and the reason.
+fn refusal(
+    alloc: Global,
+    question: Question,
+    text: &[u8],
+    refused: &Refused,
+) -> Result<String, AllocError> {
+    if refused.error == ParseError::OutOfMemory {
+        return Err(AllocError);
+    }
+    let error = refused.error;
+    if !matches!(question, Question::Offends) {
+        return format!(in alloc; "{error}");
+    }
+    let mut shown = String::new(alloc);
+    add_place(alloc, &mut shown, text, refused.at)?;
+    let reason = refused.reason;
+    shown.push_str(format!(in alloc; "{reason:?}")?.as_str())?;
+    Ok(shown)
+}
+
+/// What comes of a text that is read.
+fn reads(
+    alloc: Global,
+    question: Question,
+    text: &[u8],
+    reading: &Reading,
+) -> Result<String, AllocError> {
+    match question {
+        Question::Reads | Question::Offends => String::from_str(alloc, READS),
+        Question::Prints => printed(alloc, &reading.program),
+        Question::Sites => sites(alloc, &reading.program),
+        Question::Places => places(alloc, text, reading),
+    }
+}
+
+/// Whether a task has places of more or fewer accesses than it has sites.
+fn has_other_places(alloc: Global, reading: &Reading) -> Result<bool, AllocError> {
+    let tasks = reading.program.tasks.as_slice();
+    if tasks.len() != reading.places.len() {
+        return Ok(true);
+    }
+    for (task, places) in tasks.iter().zip(reading.places.iter()) {
+        if task.sites(alloc)?.len() != places.len() {
+            return Ok(true);
+        }
+    }
+    Ok(false)
+}
+
+/// The lines and columns of the accesses of each task, behind its number.
+fn places(alloc: Global, text: &[u8], reading: &Reading) -> Result<String, AllocError> {
+    let mut shown = String::new(alloc);
+    for (task, places) in reading.places.iter().enumerate() {
+        shown.push_str(format!(in alloc; "P{task} ")?.as_str())?;
+        for at in places {
+            add_place(alloc, &mut shown, text, *at)?;
+        }
+    }
+    Ok(shown)
+}
+
+/// Adds the line and the column of a place, with a blank behind it.
+fn add_place(alloc: Global, shown: &mut String, text: &[u8], at: usize) -> Result<(), AllocError> {
+    let at = at.min(text.len());
+    let line = line_of(text, at);
+    let column = column_of(text, at);
+    shown.push_str(format!(in alloc; "{line}:{column} ")?.as_str())
 }
 
 /// The kinds of the statements with an access, each with a blank behind it.
