@@ -1,9 +1,10 @@
 -- One run more keeps what is told of those made before: each by a call of its own, no report before the last.
 use Rattle.std.proofs.Common.{◌≤◌, ◌&&◌, Bor, ◌≡◌, ◌<◌, ◌⊎◌, ◌++◌, ◌∷◌, ◌==◌, ◌∙◌, [], suc, All, List, OnOk, Option, None, Some, Bool, IfErr, IfOk, IfSome, Result, Ok, Err, Vec, ℕ, ap, ap₂, arith}
-use Rattle.std.proofs.Common.{drop, false, is_some, length, not, refl, slice_index_or, subst, sym, true, zero, ◌+◌}
+use Rattle.std.proofs.Common.{drop, false, is_some, length, not, refl, slice_get, slice_index_or, subst, sym, true, zero, ◌+◌, ◌*◌}
 use Rattle.std.proofs.lemmas.List.{length-append}
 use Rattle.std.proofs.lemmas.List.Elements.{All-append}
 use Rattle.std.proofs.lemmas.List.Quantifiers.{all_pairs_push}
+use Rattle.std.proofs.lemmas.Option.{slice_get-get_or}
 use Rattle.std.specs.Global.{Global}
 use Rattle.std.specs.Prelude.{IsErrAnd}
 use Rattle.std.specs.Option.{option_copied, option_map}
@@ -18,10 +19,12 @@ use Rattle.run_tally.specs.Errors.{IsRefused, Stops, StopsRun, is_counted}
 use Rattle.run_output.specs.Traces.{IsToBeAccepted, IsTraceOf}
 use Rattle.run_output.specs.of_run_lists_Run as lists
 use Rattle.run_output.specs.of_run_lists_RunList.{AllHaveEnded, RunList}
-use Rattle.runner.specs.Result.{IsOf, IsRunOnce}
+use Rattle.runner.proofs.ColumnLemmas.{item_there}
+use Rattle.runner.specs.Result.{AreResultsOf, IsOf, IsResultOf, IsRunOnce}
+use Rattle.runner.specs.declared.run.Turn.{Turn}
 use Rattle.run_output.specs.of_slot_table_declared.records.Record.{Record}
 use Rattle.run_tally.specs.Output.{AreQuietBeforeLast, IsTraceOfLast, reports_in}
-use Rattle.run_tally.specs.Runs.{AreMadeApart, AreNumberedFrom, Comes, IsLast, IsNumbered, OneRun, StuckRun}
+use Rattle.run_tally.specs.Runs.{AreMadeApart, AreNumberedFrom, ComeFrom, Comes, IsLast, IsNumbered, OneRun, StuckRun}
 use Rattle.run_output.specs.declared.error.EngineError.{EngineError}
 use Rattle.run_output.specs.declared.error.EngineError.TheVariants.{Run, SinkFailed, Text}
 use Rattle.run_output.specs.of_program_sites_Errors.{IsOfPreparing}
@@ -238,4 +241,59 @@ traces_last {program} {settings} runs (Some one) traced (Some bytes) last few wr
       trace_is = subst (λ (result : RunResult). IsTraceOf settings once.list result.reports.items bytes.items) (sym last.3)
           (written run once.records (once.list, of));
       accepted = accepted run once.records (once.list, of) of.ended refl refl few;
+    }
+
+-- behind what came of runs from a number on stands what came of those from the next on
+numbers_on : (from : ℕ) (xs ys : List (Result RunResult RunError)) → AreNumberedFrom from xs → AreNumberedFrom (from + length xs) ys
+    → AreNumberedFrom from (xs ++ ys)
+numbers_on from [] ys here there at d below =
+    subst (λ (n : ℕ). IsNumbered n (slice_index_or ys at d)) (let n : from + 0 + at ≡ from + at = omega arith in n) (there at d below)
+numbers_on from (x ∷ xs) ys here there zero d below = here zero d (omega arith)
+numbers_on from (x ∷ xs) ys here there (suc at) d below =
+    subst (λ (n : ℕ). IsNumbered n (slice_index_or (xs ++ ys) at d)) (let n : from + 1 + at ≡ from + suc at = omega arith in n)
+    (numbers_on (from + 1) xs ys
+    (λ k e less. subst (λ (n : ℕ). IsNumbered n (slice_index_or xs k e)) (let n : from + suc k ≡ from + 1 + k = omega arith in n)
+    (here (suc k) e (omega (arith, less))))
+    (λ k e less. subst (λ (n : ℕ). IsNumbered n (slice_index_or ys k e)) (let n : from + suc (length xs) + k ≡ from + 1 + length xs + k = omega arith in n)
+    (there k e less)) at d (omega (arith, below)))
+
+pub come_on : (program : Program) (settings : Settings) (from many more : ℕ) (xs ys : List (Result RunResult RunError))
+    → ComeFrom program settings from many xs → ComeFrom program settings (from + many) more ys
+    → ComeFrom program settings from (many + more) (xs ++ ys)
+come_on program settings from many more xs ys here there = record {
+  many_are = let long = length-append xs ys in omega (arith, long, here.many_are, there.many_are);
+  each = All-append (Comes program settings) xs ys here.each there.each;
+  numbers = numbers_on from xs ys here.numbers
+      (subst (λ (n : ℕ). AreNumberedFrom (from + n) ys) (sym here.many_are) there.numbers);
+}
+
+-- what comes of the turns of a batch comes of runs under their numbers
+pub come_of : (program : Program) (settings : Settings) (from many : ℕ) (turns : List Turn) (outcomes : List (Result RunResult RunError))
+    → length turns ≡ many → ((at : ℕ) (turn : Turn) → slice_get turns at ≡ Some turn → turn.number ≡ from + at)
+    → AreResultsOf program settings turns outcomes → ComeFrom program settings from many outcomes
+come_of program settings from many turns outcomes count numbered are = record {
+  many_are = are.many ∙ count;
+  each = λ at d below.
+      let it = result_at at d below in
+      comes program settings (slice_index_or outcomes at d) it.1.once it.1.errors it.1.stuck;
+  numbers = λ at d below.
+      let it = result_at at d below in
+      subst (λ (n : ℕ). IsNumbered n (slice_index_or outcomes at d)) (numbered at it.0 it.2) it.1.number;
+}
+  where
+    result_at : (at : ℕ) (d : Result RunResult RunError) → at < length outcomes
+        → (turn : Turn) × IsResultOf program settings turn (slice_index_or outcomes at d) × (slice_get turns at ≡ Some turn)
+    result_at at d below =
+        let turn = item_there turns at (omega (arith, below, are.many)) in
+        (turn.0, are.each at turn.0 (slice_index_or outcomes at d) turn.1 (slice_get-get_or outcomes at d below), turn.1)
+
+-- nothing comes of no run
+pub none_come_of : (program : Program) (settings : Settings) (from many : ℕ) (outcomes : List (Result RunResult RunError)) → outcomes ≡ []
+    → ComeFrom program settings from (0 * many) outcomes
+none_come_of program settings from many outcomes none =
+    let no : length outcomes ≡ 0 = ap length none in
+    record {
+      many_are = omega (arith, no);
+      each = λ at d below. absurd (omega (arith, below, no));
+      numbers = λ at d below. absurd (omega (arith, below, no));
     }

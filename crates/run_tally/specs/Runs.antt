@@ -1,5 +1,7 @@
 -- What is seen of runs on threads.
-use Rattle.std.specs.Prelude.{◌≡◌, ◌<◌, ◌+◌, ◌++◌, ◌∷◌, [], ℕ, AllPairs, IfErr, IfOk, List, Option, None, Result, Some, length, slice_index_or}
+use Rattle.std.specs.Prelude.{◌≡◌, ◌<◌, ◌+◌, ◌*◌, ◌++◌, ◌∷◌, [], ℕ, All, AllPairs, IfErr, IfOk, List, Ok, Option, None, Result, Some, Vec, length, slice_get, slice_index_or}
+use Rattle.std.specs.Global.{Global}
+use Rattle.std.specs.declared.alloc.AllocError.{AllocError}
 use Rattle.run_output.specs.of_program_sites_declared.settings.Settings.{Settings}
 use Rattle.litmus_syntax.specs.declared.program.Program.{Program}
 use Rattle.run_tally.specs.Errors.{GetsStuck, StopsRun}
@@ -37,6 +39,17 @@ IsNumbered number outcome = IfOk outcome (λ result. result.number ≡ number)
 abbrev pub AreNumberedFrom : ℕ → List (Result RunResult RunError) → Type 0
 AreNumberedFrom from outcomes = (at : ℕ) (d : Result RunResult RunError) → at < length outcomes
     → IsNumbered (from + at) (slice_index_or outcomes at d)
+
+-- This comes of so many runs of the program that were made under the numbers from this one on.
+pub record ComeFrom (program : Program) (settings : Settings) (from many : ℕ) (outcomes : List (Result RunResult RunError)) : Type 0 where
+  pub many_are : length outcomes ≡ many
+  pub each : All (Comes program settings) outcomes
+  pub numbers : AreNumberedFrom from outcomes
+
+-- Of several batches of so many runs each comes of those whose numbers begin where those of the one before end, or there was no memory.
+abbrev pub AreBatches : Program → Settings → (from many : ℕ) → List (Result (Vec (Result RunResult RunError) Global) AllocError) → Type 0
+AreBatches program settings from many batches = (at : ℕ) (batch : Vec (Result RunResult RunError) Global) → slice_get batches at ≡ Some (Ok batch)
+    → ComeFrom program settings (from + at * many) many batch.items
 
 -- Each of these runs was made by a call of its own: the number under which it was made is below those of all runs behind it.
 abbrev pub AreMadeApart : {program : Program} {settings : Settings} → List (OneRun program settings) → Type 0

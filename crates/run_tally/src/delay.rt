@@ -19,6 +19,9 @@ const PATIENCE: u64 = 100_000;
 ///
 /// Also it has the others wait with their first access until the task that starts first has set up a watchpoint or
 /// ended an access: a thread that starts later may be sooner there.
+///
+/// Of no loads, each task only waits with its first access until all have come: of runs that are made by the same
+/// threads one thread would otherwise be through with all of them before another has started.
 #[derive(Drop)]
 pub struct Delay {
     loads: u64,
@@ -89,21 +92,35 @@ impl Delay {
         self.open.store(1);
     }
 
-    /// Waits until all tasks have come. Where one doesn't, no delay waits for it again.
+    /// Whether all tasks have come.
+    fn has_all(&self) -> bool {
+        self.here.load().count_ones() as u64 >= self.tasks
+    }
+
+    /// Waits until all tasks have come. Where one doesn't, nobody waits for it again.
     fn awaits_all(&self) {
         for _ in 0..PATIENCE {
-            if self.here.load().count_ones() as u64 >= self.tasks {
+            if self.has_all() {
                 return;
             }
             thread::yield_now();
         }
         self.here.store(u64::MAX);
     }
+
+    /// A task has come, and waits until all have.
+    fn meets(&self, task: usize) {
+        if self.has_all() {
+            return;
+        }
+        self.comes(task);
+        self.awaits_all();
+    }
 }
 
 impl Stall for Delay {
     fn stall(&self, task: usize, _index: usize) {
-        // Without a delay nothing is waited for: the runs come as the machine has them.
+        // Without a delay no watch waits: a conflicting access comes in it only as the machine has it.
         if self.loads == 0 {
             return;
         }
@@ -121,9 +138,10 @@ impl Stall for Delay {
     /// tries as it has loads: so it tries again only once nobody delays, or after as many loads.
     fn wait(&self, task: usize) {
         // Whoever waits for a lock can't come to an access before it is free, and its holder may be waiting for this
-        // task: so it counts as come, and holds nobody back.
-        self.comes(task);
+        // task: so it counts as come, and holds nobody back. The holder may also wait for a task whose thread hasn't
+        // started yet: to try again before that has come would use up tries in vain.
         self.opens(task);
+        self.meets(task);
         self.away.fetch_add(1);
         for _ in 0..self.loads.max(1) {
             thread::yield_now();
@@ -144,13 +162,14 @@ impl Stall for Delay {
 impl Gate for Delay {
     fn pass(&self, task: usize, point: Point) {
         match point {
-            Point::Begin if self.loads > 0 => {
+            Point::Begin if self.loads == 0 => self.meets(task),
+            Point::Begin => {
                 self.comes(task);
                 self.awaits_first(task);
             }
             // Its access may have set up no watchpoint, as a marked or skipped one: the others are not held for that.
             Point::End => self.opens(task),
-            Point::Begin | Point::Armed | Point::Taken => {}
+            Point::Armed | Point::Taken => {}
         }
     }
 }

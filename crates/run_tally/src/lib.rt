@@ -3,6 +3,7 @@
 
 pub mod delay;
 pub mod hooks;
+mod lots;
 mod made;
 pub mod runs;
 mod starters;

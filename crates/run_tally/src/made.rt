@@ -1,7 +1,7 @@
-//! Runs of a program that are made, one after the other or several side by side, until there are as many as are asked
-//! for.
+//! Runs of a program that are made in batches, one after the other or several side by side, until there are as many as
+//! are asked for.
 
-ghost use Rattle.std.specs.Prelude.{◌≡◌, ◌≤◌, ◌<◌, ◌+◌, ◌-◌, ◌^◌, ◌++◌, ◌∷◌, [], All, List, IfErr, IfOk, OnOk, length, true, vec_len};
+ghost use Rattle.std.specs.Prelude.{◌≡◌, ◌≤◌, ◌<◌, ◌+◌, ◌-◌, ◌*◌, ◌^◌, ◌++◌, ◌∷◌, [], ℕ, All, List, IfErr, IfOk, OnOk, length, slice_get, true};
 ghost use Rattle.access_types.specs.Sites.{AccessMap};
 ghost use Rattle.run_output.specs.of_program_sites_Prepared.{IsPrepared, sites_in};
 ghost use Rattle.run_output.specs.of_program_sites_declared.settings.Settings as terms;
@@ -16,10 +16,11 @@ ghost use Rattle.run_tally.specs.Errors as spec;
 ghost use Rattle.run_tally.specs.Errors.{Stops};
 ghost use Rattle.run_tally.specs.Made.{AreAllMade, AreMade, IsOneMore};
 ghost use Rattle.run_tally.specs.Output.{IsOutput, found_text, stuck_text};
-ghost use Rattle.run_tally.specs.Runs.{AreNumberedFrom, Comes, IsNumbered, OneRun, StuckRun};
+ghost use Rattle.run_tally.specs.Runs.{AreBatches, AreNumberedFrom, ComeFrom, Comes, IsNumbered, OneRun, StuckRun};
 ghost use Rattle.runner.specs.Result.{IsRunOnce};
 
 use crate::hooks::Hooks;
+use crate::lots::Lot;
 use crate::starters::Starters;
 use crate::tally::Tally;
 use crate::times::{Progress, Times};
@@ -28,7 +29,7 @@ use report_text::laws::groups_are_of_their_texts;
 use report_text::{MemorySink, Sink, WriteError};
 use run_output::litmus_step::{Prepared, Settings};
 use run_output::{EngineError, write_stuck};
-use runner::{RunError, RunResult, Turn, run_prepared};
+use runner::{RunError, RunResult, Turn, run_batch};
 use std::alloc::{AllocError, Global};
 use std::collections::VecDeque;
 use std::sync::Wait;
@@ -52,39 +53,53 @@ pub(crate) struct Plan<'t, H> {
     pub(crate) prepared: &'t Prepared,
     pub(crate) times: Times,
     pub(crate) starters: Starters,
+    /// How many runs a batch has at most.
+    pub(crate) largest: u64,
     pub(crate) hooks: &'t H,
 }
 
-/// What comes of the run of a number.
-fn one_run<R: Threads + Wait + Sync, H: Hooks>(
-    rt: &R,
+/// The turns of so many runs, from the run of this number on, and what each calls.
+fn turns_from<H: Hooks>(
     alloc: Global,
     plan: &Plan<'_, H>,
     number: u64,
-) -> Result<RunResult, RunError>
-    requires limits { KeepsLimits (program_of plan.now.program.now) }
-    requires ready { IsPrepared plan.now.program.now plan.now.settings.now plan.now.prepared.now }
-    ensures comes { Comes plan.now.program.now plan.now.settings.now result }
-    ensures number { IsNumbered number result }
+    many: usize,
+) -> Result<(Vec<Turn>, Vec<H::OfRun>), AllocError>
+    requires { number + many < 2 ^ 64 }
+    ensures turns { IfOk result (λ made. length made.0.items ≡ many) }
+    ensures numbers { IfOk result (λ made. (at : ℕ) (turn : Turn) → slice_get made.0.items at ≡ Some turn → turn.number ≡ number + at) }
+    ensures hooks { IfOk result (λ made. length made.1.items ≡ many) }
 {
     let tasks = plan.program.tasks.as_slice().len() as u64;
-    let first = plan.starters.first(number, tasks);
-    let hooks = plan.hooks.of_run(plan.times.delay, tasks, first);
-    let turn = Turn { number, first };
-    run_prepared(
-        rt,
-        alloc,
-        plan.program,
-        plan.settings,
-        plan.prepared,
-        turn,
-        &hooks,
-        &hooks,
-    )
+    let mut turns = Vec::with_capacity(alloc, many)?;
+    let mut hooks = Vec::with_capacity(alloc, many)?;
+    for at in 0..many {
+        let number = number + at as u64;
+        let first = plan.starters.first(number, tasks);
+        turns.push_reserved(Turn { number, first });
+        hooks.push_reserved(plan.hooks.of_run(plan.times.delay, tasks, first));
+    }
+    Ok((turns, hooks))
 }
 
-/// What comes of so many runs, side by side, from the run of this number on.
-fn side_by_side<R: Threads + Wait + Sync, H: Hooks>(
+/// That this comes of each of so many runs.
+fn all_err(
+    alloc: Global,
+    error: RunError,
+    many: usize,
+) -> Result<Vec<Result<RunResult, RunError>>, AllocError>
+    ensures each { IfOk result (λ all. All (λ outcome. outcome ≡ Err error) all.items) }
+    ensures many { IfOk result (λ all. length all.items ≡ many) }
+{
+    let mut all = Vec::with_capacity(alloc, many)?;
+    for _ in 0..many {
+        all.push_reserved(Err(error));
+    }
+    Ok(all)
+}
+
+/// What comes of so many runs, one after the other by the same threads, from the run of this number on.
+fn batch<R: Threads + Wait + Sync, H: Hooks>(
     rt: &R,
     alloc: Global,
     plan: &Plan<'_, H>,
@@ -94,9 +109,54 @@ fn side_by_side<R: Threads + Wait + Sync, H: Hooks>(
     requires limits { KeepsLimits (program_of plan.now.program.now) }
     requires ready { IsPrepared plan.now.program.now plan.now.settings.now plan.now.prepared.now }
     requires few { number + many < 2 ^ 64 }
-    ensures each { IfOk result (λ all. All (Comes plan.now.program.now plan.now.settings.now) all.items) }
-    ensures numbers { IfOk result (λ all. AreNumberedFrom number all.items) }
-    ensures many { IfOk result (λ all. vec_len all ≡ many) }
+    ensures { IfOk result (λ all. ComeFrom plan.now.program.now plan.now.settings.now number many all.items) }
+{
+    let (turns, hooks) = turns_from(alloc, plan, number, many)?;
+    let made = run_batch(
+        rt,
+        alloc,
+        plan.program,
+        plan.settings,
+        plan.prepared,
+        turns.as_slice(),
+        hooks.as_slice(),
+        hooks.as_slice(),
+    );
+    match made {
+        Ok(outcomes) => Ok(outcomes),
+        // There was no room or no thread for all of them, and so for none.
+        Err(error) => all_err(alloc, error, many),
+    }
+}
+
+/// What comes of the runs of several batches, one after the other.
+fn joined(
+    alloc: Global,
+    batches: Vec<Result<Vec<Result<RunResult, RunError>>, AllocError>>,
+) -> Result<Vec<Result<RunResult, RunError>>, AllocError>
+    ensures { (program : tree.Program) (settings : terms.Settings) (number many : ℕ) → AreBatches program settings number many batches.items
+        → IfOk result (λ all. ComeFrom program settings number (length batches.items * many) all.items) }
+{
+    let mut all = Vec::new(alloc);
+    for batch in batches {
+        let mut outcomes = batch?;
+        all.append(&mut outcomes)?;
+    }
+    Ok(all)
+}
+
+/// What comes of the runs of so many batches, which are made side by side, from the run of this number on.
+fn side_by_side<R: Threads + Wait + Sync, H: Hooks>(
+    rt: &R,
+    alloc: Global,
+    plan: &Plan<'_, H>,
+    number: u64,
+    lot: Lot,
+) -> Result<Vec<Result<RunResult, RunError>>, AllocError>
+    requires limits { KeepsLimits (program_of plan.now.program.now) }
+    requires ready { IsPrepared plan.now.program.now plan.now.settings.now plan.now.prepared.now }
+    requires few { number + lot.batches * lot.runs < 2 ^ 64 }
+    ensures { IfOk result (λ all. ComeFrom plan.now.program.now plan.now.settings.now number (lot.batches * lot.runs) all.items) }
 {
     let Plan {
         program,
@@ -104,14 +164,15 @@ fn side_by_side<R: Threads + Wait + Sync, H: Hooks>(
         prepared,
         times,
         starters,
+        largest,
         hooks,
     } = *plan;
-    let run = move |at: usize| -> Result<RunResult, RunError>
+    let runs = lot.runs;
+    let make = move |at: usize| -> Result<Vec<Result<RunResult, RunError>>, AllocError>
         requires limits { KeepsLimits (program_of program.now) }
         requires ready { IsPrepared program.now settings.now prepared.now }
-        requires few { number + at < 2 ^ 64 }
-        ensures comes { Comes program.entry.now settings.entry.now result }
-        ensures number { IsNumbered (number + at) result }
+        requires few { number + (at * runs + runs) < 2 ^ 64 }
+        ensures { IfOk result (λ all. ComeFrom program.entry.now settings.entry.now (number + at * runs) runs all.items) }
     {
         let plan = Plan {
             program,
@@ -119,27 +180,27 @@ fn side_by_side<R: Threads + Wait + Sync, H: Hooks>(
             prepared,
             times,
             starters,
+            largest,
             hooks,
         };
-        one_run(rt, alloc, &plan, number + at as u64)
+        batch(rt, alloc, &plan, number + (at * runs) as u64, runs)
     };
-    thread::map_indices(rt, alloc, many, &run)
+    joined(alloc, thread::map_indices(rt, alloc, lot.batches, &make)?)
 }
 
-/// What comes of the run of this number: what is ready first, or else the first of so many more that are made side by
-/// side, of which the rest is ready then.
+/// What comes of the run of this number: what is ready first, or else the first of those that are made next, of which
+/// the rest is ready then.
 fn next_run<R: Threads + Wait + Sync, H: Hooks>(
     rt: &R,
     alloc: Global,
     plan: &Plan<'_, H>,
     number: u64,
-    many: usize,
     ready: &mut VecDeque<Result<RunResult, RunError>>,
 ) -> Result<Result<RunResult, RunError>, AllocError>
     requires limits { KeepsLimits (program_of plan.now.program.now) }
     requires prepared { IsPrepared plan.now.program.now plan.now.settings.now plan.now.prepared.now }
-    requires many { 1 ≤ many }
-    requires few { number + many < 2 ^ 64 }
+    requires jobs { 1 ≤ plan.now.times.jobs }
+    requires left { number < plan.now.times.runs }
     requires ready { All (Comes plan.now.program.now plan.now.settings.now) ready.old.items }
     requires numbers { AreNumberedFrom number ready.old.items }
     ensures next { IfOk result (Comes plan.now.program.now plan.now.settings.now) }
@@ -148,7 +209,8 @@ fn next_run<R: Threads + Wait + Sync, H: Hooks>(
     ensures numbers { OnOk result (AreNumberedFrom (number + 1) ready.new.items) }
 {
     if ready.is_empty() {
-        *ready = VecDeque::from(side_by_side(rt, alloc, plan, number, many)?);
+        let lot = Lot::after(number, plan.times, plan.largest);
+        *ready = VecDeque::from(side_by_side(rt, alloc, plan, number, lot)?);
     }
     let Some(outcome) = ready.pop_front() else {
         unreachable!()
@@ -303,13 +365,12 @@ pub(crate) fn made_of<R: Threads + Wait + Sync, P: Progress, H: Hooks>(
     let mut made = Made::new(alloc);
     let mut ready = VecDeque::new(alloc);
     for run in 0..times.runs {
-        // Runs that were made beside it and are numbered behind it are dropped: so the output is of the same runs in
-        // one form, whatever the number of jobs.
+        // Runs that were made with it and are numbered behind it are dropped: so the output is of the same runs in one
+        // form, whatever the number of jobs and the size of a batch.
         if times.stop_at_first && made.raced() {
             return Ok(made);
         }
-        let many = times.jobs.min(times.runs - run) as usize;
-        let outcome = next_run(rt, alloc, plan, run, many, &mut ready)?;
+        let outcome = next_run(rt, alloc, plan, run, &mut ready)?;
         made.add(
             alloc,
             plan.program,

@@ -8,6 +8,7 @@ ghost use Rattle.run_tally.specs.Errors.{IsRefused, Stops};
 ghost use Rattle.run_tally.specs.Output.{Leave, TextLeaves};
 
 use crate::hooks::{Delays, Hooks};
+use crate::lots::largest_batch;
 use crate::made::{Plan, made_of};
 use crate::starters::Starters;
 use crate::times::{Progress, Times};
@@ -42,6 +43,7 @@ fn run_often<R: Threads + Wait + Sync, P: Progress, H: Hooks>(
         prepared: &prepared,
         times,
         starters: Starters::new(prepared.sites(), settings.plain_writes_atomic),
+        largest: largest_batch(prepared.accesses.as_slice()),
         hooks,
     };
     let made = made_of(rt, alloc, &plan, progress)?;

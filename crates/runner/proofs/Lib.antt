@@ -1,7 +1,9 @@
 pub mod DoneWith
 pub mod LedLemmas
 pub mod SeatedLemmas
+pub mod ColumnLemmas
 pub mod StartLemmas
+pub mod BatchLemmas
 pub mod TurnLemmas
 pub mod PartLemmas
 pub mod OutcomeLemmas

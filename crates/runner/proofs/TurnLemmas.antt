@@ -1,16 +1,21 @@
 -- Tasks whose threads start in another order, and what comes of them in the first.
-use Rattle.std.proofs.Common.{◌≡◌, ◌⊎◌, ◌<◌, ◌≤◌, ◌+◌, ◌-◌, ◌∙◌, ◌++◌, ◌∷◌, [], ℕ, List, Option, Result, Some, ap, append_assoc, arith, inl, inr, length, map, option_map, refl, slice_get, slice_index_or, subst, sym}
+use Rattle.std.proofs.Common.{◌≡◌, ◌<◌, ◌≤◌, ◌+◌, ◌-◌, ◌∙◌, ◌++◌, ◌∷◌, [], ℕ, List, Result, Some, Vec, ap, append_assoc, arith, inl, inr, length, map, option_map, refl, slice_get, slice_index_or, subst, sym}
 use Rattle.std.specs.List.{RotatedLeft, RotatedRight}
 use Rattle.std.proofs.lemmas.Bool.Decides.{leb_tells}
-use Rattle.std.proofs.lemmas.List.{map-append}
+use Rattle.std.proofs.lemmas.List.{length-map, map-append}
+use Rattle.std.specs.Global.{Global}
+use Rattle.runner.proofs.ColumnLemmas.{from_map}
 use Rattle.std.proofs.lemmas.Option.{get_or_from_slice_get, same_Some, slice_get-map, slice_get_cases, slice_get_read, slice_get_within}
-use Rattle.litmus_step.specs.Runs.{tasks_of}
 use Rattle.accepted_traces.specs.of_run_lists_Run.{Run}
-use Rattle.runner.specs.Starts.{AreOutcomes, AreSomeStarts, AreStarts, ComeOf, IsOutcome, IsStart}
+use Rattle.runner.specs.Starts.{AreAllOutcomes, AreAllStarts, AreSomeStarts, ComeOf, IsOutcomeOfEach, IsTaskStart}
 use Rattle.accepted_traces.specs.of_program_sites_declared.error.RunError.{RunError}
-use Rattle.runner.specs.declared.first.TaskStart.{TaskStart}
+use Rattle.runner.specs.declared.first.TaskStarts.{TaskStarts}
 use Rattle.runner.specs.declared.seated.Found.{Found}
 use Rattle.shared_table.specs.Seats.{Opened}
+
+-- what comes of one task in several runs
+abbrev pub Came : Type 0
+Came = Vec (Result Found RunError) Global
 
 -- a list of no length has no item
 pub empty_of : {X : Type 0} (xs : List X) → length xs ≡ 0 → xs ≡ []
@@ -42,73 +47,78 @@ moved : {X : Type 0} (xs ys : List X) (at from : ℕ) (x : X) → from < length 
 moved xs ys at from x below same is =
     slice_get_read xs (length xs) from x refl below (sym (get_or_from_slice_get ys at x x is) ∙ same x)
 
-module _ (opened : Opened) (starts turned : List TaskStart) (first : ℕ) (are : AreStarts opened starts) (few : first ≤ length starts)
-    (long : length turned ≡ length starts) (by_index : RotatedLeft starts turned (length starts) first) where
-  start_at : (at : ℕ) (start : TaskStart) → at < length starts → slice_get starts at ≡ Some start
-      → IsStart opened start.number start × (start.number < opened.given.tasks)
-  start_at at start below is =
-      let it : IsStart opened at start = are.each at start is in (
-        subst (λ (n : ℕ). IsStart opened n start) (sym it.number) it,
-        omega (arith, it.number, below, are.all),
+module _ (tables : List Opened) (tasks : ℕ) (starts turned : List TaskStarts) (first : ℕ) (are : AreAllStarts tables tasks starts)
+    (few : first ≤ length starts) (long : length turned ≡ length starts) (by_index : RotatedLeft starts turned (length starts) first) where
+  start_at : (at : ℕ) (it : TaskStarts) → at < length starts → slice_get starts at ≡ Some it
+      → IsTaskStart tables it.number it × (it.number < tasks)
+  start_at at it below is =
+      let its : IsTaskStart tables at it = are.each at it is in (
+        subst (λ (n : ℕ). IsTaskStart tables n it) (sym its.number) its,
+        omega (arith, its.number, below, are.many),
       )
 
-  pub are_some_starts : AreSomeStarts opened turned
-  are_some_starts at start is =
-      let within : at < length turned = slice_get_within turned at start is in
+  pub are_some_starts : AreSomeStarts tables tasks turned
+  are_some_starts at it is =
+      let within : at < length turned = slice_get_within turned at it is in
       elim (leb_tells (length starts) (at + first)) [
         | inl over ↦
             let from : ℕ = at + first - length starts in
             let over_it : length starts ≤ at + first = over.1 in
             let below : from < length starts = omega (arith, within, long, few, over_it) in
-            start_at from start below (moved starts turned at from start below
+            start_at from it below (moved starts turned at from it below
             (λ d. by_index.1 at d over_it (omega (arith, within, long))) is)
         | inr under ↦
             let less : at + first < length starts = under.1 in
-            start_at (at + first) start less (moved starts turned at (at + first) start less (λ d. by_index.0 at d less) is)
+            start_at (at + first) it less (moved starts turned at (at + first) it less (λ d. by_index.0 at d less) is)
       ]
 
-  module _ (run : Run) (tasks : opened.given.tasks ≡ tasks_of run) (came back : List (Result Found RunError))
-      (come : ComeOf run opened turned came) (many : length back ≡ length came) (by_index_back : RotatedRight came back (length came) first) where
+  module _ (run : Run) (came back : List Came) (come : ComeOf run tables turned came) (many : length back ≡ length came)
+      (by_index_back : RotatedRight came back (length came) first) where
     -- what comes of a task stands at its place again
-    comes_back : (task at : ℕ) (outcome : Result Found RunError) → task < length starts → at < length turned
-        → ((d : TaskStart) → slice_index_or turned at d ≡ slice_index_or starts task d)
-        → ((d : Result Found RunError) → slice_index_or back task d ≡ slice_index_or came at d)
-        → slice_get back task ≡ Some outcome → IsOutcome run opened task outcome
-    comes_back task at outcome there within same_start same_outcome is =
+    comes_back : (task at : ℕ) (outcomes : Came) → task < length starts → at < length turned
+        → ((d : TaskStarts) → slice_index_or turned at d ≡ slice_index_or starts task d)
+        → ((d : Came) → slice_index_or back task d ≡ slice_index_or came at d)
+        → slice_get back task ≡ Some outcomes → IsOutcomeOfEach run tables task outcomes.items
+    comes_back task at outcomes there within same_start same_outcome is =
         elim (slice_get_cases starts task).1 [
           | inl start ↦
               let here : slice_get turned at ≡ Some start.0 =
               slice_get_read turned (length turned) at start.0 refl within
               (sym (same_start start.0 ∙ get_or_from_slice_get starts task start.0 start.0 start.2)) in
               let number = (are.each task start.0 start.2).number in
-              subst (λ (n : ℕ). IsOutcome run opened n outcome) number
-              (come.each at start.0 outcome here
-              (moved came back task at outcome (omega (arith, within, come.all)) same_outcome is))
+              subst (λ (n : ℕ). IsOutcomeOfEach run tables n outcomes.items) number
+              (come.each at start.0 outcomes here
+              (moved came back task at outcomes (omega (arith, within, come.all)) same_outcome is))
           | inr beyond ↦ let past : length starts ≤ task = beyond.0 in absurd (omega (arith, there, past))
         ]
 
-    pub put_back : AreOutcomes run opened (tasks_of run) back
+    back_at : (task : ℕ) (outcomes : Came) → slice_get back task ≡ Some outcomes → IsOutcomeOfEach run tables task outcomes.items
+    back_at task outcomes is =
+        let within : task < length back = slice_get_within back task outcomes is in
+        let there : task < length starts = omega (arith, within, many, come.all, long) in
+        let came_long = come.all in
+        elim (leb_tells first task) [
+          | inl after ↦
+              let above : first ≤ task = after.1 in
+              comes_back task (task - first) outcomes there (omega (arith, there, long, above))
+              (λ d. by_index.0 (task - first) d (omega (arith, there, above))
+              ∙ ap (λ (n : ℕ). slice_index_or starts n d) (let same : task - first + first ≡ task = omega (arith, above) in same))
+              (λ d. by_index_back.1 task d above (omega (arith, there, long, came_long))) is
+          | inr before ↦
+              let less : task < first = before.1 in
+              let at : ℕ = length came - first + task in
+              let end : length came ≡ length starts = came_long ∙ long in
+              comes_back task at outcomes there (omega (arith, less, end, long, few))
+              (λ d. by_index.1 at d (omega (arith, end, few)) (omega (arith, less, end, few))
+              ∙ ap (λ (n : ℕ). slice_index_or starts n d)
+              (let same : at + first - length starts ≡ task = omega (arith, end, few) in same))
+              (λ d. by_index_back.0 task d less) is
+        ]
+
+    pub put_back : AreAllOutcomes run tables tasks (map (λ (came : Came). came.items) back)
     put_back = record {
-      all = omega (arith, many, come.all, long, are.all, tasks);
-      each = λ task outcome is.
-          let within : task < length back = slice_get_within back task outcome is in
-          let there : task < length starts = omega (arith, within, many, come.all, long) in
-          let came_long = come.all in
-          elim (leb_tells first task) [
-            | inl after ↦
-                let above : first ≤ task = after.1 in
-                comes_back task (task - first) outcome there (omega (arith, there, long, above))
-                (λ d. by_index.0 (task - first) d (omega (arith, there, above))
-                ∙ ap (λ (n : ℕ). slice_index_or starts n d) (let same : task - first + first ≡ task = omega (arith, above) in same))
-                (λ d. by_index_back.1 task d above (omega (arith, there, long, came_long))) is
-            | inr before ↦
-                let less : task < first = before.1 in
-                let at : ℕ = length came - first + task in
-                let end : length came ≡ length starts = came_long ∙ long in
-                comes_back task at outcome there (omega (arith, less, end, long, few))
-                (λ d. by_index.1 at d (omega (arith, end, few)) (omega (arith, less, end, few))
-                ∙ ap (λ (n : ℕ). slice_index_or starts n d)
-                (let same : at + first - length starts ≡ task = omega (arith, end, few) in same))
-                (λ d. by_index_back.0 task d less) is
-          ];
+      many = length-map back (λ (came : Came). came.items) ∙ (many ∙ (come.all ∙ (long ∙ are.many)));
+      each = λ task column is.
+          let it = from_map (λ (came : Came). came.items) back task column is in
+          subst (IsOutcomeOfEach run tables task) it.2 (back_at task it.0 it.1);
     }

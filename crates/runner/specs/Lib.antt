@@ -5,4 +5,5 @@ pub mod Seated
 pub mod Found
 pub mod Starts
 pub mod Result
+pub mod Columns
 pub use Rattle.shared_table.specs.Seats as of_shared_table_Seats

@@ -1,7 +1,6 @@
 -- What came of a run on threads, by the one list of all steps.
-use Rattle.std.specs.Prelude.{◌≡◌, ℕ, List, Some, length, slice_get}
+use Rattle.std.specs.Prelude.{◌≡◌, ◌<◌, ℕ, IfErr, IfOk, IsErrOf, List, Result, Some, length, slice_get}
 use Rattle.access_types.specs.Sites.{AccessMap}
-use Rattle.access_types.specs.declared.report.Report.{Report}
 use Rattle.litmus_step.specs.Kept.{AreLogs}
 use Rattle.litmus_step.specs.Readers.{AreRegisters}
 use Rattle.litmus_step.specs.Runs.{CanBeMade, run_of, tasks_of}
@@ -12,7 +11,11 @@ use Rattle.accepted_traces.specs.of_run_kept_Setters.{AreReports}
 use Rattle.accepted_traces.specs.of_run_lists_Run.{Run, first_words}
 use Rattle.accepted_traces.specs.of_run_lists_RunList.{AllHaveEnded, RunList}
 use Rattle.accepted_traces.specs.of_run_kept_Totals.{IsUnbalanced}
+use Rattle.accepted_traces.specs.of_program_sites_declared.error.RunError.{RunError}
+use Rattle.accepted_traces.specs.of_program_sites_declared.error.RunError.TheVariants.{Stuck}
+use Rattle.runner.specs.Found.{IsInVain, IsOfThreads, IsThrough}
 use Rattle.runner.specs.declared.result.RunResult.{RunResult}
+use Rattle.runner.specs.declared.run.Turn.{Turn}
 use Rattle.shared_table.specs.Ended.{IsListOf}
 use Rattle.slot_table.specs.Records.{words_after}
 use Rattle.slot_table.specs.declared.records.Record.{Record}
@@ -36,3 +39,19 @@ pub record IsRunOnce (program : Program) (settings : Settings) (result : RunResu
   pub records : List Record
   pub list : RunList (run_of program settings sites) records
   pub is_of : IsOf list result
+
+-- What comes of a run of the program of a turn: a result of some list of its steps, under the number of the turn, or why threads make none
+-- of it. Of several tasks that are stuck the smallest is named.
+pub record IsResultOf (program : Program) (settings : Settings) (turn : Turn) (outcome : Result RunResult RunError) : Type 0 where
+  pub once : IfOk outcome (IsRunOnce program settings)
+  pub number : IfOk outcome (λ result. result.number ≡ turn.number)
+  pub errors : IfErr outcome IsOfThreads
+  pub stuck : (task : ℕ) → IsErrOf outcome (Stuck task) → (sites : AccessMap) × IsInVain (run_of program settings sites) task
+      × ((below : ℕ) → below < task → IsThrough (run_of program settings sites) below)
+
+-- so it is of each turn, in their order
+pub record AreResultsOf (program : Program) (settings : Settings) (turns : List Turn) (outcomes : List (Result RunResult RunError)) :
+    Type 0 where
+  pub many : length outcomes ≡ length turns
+  pub each : (at : ℕ) (turn : Turn) (outcome : Result RunResult RunError) → slice_get turns at ≡ Some turn → slice_get outcomes at ≡ Some outcome
+      → IsResultOf program settings turn outcome

@@ -1,5 +1,5 @@
 -- What a run goes by.
-use Rattle.std.specs.Prelude.{◌≡◌, []}
+use Rattle.std.specs.Prelude.{◌≡◌, [], ℕ, List, Some, slice_get}
 use Rattle.accepted_traces.specs.of_program_sites_Prepared.{IsPrepared, sites_in}
 use Rattle.litmus_step.specs.Runs.{CanBeMade, run_of, tasks_of}
 use Rattle.accepted_traces.specs.of_program_sites_declared.prepared.Prepared.{Prepared}
@@ -8,6 +8,7 @@ use Rattle.litmus_syntax.specs.declared.program.Program.{Program}
 use Rattle.accepted_traces.specs.of_run_lists_Run as lists
 use Rattle.accepted_traces.specs.of_run_lists_Run.{Run}
 use Rattle.accepted_traces.specs.of_run_lists_RunList.{RunList}
+use Rattle.runner.specs.declared.terms.Batch.{Batch}
 use Rattle.runner.specs.declared.terms.Terms.{Terms}
 use Rattle.shared_table.specs.Given.{first_words}
 use Rattle.shared_table.specs.Seats.{Opened}
@@ -27,3 +28,12 @@ run_by terms = run_of terms.program.now terms.settings.now (sites_in terms.prepa
 -- the run can be made, and the words of the table are at first those of the run
 abbrev pub AreTerms : Terms → Type 0
 AreTerms terms = AreGiven terms.program.now terms.settings.now terms.prepared.now terms.table.now
+
+-- so it is of each table of several runs
+abbrev pub AreGivenEach : Program → Settings → Prepared → List Opened → Type 0
+AreGivenEach program settings prepared tables =
+    (at : ℕ) (opened : Opened) → slice_get tables at ≡ Some opened → AreGiven program settings prepared opened
+
+-- the run of a program that each run of a batch is
+abbrev pub run_of_batch : Batch → Run
+run_of_batch batch = run_of batch.program.now batch.settings.now (sites_in batch.prepared.now)

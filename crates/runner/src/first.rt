@@ -1,21 +1,22 @@
-//! The words and the tasks of a run before its first step.
+//! The words and the tasks of runs before their first steps.
 
-ghost use Rattle.std.specs.Prelude.{◌≡◌, ◌≤◌, ◌<◌, [], ℕ, IfOk};
+ghost use Rattle.std.specs.Prelude.{◌≡◌, ◌≤◌, ◌<◌, [], ℕ, IfOk, length, map, vec_capacity};
 ghost use Rattle.access_types.specs.Sites.{AccessMap};
-ghost use Rattle.accepted_traces.specs.of_program_sites_Prepared.{IsPrepared, IsReady};
-ghost use Rattle.litmus_step.specs.Runs.{run_of, tasks_of};
+ghost use Rattle.accepted_traces.specs.of_program_sites_Prepared.{IsPrepared, IsReady, sites_in};
+ghost use Rattle.litmus_step.specs.Runs.{CanBeMade, run_of, tasks_of};
 ghost use Rattle.accepted_traces.specs.of_program_sites_declared.settings.Settings.{Settings};
 ghost use Rattle.litmus_syntax.specs.Limits.{KeepsLimits};
 ghost use Rattle.litmus_syntax.specs.Views.{program_of};
 ghost use Rattle.accepted_traces.specs.of_run_lists_Run as lists;
-ghost use Rattle.runner.specs.Starts.{AreStarts, IsOutcome, IsStart};
-ghost use Rattle.runner.specs.Terms.{AreTerms, run_by};
+ghost use Rattle.accepted_traces.specs.of_run_lists_RunList.{RunList};
+ghost use Rattle.runner.specs.Starts.{AreStarts, AreStartsOfEach, AreTaskStarts, IsOutcome, IsOutcomeOfEach, IsStart, IsTaskStart};
+ghost use Rattle.runner.specs.Terms.{AreGivenEach, AreTerms, run_by, run_of_batch};
 ghost use Rattle.shared_table.specs.Given.{first_words};
 ghost use Rattle.shared_table.specs.Seats.{Opened, new_seats};
 
 use crate::hooks::{Gate, Stall};
 use crate::seated::{Found, SeatedTask};
-use crate::terms::Terms;
+use crate::terms::{Batch, Terms};
 use litmus_step::first::{first_log, first_reports, first_task};
 use litmus_step::{Prepared, RunError};
 use litmus_syntax::Program;
@@ -115,4 +116,93 @@ pub(crate) fn first_starts(
         starts.push_reserved(TaskStart::new(seat));
     }
     Ok(starts)
+}
+
+/// The shared words of so many runs before their first steps, and in each the tasks before theirs.
+pub(crate) fn first_runs(
+    alloc: Global,
+    program: &Program,
+    prepared: &Prepared,
+    runs: usize,
+) -> Result<(Vec<SharedTable>, Vec<Vec<TaskStart>>), AllocError>
+    requires limits { KeepsLimits (program_of program.now) }
+    requires ready { IsReady program.now prepared.now }
+    ensures many { IfOk result (λ made. length made.0.items ≡ runs) }
+    ensures given { (settings : Settings) → IsPrepared program.now settings prepared.now → CanBeMade (run_of program.now settings (sites_in prepared.now))
+        → RunList (run_of program.now settings (sites_in prepared.now)) []
+        → IfOk result (λ made. AreGivenEach program.now settings prepared.now made.0.items) }
+    ensures starts { IfOk result (λ made. AreStartsOfEach made.0.items (map (λ row. row.items) made.1.items)) }
+{
+    let mut tables = Vec::with_capacity(alloc, runs)?;
+    let mut rows = Vec::with_capacity(alloc, runs)?;
+    for _ in 0..runs {
+        let (table, seats) = first_table(alloc, program, prepared)?;
+        rows.push_reserved(first_starts(alloc, seats)?);
+        tables.push_reserved(table);
+    }
+    Ok((tables, rows))
+}
+
+/// A task before its first step in each of several runs, and room for what comes of it in these.
+#[derive(Drop)]
+pub(crate) struct TaskStarts {
+    pub(crate) number: usize,
+    pub(crate) starts: Vec<TaskStart>,
+    pub(crate) outcomes: Vec<Result<Found, RunError>>,
+}
+
+impl TaskStarts {
+    /// Makes the task's steps in each run of a batch, one run after the other, and says what comes of it in each.
+    pub(crate) fn found<'t, R: Wait, S: Stall, G: Gate>(
+        self,
+        rt: &R,
+        alloc: Global,
+        batch: Batch<'t>,
+        stalls: &[S],
+        gates: &[G],
+    ) -> Vec<Result<Found, RunError>>
+        requires given { AreGivenEach batch.program.now batch.settings.now batch.prepared.now batch.tables.now }
+        requires start { IsTaskStart batch.tables.now self.number self }
+        requires there { self.number < tasks_of (run_of_batch batch) }
+        requires stalls { length stalls.now ≡ length batch.tables.now }
+        requires gates { length gates.now ≡ length batch.tables.now }
+        ensures { IsOutcomeOfEach (run_of_batch batch.entry) batch.entry.tables.now self.number result.items }
+    {
+        let TaskStarts {
+            starts,
+            mut outcomes,
+            ..
+        } = self;
+        for start in starts {
+            let at = outcomes.len();
+            let terms = Terms {
+                program: batch.program,
+                settings: batch.settings,
+                prepared: batch.prepared,
+                table: &batch.tables[at],
+            };
+            outcomes.push_reserved(start.found(rt, alloc, terms, &stalls[at], &gates[at]));
+        }
+        outcomes
+    }
+}
+
+/// The tasks of several runs before their first steps, by the starts of each in these.
+pub(crate) fn task_starts(
+    alloc: Global,
+    columns: Vec<Vec<TaskStart>>,
+) -> Result<Vec<TaskStarts>, AllocError>
+    ensures { IfOk result (λ all. AreTaskStarts (map (λ column. column.items) columns.items) all.items) }
+{
+    let mut all = Vec::with_capacity(alloc, columns.len())?;
+    for starts in columns {
+        // The room is taken here: a thread that lacked it would have the others wait for its task in every run.
+        let outcomes = Vec::with_capacity(alloc, starts.len())?;
+        all.push_reserved(TaskStarts {
+            number: all.len(),
+            starts,
+            outcomes,
+        });
+    }
+    Ok(all)
 }

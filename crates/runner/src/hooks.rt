@@ -40,6 +40,28 @@ pub trait Gate: Sync {
     fn pass(&self, task: usize, point: Point);
 }
 
+/// A stall that is lent does what it does where it stands.
+impl<S: Stall> Stall for &S {
+    fn stall(&self, task: usize, index: usize) {
+        (**self).stall(task, index);
+    }
+
+    fn wait(&self, task: usize) {
+        (**self).wait(task);
+    }
+
+    fn over(&self, task: usize) {
+        (**self).over(task);
+    }
+}
+
+/// A gate that is lent holds where it stands.
+impl<G: Gate> Gate for &G {
+    fn pass(&self, task: usize, point: Point) {
+        (**self).pass(task, point);
+    }
+}
+
 /// A stall that spends no time.
 #[derive(Clone, Copy, Debug)]
 pub struct NoStall;

@@ -1,6 +1,7 @@
 //! A program on real threads, one a task, over the shared words and without a lock.
 #![tactic(auto)]
 
+mod columns;
 mod first;
 pub mod hooks;
 pub mod laws;
@@ -9,9 +10,10 @@ pub mod run;
 mod seated;
 mod terms;
 mod threads;
+mod together;
 
 pub use hooks::{Gate, NoStall, Open, Point, Stall};
 pub use litmus_step::RunError;
 pub use result::RunResult;
-pub use run::{Turn, run_once, run_prepared};
+pub use run::{Turn, run_batch, run_once, run_prepared};
 pub use shared_table;

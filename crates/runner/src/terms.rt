@@ -1,4 +1,4 @@
-//! What the threads of a run go by.
+//! What the threads of runs go by.
 
 ghost use Rattle.std.specs.Prelude.{◌≡◌};
 
@@ -13,4 +13,14 @@ pub(crate) struct Terms<'t> {
     pub(crate) settings: &'t Settings,
     pub(crate) prepared: &'t Prepared,
     pub(crate) table: &'t SharedTable,
+}
+
+/// What the runs of a batch go by: the program, the settings, what was made ready of them, and the shared words of each
+/// run.
+#[derive(Clone, Copy)]
+pub(crate) struct Batch<'t> {
+    pub(crate) program: &'t Program,
+    pub(crate) settings: &'t Settings,
+    pub(crate) prepared: &'t Prepared,
+    pub(crate) tables: &'t [SharedTable],
 }

@@ -1,9 +1,10 @@
 //! Many runs, of which each is made once.
 
-use crate::runs::{Meeting, RACE, THOUSAND, TWO_STUCK, Unseen, has, settings};
-use run_tally::runner::{Gate, Point, Stall};
+use crate::runs::{Meeting, RACE, THOUSAND, TWO_STUCK, Unseen, has, parsed, settings};
+use run_tally::litmus_step::Prepared;
+use run_tally::runner::{Gate, NoStall, Open, Point, RunError, Stall, Turn, run_batch};
 use run_tally::trace_replay::{Accepted, replay};
-use run_tally::{Hooks, Progress, Times, run_text_with};
+use run_tally::{Hooks, Progress, Times, run_text_often, run_text_with};
 use std::sync::atomic::{AtomicU64, Ordering};
 use std::test::Fail;
 
@@ -189,5 +190,77 @@ fn each_stuck_run_is_made_once(rt: HostRuntime) -> Result<(), Fail> {
     assert!(rt; has(left.output.as_slice(), "\nstuck in 3 of 3 runs\n"));
     assert_eq!(rt; counts.runs.load(Ordering::SeqCst), 3);
     assert_eq!(rt; counts.reader_begins.load(Ordering::SeqCst), 3);
+    Ok(())
+}
+
+/// The turn of a number in which a task starts first.
+fn turn(number: u64, first: usize) -> Turn {
+    Turn { number, first }
+}
+
+/// Each run of a batch has words, a gate and a stall of its own: in each the race is found once.
+#[test]
+fn a_batch_makes_each_of_its_runs(rt: HostRuntime) -> Result<(), Fail> {
+    let alloc = rt.alloc();
+    let program = parsed(alloc, RACE)?;
+    let strict = settings(alloc, true, 1_000_000_000);
+    let prepared = Prepared::new(alloc, &program, &strict)?;
+    let turns = [turn(7, 1), turn(8, 0), turn(9, 1)];
+    let meetings = [Meeting::new(), Meeting::new(), Meeting::new()];
+    let all = run_batch(
+        &rt, alloc, &program, &strict, &prepared, &turns, &meetings, &meetings,
+    )?;
+    assert_eq!(rt; all.len(), 3);
+    let mut number = 7;
+    for ran in all {
+        let ran = ran?;
+        assert_eq!(rt; ran.number(), number);
+        assert_eq!(rt; ran.reports().len(), 1);
+        assert_eq!(rt; ran.counters().two_sided, 1);
+        number = number.saturating_add(1);
+    }
+    for meeting in &meetings {
+        assert_eq!(rt; meeting.ran_out.load(Ordering::SeqCst), 0);
+    }
+    Ok(())
+}
+
+/// A stuck run is one of its own: the threads go on with the next.
+#[test]
+fn a_batch_goes_on_behind_a_stuck_run(rt: HostRuntime) -> Result<(), Fail> {
+    let alloc = rt.alloc();
+    let program = parsed(alloc, TWO_STUCK)?;
+    let settings = settings(alloc, false, 3);
+    let prepared = Prepared::new(alloc, &program, &settings)?;
+    let turns = [turn(0, 0), turn(1, 2)];
+    let stalls = [NoStall, NoStall];
+    let gates = [Open, Open];
+    let all = run_batch(
+        &rt, alloc, &program, &settings, &prepared, &turns, &stalls, &gates,
+    )?;
+    assert_eq!(rt; all.len(), 2);
+    for ran in all {
+        assert_eq!(rt; ran.err(), Some(RunError::Stuck { task: 1 }));
+    }
+    Ok(())
+}
+
+/// Runs in batches of many sizes, without a delay and with one: all are counted, and with a delay some find the race.
+#[test]
+fn batches_are_as_many_runs_as_are_asked_for(rt: HostRuntime) -> Result<(), Fail> {
+    let alloc = rt.alloc();
+    let settings = settings(alloc, false, 1_000_000);
+    for (delay, jobs) in [(64, 1), (0, 1), (64, 3), (0, 3)] {
+        let times = Times {
+            runs: 200,
+            delay,
+            jobs,
+            ..THOUSAND
+        };
+        let text = RACE.as_bytes();
+        let left = run_text_often(&rt, alloc, text, &settings, times, true, &Unseen)?;
+        assert!(rt; has(left.output.as_slice(), " of 200 runs\n"));
+        assert!(rt; left.raced || delay == 0);
+    }
     Ok(())
 }

@@ -1,5 +1,7 @@
 -- The closure is shared by the threads: so may be each that it captures.
-use Rattle.std.proofs.Common.{◌∷◌, [], List}
+use Rattle.std.proofs.Common.{rules, ◌<◌, ◌+◌, ◌*◌, ◌∷◌, [], ℕ, IfOk, List, Ok, arith, length, slice_index_or, subst}
+use Rattle.std.proofs.lemmas.Option.{get_or_from_slice_get, slice_get_within}
+use Rattle.run_tally.specs.Runs.{ComeFrom}
 use Rattle.std.proofs.Crossing.{crosses}
 use Rattle.std.proofs.alloc.Global.TheSendSync as global
 use Rattle.std.specs.contracts.alloc.Global as global_row
@@ -8,7 +10,7 @@ use denote.Param.{param}
 use denote.Param.Send.{AllSync, IsSync, arg_sync, param_sync, recorded_sync, sendable, shr_sync, struct_sync}
 use denote.RattleType.{RattleType}
 use denote.Struct.Declared as declared
-use denote.Struct.Field.{shr_ref_field, u64-field}
+use denote.Struct.Field.{shr_ref_field, u64-field, usize-field}
 use denote.Struct.Struct.{Struct}
 use denote.Struct.Tuple.{type_at}
 use mir.Syntax.{named}
@@ -36,12 +38,15 @@ map_indices-requires-sync-F g c κs within =
     ∷ (shr_ref_field (record { mir = named 8; lft = κs.1.1.1.1.1.1.1.1.0 }) prepared_row.the_row tt).row
     ∷ times_row.the_row
     ∷ starters_row.the_row
+    ∷ u64-field.row
     ∷ (shr_ref_field (record { mir = named 9; lft = κs.1.1.1.1.1.1.1.1.1.0 }) (param 1 g.row.H) tt).row
     ∷ (shr_ref_field (record { mir = named 10; lft = κs.1.1.1.1.1.1.1.1.1.1.0 }) (param 0 g.row.R) tt).row
     ∷ global_row.the_row
     ∷ u64-field.row
+    ∷ usize-field.row
     ∷ [] in
     let number : IsSync u64-field.row = search (sendable, crosses) in
+    let many : IsSync usize-field.row = search (sendable, crosses) in
     let all : AllSync rows = (
       shr_sync _ _ _ program_shared,
       (
@@ -52,7 +57,7 @@ map_indices-requires-sync-F g c κs within =
             times.the_sync,
             (
               starters.the_sync,
-              (shr_sync _ _ _ c.type_bounds.sync-H, (shr_sync _ _ _ c.type_bounds.sync-R, (global.the_sync, (number, tt)))),
+              (number, (shr_sync _ _ _ c.type_bounds.sync-H, (shr_sync _ _ _ c.type_bounds.sync-R, (global.the_sync, (number, (many, tt)))))),
             ),
           ),
         ),
@@ -61,3 +66,18 @@ map_indices-requires-sync-F g c κs within =
     param_sync 3 (lts.arg-0-3 g.row.R g.row.H g.row.H-OfRun g.R.laws g.H.laws g.H.OfRun.laws g.R.Threads-dict g.R.Wait-dict g.H.Hooks-dict
     g.H.OfRun.Stall-dict g.H.OfRun.Gate-dict g.H.OfRun.Destruct-dict κs)
     (arg_sync _ yes _ (closure_sync (type_at _ rows) all))
+
+pub returns : goal.returns
+returns g c =
+    let made = c.in_ok-map_indices.field-0 in
+    subst (λ (n : ℕ). IfOk c.joined.result (λ all. ComeFrom c.args.plan.now.program.now c.args.plan.now.settings.now c.args.number
+    (n * c.args.lot.runs) all.items)) (omega (arith, made.ok.0, c.in_ok-map_indices.ensures.len))
+    (c.joined.ensures c.args.plan.now.program.now c.args.plan.now.settings.now c.args.number c.args.lot.runs
+    (λ at batch is.
+    let within : at < length made.items = slice_get_within made.items at (Ok batch) is in
+    let got = c.in_ok-map_indices.ensures.each at (Ok batch) (omega (arith, within, made.ok.0, c.in_ok-map_indices.ensures.len)) in
+    let same = get_or_from_slice_get made.items at (Ok batch) (Ok batch) is in
+    let post : IfOk (slice_index_or made.items at (Ok batch)) (λ all. ComeFrom c.args.plan.now.program.now c.args.plan.now.settings.now
+    (c.args.number + at * c.args.lot.runs) c.args.lot.runs all.items) = search (rules, got) in
+    subst (λ made. IfOk made (λ all. ComeFrom c.args.plan.now.program.now c.args.plan.now.settings.now (c.args.number + at * c.args.lot.runs)
+    c.args.lot.runs all.items)) same post))

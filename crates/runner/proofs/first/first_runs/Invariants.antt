@@ -1,0 +1,20 @@
+-- Each run so far has its words and its tasks, and there is room for the rest.
+use Rattle.std.proofs.Common.{◌≡◌, ◌≤◌, [], map, vec_capacity, vec_len}
+use Rattle.accepted_traces.specs.of_program_sites_Prepared.{IsPrepared, sites_in}
+use Rattle.accepted_traces.specs.of_program_sites_declared.settings.Settings.{Settings}
+use Rattle.accepted_traces.specs.of_run_lists_RunList.{RunList}
+use Rattle.litmus_step.specs.Runs.{CanBeMade, run_of}
+use Rattle.runner.proofs.first.first_runs.Given as goal
+use Rattle.runner.specs.Starts.{AreStartsOfEach}
+use Rattle.runner.specs.Terms.{AreGivenEach}
+
+abbrev pub invariant-loop : goal.invariant-loop
+invariant-loop l = record {
+  made : vec_len l.tables ≡ l.counter;
+  made_rows : vec_len l.rows ≡ l.counter;
+  room : l.runs ≤ vec_capacity l.tables;
+  room_rows : l.runs ≤ vec_capacity l.rows;
+  given : (settings : Settings) → IsPrepared l.program settings l.prepared → CanBeMade (run_of l.program settings (sites_in l.prepared))
+      → RunList (run_of l.program settings (sites_in l.prepared)) [] → AreGivenEach l.program settings l.prepared l.tables.items;
+  starts : AreStartsOfEach l.tables.items (map (λ row. row.items) l.rows.items);
+}
