@@ -1,0 +1,4 @@
+pub mod Told
+pub mod Places
+pub mod Points
+pub mod Lists
