@@ -1,7 +1,7 @@
 // `kcsan_litmus run` in plain C, of any litmus text: a thread a task, and atomic words that the threads share,
 // sequentially consistent. A delay begins once each task has come to its first access; after each load of it, and where
-// a task has to wait, the thread yields; it ends early where no other task can come. Tasks that may set up a watchpoint
-// start first in turn. `plain_threads FILE [OPTION..]` with --runs, --delay and the options of plain_steps.c. Threads
+// a task has to wait, the thread yields; it ends early where no other task can come. Without a delay a task only waits
+// with its first access until all have come. Tasks that may set up a watchpoint start first in turn. `plain_threads FILE [OPTION..]` with --runs, --delay and the options of plain_steps.c. Threads
 // are started anew for each run, or with --kept N for N runs, each on words of its own; the lists of a task are taken
 // once for so many runs, and filled anew. With --count it says on standard error how many steps were made, the loads of
 // the delay aside.
@@ -76,10 +76,17 @@ static void stall(struct run *run, const struct task *task) {
   atomic_fetch_sub(&run->delaying, 1);
 }
 
+static void meet(struct run *run, const struct task *task) {
+  if ((u64)__builtin_popcountll(atomic_load(&run->here)) >= count_of_tasks)
+    return;
+  come(run, task);
+  await_all(run);
+}
+
 // A task that waits for a lock tries again once nobody delays.
 static void wait_for_lock(struct run *run, const struct task *task) {
-  come(run, task);
   opens(run, task);
+  meet(run, task);
   atomic_fetch_add(&run->away, 1);
   for (u64 turn = 0; turn < (delay ? delay : 1); turn++) {
     sched_yield();
@@ -90,8 +97,11 @@ static void wait_for_lock(struct run *run, const struct task *task) {
 }
 
 static void before(struct run *run, const struct task *task) {
-  if (delay == 0)
+  if (delay == 0) {
+    if (task->at == BEGIN)
+      meet(run, task);
     return;
+  }
   if (task->at == BEGIN)
     await_first(run, task);
   else if (task->at == NEW || (task->at == CONSUME && !task->checked->operation->one_cell))
