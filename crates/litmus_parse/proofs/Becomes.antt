@@ -1,15 +1,15 @@
 -- What the names of a program become behind mentions and parameters: they still differ, are few, and keep their numbers.
-use Rattle.std.proofs.Common.{◌≡◌, ◌+◌, ◌≤◌, ℕ, zero, suc, List, [], ◌∷◌, ◌++◌, Some, length, map, refl, ap}
+use Rattle.std.proofs.Common.{◌≡◌, ◌≤◌, ℕ, zero, suc, List, [], ◌∷◌, ◌++◌, Some, length, map, refl, ap}
 use Rattle.std.proofs.Common.{subst, arith}
 use Rattle.std.specs.Prelude.{Contains, slice_get}
 use Rattle.litmus_cursor.specs.Words.{Symbol}
 use Rattle.litmus_expression.specs.Names.{Names, Numbered, Parameter, known, new}
 use Rattle.litmus_expression.proofs.Named.{among, in_front, in_none, in_rest}
 use Rattle.statement_laws.proofs.Named.{Named, numbered_named}
+use Rattle.litmus_parts.specs.Mentions as mentions
+use Rattle.litmus_parts.specs.Mentions.{AreNumbered, Mention}
 use Rattle.litmus_parse.specs.Headers as headers
 use Rattle.litmus_parse.specs.Headers.{Listed, Parameters, mention_of}
-use Rattle.litmus_parse.specs.Mentions as mentions
-use Rattle.litmus_parse.specs.Mentions.{AreNumbered, Mention}
 
 -- each number has the name that it had
 abbrev pub Grown : Names → Names → Type 0

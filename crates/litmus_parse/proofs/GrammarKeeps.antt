@@ -18,15 +18,15 @@ use Rattle.litmus_expression.specs.Names.{HasBytes, IsAtomic, IsInteger, IsLock,
 use Rattle.litmus_expression.proofs.Named.{in_front, in_rest}
 use Rattle.litmus_expression.proofs.Taken.{same_given}
 use Rattle.statement_laws.proofs.Named.{Named, numbered_named, statements_named}
-use Rattle.litmus_parse.specs.Conditions as conditions
-use Rattle.litmus_parse.specs.Conditions.{Atom, Conjoined, Disjoined, Negation, with_registers}
+use Rattle.litmus_parts.specs.Conditions as conditions
+use Rattle.litmus_parts.specs.Conditions.{Atom, Conjoined, Disjoined, Negation, with_registers}
+use Rattle.litmus_parts.specs.Mentions as mentions
+use Rattle.litmus_parts.specs.Mentions.{AreDeclared, IsDeclared, Mention, contents_of, parameter}
+use Rattle.litmus_parts.proofs.Items.{item_fewer}
 use Rattle.litmus_parse.specs.Grammar.{Grammar, mentions_of, said_by, task_of}
 use Rattle.litmus_parse.specs.Headers as headers
 use Rattle.litmus_parse.specs.Headers.{IsProcess, Items, Process, Processes, mention_of}
-use Rattle.litmus_parse.specs.Mentions as mentions
-use Rattle.litmus_parse.specs.Mentions.{AreDeclared, IsDeclared, Mention, contents_of, parameter}
 use Rattle.litmus_parse.proofs.Becomes.{At, Becomes, Grown, at_grown, at_there, becomes_then, mention_there, mentions_become, parameters_are}
-use Rattle.litmus_parse.proofs.Items.{item_fewer}
 use Rattle.litmus_parse.proofs.NamesSpelled.{all_more}
 use Rattle.litmus_parse.proofs.ProcessesComplete.{contains_first, contains_rest}
 use Rattle.litmus_parse.proofs.RegistersTyped.{Sorted, numbered_grow, statements_typed}

@@ -19,23 +19,25 @@ use Rattle.litmus_body.specs.StatementReader.{block_at}
 use Rattle.statement_laws.specs.Reads.{ReadsWhole}
 use Rattle.statement_laws.proofs.Kept.{whole_keeps}
 use Rattle.statement_laws.proofs.Sound.{whole_reads}
+use Rattle.litmus_parts.specs.ItemReader.{Heading, past}
+use Rattle.litmus_parts.specs.Mentions.{Mention}
+use Rattle.litmus_parts.specs.ParameterReader.{parameters_at}
+use Rattle.litmus_parts.specs.Seen.{process_of}
+use Rattle.litmus_parts.specs.Seen.{seen}
+use Rattle.litmus_parts.specs.Told.{all_told, told_of}
+use Rattle.litmus_parts.specs.Turns.{again, done, going, turned}
+use Rattle.litmus_parts.specs.Entries.{Entry}
+use Rattle.litmus_parts.proofs.Items.{identifier_is}
+use Rattle.litmus_parts.proofs.Listed.{ReadsParameters, parameters_read}
+use Rattle.litmus_parts.proofs.PropositionSound.{AllFew}
+use Rattle.litmus_parts.proofs.Spelled.{Said}
+use Rattle.litmus_parts.proofs.Tidy.{Tidy, entry_in}
+use Rattle.litmus_parts.proofs.Unrolled.{Listing}
 use Rattle.litmus_parse.specs.Grammar.{mentions_of}
 use Rattle.litmus_parse.specs.Headers as grammar
 use Rattle.litmus_parse.specs.Headers.{IsProcess, Parameters, Process, Processes, mention_of, name_of, process_name}
-use Rattle.litmus_parse.specs.ItemReader.{Heading, past}
-use Rattle.litmus_parse.specs.Mentions.{Mention}
-use Rattle.litmus_parse.specs.ParameterReader.{parameters_at}
-use Rattle.litmus_parse.specs.ProcessReader.{Course, and_process, is_called, is_process, process_at, process_of, process_with, processes_at}
-use Rattle.litmus_parse.specs.ProcessReader.{processes_by, seen}
-use Rattle.litmus_parse.specs.Told.{all_told, told_of}
-use Rattle.litmus_parse.specs.Turns.{again, done, going, turned}
-use Rattle.litmus_parse.specs.Entries.{Entry}
-use Rattle.litmus_parse.proofs.Items.{identifier_is}
-use Rattle.litmus_parse.proofs.Listed.{ReadsParameters, parameters_read}
-use Rattle.litmus_parse.proofs.PropositionSound.{AllFew}
-use Rattle.litmus_parse.proofs.Spelled.{Said}
-use Rattle.litmus_parse.proofs.Tidy.{Tidy, entry_in}
-use Rattle.litmus_parse.proofs.Unrolled.{Listing}
+use Rattle.litmus_parse.specs.ProcessReader.{Course, and_process, is_called, is_process, process_at, process_with, processes_at}
+use Rattle.litmus_parse.specs.ProcessReader.{processes_by}
 
 abbrev Found : Type 0
 Found = (State × tree.Block) × Heading

@@ -17,24 +17,25 @@ use Rattle.litmus_expression.proofs.Named.{among, in_front, in_none, in_rest, is
 use Rattle.litmus_body.specs.Statements.{Statements}
 use Rattle.statement_laws.proofs.Named.{statements_named}
 use Rattle.statement_laws.proofs.Whole.{whole_is_read}
-use Rattle.litmus_parse.specs.Conditions as conditions
-use Rattle.litmus_parse.specs.Conditions.{Quantifies}
-use Rattle.litmus_parse.specs.Distinct.{AllDistinct, Distinct, body_of}
-use Rattle.litmus_parse.specs.Entries.{Entry}
+use Rattle.litmus_parts.specs.Conditions as conditions
+use Rattle.litmus_parts.specs.Conditions.{Quantifies}
+use Rattle.litmus_parts.specs.Distinct.{AllDistinct, Distinct, body_of}
+use Rattle.litmus_parts.specs.Entries.{Entry}
+use Rattle.litmus_parts.specs.ItemReader.{Heading}
+use Rattle.litmus_parts.specs.Mentions.{Mention}
+use Rattle.litmus_parts.specs.Seen.{process_of, seen}
+use Rattle.litmus_parts.specs.Typed.{AreTyped}
+use Rattle.litmus_parts.proofs.Fits.{Behind, Fits}
+use Rattle.litmus_parts.proofs.ItemsComplete.{heading}
+use Rattle.litmus_parts.proofs.ParametersComplete.{parameters_complete}
+use Rattle.litmus_parts.proofs.Tidy.{entry_in}
+use Rattle.litmus_parts.proofs.Unrolled.{Listing}
 use Rattle.litmus_parse.specs.Grammar.{mentions_of}
 use Rattle.litmus_parse.specs.Headers as grammar
 use Rattle.litmus_parse.specs.Headers.{IsProcess, Parameters, Process, Processes, mention_of, name_of, process_name}
-use Rattle.litmus_parse.specs.ItemReader.{Heading}
-use Rattle.litmus_parse.specs.Mentions.{Mention}
-use Rattle.litmus_parse.specs.ProcessReader.{Course, is_process, process_at, process_of, process_with, processes_at, seen}
-use Rattle.litmus_parse.specs.Typed.{AreTyped}
-use Rattle.litmus_parse.proofs.Fits.{Behind, Fits}
-use Rattle.litmus_parse.proofs.ItemsComplete.{heading}
-use Rattle.litmus_parse.proofs.ParametersComplete.{parameters_complete}
+use Rattle.litmus_parse.specs.ProcessReader.{Course, is_process, process_at, process_with, processes_at}
 use Rattle.litmus_parse.proofs.Processes.{told_both}
 use Rattle.litmus_parse.proofs.ProcessUnrolled.{no_more, read_more}
-use Rattle.litmus_parse.proofs.Tidy.{entry_in}
-use Rattle.litmus_parse.proofs.Unrolled.{Listing}
 
 -- ---- mentions among more
 

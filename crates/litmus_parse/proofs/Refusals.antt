@@ -1,8 +1,7 @@
 -- What a refusal means where names are made of what is read.
-use Rattle.std.proofs.Common.{◌≡◌, ◌∙◌, ◌++◌, ◌≤◌, ℕ, suc, List, [], ◌∷◌, Bool, true, false, cond, Option, Some, None, Bor, get_or, length, map, refl}
+use Rattle.std.proofs.Common.{◌≡◌, ◌∙◌, ◌++◌, ◌≤◌, ℕ, List, [], ◌∷◌, Bool, true, false, cond, Option, Some, None, Bor, get_or, length, map, refl}
 use Rattle.std.proofs.Common.{sym, ap, subst, arith}
-use Rattle.std.specs.Prelude.{All, Err, IfErr, Ok, Result}
-use Rattle.std.specs.Result.{IsErrAnd}
+use Rattle.std.specs.Prelude.{All}
 use Rattle.std.specs.Str.{IsUtf8}
 use Rattle.litmus_syntax.specs.Tree as tree
 use Rattle.litmus_syntax.specs.declared.program.Variable.{Variable}
@@ -12,36 +11,17 @@ use Rattle.litmus_cursor.specs.Words.{Symbol}
 use Rattle.litmus_expression.specs.declared.process.Process.{Process}
 use Rattle.litmus_expression.specs.States.{State, state_of}
 use Rattle.litmus_expression.proofs.Taken.{same_given}
-use Rattle.litmus_parse.specs.declared.declaration.Declared.{Declared}
-use Rattle.litmus_parse.specs.ConditionReader.{quantifier_at}
-use Rattle.litmus_parse.specs.Entries.{entry_of}
+use Rattle.litmus_parts.specs.ConditionReader.{quantifier_at}
+use Rattle.litmus_parts.specs.ItemReader.{Heading, initialization_at, unnamed}
+use Rattle.litmus_parts.specs.Seen.{process_of, seen}
+use Rattle.litmus_parts.specs.PropositionReader.{whole_at}
+use Rattle.litmus_parts.specs.Variables.{has_contradiction, locks_in, variables_in}
+use Rattle.litmus_parts.proofs.Refusals.{all_there}
 use Rattle.litmus_parse.specs.Grammar.{task_of}
-use Rattle.litmus_parse.specs.ItemReader.{Heading, initialization_at, unnamed}
-use Rattle.litmus_parse.specs.ProcessReader.{Course, process_of, processes_at, seen, unbegun}
-use Rattle.litmus_parse.specs.PropositionReader.{whole_at}
-use Rattle.litmus_parse.specs.TextReader.{Parts, condition_at, ended, has_contradiction, locks_in, parts_at, parts_behind, program_at, put_together}
-use Rattle.litmus_parse.specs.TextReader.{variables_in}
-use Rattle.litmus_parse.specs.VariableReader.{name_of}
-
--- what holds of the error that a result has
-pub err_holds : {X E : Type 0} (P : E → Type 0) (result : Result X E) (error : E) → IsErrAnd result (λ found. found ≡ error) → P error
-    → IfErr result P
-err_holds P (Ok x) error is holds = tt
-err_holds P (Err other) error is holds = subst P (sym is) holds
+use Rattle.litmus_parse.specs.ProcessReader.{Course, processes_at, unbegun}
+use Rattle.litmus_parse.specs.TextReader.{Parts, condition_at, ended, parts_at, parts_behind, program_at, put_together}
 
 -- ---- names that are made
-
-all_there : {A : Type 0} (P : A → Type 0) (one : List A) (x : A) (rest : List A) → All P (one ++ x ∷ rest) → P x
-all_there P [] x rest all = all 0 x (omega arith)
-all_there P (y ∷ one) x rest all = all_there P one x rest (λ k d lt. all (suc k) d (omega arith))
-
-pub declared_there : (ds : List Declared) (made whole : List Variable) (d : Declared) → 1 ≤ length ds
-    → made ++ variables_in (map name_of ds) (map entry_of ds) ≡ whole → All (λ (v : Variable). IsUtf8 v.name) whole
-    → IsUtf8 (get_or ds 0 d).name.now
-declared_there [] made whole d some is all = absurd (omega arith)
-declared_there (e ∷ ds) made whole d some is all =
-    all_there (λ (v : Variable). IsUtf8 v.name) made _ (variables_in (map name_of ds) (map entry_of ds))
-    (subst (λ (l : List Variable). All (λ (v : Variable). IsUtf8 v.name) l) (sym is) all)
 
 pub name_there : (ns : List (Bor (List ℕ))) (made whole : List (List ℕ)) (d : Bor (List ℕ)) → 1 ≤ length ns → made ++ map now ns ≡ whole
     → All IsUtf8 whole → IsUtf8 (get_or ns 0 d).now

@@ -9,8 +9,8 @@ use Rattle.litmus_syntax.specs.declared.program.Task.{Task}
 use Rattle.litmus_syntax.specs.declared.statement.Statement.{Statement}
 use Rattle.litmus_expression.specs.declared.process.Process.{Process}
 use Rattle.litmus_expression.specs.States.{state_of}
+use Rattle.litmus_parts.specs.Seen.{process_of, seen}
 use Rattle.litmus_parse.specs.Grammar.{task_of}
-use Rattle.litmus_parse.specs.ProcessReader.{process_of, seen}
 use Rattle.litmus_parse.specs.TextReader.{bodies_of}
 
 pub first_body : (bs : List (Vec Statement Global)) (b : Vec Statement Global) → 0 < length bs → b ≡ get_or bs 0 b

@@ -12,30 +12,32 @@ use Rattle.litmus_expression.specs.Names.{Names}
 use Rattle.litmus_expression.specs.States.{State}
 use Rattle.litmus_expression.proofs.Named as Named
 use Rattle.litmus_expression.proofs.Named.{found_at, in_none, in_rest}
-use Rattle.litmus_parse.specs.Conditions.{IsKnown}
-use Rattle.litmus_parse.specs.Distinct.{body_of}
-use Rattle.litmus_parse.specs.Entries.{Entry, fresh}
+use Rattle.litmus_parts.specs.Conditions.{IsKnown}
+use Rattle.litmus_parts.specs.Distinct.{body_of}
+use Rattle.litmus_parts.specs.Entries.{Entry, fresh}
+use Rattle.litmus_parts.specs.ItemReader.{Heading}
+use Rattle.litmus_parts.specs.Mentions.{HasType, Mention}
+use Rattle.litmus_parts.specs.Seen.{seen}
+use Rattle.litmus_parts.specs.PropositionReader.{whole_at}
+use Rattle.litmus_parts.specs.Variables.{locks_in, variables_in}
+use Rattle.litmus_parts.specs.Told.{all_told}
+use Rattle.litmus_parts.specs.Typed.{AreTyped}
+use Rattle.litmus_parts.specs.VariableReader.{is_lock_type}
+use Rattle.litmus_parts.proofs.Declared.{Ends, EndsAt, no_contradiction, one_type, variables_are}
+use Rattle.litmus_parts.proofs.Fits.{Fit, Fits, fits_at_first, no_lock_type}
+use Rattle.litmus_parts.proofs.ItemsComplete.{BlockGoes, block_goes, heading}
+use Rattle.litmus_parts.proofs.Known as known
+use Rattle.litmus_parts.proofs.PropositionComplete.{whole_complete}
+use Rattle.litmus_parts.proofs.Quantifiers.{quantifier_read}
+use Rattle.litmus_parts.proofs.Tidy.{entry_at, entry_in}
 use Rattle.litmus_parse.specs.Grammar.{Grammar, mentions_of, said_by, task_of}
 use Rattle.litmus_parse.specs.Headers.{Process}
-use Rattle.litmus_parse.specs.ItemReader.{Heading}
-use Rattle.litmus_parse.specs.Mentions.{HasType, Mention}
-use Rattle.litmus_parse.specs.ProcessReader.{Course, processes_at, seen, unbegun}
-use Rattle.litmus_parse.specs.PropositionReader.{whole_at}
-use Rattle.litmus_parse.specs.TextReader.{condition_at, ended, locks_in, program_at, variables_in}
-use Rattle.litmus_parse.specs.Told.{all_told}
-use Rattle.litmus_parse.specs.Typed.{AreTyped}
-use Rattle.litmus_parse.specs.VariableReader.{is_lock_type}
-use Rattle.litmus_parse.proofs.Declared.{Ends, EndsAt, no_contradiction, one_type, variables_are}
-use Rattle.litmus_parse.proofs.Fits.{Fit, Fits, fits_at_first, no_lock_type}
-use Rattle.litmus_parse.proofs.ItemsComplete.{BlockGoes, block_goes, heading}
-use Rattle.litmus_parse.proofs.Known as known
+use Rattle.litmus_parse.specs.ProcessReader.{Course, processes_at, unbegun}
+use Rattle.litmus_parse.specs.TextReader.{condition_at, ended, program_at}
 use Rattle.litmus_parse.proofs.Numbered.{all_typed, is_said, numbered_both, processes_numbered, stands, type_of}
 use Rattle.litmus_parse.proofs.Processes.{told_both}
 use Rattle.litmus_parse.proofs.ProcessesComplete.{ProcessesGo, processes_complete, quantifier_is_no_process}
-use Rattle.litmus_parse.proofs.PropositionComplete.{whole_complete}
-use Rattle.litmus_parse.proofs.Quantifiers.{quantifier_read}
 use Rattle.litmus_parse.proofs.Texts.{items_are, locks_at, parameters_are, unknown}
-use Rattle.litmus_parse.proofs.Tidy.{entry_at, entry_in}
 
 -- ---- mentions that are among others
 

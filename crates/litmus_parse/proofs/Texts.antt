@@ -12,28 +12,29 @@ use Rattle.litmus_expression.specs.Names.{Names, Parameter}
 use Rattle.litmus_expression.specs.States.{State}
 use Rattle.litmus_expression.proofs.Fewer.{at_last, behind_it, unless_it}
 use Rattle.litmus_expression.proofs.Named.{found_at, in_none, nowhere}
-use Rattle.litmus_parse.specs.ConditionReader.{quantifier_at}
-use Rattle.litmus_parse.specs.Conditions.{Disjoined, IsKnown}
-use Rattle.litmus_parse.specs.Entries.{Entry, fresh, has_two_types}
+use Rattle.litmus_parts.specs.ConditionReader.{quantifier_at}
+use Rattle.litmus_parts.specs.Conditions.{Disjoined, IsKnown}
+use Rattle.litmus_parts.specs.Entries.{Entry, fresh, has_two_types}
+use Rattle.litmus_parts.specs.ItemReader.{Heading, initialization_at, unnamed}
+use Rattle.litmus_parts.specs.Mentions as mentions
+use Rattle.litmus_parts.specs.Mentions.{AreDeclared, AreNumbered, Mention, contents_of}
+use Rattle.litmus_parts.specs.Seen.{seen}
+use Rattle.litmus_parts.specs.PropositionReader.{whole_at}
+use Rattle.litmus_parts.specs.Variables.{has_contradiction, is_lock_entry, locks_in, variable_in, variables_in}
+use Rattle.litmus_parts.specs.Told.{all_told}
+use Rattle.litmus_parts.specs.VariableReader.{is_lock_type}
+use Rattle.litmus_parts.proofs.Known as known
+use Rattle.litmus_parts.proofs.Known.{AreItems, AreParameters, has_type, lock_is, not_both, value_is}
+use Rattle.litmus_parts.proofs.PropositionSound.{AllFew, whole_reads}
+use Rattle.litmus_parts.proofs.Quantifiers.{quantifier_spelled}
+use Rattle.litmus_parts.proofs.Spelled.{ReadsBlock, initialization_read}
+use Rattle.litmus_parts.proofs.Tidy.{Tidy, entry_at, entry_in}
 use Rattle.litmus_parse.specs.Grammar.{Grammar, mentions_of, said_by, task_of}
 use Rattle.litmus_parse.specs.Headers as headers
 use Rattle.litmus_parse.specs.Headers.{Item, Items, Process, Processes, mention_of}
-use Rattle.litmus_parse.specs.ItemReader.{Heading, initialization_at, unnamed}
-use Rattle.litmus_parse.specs.Mentions as mentions
-use Rattle.litmus_parse.specs.Mentions.{AreDeclared, AreNumbered, Mention, contents_of}
-use Rattle.litmus_parse.specs.ProcessReader.{Course, processes_at, seen, unbegun}
-use Rattle.litmus_parse.specs.PropositionReader.{whole_at}
-use Rattle.litmus_parse.specs.TextReader.{condition_at, ended, has_contradiction, is_lock_entry, locks_in, program_at, variable_in}
-use Rattle.litmus_parse.specs.TextReader.{variables_in}
-use Rattle.litmus_parse.specs.Told.{all_told}
-use Rattle.litmus_parse.specs.VariableReader.{is_lock_type}
-use Rattle.litmus_parse.proofs.Known as known
-use Rattle.litmus_parse.proofs.Known.{AreItems, AreParameters, has_type, lock_is, not_both, value_is}
+use Rattle.litmus_parse.specs.ProcessReader.{Course, processes_at, unbegun}
+use Rattle.litmus_parse.specs.TextReader.{condition_at, ended, program_at}
 use Rattle.litmus_parse.proofs.Processes.{Pair, Reads, SomeProcesses, proc, processes_read, seen_is, state, told_both}
-use Rattle.litmus_parse.proofs.PropositionSound.{AllFew, whole_reads}
-use Rattle.litmus_parse.proofs.Quantifiers.{quantifier_spelled}
-use Rattle.litmus_parse.proofs.Spelled.{ReadsBlock, initialization_read}
-use Rattle.litmus_parse.proofs.Tidy.{Tidy, entry_at, entry_in}
 
 -- ---- what items and parameters say
 

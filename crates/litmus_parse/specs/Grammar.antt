@@ -7,9 +7,9 @@ use Rattle.litmus_syntax.specs.Tree.{Program, Task}
 use Rattle.litmus_cursor.specs.Words.{Symbol, sign, symbol_of}
 use Rattle.litmus_syntax.specs.Limits.{connectives, file_bytes, operators_limit}
 use Rattle.litmus_expression.specs.Names.{Names, Parameter}
-use Rattle.litmus_parse.specs.Conditions.{Disjoined, Quantifies}
+use Rattle.litmus_parts.specs.Conditions.{Disjoined, Quantifies}
+use Rattle.litmus_parts.specs.Mentions.{AreDeclared, AreNumbered, Mention}
 use Rattle.litmus_parse.specs.Headers.{Items, Process, Processes, mention_of}
-use Rattle.litmus_parse.specs.Mentions.{AreDeclared, AreNumbered, Mention}
 use Rattle.litmus_parse.specs.Text.{IsTextByte}
 
 -- the number of a parameter's variable

@@ -1,24 +1,14 @@
 pub mod Text
-pub mod Mentions
+pub mod Processes
 pub mod Headers
-pub mod Conditions
 pub mod Grammar
 pub mod Read
-pub mod HeaderReader
-pub mod ConditionReader
-pub mod VariableReader
-pub mod Entries
-pub mod ItemReader
-pub mod Turns
-pub mod ParameterReader
 pub mod ProcessReader
-pub mod PropositionReader
-pub mod Told
-pub mod Typed
 pub mod TextReader
-pub mod Distinct
 pub mod Refused
 pub mod Answer
+pub use Rattle.litmus_parts.specs.Conditions
+pub use Rattle.litmus_parts.specs.Mentions
 pub use Rattle.litmus_syntax.specs.of_access_types_declared as of_access_types_declared
 pub use Rattle.litmus_lex.specs.Bytes as of_litmus_lex_Bytes
 pub use Rattle.litmus_lex.specs.Gap as of_litmus_lex_Gap

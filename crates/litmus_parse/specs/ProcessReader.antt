@@ -8,10 +8,10 @@ use Rattle.litmus_expression.specs.Names.{Parameter}
 use Rattle.litmus_expression.specs.Places.{outermost}
 use Rattle.litmus_expression.specs.States.{State, entering}
 use Rattle.litmus_body.specs.StatementReader.{block_at}
-use Rattle.litmus_parse.specs.Headers.{Process, process_name}
-use Rattle.litmus_parse.specs.ItemReader.{Heading, past}
-use Rattle.litmus_parse.specs.ParameterReader.{parameters_at}
-use Rattle.litmus_parse.specs.Turns.{Turn, again, done, going}
+use Rattle.litmus_parts.specs.ItemReader.{Heading, past}
+use Rattle.litmus_parts.specs.ParameterReader.{parameters_at}
+use Rattle.litmus_parts.specs.Turns.{Turn, again, done, going}
+use Rattle.litmus_parse.specs.Processes.{process_name}
 
 -- what stands before the condition: a heading, and the processes with their bodies
 pub record Course : Type 0 where
@@ -56,13 +56,3 @@ processes_at c = going processes_by (suc (length c.heading.symbols)) c
 -- before the first process
 abbrev pub unbegun : Heading → Course
 unbegun h = record { heading = h; states = []; bodies = [] }
-
--- the process that a state is, with its body
-abbrev pub process_of : State → tree.Block → Process
-process_of s body = record { parameters = s.parameters; registers = s.names; body = body }
-
--- the processes that states are, with their bodies
-abbrev pub seen : List State → List tree.Block → List Process
-seen [] bodies = []
-seen (s ∷ states) [] = process_of s tree.empty ∷ seen states []
-seen (s ∷ states) (body ∷ bodies) = process_of s body ∷ seen states bodies

@@ -1,27 +1,26 @@
 -- Reading whole texts behind their heads: what the parser's functions answer, apart from which refusal it is.
-use Rattle.std.specs.Prelude.{ℕ, List, [], ◌∷◌, Option, Some, None, Bool, true, false, map, unwrap_or, Vec, if◌then◌else◌}
+use Rattle.std.specs.Prelude.{ℕ, List, Option, Some, None, map, Vec, if◌then◌else◌}
 use Rattle.litmus_syntax.specs.declared.statement.Statement.{Statement}
 use Rattle.std.specs.Global.{Global}
 use Rattle.litmus_syntax.specs.Tree as tree
 use Rattle.litmus_syntax.specs.Views.{block_of, proposition_of}
-use Rattle.litmus_syntax.specs.declared.program.Variable.{Variable}
 use Rattle.litmus_syntax.specs.declared.proposition.Quantifier.{Quantifier}
-use Rattle.litmus_cursor.specs.declared.words.VariableType.TheVariants.{Int}
 use Rattle.litmus_cursor.specs.Front.{◌>>=◌}
 use Rattle.litmus_cursor.specs.Words.{Symbol}
 use Rattle.litmus_expression.specs.Names.{Names}
 use Rattle.litmus_expression.specs.States.{State, state_of}
-use Rattle.litmus_parse.specs.declared.initialization.Header.{Header}
+use Rattle.litmus_parts.specs.declared.initialization.Header.{Header}
+use Rattle.litmus_parts.specs.ConditionReader.{quantifier_at}
+use Rattle.litmus_parts.specs.Entries.{Entry, table_of}
+use Rattle.litmus_parts.specs.ItemReader.{heading_of, initialization_at, unnamed}
+use Rattle.litmus_parts.specs.Seen.{seen}
+use Rattle.litmus_parts.specs.PropositionReader.{whole_at}
+use Rattle.litmus_parts.specs.VariableReader.{names_of}
+use Rattle.litmus_parts.specs.Variables.{has_contradiction, locks_in, variables_in}
 use Rattle.litmus_parse.specs.declared.text.Processes.{Processes}
 use Rattle.litmus_parse.specs.declared.text.Pieces.{Pieces}
-use Rattle.litmus_parse.specs.ConditionReader.{quantifier_at}
-use Rattle.litmus_parse.specs.Entries.{Entry, has_two_types, table_of}
 use Rattle.litmus_parse.specs.Grammar.{task_of}
-use Rattle.litmus_parse.specs.ItemReader.{heading_of, initialization_at, unnamed}
-use Rattle.litmus_parse.specs.Mentions.{contents_of}
-use Rattle.litmus_parse.specs.ProcessReader.{Course, processes_at, seen, unbegun}
-use Rattle.litmus_parse.specs.PropositionReader.{whole_at}
-use Rattle.litmus_parse.specs.VariableReader.{is_lock_type, names_of}
+use Rattle.litmus_parse.specs.ProcessReader.{Course, processes_at, unbegun}
 
 -- the bodies of processes
 abbrev pub bodies_of : List (Vec Statement Global) → List tree.Block
@@ -34,28 +33,6 @@ course_of header found = record {
   states = map state_of found.processes.items;
   bodies = bodies_of found.bodies.items;
 }
-
--- the variable that a name is in the end
-abbrev pub variable_in : List ℕ → Entry → Variable
-variable_in name e = record { name = name; contents = contents_of (unwrap_or e.type Int) (unwrap_or e.value 0) }
-
--- the variables that names are, each with its entry
-abbrev pub variables_in : Names → List Entry → List Variable
-variables_in [] table = []
-variables_in (name ∷ names) [] = []
-variables_in (name ∷ names) (e ∷ table) = variable_in name e ∷ variables_in names table
-
--- whether a variable has two types
-abbrev pub has_contradiction : List Entry → Bool
-has_contradiction [] = false
-has_contradiction (e ∷ table) = if has_two_types e then true else has_contradiction table
-
-abbrev pub is_lock_entry : Entry → Bool
-is_lock_entry e = is_lock_type e.type
-
--- whether each variable is a lock
-abbrev pub locks_in : List Entry → List Bool
-locks_in table = map is_lock_entry table
 
 -- the program that was read, if no variable has two types
 abbrev pub ended : (name : List ℕ) → Course → Quantifier → tree.Proposition × List State → Option tree.Program

@@ -2,11 +2,7 @@
 #![tactic(auto)]
 
 mod answer;
-mod condition;
-mod declaration;
-mod initialization;
 pub mod laws;
-pub mod laws_of_parts;
 pub mod limits;
 mod text;
 

@@ -2,8 +2,8 @@
 
 ghost use Rattle.std.specs.Prelude.{◌≡◌};
 
-use crate::declaration::VARIABLES;
 use crate::text::{FILE_BYTES, TASKS};
+use litmus_parts::VARIABLES;
 
 /// Law: the limits are these numbers.
 pub fn text_limits()

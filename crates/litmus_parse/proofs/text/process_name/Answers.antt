@@ -1,7 +1,7 @@
 -- Each name is that of its number.
 use Rattle.std.proofs.Common.{◌≡◌, ℕ, [], ◌∷◌, refl, sym, subst, arith}
 use Rattle.std.specs.Fmt.{digits}
-use Rattle.litmus_parse.specs.Headers.{process_name}
+use Rattle.litmus_parse.specs.Processes.{process_name}
 use Rattle.litmus_parse.proofs.text.process_name.Goals as goal
 
 pub returns-in-0 : goal.returns-in-0

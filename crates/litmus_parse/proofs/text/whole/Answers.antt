@@ -7,11 +7,13 @@ use Rattle.litmus_syntax.specs.declared.program.Variable.{Variable}
 use Rattle.litmus_cursor.specs.Front.{symbols_left}
 use Rattle.litmus_expression.specs.declared.process.Process.{Process}
 use Rattle.litmus_expression.specs.States.{state_of}
+use Rattle.litmus_parts.specs.Seen.{seen}
+use Rattle.litmus_parts.specs.Variables.{variables_in}
+use Rattle.litmus_parts.proofs.Refusals.{err_holds}
 use Rattle.litmus_parse.specs.Grammar.{task_of}
-use Rattle.litmus_parse.specs.ProcessReader.{seen}
 use Rattle.litmus_parse.specs.Refused.{Refuses}
-use Rattle.litmus_parse.specs.TextReader.{Parts, bodies_of, parts_of, program_at, variables_in}
-use Rattle.litmus_parse.proofs.Refusals.{err_holds, program_reads, tasks_named, variables_named}
+use Rattle.litmus_parse.specs.TextReader.{Parts, bodies_of, parts_of, program_at}
+use Rattle.litmus_parse.proofs.Refusals.{program_reads, tasks_named, variables_named}
 use Rattle.litmus_parse.proofs.text.whole.Goals as goal
 
 pub returns-in_err-variables-clause-refuses : goal.returns-in_err-variables-clause-refuses

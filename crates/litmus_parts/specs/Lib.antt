@@ -1,0 +1,16 @@
+pub mod Mentions
+pub mod Headers
+pub mod Conditions
+pub mod HeaderReader
+pub mod ConditionReader
+pub mod VariableReader
+pub mod Entries
+pub mod Variables
+pub mod ItemReader
+pub mod Turns
+pub mod ParameterReader
+pub mod Seen
+pub mod PropositionReader
+pub mod Told
+pub mod Typed
+pub mod Distinct
