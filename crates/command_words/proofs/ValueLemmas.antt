@@ -2,13 +2,14 @@
 use Rattle.std.proofs.Common.{◌≡◌, ◌∙◌, ◌<◌, ◌^◌, ℕ, Bool, true, false, List, Option, None, Some, Result, Ok, Err, IfErr, IfSome, ap, ap₂, arith, get_or, is_some, length}
 use Rattle.std.proofs.Common.{not, option_map, refl, subst, sym, Bor, ◌&&◌}
 use Rattle.std.proofs.lemmas.Option.{same_Some}
-use Rattle.std.specs.Prelude.{IsErrAnd, codes}
+use Rattle.std.proofs.lemmas.Slice.Eq.{bytes_eq-Decides}
+use Rattle.std.specs.Prelude.{◌↔◌, [], IsErrAnd, IsTrue, bytes_eq, codes, map, unwrap_or}
 use Rattle.std.specs.Bool.{then_some}
 use Rattle.std.specs.Str.Parse.{IsNumeral, digits_value, without_leading_plus}
-use Rattle.clap.specs.Words.{ReadsOne, Row, Text, first_of, first_value, is_simple, is_simple_and_free, one_text, rows_of, subcommand_of}
+use Rattle.clap.specs.Words.{ReadsOne, Row, Text, first_of, first_value, is_simple, is_simple_and_free, matched_of, one_text, raw_values, rows_of, subcommand_of}
 use Rattle.clap.specs.declared.parser.matches.Found.{Found}
-use Rattle.clap.proofs.WalkLemmas.{first_value-rows, one_text-rows}
-use Rattle.command_words.specs.Words.{AreSizes, Ask, IsAskedBy, IsAskedOf, IsFlag, IsNumber, program_app}
+use Rattle.clap.proofs.WalkLemmas.{first_value-rows, one_text-rows, raw_values-rows}
+use Rattle.command_words.specs.Words.{AreSizes, Ask, IsAskedBy, IsAskedOf, IsFlag, IsGiven, IsNumber, program_app, words_of}
 use Rattle.command_words.specs.declared.request.Request.{Request}
 use Rattle.command_words.specs.declared.request.Request.TheVariants as requests
 
@@ -102,6 +103,29 @@ flag_read found option set none on off = record {
   none = λ is. none (one_text-rows found option ∙ is);
 }
 
+-- an option that stands alone is given where its value says so
+pub given_read : (found : Found) (option : Text) (result : Option (Bor Text)) (value : Bor Text) (same : Bool)
+    → option_map (λ text. text.now) result ≡ first_value found option → result ≡ Some value
+    → same ≡ bytes_eq value.now (codes "true") → IsTrue same ↔ IsGiven (rows_of found) option
+given_read found option result value same is some compared =
+    let first = some_read found option result value is some in (
+      λ yes. first ∙ ap Some ((bytes_eq-Decides value.now (codes "true")).0 (sym compared ∙ yes)),
+      λ given. compared ∙ (bytes_eq-Decides value.now (codes "true")).1 (same_Some value.now (codes "true") (sym first ∙ given)),
+    )
+
+pub given_unread : (found : Found) (option : Text) (result : Option (Bor Text))
+    → option_map (λ text. text.now) result ≡ first_value found option → result ≡ None → IsTrue false ↔ IsGiven (rows_of found) option
+given_unread found option result is none =
+    (λ yes. absurd (cc), λ given. absurd (text_there found option result (codes "true") is given none))
+
+-- the words of an argument are those that were read of it
+pub words_read : (found : Found) (name : Text) (result : Option (Bor (List (Bor Text)))) (words : List (Bor Text)) (given : Option (List Text))
+    → option_map (λ s. map (λ v. v.now) s.now) result ≡ option_map raw_values (matched_of found name)
+    → option_map (λ s. map (λ v. v.now) s.now) result ≡ given
+    → map (λ word. word.now) words ≡ unwrap_or given [] → map (λ word. word.now) words ≡ words_of name (rows_of found)
+words_read found name result words given is read words_are =
+    words_are ∙ ap (λ given. unwrap_or given []) (sym read ∙ (is ∙ raw_values-rows found name))
+
 -- a name beside values
 abbrev pub beside : {B : Type 0} → (B → Text) → (B → List Row) → B → Text × List Row
 beside name values it = (name it, values it)
@@ -137,6 +161,10 @@ asked_replay name values (requests.Search request) is asks =
 asked_replay name values (requests.Replay request) is asks = (request.trace.now, asks.1)
 asked_replay name values (requests.Show request) is asks =
     absurd (let long : 4 ≡ 6 = ap (λ (text : Text). length text) (sym asks.0 ∙ is) in omega (arith, long))
+asked_replay name values (requests.Check request) is asks =
+    absurd (let long : 5 ≡ 6 = ap (λ (text : Text). length text) (sym asks.0 ∙ is) in omega (arith, long))
+asked_replay name values requests.Calls is asks =
+    absurd (let long : 5 ≡ 6 = ap (λ (text : Text). length text) (sym asks.0 ∙ is) in omega (arith, long))
 
 -- the words ask for what the command that they call asks for
 pub asked_by : (words : List Text) (sizes : Bor (List (Bor Text))) → AreSizes sizes

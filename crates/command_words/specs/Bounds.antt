@@ -1,5 +1,6 @@
 -- Within which bounds the numbers of options are.
-use Rattle.std.specs.Prelude.{◌≤◌}
+use Rattle.std.specs.Prelude.{◌<◌, ◌≤◌, length}
+use Rattle.command_words.specs.declared.request.CheckRequest.{CheckRequest}
 use Rattle.command_words.specs.declared.request.RunOptions.{RunOptions}
 use Rattle.command_words.specs.declared.request.Request.{Request}
 use Rattle.command_words.specs.declared.request.Request.TheVariants as requests
@@ -32,6 +33,12 @@ pub record KeepsSearchBounds (request : SearchRequest) : Type 0 where
   pub jobs_to : request.jobs ≤ 64
   pub options : KeepsBounds request.options
 
+-- one file at least, and from 3 to 1,024 page slots
+pub record KeepsCheckBounds (request : CheckRequest) : Type 0 where
+  pub some : 0 < length request.files.items
+  pub slots_from : 3 ≤ request.slots
+  pub slots_to : request.slots ≤ 1024
+
 -- what may be asked: numbers within their bounds
 abbrev pub MayBeAsked : Request → Type 0
 MayBeAsked (requests.Step request) = KeepsBounds request.options
@@ -39,3 +46,5 @@ MayBeAsked (requests.Run request) = KeepsRunBounds request
 MayBeAsked (requests.Search request) = KeepsSearchBounds request
 MayBeAsked (requests.Replay request) = Unit {0}
 MayBeAsked (requests.Show request) = Unit {0}
+MayBeAsked (requests.Check request) = KeepsCheckBounds request
+MayBeAsked requests.Calls = Unit {0}

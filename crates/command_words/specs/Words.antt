@@ -1,18 +1,19 @@
 -- What words ask for: the commands that the program knows, with their options, and what is read of the words.
-use Rattle.std.specs.Prelude.{◌≡◌, ◌<◌, ◌^◌, ◌⊎◌, ◌∷◌, [], ℕ, Bool, List, Option, None, Some, bytes_eq, codes, map, option_map, true, false}
+use Rattle.std.specs.Prelude.{◌≡◌, ◌<◌, ◌^◌, ◌⊎◌, ◌∷◌, [], ℕ, Bool, List, Option, None, Some, bytes_eq, codes, map, option_map, true, false, unwrap_or}
 use Rattle.std.specs.Prelude.{if◌then◌else◌}
 use Rattle.std.specs.Str.Parse.{IsNumeral, digits_value, without_leading_plus}
 use Rattle.std.specs.Borrow.{Bor}
-use Rattle.clap.specs.Words.{App, IsAmong, Row, Rule, Text, app_of, fault_of, first_of, new_app, new_rule, one_of, rule_of}
+use Rattle.clap.specs.Words.{App, IsAmong, Row, Rule, Text, all_of, app_of, fault_of, first_of, new_app, new_rule, one_of, rule_of}
 use Rattle.clap.specs.Words.{subcommand_of, with_rule, with_subcommand}
 use Rattle.clap.specs.Simple.{on_top}
-use Rattle.clap.specs.declared.builder.action.ArgAction.TheVariants.{Set, SetTrue}
+use Rattle.clap.specs.declared.builder.action.ArgAction.TheVariants.{Append, Set, SetTrue}
 use Rattle.clap.specs.declared.builder.arg.Arg.{Arg}
 use Rattle.clap.specs.declared.builder.command.Command.{Command}
 use Rattle.clap.specs.declared.error.kind.ErrorKind.{ErrorKind}
 use Rattle.clap.specs.declared.error.kind.ErrorKind.TheVariants as kinds
 use Rattle.clap.specs.declared.builder.value_parser.ValueParser.TheVariants as values
 use Rattle.command_words.specs.Bounds.{MayBeAsked}
+use Rattle.command_words.specs.declared.request.CheckRequest.{CheckRequest}
 use Rattle.command_words.specs.declared.request.RunOptions.{RunOptions}
 use Rattle.command_words.specs.declared.request.ReplayRequest.{ReplayRequest}
 use Rattle.command_words.specs.declared.request.Request.{Request}
@@ -27,6 +28,10 @@ use Rattle.watch_word.specs.declared.layout.Layout.TheVariants as layouts
 -- a word that has to be there
 abbrev pub word_rule : Text → Rule
 word_rule name = record (new_rule name) { required = true; action = Some Set }
+
+-- words of which there may be several, or none
+abbrev pub words_rule : Text → Rule
+words_rule name = record (new_rule name) { action = Some Append }
 
 -- an option that takes a text
 abbrev pub text_rule : Text → Rule
@@ -101,12 +106,25 @@ show_app = with_rule (with_rule (with_rule (new_app (codes "show"))
     (text_rule (codes "svg")))
     (flag_rule (codes "ascii"))
 
+-- `check`, with its files, whether the printed form is wanted, whether the calls that are read are, and the options by which accesses have
+-- addresses and watch words
+abbrev pub check_app : Bor (List (Bor Text)) → App
+check_app sizes =
+    with_rule (with_rule (with_rule (with_rule (with_rule (with_rule (with_rule (new_app (codes "check"))
+    (words_rule (codes "FILE")))
+    (flag_rule (codes "print")))
+    (flag_rule (codes "calls")))
+    (default_rule (codes "schedule") []))
+    (default_rule (codes "place") []))
+    (number_rule (codes "slots") 3 1024 (codes "64")))
+    (name_rule (codes "word") sizes (codes "64"))
+
 -- the program, one of whose commands has to be named
 abbrev pub program_app : Bor (List (Bor Text)) → App
 program_app sizes =
-    with_subcommand (with_subcommand (with_subcommand (with_subcommand (with_subcommand
+    with_subcommand (with_subcommand (with_subcommand (with_subcommand (with_subcommand (with_subcommand
     (on_top (λ shape. record shape { subcommand_required = true }) (new_app (codes "kcsan_litmus")))
-    (step_app sizes).top) (run_app sizes).top) (search_app sizes).top) replay_app.top) show_app.top
+    (step_app sizes).top) (run_app sizes).top) (search_app sizes).top) replay_app.top) show_app.top) (check_app sizes).top
 
 -- an argument goes by a rule, and is of its own command alone
 pub record IsArg (rule : Rule) (arg : Arg) : Type 0 where
@@ -142,6 +160,14 @@ pub record IsFlag (values : List Row) (option : Text) (set : Bool) : Type 0 wher
   pub on : one_of option values ≡ Some (codes "true") → set ≡ true
   pub off : one_of option values ≡ Some (codes "false") → set ≡ false
   pub none : one_of option values ≡ None → set ≡ false
+
+-- an option that stands alone is given
+abbrev pub IsGiven : List Row → (option : Text) → Type 0
+IsGiven values option = first_of option values ≡ Some (codes "true")
+
+-- the words that are given for an argument
+abbrev pub words_of : Text → List Row → List Text
+words_of name values = unwrap_or (all_of name values) []
 
 -- how many bits a watch word has, by the value of an option: 64, but for 32
 pub record IsLayout (values : List Row) (option : Text) (layout : Layout) : Type 0 where
@@ -195,6 +221,21 @@ pub record AskShow (values : List Row) (request : ShowRequest) : Type 0 where
   pub svg : first_of (codes "svg") values ≡ option_map (λ path. path.now) request.svg
   pub ascii : IsFlag values (codes "ascii") request.ascii
 
+-- the values of `check` ask for this
+pub record AskCheck (values : List Row) (request : CheckRequest) : Type 0 where
+  pub files : map (λ file. file.now) request.files.items ≡ words_of (codes "FILE") values
+  pub uncalled : ¬ IsGiven values (codes "calls")
+  pub print : IsFlag values (codes "print") request.print
+  pub schedule : first_of (codes "schedule") values ≡ Some request.schedule.now
+  pub places : first_of (codes "place") values ≡ Some request.places.now
+  pub slots : IsNumber values (codes "slots") request.slots
+  pub layout : IsLayout values (codes "word") request.layout
+
+-- the values of `check` ask for the calls that are read, and for no file
+pub record AskCalls (values : List Row) : Type 0 where
+  pub given : IsGiven values (codes "calls")
+  pub alone : words_of (codes "FILE") values ≡ []
+
 -- a command of this name with these values asks for this
 abbrev pub IsAskedBy : Text → List Row → Request → Type 0
 IsAskedBy name values (requests.Step request) = (name ≡ codes "step") × AskStep values request
@@ -202,6 +243,8 @@ IsAskedBy name values (requests.Run request) = (name ≡ codes "run") × AskRun 
 IsAskedBy name values (requests.Search request) = (name ≡ codes "search") × AskSearch values request
 IsAskedBy name values (requests.Replay request) = (name ≡ codes "replay") × AskReplay values request
 IsAskedBy name values (requests.Show request) = (name ≡ codes "show") × AskShow values request
+IsAskedBy name values (requests.Check request) = (name ≡ codes "check") × AskCheck values request
+IsAskedBy name values requests.Calls = (name ≡ codes "check") × AskCalls values
 
 -- the command that was called, with its values, if there is one, asks for this
 abbrev pub IsAskedOf : Option (Text × List Row) → Request → Type 0

@@ -237,3 +237,49 @@ pub const SVG: &str = "Also writes the picture to this file, as SVG";
 
 /// What `--ascii` does.
 pub const ASCII: &str = "Draws with the signs | + - = alone";
+
+/// What `check` does.
+pub const CHECK: &str = "Says what litmus files mean to the program, or why they are refused";
+
+/// What follows the options of `check`.
+pub const AFTER_CHECK: &str = "\
+    Nothing is run. Of a file that reads, tables say of each access where it stands in the file,\n\
+    what it does, by what it counts as marked, its address, its size, its watch word, and at which\n\
+    indices it looks for watchpoints; of each variable its type, its address and its first value;\n\
+    and how much the file has of what is limited. Of a file that is refused, standard error says\n\
+    what 'kcsan_litmus step' says of it, and then where, by line and column, and why, with a mark\n\
+    under the place and with what would stand there. For example\n\
+    \n\
+    \x20\x20\x20\x20kcsan_litmus check race.litmus\n\
+    \n\
+    says that the two accesses of race.litmus are on the same four bytes,\n\
+    \n\
+    \x20\x20\x20\x20kcsan_litmus check --print first.litmus second.litmus\n\
+    \n\
+    also prints each program as it is read; with several files each has its tables under its name,\n\
+    those that are refused are passed over, and the last line says how many are read; and\n\
+    \n\
+    \x20\x20\x20\x20kcsan_litmus check --calls\n\
+    \n\
+    lists the calls that are read in litmus files.\n\
+    \n\
+    'kcsan_litmus step --help' says what a schedule and a place list are. Where one doesn't read, a\n\
+    second line on standard error says which of its items doesn't.\n\
+    \n\
+    Exit status: 0 each file reads; 64 usage, or a schedule or a place list that doesn't read or\n\
+    doesn't suit a file; 65 a file is refused; 66 a file can't be read; 71 out of memory; 74 output\n\
+    can't be written. Of several files the greatest status counts. From 64 on standard error says\n\
+    why, and up to 71 nothing goes to standard output, but that with several files the tables of\n\
+    those that read do where others are refused or can't be read.";
+
+/// What the files of `check` are.
+pub const FILES: &str = "The litmus files";
+
+/// What `--print` does.
+pub const PRINT: &str = "Also prints the program of each file as it is read";
+
+/// What `--calls` does.
+pub const CALLS: &str = "Lists the calls that are read in litmus files, and takes no file";
+
+/// What `--schedule` of `check` says.
+pub const CHECK_SCHEDULE: &str = "A schedule, as 0x7,1x9, of which is said whether it reads";

@@ -5,5 +5,6 @@ pub mod help;
 pub mod request;
 
 pub use request::{
-    ReplayRequest, Request, RunOptions, RunRequest, SearchRequest, ShowRequest, StepRequest, asked,
+    CheckRequest, ReplayRequest, Request, RunOptions, RunRequest, SearchRequest, ShowRequest,
+    StepRequest, asked,
 };

@@ -1,10 +1,11 @@
 //! What the words ask for.
 
-ghost use Rattle.std.specs.Prelude.{◌≡◌, ◌≤◌, ◌<◌, ℕ, IfErr, IfOk, IfSome, IsSome, codes, map};
-ghost use Rattle.command_words.specs.Bounds.{KeepsBounds, KeepsRunBounds, KeepsSearchBounds, MayBeAsked};
-ghost use Rattle.command_words.specs.Words.{AreSizes, Ask, AskOptions, AskRun, AskSearch, AskShow, AskStep};
-ghost use Rattle.command_words.specs.Words.{IsArg, IsAskedOf, IsLayout, IsNumber, IsProgram, MayFail};
-ghost use Rattle.command_words.specs.Words.{flag_rule, number_rule, replay_app, run_app, search_app, show_app, step_app, text_rule, with_options, word_rule};
+ghost use Rattle.std.specs.Prelude.{◌≡◌, ◌≢◌, ◌↔◌, ◌≤◌, ◌<◌, ℕ, IfErr, IfOk, IfSome, IsSome, IsTrue, Some, [], codes, length, map};
+ghost use Rattle.command_words.specs.Bounds.{KeepsBounds, KeepsCheckBounds, KeepsRunBounds, KeepsSearchBounds, MayBeAsked};
+ghost use Rattle.command_words.specs.Words.{AreSizes, Ask, AskCheck, AskOptions, AskRun, AskSearch, AskShow, AskStep};
+ghost use Rattle.command_words.specs.Words.{IsArg, IsAskedBy, IsAskedOf, IsGiven, IsLayout, IsNumber, IsProgram, MayFail, words_of};
+ghost use Rattle.command_words.specs.Words.{check_app, default_rule, flag_rule, name_rule, number_rule, replay_app, run_app, search_app, show_app, step_app};
+ghost use Rattle.command_words.specs.Words.{text_rule, with_options, word_rule, words_rule};
 ghost use Rattle.clap.specs.Words.{app_of, found_of, kind_of, rows_of, subcommand_rows_of};
 
 use crate::help;
@@ -43,7 +44,7 @@ const TURNS: (u64, u64) = (1, 1_000_000_000);
 static BITS: [&str; 2] = ["64", "32"];
 
 /// What the program is asked to do.
-#[derive(Clone, Copy, Debug, PartialEq, Eq)]
+#[derive(Debug, Drop, PartialEq, Eq)]
 pub enum Request<'a> {
     /// To step the program of a litmus file.
     Step(StepRequest<'a>),
@@ -55,6 +56,10 @@ pub enum Request<'a> {
     Replay(ReplayRequest<'a>),
     /// To draw a trace.
     Show(ShowRequest<'a>),
+    /// To say what litmus files mean to the program, or why they are refused.
+    Check(CheckRequest<'a>),
+    /// To list the calls that are read in litmus files.
+    Calls,
 }
 
 /// What `replay` is asked to do.
@@ -120,6 +125,23 @@ pub struct SearchRequest<'a> {
     pub options: RunOptions<'a>,
 }
 
+/// What `check` is asked to do.
+#[derive(Debug, Drop, PartialEq, Eq)]
+pub struct CheckRequest<'a> {
+    /// The names of the litmus files: one at least.
+    pub files: Vec<&'a str>,
+    /// Whether the printed form is wanted too.
+    pub print: bool,
+    /// The text of the schedule.
+    pub schedule: &'a str,
+    /// The text of the place list.
+    pub places: &'a str,
+    /// How many page slots there are.
+    pub slots: usize,
+    /// How many bits a watch word has.
+    pub layout: Layout,
+}
+
 /// The options that `step`, `run` and `search` all have.
 #[derive(Clone, Copy, Debug, PartialEq, Eq)]
 pub struct RunOptions<'a> {
@@ -150,27 +172,109 @@ pub fn asked<'a, S: AsStr>(alloc: Global, words: &'a [S]) -> Result<Request<'a>,
     ensures fails { IfErr result (λ error. MayFail (map S.text words.entry.now) (kind_of error)) }
 {
     let matches = program(alloc)?.try_get_matches_from(words)?;
-    if let Some(request) = request_of(&matches) {
+    let request = request_of(alloc, &matches)?;
+    if let Some(request) = request {
         return Ok(request);
     }
-    Err(program(alloc)?.error(ErrorKind::ValueValidation, "a value doesn't do")?)
+    // Of all that a command's own rules let through, this alone asks for nothing.
+    let files_or_calls = "'check' takes one FILE or more, or --calls and no FILE";
+    Err(program(alloc)?.error(ErrorKind::ValueValidation, files_or_calls)?)
 }
 
 /// What is asked, by the values of the words.
-fn request_of<'a>(matches: &ArgMatches<'a>) -> Option<Request<'a>>
-    ensures bounds { IfSome result MayBeAsked }
-    ensures asked { IfSome result (IsAskedOf (subcommand_rows_of matches.now)) }
-    ensures complete { (request : Request) → MayBeAsked request → IsAskedOf (subcommand_rows_of matches.now) request → IsSome result }
+fn request_of<'a>(
+    alloc: Global,
+    matches: &ArgMatches<'a>,
+) -> Result<Option<Request<'a>>, AllocError>
+    ensures bounds { IfOk result (λ request. IfSome request MayBeAsked) }
+    ensures asked { IfOk result (λ request. IfSome request (IsAskedOf (subcommand_rows_of matches.now))) }
+    ensures complete { (request : Request) → MayBeAsked request → IsAskedOf (subcommand_rows_of matches.now) request
+        → IfOk result IsSome }
 {
-    match matches.subcommand()? {
-        ("step", step) => Some(Request::Step(step_request(step)?)),
-        ("run", run) => Some(Request::Run(run_request(run)?)),
-        ("search", search) => Some(Request::Search(search_request(search)?)),
-        ("replay", replay) => Some(Request::Replay(ReplayRequest {
-            trace: replay.get_str("TRACE")?,
+    match matches.subcommand() {
+        Some(("check", values)) => check_asked(alloc, values),
+        Some((name, values)) => Ok(run_or_trace(name, values)),
+        None => Ok(None),
+    }
+}
+
+/// What a command of this name is asked to do, by its values: one that runs a litmus file or reads a trace.
+fn run_or_trace<'a>(name: &str, values: &ArgMatches<'a>) -> Option<Request<'a>>
+    ensures bounds { IfSome result MayBeAsked }
+    ensures asked { IfSome result (IsAskedBy name.now (rows_of (found_of values.now))) }
+    ensures complete { (request : Request) → MayBeAsked request → IsAskedBy name.now (rows_of (found_of values.now)) request
+        → name.now ≢ codes "check" → IsSome result }
+{
+    match name {
+        "step" => Some(Request::Step(step_request(values)?)),
+        "run" => Some(Request::Run(run_request(values)?)),
+        "search" => Some(Request::Search(search_request(values)?)),
+        "replay" => Some(Request::Replay(ReplayRequest {
+            trace: values.get_str("TRACE")?,
         })),
-        ("show", show) => Some(Request::Show(show_request(show)?)),
+        "show" => Some(Request::Show(show_request(values)?)),
         _ => None,
+    }
+}
+
+/// What `check` is asked to do, by the values of its options: to check files, or, by `--calls` and no file, to list
+/// the calls that are read.
+fn check_asked<'a>(alloc: Global, check: &ArgMatches<'a>) -> Result<Option<Request<'a>>, AllocError>
+    ensures bounds { IfOk result (λ request. IfSome request MayBeAsked) }
+    ensures asked { IfOk result (λ request. IfSome request (IsAskedBy (codes "check") (rows_of (found_of check.now)))) }
+    ensures complete { (request : Request) → MayBeAsked request
+        → IsAskedBy (codes "check") (rows_of (found_of check.now)) request → IfOk result IsSome }
+{
+    let files = words_given(alloc, check, "FILE")?;
+    match (files.is_empty(), is_given(check, "calls")) {
+        (true, true) => Ok(Some(Request::Calls)),
+        (false, false) => Ok(check_request(files, check)),
+        _ => Ok(None),
+    }
+}
+
+/// What `check` is asked to do with these files, by the values of its options.
+fn check_request<'a>(files: Vec<&'a str>, check: &ArgMatches<'a>) -> Option<Request<'a>>
+    requires some { 0 < length files.items }
+    requires files { map (λ file. file.now) files.items ≡ words_of (codes "FILE") (rows_of (found_of check.now)) }
+    requires uncalled { ¬ IsGiven (rows_of (found_of check.now)) (codes "calls") }
+    ensures bounds { IfSome result MayBeAsked }
+    ensures asked { IfSome result (IsAskedBy (codes "check") (rows_of (found_of check.now))) }
+    ensures complete { (request : CheckRequest) → KeepsCheckBounds request → AskCheck (rows_of (found_of check.now)) request
+        → IsSome result }
+{
+    Some(Request::Check(CheckRequest {
+        files,
+        print: check.get_flag("print"),
+        schedule: check.get_str("schedule")?,
+        places: check.get_str("place")?,
+        slots: number(check, "slots", SLOTS)? as usize,
+        layout: layout(check)?,
+    }))
+}
+
+/// The words that are given for an argument.
+fn words_given<'a>(
+    alloc: Global,
+    matches: &ArgMatches<'a>,
+    name: &str,
+) -> Result<Vec<&'a str>, AllocError>
+    ensures { IfOk result (λ words. map (λ word. word.now) words.items
+        ≡ words_of name.now (rows_of (found_of matches.now))) }
+{
+    match matches.get_strs(name) {
+        Some(words) => Vec::from_slice(alloc, words),
+        None => Ok(Vec::new(alloc)),
+    }
+}
+
+/// Whether an option that stands alone is given.
+fn is_given(matches: &ArgMatches<'_>, option: &str) -> bool
+    ensures { IsTrue result ↔ IsGiven (rows_of (found_of matches.now)) option.now }
+{
+    match matches.get_str(option) {
+        Some(value) => value == "true",
+        None => false,
     }
 }
 
@@ -290,7 +394,8 @@ fn program<'a>(alloc: Global) -> Result<Command<'a>, AllocError>
         .subcommand(run_command(alloc, sizes)?)?
         .subcommand(search_command(alloc, sizes)?)?
         .subcommand(replay_command(alloc)?)?
-        .subcommand(show_command(alloc)?)
+        .subcommand(show_command(alloc)?)?
+        .subcommand(check_command(alloc, sizes)?)
 }
 
 /// `replay`, with its file.
@@ -315,6 +420,32 @@ fn show_command<'a>(alloc: Global) -> Result<Command<'a>, AllocError>
         .arg(flag(alloc, "ascii", help::ASCII))
 }
 
+/// `check`, with its files and its options; its `--word` takes one of these names.
+fn check_command<'a>(
+    alloc: Global,
+    sizes: &'static [&'static str],
+) -> Result<Command<'a>, AllocError>
+    ensures { IfOk result (λ command. app_of command ≡ check_app sizes.entry) }
+{
+    Command::new(alloc, "check")
+        .about(help::CHECK)
+        .after_help(help::AFTER_CHECK)
+        .arg(files(alloc, "FILE", help::FILES))?
+        .arg(flag(alloc, "print", help::PRINT))?
+        .arg(flag(alloc, "calls", help::CALLS))?
+        .arg(list_option(alloc, "schedule", "S", help::CHECK_SCHEDULE))?
+        .arg(list_option(alloc, "place", "LIST", help::PLACE))?
+        .arg(number_option(alloc, "slots", help::SLOTS, SLOTS, "64"))?
+        .arg(word_option(alloc, sizes))
+}
+
+/// The files that a command is about, where it may be about none.
+fn files<'a>(alloc: Global, name: &'a str, help: &'a str) -> Arg<'a>
+    ensures { IsArg (words_rule name.entry.now) result }
+{
+    Arg::new(alloc, name).help(help).action(ArgAction::Append)
+}
+
 /// The file that a command is about.
 fn file<'a>(alloc: Global, name: &'a str, help: &'a str) -> Arg<'a>
     ensures { IsArg (word_rule name.entry.now) result }
@@ -336,7 +467,7 @@ fn step_command<'a>(
         .about(help::STEP)
         .after_help(help::AFTER_STEP)
         .arg(file(alloc, "FILE", help::FILE))?
-        .arg(text_option(alloc, "schedule", "S", help::SCHEDULE).default_value(""))?;
+        .arg(list_option(alloc, "schedule", "S", help::SCHEDULE))?;
     with_shared(alloc, command, sizes)
 }
 
@@ -381,18 +512,15 @@ fn with_shared<'a>(
 ) -> Result<Command<'a>, AllocError>
     ensures { IfOk result (λ more. app_of more ≡ with_options (app_of command.entry) sizes.entry) }
 {
-    let word = text_option(alloc, "word", "BITS", help::WORD)
-        .value_parser(sizes)
-        .default_value("64");
     command
-        .arg(text_option(alloc, "place", "LIST", help::PLACE).default_value(""))?
+        .arg(list_option(alloc, "place", "LIST", help::PLACE))?
         .arg(text_option(alloc, "trace", "PATH", help::TRACE))?
         .arg(number_option(alloc, "slots", help::SLOTS, SLOTS, "64"))?
         .arg(number_option(alloc, "skip", help::SKIP, SKIP, "0"))?
         .arg(flag(alloc, "randomize", help::RANDOMIZE))?
         .arg(number_option(alloc, "seed", help::SEED, (0, u64::MAX), "1"))?
         .arg(flag(alloc, "strict", help::STRICT))?
-        .arg(word)?
+        .arg(word_option(alloc, sizes))?
         .arg(number_option(alloc, "turns", help::TURNS, TURNS, "1000000"))
 }
 
@@ -405,6 +533,22 @@ fn text_option<'a>(alloc: Global, name: &'a str, value: &'a str, help: &'a str) 
         .value_name(value)
         .help(help)
         .action(ArgAction::Set)
+}
+
+/// An option that takes a list, which is empty where it isn't given.
+fn list_option<'a>(alloc: Global, name: &'a str, value: &'a str, help: &'a str) -> Arg<'a>
+    ensures { IsArg (default_rule name.entry.now []) result }
+{
+    text_option(alloc, name, value, help).default_value("")
+}
+
+/// `--word`, which takes one of these names.
+fn word_option(alloc: Global, sizes: &'static [&'static str]) -> Arg<'static>
+    ensures { IsArg (name_rule (codes "word") sizes.entry (codes "64")) result }
+{
+    text_option(alloc, "word", "BITS", help::WORD)
+        .value_parser(sizes)
+        .default_value("64")
 }
 
 /// An option that takes a number within bounds.

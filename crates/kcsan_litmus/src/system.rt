@@ -181,6 +181,16 @@ impl Desk for System {
         }
     }
 
+    /// Says so where standard error is a terminal.
+    fn advise_check(&self, file: &str) {
+        let rt = &self.output.rt;
+        if rt.stderr().is_terminal() {
+            let _ = rt.eprint(format_args!(
+                "kcsan_litmus: 'kcsan_litmus check {file}' says more\n"
+            ));
+        }
+    }
+
     fn shows_utf8(&self) -> bool {
         locale::shows_utf8(&self.output.rt)
     }

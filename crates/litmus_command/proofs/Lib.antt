@@ -1,2 +1,5 @@
 mod AskedLemmas
 mod ResultLemmas
+mod CheckLemmas
+mod EndLemmas
+mod ToldLemmas

@@ -8,6 +8,7 @@ use Rattle.clap.specs.declared.error.Error.{Error}
 use Rattle.clap.specs.declared.error.kind.ErrorKind.{ErrorKind}
 use Rattle.clap.specs.declared.error.kind.ErrorKind.TheVariants as kinds
 use Rattle.command_words.specs.Words.{Ask, AskForHelp, MayFail}
+use Rattle.command_words.specs.declared.request.CheckRequest.{CheckRequest}
 use Rattle.command_words.specs.declared.request.ReplayRequest.{ReplayRequest}
 use Rattle.command_words.specs.declared.request.Request.{Request}
 use Rattle.command_words.specs.declared.request.Request.TheVariants as requests
@@ -38,9 +39,13 @@ use Rattle.search_run.specs.declared.wanted.Wanted.{Wanted}
 use Rattle.run_tally.specs.of_trace_replay_Answer as answers
 use Rattle.run_tally.specs.of_trace_replay_declared.accepted.TraceError.{TraceError}
 use Rattle.run_tally.specs.of_trace_replay_declared.accepted.TraceError.TheVariants as trace
+use Rattle.text_check.specs.Calls.{calls_text}
+use Rattle.litmus_command.specs.Check.{CheckAsksFor, CheckEnds, Whole, IsSeveral}
 use Rattle.litmus_command.specs.Engine.{IsRefused, TextLeaves}
 use Rattle.litmus_command.specs.Files.{FileEvent, Gave, Has, OnlyRead, noted}
 use Rattle.litmus_command.specs.Replay.{IsLineOf}
+pub use Rattle.litmus_command.specs.Lists.{SpellsNoPlaces, SpellsNoSchedule}
+pub use Rattle.litmus_command.specs.Settings.{AskSettings, settings_of}
 use Rattle.litmus_command.specs.Show.{IsDrawn}
 use Rattle.picture_text.specs.declared.cells.Style.{Style}
 use Rattle.picture_text.specs.declared.cells.Style.TheVariants.{Ascii}
@@ -106,6 +111,7 @@ status_of (failure.Picture error) = picture_status_of error
 abbrev pub complaint_status_of : Complaint → ℕ
 complaint_status_of (complaint.Usage error) = 64
 complaint_status_of (complaint.Failure error) = status_of error
+complaint_status_of (complaint.Explained error lines) = status_of error
 
 -- what a file that gives no bytes means
 abbrev pub read_failure : ReadFault → Failure
@@ -122,26 +128,6 @@ pub record State : Type 0 where
 abbrev pub state_of : {D : Type 0} → (D → Option (List ℕ)) → (D → ℕ) → (D → Option (List FileEvent)) → D → State
 state_of written failures files desk =
     record { written = written desk; failures = failures desk; files = files desk }
-
--- what a run goes by, as it is asked for, with these places
-abbrev pub settings_of : RunOptions → Vec Place Global → Settings
-settings_of options given = record {
-  slots = options.slots;
-  skip = options.skip;
-  randomize = options.randomize;
-  seed = options.seed;
-  value_change_only = not options.strict;
-  plain_writes_atomic = not options.strict;
-  layout = options.layout;
-  turns = options.turns;
-  places = given;
-}
-
--- these are the settings that are asked for: the numbers of the options, and the places that their text spells
-pub record AskSettings (options : RunOptions) (settings : Settings) : Type 0 where
-  pub bounds : KeepsBounds options
-  pub settings_are : settings ≡ settings_of options settings.places
-  pub places : places.Spells options.places.now settings.places.items
 
 -- and this is the schedule, as the request's text spells it
 pub record AsksFor (request : StepRequest) (settings : Settings) (entries : List Entry) : Type 0 where
@@ -333,6 +319,22 @@ pub record SearchEnds (request : SearchRequest) (status : ℕ) (before after : S
   pub status_is : status ≡ search_status_of raced stopped
   pub done : SearchIsDone request raced stopped before after
 
+-- `check` ended so, whatever standard error was told and however often a read failed
+abbrev pub CheckIsEnded : CheckRequest → (status : ℕ) → State → State → Type 0
+CheckIsEnded request status before after = (told later : Option (List Complaint)) × (faults more : ℕ) × CheckEnds request status
+    (record { written = before.written; failures = before.failures; files = before.files; told = told; faults = faults })
+    (record { written = after.written; failures = after.failures; files = after.files; told = later; faults = more })
+
+-- the calls that are read were written, and no file was touched
+pub record CallsAreGiven (before after : State) : Type 0 where
+  pub written : after.written ≡ appended before.written calls_text
+  pub files : after.files ≡ before.files
+
+-- standard output took but a beginning of them
+pub record CallsAreCut (before after : State) : Type 0 where
+  pub begun : HoldsBeginning calls_text before.written after.written
+  pub files : after.files ≡ before.files
+
 -- what is asked was done, with a report or without one; without one in none of all lists, where it is a search
 abbrev pub IsDone : Request → Bool → State → State → Type 0
 IsDone (requests.Step request) raced before after =
@@ -344,6 +346,10 @@ IsDone (requests.Replay request) true before after = ⊥
 IsDone (requests.Replay request) false before after = ReplayIsDone request before after
 IsDone (requests.Show request) raced before after =
     FileIsRun request.trace.now size_limit (svg_path request) (IsShown request) raced before after
+IsDone (requests.Check request) true before after = ⊥
+IsDone (requests.Check request) false before after = CheckIsEnded request 0 before after
+IsDone requests.Calls true before after = ⊥
+IsDone requests.Calls false before after = CallsAreGiven before after
 
 -- a search that is asked for was stopped at its limit, with no report so far
 abbrev pub IsStopped : Request → State → State → Type 0
@@ -352,6 +358,8 @@ IsStopped (requests.Run request) before after = ⊥
 IsStopped (requests.Search request) before after = SearchIsDone request false true before after
 IsStopped (requests.Replay request) before after = ⊥
 IsStopped (requests.Show request) before after = ⊥
+IsStopped (requests.Check request) before after = ⊥
+IsStopped requests.Calls before after = ⊥
 
 -- what is asked was done, and not all of it could be written
 abbrev pub IsCut : Request → State → State → Type 0
@@ -362,6 +370,8 @@ IsCut (requests.Search request) before after =
 IsCut (requests.Replay request) before after = ReplayIsCut request before after
 IsCut (requests.Show request) before after =
     FileIsRunInPart request.trace.now size_limit (svg_path request) (IsShown request) before after
+IsCut (requests.Check request) before after = CheckIsEnded request 74 before after
+IsCut requests.Calls before after = CallsAreCut before after
 
 -- what is asked was refused of the file that it is about
 abbrev pub IsRefusedOf : Request → (status : ℕ) → State → State → Type 0
@@ -370,13 +380,8 @@ IsRefusedOf (requests.Run request) status before after = FileIsRefused request.f
 IsRefusedOf (requests.Search request) status before after = FileIsRefused request.file.now (SearchRefuses request) status before after
 IsRefusedOf (requests.Replay request) status before after = ReplayIsRefused request status before after
 IsRefusedOf (requests.Show request) status before after = ShowIsRefused request status before after
-
--- the text spells no places, or no schedule
-abbrev pub SpellsNoPlaces : List ℕ → Type 0
-SpellsNoPlaces text = (given : List Place) → places.Spells text given → ⊥
-
-abbrev pub SpellsNoSchedule : List ℕ → Type 0
-SpellsNoSchedule text = (entries : List Entry) → schedules.Spells text entries → ⊥
+IsRefusedOf (requests.Check request) status before after = CheckIsEnded request status before after
+IsRefusedOf requests.Calls status before after = ⊥
 
 -- the schedule or the place list that is asked for doesn't read
 abbrev pub DoesNotRead : Request → Type 0
@@ -385,6 +390,8 @@ DoesNotRead (requests.Run request) = SpellsNoPlaces request.options.places.now
 DoesNotRead (requests.Search request) = SpellsNoPlaces request.options.places.now
 DoesNotRead (requests.Replay request) = ⊥
 DoesNotRead (requests.Show request) = ⊥
+DoesNotRead (requests.Check request) = SpellsNoSchedule request.schedule.now ⊎ SpellsNoPlaces request.places.now
+DoesNotRead requests.Calls = ⊥
 
 -- Schedule or place list don't read, and no file was touched; or the file that is asked for was read, and they don't suit its program.
 abbrev pub IsMisused : Request → State → State → Type 0
@@ -397,6 +404,28 @@ DoesRead (requests.Run request) = (settings : Settings) × AskSettings request.o
 DoesRead (requests.Search request) = (settings : Settings) × AskSettings request.options settings
 DoesRead (requests.Replay request) = Unit {0}
 DoesRead (requests.Show request) = Unit {0}
+DoesRead (requests.Check request) = (settings : Settings) × CheckAsksFor request settings
+DoesRead requests.Calls = Unit {0}
+
+-- it is a check of several files
+abbrev pub IsOfSeveral : Request → Type 0
+IsOfSeveral (requests.Step request) = ⊥
+IsOfSeveral (requests.Run request) = ⊥
+IsOfSeveral (requests.Search request) = ⊥
+IsOfSeveral (requests.Replay request) = ⊥
+IsOfSeveral (requests.Show request) = ⊥
+IsOfSeveral (requests.Check request) = IsSeveral request
+IsOfSeveral requests.Calls = ⊥
+
+-- where it is a check: how it ended, with what standard error was told of each file
+abbrev pub IsChecked : Request → (status : ℕ) → Whole → Whole → Type 0
+IsChecked (requests.Step request) status before after = Unit {0}
+IsChecked (requests.Run request) status before after = Unit {0}
+IsChecked (requests.Search request) status before after = Unit {0}
+IsChecked (requests.Replay request) status before after = Unit {0}
+IsChecked (requests.Show request) status before after = Unit {0}
+IsChecked (requests.Check request) status before after = CheckEnds request status before after
+IsChecked requests.Calls status before after = Unit {0}
 
 -- the read of a file failed where the status is 66, and nowhere else
 pub record Reads (status : ℕ) (before after : ℕ) : Type 0 where

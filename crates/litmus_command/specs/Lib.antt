@@ -1,6 +1,9 @@
 pub mod Engine
 pub mod Files
 pub mod Told
+pub mod Lists
+pub mod Settings
 pub mod Replay
 pub mod Show
+pub mod Check
 pub mod Command

@@ -10,6 +10,8 @@ ghost use Rattle.litmus_command.specs.Command.{DoesNotRead, DoesRead, IsFault, I
 ghost use Rattle.litmus_command.specs.Command.{SearchEnds, SearchRefuses, ShowIsRefused, SpellsNoPlaces, StepRefuses, Tells, UsageIsTold};
 ghost use Rattle.litmus_command.specs.Command.{engine_status_of, read_failure, run_status_of, settings_of, state_of, status_of, text_status_of};
 ghost use Rattle.litmus_command.specs.Command.{picture_status_of, search_status_of, times_of, trace_path, trace_status_of, wanted_of, with_trace};
+ghost use Rattle.litmus_command.specs.Check.{whole_of};
+ghost use Rattle.litmus_command.specs.Command.{IsChecked, IsOfSeveral};
 ghost use Rattle.litmus_command.specs.Told.{heard};
 ghost use Rattle.litmus_command.specs.declared.command.Failure.TheVariants.{Engine, OutOfMemory, Picture, Trace};
 ghost use Rattle.picture_text.specs.declared.cells.Style.TheVariants.{Ascii};
@@ -18,6 +20,7 @@ ghost use Rattle.report_text.specs.Sink.{CountsFailure};
 ghost use Rattle.std.specs.Option.{option_map};
 ghost use Rattle.step_schedule.specs.Schedule.{entries_of};
 
+use crate::check::{carry_check, list_calls};
 use crate::complaint::Complaint;
 use crate::desk::{Desk, ReadFault};
 use crate::engine::run_text;
@@ -44,8 +47,8 @@ use std::thread::Threads;
 use step_schedule::Schedule;
 use thiserror::Error;
 
-/// The program ran, and there was no report.
-const NO_REPORT: u8 = 0;
+/// The program ran, and there was no report; or nothing was to be run.
+pub(crate) const NO_REPORT: u8 = 0;
 
 /// The program ran, and there was a report.
 const REPORTED: u8 = 2;
@@ -137,7 +140,7 @@ impl From<PictureError> for Failure {
 
 impl Failure {
     /// The status that the program ends with.
-    fn status(self) -> u8
+    pub(crate) fn status(self) -> u8
         ensures { result ≡ status_of self }
     {
         match self {
@@ -211,11 +214,13 @@ fn picture_status(error: PictureError) -> u8
 /// The whole program: does what the words ask for, and answers the status that the program ends
 /// with. The first word is the program's name.
 ///
-/// 0: no report, a trace that is accepted or drawn, or help. 2: a report. 64: usage, a schedule that doesn't read or
-/// names a task that isn't there, or a place that doesn't read or doesn't suit. 65: the file is refused. 66: it can't
-/// be read. 70: a task is stuck. 71: out of memory, or a thread couldn't be started. 74: output can't be written. 75: a
-/// search was stopped at its limit, and no list that it went over has a report. At 64 to 71 nothing goes to standard
-/// output, and no file is written. At 74 standard output has what it had, or a beginning of what should stand there.
+/// 0: no report, a trace that is accepted or drawn, files that read where they are checked, or help. 2: a report. 64:
+/// usage, a schedule that doesn't read or names a task that isn't there, or a place that doesn't read or doesn't suit.
+/// 65: the file is refused. 66: it can't be read. 70: a task is stuck. 71: out of memory, or a thread couldn't be
+/// started. 74: output can't be written. 75: a search was stopped at its limit, and no list that it went over has a
+/// report. Of several files that are checked the greatest status counts. At 64 to 71 nothing goes to standard output, but
+/// for what is printed of several files that are checked, and no file is written. At 74 standard output has what it had,
+/// or a beginning of what should stand there.
 pub fn command<R: Threads + Wait + Sync, S: AsStr, D: Desk>(
     rt: &R,
     alloc: Global,
@@ -246,9 +251,18 @@ pub fn command<R: Threads + Wait + Sync, S: AsStr, D: Desk>(
         (state_of D.written D.failures D.files desk.new))
         ⊎ UsageIsTold (map S.text words.now) (D.told desk.old) (D.told desk.new) }
     ensures unread { result ≡ 66 → AskForOne (map S.text words.now) DoesRead }
-    ensures reads { Reads result (D.faults desk.old) (D.faults desk.new) }
-    ensures tells { Tells result (D.told desk.old) (D.told desk.new) }
-    ensures ends { EndsAs result (state_of D.written D.failures D.files desk.old)
+
+    // What `check` found of each file, in order, is what `check_text` says of its text. So much was told and printed, and
+    // the status follows.
+    ensures checks { AskForOne (map S.text words.now) (λ request.
+        IsChecked request result (whole_of D.written D.failures D.files D.told D.faults desk.old)
+        (whole_of D.written D.failures D.files D.told D.faults desk.new))
+        ⊎ ((kind : ErrorKind) × MayFail (map S.text words.now) kind) }
+
+    // Only of a check of several files more was read and told, and something printed with a status from 64 to 66.
+    ensures reads { AskForOne (map S.text words.now) IsOfSeveral ⊎ Reads result (D.faults desk.old) (D.faults desk.new) }
+    ensures tells { AskForOne (map S.text words.now) IsOfSeveral ⊎ Tells result (D.told desk.old) (D.told desk.new) }
+    ensures ends { AskForOne (map S.text words.now) IsOfSeveral ⊎ EndsAs result (state_of D.written D.failures D.files desk.old)
         (state_of D.written D.failures D.files desk.new) }
 {
     match asked(alloc, words) {
@@ -278,9 +292,11 @@ pub fn carry_out<R: Threads + Wait + Sync, D: Desk>(
     ensures misused { result ≡ 64 → IsMisused request.now (state_of D.written D.failures D.files desk.old)
         (state_of D.written D.failures D.files desk.new) }
     ensures unread { result ≡ 66 → DoesRead request.now }
-    ensures reads { Reads result (D.faults desk.old) (D.faults desk.new) }
-    ensures tells { Tells result (D.told desk.old) (D.told desk.new) }
-    ensures ends { EndsAs result (state_of D.written D.failures D.files desk.old)
+    ensures checks { IsChecked request.now result (whole_of D.written D.failures D.files D.told D.faults desk.old)
+        (whole_of D.written D.failures D.files D.told D.faults desk.new) }
+    ensures reads { IsOfSeveral request.now ⊎ Reads result (D.faults desk.old) (D.faults desk.new) }
+    ensures tells { IsOfSeveral request.now ⊎ Tells result (D.told desk.old) (D.told desk.new) }
+    ensures ends { IsOfSeveral request.now ⊎ EndsAs result (state_of D.written D.failures D.files desk.old)
         (state_of D.written D.failures D.files desk.new) }
 {
     let done = match request {
@@ -290,11 +306,40 @@ pub fn carry_out<R: Threads + Wait + Sync, D: Desk>(
         Request::Search(request) => return carry_search(rt, alloc, request, desk),
         Request::Replay(request) => replay(alloc, request, desk),
         Request::Show(request) => show(alloc, request, desk),
+        // A check tells of each file that isn't read, and goes on.
+        Request::Check(request) => return carry_check(alloc, request, desk),
+        Request::Calls => list_calls(desk),
     };
     match done {
         Ok(true) => REPORTED,
         Ok(false) => NO_REPORT,
-        Err(failure) => fail(failure, desk),
+        Err(failure) => {
+            let status = fail(failure, desk);
+            advise_check(failure, file_to_run(request), &*desk);
+            status
+        }
+    }
+}
+
+/// The litmus file that is to be stepped or run, if one is.
+fn file_to_run<'a>(request: &Request<'a>) -> Option<&'a str> {
+    match request {
+        Request::Step(request) => Some(request.file),
+        Request::Run(request) => Some(request.file),
+        Request::Search(_)
+        | Request::Replay(_)
+        | Request::Show(_)
+        | Request::Check(_)
+        | Request::Calls => None,
+    }
+}
+
+/// Where a litmus file is refused, the desk may say that `check` says more of it.
+fn advise_check<D: Desk>(failure: Failure, file: Option<&str>, desk: &D) {
+    if let (Some(file), Failure::Engine(EngineError::Text(error))) = (file, failure) {
+        if text_status(error) == REFUSED {
+            desk.advise_check(file);
+        }
     }
 }
 
@@ -326,7 +371,11 @@ fn carry_search<R: Threads + Sync, D: Desk>(
 {
     match search(rt, alloc, request, desk) {
         Ok(status) => status,
-        Err(failure) => fail(failure, desk),
+        Err(failure) => {
+            let status = fail(failure, desk);
+            advise_check(failure, Some(request.file), &*desk);
+            status
+        }
     }
 }
 
@@ -343,7 +392,7 @@ fn fail<D: Desk>(failure: Failure, desk: &mut D) -> u8
 }
 
 /// What a run goes by, as it is asked for.
-fn settings(options: &RunOptions<'_>, places: Vec<Place>) -> Settings
+pub(crate) fn settings(options: &RunOptions<'_>, places: Vec<Place>) -> Settings
     ensures { result ≡ settings_of options.now places }
 {
     // As the kernel's CONFIG_KCSAN_REPORT_VALUE_CHANGE_ONLY and CONFIG_KCSAN_ASSUME_PLAIN_WRITES_ATOMIC are by default;

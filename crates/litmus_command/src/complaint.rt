@@ -1,6 +1,13 @@
 //! What standard error is told.
 
-use crate::command::Failure;
+ghost use Rattle.std.specs.Prelude.{◌≡◌};
+ghost use Rattle.litmus_command.specs.Command.{complaint_status_of};
+ghost use Rattle.litmus_command.specs.declared.command.Failure.TheVariants.{OutOfMemory};
+ghost use Rattle.litmus_command.specs.declared.complaint.Complaint.TheVariants as complaints;
+
+use crate::command::{Failure, USAGE};
+use check_output::Lines;
+use std::alloc::AllocError;
 use thiserror::Error;
 
 /// Why the program doesn't do what it is asked. Its text goes to standard error.
@@ -12,4 +19,27 @@ pub enum Complaint {
     /// Why the program does not end well.
     #[error("kcsan_litmus: {0}\n")]
     Failure(Failure),
+    /// So, with lines that say more of it.
+    #[error("kcsan_litmus: {0}\n{1}")]
+    Explained(Failure, Lines),
+}
+
+impl From<AllocError> for Complaint {
+    ghost from_gives = { λ _ said. said ≡ complaints.Failure OutOfMemory };
+
+    fn from(_error: AllocError) -> Complaint {
+        Complaint::Failure(Failure::OutOfMemory)
+    }
+}
+
+impl Complaint {
+    /// The status that it comes with.
+    pub(crate) fn status(&self) -> u8
+        ensures { result ≡ complaint_status_of self.now }
+    {
+        match self {
+            Complaint::Usage(_) => USAGE,
+            Complaint::Failure(failure) | Complaint::Explained(failure, _) => failure.status(),
+        }
+    }
 }

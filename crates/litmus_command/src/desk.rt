@@ -72,6 +72,9 @@ pub trait Desk: Progress + SearchProgress {
     /// Is told that runs gave no report, where a search might. What it says of that is no complaint.
     fn advise_search(&self);
 
+    /// Is told that a litmus file of this name is refused, of which `check` says more. What it says of that is no complaint.
+    fn advise_check(&self, file: &str);
+
     /// Whether signs beyond ASCII can be shown where standard output goes.
     fn shows_utf8(&self) -> bool;
 

@@ -1,7 +1,8 @@
 //! The command line of `kcsan_litmus` over any desk: what is asked, the run of a litmus text, the search over its
-//! schedules, the check of a trace, its picture, and what is written of them.
+//! schedules, the check of a trace, its picture, the check of litmus files, and what is written of them.
 #![tactic(auto)]
 
+mod check;
 pub mod command;
 pub mod complaint;
 pub mod desk;

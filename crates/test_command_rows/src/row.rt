@@ -18,11 +18,11 @@ const CANNOT_WRITE: &[u8] = b"kcsan_litmus: cannot write\n";
 /// What a picture in SVG begins with.
 const PICTURE: &[u8] = b"<svg ";
 
-/// The words, the program's name first, the file, where there is one, and what is to come of them.
+/// The words, the program's name first, the files, where there are any, and what is to come of them.
 #[derive(Drop)]
 pub struct Row<'t> {
     words: Vec<String>,
-    file: Option<&'t [u8]>,
+    files: [Option<&'t [u8]>; 3],
     status: u8,
     output: Wanted,
     errors: Wanted,
@@ -30,8 +30,8 @@ pub struct Row<'t> {
 }
 
 impl<'t> Row<'t> {
-    /// The row of a line: `WORDS | FILE => STATUS OUTPUT ERRORS`, and what becomes of the trace's file behind that,
-    /// where that is touched. A file is called by its name, or is `-`, which can't be read.
+    /// The row of a line: `WORDS | FILES => STATUS OUTPUT ERRORS`, and what becomes of the trace's file behind that,
+    /// where that is touched.
     pub fn read(
         alloc: Global,
         texts: &'t Texts,
@@ -40,24 +40,20 @@ impl<'t> Row<'t> {
         let Some((start, end)) = line.split_once(" => ") else {
             return Ok(None);
         };
-        let Some((words, file)) = start.split_once("| ") else {
+        let Some((words, names)) = start.split_once("| ") else {
             return Ok(None);
         };
-        let file = match file {
-            "-" => None,
-            name => match texts.get(name) {
-                Some(text) => Some(text.as_bytes()),
-                None => return Ok(None),
-            },
-        };
-        Row::of(texts, words_of(alloc, words)?, file, end)
+        match files_of(texts, names) {
+            Some(files) => Row::of(texts, words_of(alloc, words)?, files, end),
+            None => Ok(None),
+        }
     }
 
-    /// The row of its words and its file, and of what is to come of them.
+    /// The row of its words and its files, and of what is to come of them.
     fn of(
         texts: &Texts,
         words: Vec<String>,
-        file: Option<&'t [u8]>,
+        files: [Option<&'t [u8]>; 3],
         comes: &str,
     ) -> Result<Option<Row<'t>>, AllocError> {
         let mut parts = comes.split(' ');
@@ -70,7 +66,7 @@ impl<'t> Row<'t> {
         match (status.parse(), output, errors, trace) {
             (Ok(status), Some(output), Some(errors), Some(trace)) => Ok(Some(Row {
                 words,
-                file,
+                files,
                 status,
                 output,
                 errors,
@@ -83,8 +79,9 @@ impl<'t> Row<'t> {
     /// What the desk of the row has.
     fn given(&self) -> Given<'t> {
         Given {
+            files: self.files,
             takes_trace: self.trace.may_be_written(),
-            ..Given::of(self.file)
+            ..Given::of(None)
         }
     }
 
@@ -122,6 +119,14 @@ impl<'t> Row<'t> {
         true
     }
 
+    /// Standard error holds what the row says, and then that standard output can't be written.
+    fn says_so(&self, errors: &[u8]) -> bool {
+        match errors.strip_suffix(CANNOT_WRITE) {
+            Some(before) => self.errors.is_in(before),
+            None => false,
+        }
+    }
+
     /// With room for so many bytes a write, of which so many succeed, the program ends as it has to where standard
     /// output can't be written, and has written a beginning of the whole.
     fn fails_after<R: Threads + Wait + Sync>(
@@ -139,11 +144,26 @@ impl<'t> Row<'t> {
         };
         let mut table = Table::new(alloc, given);
         command(rt, alloc, &self.words, &mut table) == UNWRITABLE
-            && table.errors() == CANNOT_WRITE
+            && self.says_so(table.errors())
             && table.output().len() == room.saturating_mul(writes)
             && whole.starts_with(table.output())
             && self.trace.is_in(table.trace())
     }
+}
+
+/// The files of their names with `,` between them, `t`, `u` and `v` in their order. A file is called by the name of its
+/// text, or is `-`, which can't be read.
+fn files_of<'t>(texts: &'t Texts, names: &str) -> Option<[Option<&'t [u8]>; 3]> {
+    let mut files = [None, None, None];
+    for (place, name) in names.split(',').enumerate() {
+        if place >= files.len() {
+            return None;
+        }
+        if name != "-" {
+            files[place] = Some(texts.get(name)?.as_bytes());
+        }
+    }
+    Some(files)
 }
 
 /// A trace that was written is accepted. A picture is none.

@@ -23,7 +23,12 @@ const OPTIONS: RunOptions<'static> = RunOptions {
 };
 
 /// These words, after the program's name, ask for this.
-fn ask(rt: &impl Abort, alloc: Global, words: &[&str], wanted: Request<'_>) -> Result<(), Fail> {
+pub(crate) fn ask(
+    rt: &impl Abort,
+    alloc: Global,
+    words: &[&str],
+    wanted: Request<'_>,
+) -> Result<(), Fail> {
     let request = asked(alloc, words)?;
     assert_eq!(rt; request, wanted);
     Ok(())
@@ -283,7 +288,7 @@ fn a_trace_is_asked_for(rt: HostRuntime) -> Result<(), Fail> {
 }
 
 /// These words are answered by an error of this kind.
-fn refuse(rt: &impl Abort, alloc: Global, words: &[&str], wanted: ErrorKind) {
+pub(crate) fn refuse(rt: &impl Abort, alloc: Global, words: &[&str], wanted: ErrorKind) {
     match asked(alloc, words) {
         Ok(_) => assert!(rt; false, "at {words:?}"),
         Err(error) => assert_eq!(rt; error.kind(), wanted),

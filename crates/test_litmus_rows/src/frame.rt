@@ -22,6 +22,8 @@ pub enum Kind {
     Places(Frame),
     /// It is refused there, for this reason.
     Offends(Frame),
+    /// Of the refusal this is said.
+    Says(Frame),
 }
 
 impl Frame {
@@ -101,6 +103,11 @@ pub fn kind_of(word: &str) -> Option<Kind> {
         "items_offend" => Some(Kind::Offends(ITEMS)),
         "parameters_offend" => Some(Kind::Offends(PARAMETERS)),
         "condition_offends" => Some(Kind::Offends(CONDITION)),
+        "text_says" => Some(Kind::Says(WHOLE)),
+        "body_says" => Some(Kind::Says(BODY)),
+        "items_say" => Some(Kind::Says(ITEMS)),
+        "parameters_say" => Some(Kind::Says(PARAMETERS)),
+        "condition_says" => Some(Kind::Says(CONDITION)),
         _ => None,
     }
 }

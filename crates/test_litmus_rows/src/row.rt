@@ -4,6 +4,7 @@ use crate::frame::{Kind, kind_of};
 use litmus_lex::{column_of, line_of};
 use litmus_parse::{ParseError, Program, Reading, Refused, parse, print, read_text};
 use litmus_syntax::Statement;
+use refusal_text::refusal_text;
 use std::alloc::{AllocError, Global};
 use test_escapes::unescaped;
 
@@ -12,6 +13,9 @@ const READS: &str = "reads";
 
 /// What comes of a text where there are other places than sites.
 const OTHER_PLACES: &str = "reads, with other places than sites";
+
+/// What comes of a refusal of which no text is said.
+const NO_TEXT: &str = "refused, with bytes that are no text";
 
 /// What is asked of a text.
 #[derive(Clone, Copy)]
@@ -26,6 +30,8 @@ enum Question {
     Places,
     /// Where and why it is refused.
     Offends,
+    /// What is said of the refusal.
+    Says,
 }
 
 /// A text, what is asked of it, and what is to come of it.
@@ -52,6 +58,7 @@ impl Row {
             Kind::Sites(frame) => (frame, Question::Sites, wanted),
             Kind::Places(frame) => (frame, Question::Places, wanted),
             Kind::Offends(frame) => (frame, Question::Offends, wanted),
+            Kind::Says(frame) => (frame, Question::Says, wanted),
             Kind::Prints(frame, printed) => (
                 frame,
                 Question::Prints,
@@ -80,7 +87,18 @@ pub fn outcome(alloc: Global, row: &Row) -> Result<String, AllocError> {
     }
 }
 
-/// What comes of a text that is refused: the error, or the line, the column and the reason.
+/// What is said of a text that is refused.
+fn said(alloc: Global, text: &[u8], refused: &Refused) -> Result<String, AllocError> {
+    let mut placed = *refused;
+    placed.at = placed.at.min(text.len());
+    let bytes = refusal_text(alloc, b"t.litmus", text, placed)?;
+    match str::from_utf8(&bytes) {
+        Ok(message) => String::from_str(alloc, message),
+        Err(_) => String::from_str(alloc, NO_TEXT),
+    }
+}
+
+/// What comes of a text that is refused: the error, or the line, the column and the reason, or what is said of it.
 fn refusal(
     alloc: Global,
     question: Question,
@@ -91,6 +109,9 @@ fn refusal(
         return Err(AllocError);
     }
     let error = refused.error;
+    if matches!(question, Question::Says) {
+        return said(alloc, text, refused);
+    }
     if !matches!(question, Question::Offends) {
         return format!(in alloc; "{error}");
     }
@@ -109,7 +130,7 @@ fn reads(
     reading: &Reading,
 ) -> Result<String, AllocError> {
     match question {
-        Question::Reads | Question::Offends => String::from_str(alloc, READS),
+        Question::Reads | Question::Offends | Question::Says => String::from_str(alloc, READS),
         Question::Prints => printed(alloc, &reading.program),
         Question::Sites => sites(alloc, &reading.program),
         Question::Places => places(alloc, text, reading),

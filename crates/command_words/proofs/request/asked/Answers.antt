@@ -1,5 +1,5 @@
 -- the matches are those of the program on the words
-use Rattle.std.proofs.Common.{◌∙◌, ap, inl, inr, map, subst, sym}
+use Rattle.std.proofs.Common.{◌∙◌, IfSome, ap, inl, inr, map, subst, sym}
 use Rattle.clap.specs.Words.{App, IsAmong, fault_of, is_simple, is_simple_and_free, kind_of, subcommand_of, subcommand_rows_of}
 use Rattle.command_words.specs.Words.{IsAskedOf, MayFail}
 use Rattle.command_words.proofs.ValueLemmas.{asked_by, err_holds, is_there, program_is_free, program_is_simple}
@@ -11,7 +11,8 @@ returns-in-Some-clause-asked g c =
     let words = map g.S.AsStr.text c.args.words.now in
     asked_by words program.sizes program.sizes_are (subcommand_rows_of c.in_ok-matches.matches) c.in-Some.request
     (ap (λ app. subcommand_of app words) (sym program.is)
-    ∙ sym (c.in_ok-matches.ensures.matches (ap is_simple program.is ∙ program_is_simple program.sizes)).1) c.in-Some.ensures.asked
+    ∙ sym (c.in_ok-matches.ensures.matches (ap is_simple program.is ∙ program_is_simple program.sizes)).1)
+    (subst (λ found. IfSome found (IsAskedOf (subcommand_rows_of c.in_ok-matches.matches))) c.in-Some.is c.in_ok-request.ensures.asked)
 
 pub returns-in_err-matches-clause-fails : goal.returns-in_err-matches-clause-fails
 returns-in_err-matches-clause-fails g c =
@@ -42,7 +43,7 @@ returns-clause-fails g c =
         sizes = program.sizes;
         sizes_are = program.sizes_are;
         sound = ap (λ app. fault_of app words) (sym program.is) ∙ sound;
-        nothing = λ request may asked. is_there c.request_of.result c.in_default.not-Some
-            (c.request_of.ensures.complete request may (subst (λ called. IsAskedOf called request) called asked));
+        nothing = λ request may asked. is_there c.in_ok-request.request c.in_default.not-Some
+            (c.in_ok-request.ensures.complete request may (subst (λ called. IsAskedOf called request) called asked));
       },
     ))

@@ -18,6 +18,7 @@ returns c =
     let search = c.in_ok-search_command.ensures in
     let replay = c.in_ok-replay_command.ensures in
     let show = c.in_ok-show_command.ensures in
+    let check = c.in_ok-check_command.ensures in
     let with_step = c.in_ok-subcommand.ensures.shape (third_is_not _ _ _ _ (ap (λ (a : App). a.top.is_plain) step))
     ∙ ap₂ with_subcommand first (ap (λ (a : App). a.top) step) in
     let with_run = c.in_ok-subcommand-2.ensures.shape (third_is_not _ _ _ _ (ap (λ (a : App). a.top.is_plain) run))
@@ -26,9 +27,11 @@ returns c =
     ∙ ap₂ with_subcommand with_run (ap (λ (a : App). a.top) search) in
     let with_replay = c.in_ok-subcommand-4.ensures.shape (third_is_not _ _ _ _ (ap (λ (a : App). a.top.is_plain) replay))
     ∙ ap₂ with_subcommand with_search (ap (λ (a : App). a.top) replay) in
-    IfOk-weaker c.subcommand-5.result _ _ (λ command adds. record {
+    let with_show = c.in_ok-subcommand-5.ensures.shape (third_is_not _ _ _ _ (ap (λ (a : App). a.top.is_plain) show))
+    ∙ ap₂ with_subcommand with_replay (ap (λ (a : App). a.top) show) in
+    IfOk-weaker c.subcommand-6.result _ _ (λ command adds. record {
       sizes = c.as_slice-sizes.result;
       sizes_are = ap (map (λ size. size.now)) c.as_slice-sizes.ensures;
-      is = adds.shape (third_is_not _ _ _ _ (ap (λ (a : App). a.top.is_plain) show))
-          ∙ ap₂ with_subcommand with_replay (ap (λ (a : App). a.top) show);
-    }) c.subcommand-5.ensures
+      is = adds.shape (third_is_not _ _ _ _ (ap (λ (a : App). a.top.is_plain) check))
+          ∙ ap₂ with_subcommand with_show (ap (λ (a : App). a.top) check);
+    }) c.subcommand-6.ensures

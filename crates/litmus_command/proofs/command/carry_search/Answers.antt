@@ -13,4 +13,4 @@ pub returns-in-Ok-clause-stopped : goal.returns-in-Ok-clause-stopped
 returns-in-Ok-clause-stopped g c = λ is. ends_stopped c.args.request.now c.in-Ok.status _ _ c.in-Ok.ensures.done is
 
 pub returns-in-Err-clause-unread : goal.returns-in-Err-clause-unread
-returns-in-Err-clause-unread g c = λ is. c.in-Err.ensures.unread (sym c.fail.ensures.status ∙ is)
+returns-in-Err-clause-unread g c = λ is. c.in-Err.ensures.unread (sym c.fail-status.ensures.status ∙ is)

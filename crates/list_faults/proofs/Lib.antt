@@ -1,0 +1,3 @@
+pub mod ItemLemmas
+pub mod PlaceLemmas
+pub mod ScheduleLemmas

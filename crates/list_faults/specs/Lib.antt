@@ -1,0 +1,4 @@
+pub mod Item
+pub mod Places
+pub mod Schedules
+pub mod Misfits

@@ -1,0 +1,35 @@
+-- Where a list isn't read, the text spells none.
+use Rattle.std.proofs.Common.{◌≡◌, ◌∙◌, None, Some, ap, inl, inr, sym}
+use Rattle.std.specs.Option.{option_map}
+use Rattle.list_faults.specs.Places as places
+use Rattle.list_faults.specs.Schedules as schedules
+use Rattle.litmus_command.proofs.CheckLemmas.{is_missing, list_fault}
+use Rattle.litmus_command.specs.declared.command.Failure.TheVariants.{BadPlace, BadSchedule}
+use Rattle.step_schedule.specs.Schedule.{entries_of}
+use Rattle.litmus_command.proofs.check.settings_asked.Goals as goal
+
+pub returns-then-is_none-clause-at_fault : goal.returns-then-is_none-clause-at_fault
+returns-then-is_none-clause-at_fault c =
+    let text = c.args.request.now.schedule.now in
+    let parsed = c.in_ok-parse.field-0 in
+    let none : parsed ≡ None = is_missing parsed c.is_none.result c.is_none.ensures c.if-is_none.true in
+    inl (inl (
+      (λ entries spells.
+          let read : option_map entries_of parsed ≡ Some entries = (c.in_ok-parse.ensures entries).0 spells in
+          let no : None ≡ Some entries = sym (ap (option_map entries_of) none) ∙ read in absurd (cc)),
+      list_fault BadSchedule (schedules.IsFault text) (schedules.AllRead text) c.in_ok-line.line c.list_complaint.result
+          c.in_ok-line.ensures.found c.in_ok-line.ensures.none c.list_complaint.ensures,
+    ))
+
+pub returns-in_ok-line-in-None-clause-at_fault : goal.returns-in_ok-line-in-None-clause-at_fault
+returns-in_ok-line-in-None-clause-at_fault c =
+    let text = c.args.request.now.places.now in
+    let parsed = c.in_ok-places.field-0 in
+    inl (inr (
+      (λ given spells.
+          let read : option_map (λ list. list.items) parsed ≡ Some given = (c.in_ok-places.ensures given).0 spells in
+          let none : option_map (λ list. list.items) parsed ≡ None = ap (option_map (λ list. list.items)) c.in-None.is in
+          let no : None ≡ Some given = sym none ∙ read in absurd (cc)),
+      list_fault BadPlace (places.IsFault text) (places.AllRead text) c.in_ok-line-in-None.line c.list_complaint-in-None.result
+          c.in_ok-line-in-None.ensures.found c.in_ok-line-in-None.ensures.none c.list_complaint-in-None.ensures,
+    ))

@@ -1,0 +1,28 @@
+-- What a program is run under, as the options ask for it.
+use Rattle.std.specs.Global.{Global}
+use Rattle.std.specs.Prelude.{◌≡◌, Vec, not}
+use Rattle.command_words.specs.Bounds.{KeepsBounds}
+use Rattle.command_words.specs.declared.request.RunOptions.{RunOptions}
+use Rattle.place_list.specs.Spelling as places
+use Rattle.place_list.specs.of_program_layout_declared.place.Place.{Place}
+use Rattle.run_tally.specs.of_program_sites_declared.settings.Settings.{Settings}
+
+-- what a run goes by, as it is asked for, with these places
+abbrev pub settings_of : RunOptions → Vec Place Global → Settings
+settings_of options given = record {
+  slots = options.slots;
+  skip = options.skip;
+  randomize = options.randomize;
+  seed = options.seed;
+  value_change_only = not options.strict;
+  plain_writes_atomic = not options.strict;
+  layout = options.layout;
+  turns = options.turns;
+  places = given;
+}
+
+-- these are the settings that are asked for: the numbers of the options, and the places that their text spells
+pub record AskSettings (options : RunOptions) (settings : Settings) : Type 0 where
+  pub bounds : KeepsBounds options
+  pub settings_are : settings ≡ settings_of options settings.places
+  pub places : places.Spells options.places.now settings.places.items

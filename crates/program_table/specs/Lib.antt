@@ -1,0 +1,6 @@
+pub mod Words
+pub mod Rows
+pub mod Accesses
+pub mod Variables
+pub mod Counts
+pub mod Table

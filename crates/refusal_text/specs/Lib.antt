@@ -1,0 +1,5 @@
+pub mod Token
+pub mod Words
+pub mod Expected
+pub mod Excerpt
+pub mod Message

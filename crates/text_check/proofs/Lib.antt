@@ -1,0 +1,2 @@
+mod EachWord
+mod WhatComes
