@@ -1,6 +1,6 @@
 //! Rows: the words that the program is started with, and what comes of them.
 
-use crate::desk::{Given, Table};
+use crate::desk::{Files, Given, Table};
 use crate::texts::Texts;
 use crate::wanted::{Trace, Wanted};
 use litmus_command::command::command;
@@ -22,7 +22,7 @@ const PICTURE: &[u8] = b"<svg ";
 #[derive(Drop)]
 pub struct Row<'t> {
     words: Vec<String>,
-    files: [Option<&'t [u8]>; 3],
+    files: Files<'t>,
     status: u8,
     output: Wanted,
     errors: Wanted,
@@ -53,7 +53,7 @@ impl<'t> Row<'t> {
     fn of(
         texts: &Texts,
         words: Vec<String>,
-        files: [Option<&'t [u8]>; 3],
+        files: Files<'t>,
         comes: &str,
     ) -> Result<Option<Row<'t>>, AllocError> {
         let mut parts = comes.split(' ');
@@ -153,17 +153,23 @@ impl<'t> Row<'t> {
 
 /// The files of their names with `,` between them, `t`, `u` and `v` in their order. A file is called by the name of its
 /// text, or is `-`, which can't be read.
-fn files_of<'t>(texts: &'t Texts, names: &str) -> Option<[Option<&'t [u8]>; 3]> {
-    let mut files = [None, None, None];
-    for (place, name) in names.split(',').enumerate() {
-        if place >= files.len() {
-            return None;
-        }
-        if name != "-" {
-            files[place] = Some(texts.get(name)?.as_bytes());
-        }
+fn files_of<'t>(texts: &'t Texts, names: &str) -> Option<Files<'t>> {
+    let mut names = names.split(',');
+    let t = file_of(texts, names.next())?;
+    let u = file_of(texts, names.next())?;
+    let v = file_of(texts, names.next())?;
+    match names.next() {
+        Some(_) => None,
+        None => Some(Files { t, u, v }),
     }
-    Some(files)
+}
+
+/// The file of a name: none where there is no name, or `-`.
+fn file_of<'t>(texts: &'t Texts, name: Option<&str>) -> Option<Option<&'t [u8]>> {
+    match name {
+        None | Some("-") => Some(None),
+        Some(name) => Some(Some(texts.get(name)?.as_bytes())),
+    }
 }
 
 /// A trace that was written is accepted. A picture is none.
