@@ -15,14 +15,12 @@ use Rattle.run_tally.specs.of_program_sites_declared.error.RunError.{RunError}
 use Rattle.litmus_syntax.specs.declared.error.ParseError.{ParseError}
 use Rattle.litmus_syntax.specs.declared.error.ParseError.TheVariants as parse
 use Rattle.report_text.specs.Sink.{CountsFailure}
-use Rattle.run_tally.specs.of_program_sites_declared.error.RunError.{RunError}
 use Rattle.run_tally.specs.of_program_sites_declared.error.RunError.TheVariants as run
 use Rattle.run_tally.specs.of_trace_replay_declared.accepted.TraceError.{TraceError}
 use Rattle.run_tally.specs.of_trace_replay_declared.accepted.TraceError.TheVariants as trace
 use Rattle.picture_text.specs.of_picture_declared.error.PictureError.{PictureError}
 use Rattle.picture_text.specs.of_picture_declared.error.PictureError.TheVariants as picture
 use Rattle.litmus_command.specs.Command.{picture_status_of}
-use Rattle.command_words.specs.declared.request.RunOptions.{RunOptions}
 use Rattle.litmus_command.specs.Command.{FileIsRun, FileIsRunInPart, IsGiven, IsGivenInPart, once_read, trace_path}
 use Rattle.litmus_command.specs.Engine.{IsRefused, Stops, StopsReady, StopsRun}
 use Rattle.run_tally.specs.Errors as tally

@@ -1,5 +1,5 @@
 -- Where a schedule or a place list isn't read, the text spells none.
-use Rattle.std.proofs.Common.{◌≡◌, ◌∙◌, List, None, Option, Some, ap, inl, inr, sym}
+use Rattle.std.proofs.Common.{◌≡◌, ◌∙◌, None, Some, ap, inl, inr, sym}
 use Rattle.std.specs.Option.{option_map}
 use Rattle.litmus_command.proofs.ResultLemmas.{err_holds}
 use Rattle.step_schedule.specs.Schedule.{entries_of}

@@ -1,8 +1,8 @@
 -- what was asked for was run, and what is left of it was given
-use Rattle.std.proofs.Common.{◌≡◌, ◌∙◌, ℕ, Bool, Err, List, Ok, Option, ap, arith, inl, inr, is_some, refl, rules, subst, sym}
+use Rattle.std.proofs.Common.{◌≡◌, ℕ, Bool, Err, List, Ok, Option, arith, inl, inr, is_some, refl, rules, subst, sym}
 use Rattle.std.specs.Option.{option_map}
 use Rattle.litmus_command.proofs.ResultLemmas.{err_holds, failed_counts, failed_of_no_file, failed_reads, failed_silent, given_done, given_in_part, is_once_read}
-use Rattle.litmus_command.proofs.ResultLemmas.{reads_no_sink, some_items, spells_none_often, writes_no_sink}
+use Rattle.litmus_command.proofs.ResultLemmas.{reads_no_sink, spells_none_often, writes_no_sink}
 use Rattle.litmus_command.proofs.command.run.Goals as goal
 use Rattle.litmus_command.specs.Command.{FileIsRefused, AreLeft, RunRefuses, once_read, read_failure, state_of, trace_path}
 use Rattle.litmus_command.specs.declared.command.Failure.TheVariants.{Engine}

@@ -1,10 +1,10 @@
 -- what was asked for was searched, and what is left of that was given
-use Rattle.std.proofs.Common.{◌≡◌, ◌∙◌, ℕ, Bool, Err, List, Ok, Option, ap, arith, inl, inr, is_some, refl, rules, subst, sym}
+use Rattle.std.proofs.Common.{◌≡◌, ℕ, Bool, Err, List, Ok, Option, ap, arith, inl, inr, refl, subst, sym}
 use Rattle.std.specs.Option.{option_map}
 use Rattle.litmus_command.proofs.ResultLemmas.{err_holds, failed_counts, failed_of_no_file, failed_reads, failed_silent, found_done, found_in_part, is_once_read}
 use Rattle.litmus_command.proofs.ResultLemmas.{reads_no_sink, spells_none_searched, writes_no_sink}
 use Rattle.litmus_command.proofs.command.search.Goals as goal
-use Rattle.litmus_command.specs.Command.{FileIsRefused, IsFound, SearchRefuses, once_read, read_failure, state_of, trace_path}
+use Rattle.litmus_command.specs.Command.{FileIsRefused, IsFound, SearchRefuses, once_read, read_failure, state_of}
 use Rattle.litmus_command.specs.declared.command.Failure.TheVariants.{Engine}
 use Rattle.litmus_command.specs.declared.desk.ReadFault.TheVariants as fault
 use Rattle.report_text.specs.Sink.{CountsFailure}

@@ -1,7 +1,6 @@
 -- Where no place list is read, the text spells none.
-use Rattle.std.proofs.Common.{◌≡◌, List, None, Option, Some, ap, sym, ◌∙◌}
+use Rattle.std.proofs.Common.{◌≡◌, None, Some, ap, sym, ◌∙◌}
 use Rattle.std.specs.Option.{option_map}
-use Rattle.place_list.specs.of_program_layout_declared.place.Place.{Place}
 use Rattle.litmus_command.proofs.command.settings_for.Goals as goal
 
 pub returns-in-None-clause-misused : goal.returns-in-None-clause-misused

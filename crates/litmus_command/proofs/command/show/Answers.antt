@@ -1,5 +1,5 @@
 -- a trace that is accepted was drawn, and what is left of that was given
-use Rattle.std.proofs.Common.{◌≡◌, ◌∙◌, ℕ, Bool, Err, List, Ok, Option, arith, inr, is_some, refl, rules, subst, sym}
+use Rattle.std.proofs.Common.{◌≡◌, ℕ, Bool, Err, List, Ok, Option, is_some, refl, rules, subst}
 use Rattle.std.specs.Option.{option_map}
 use Rattle.litmus_command.proofs.ResultLemmas.{draws_no_sink, err_holds, failed_counts, failed_of_no_file, failed_reads, failed_silent, given_done, given_in_part}
 use Rattle.litmus_command.proofs.ResultLemmas.{is_once_read, reads_no_sink}

@@ -1,5 +1,5 @@
 -- a program that is made ready begins its run
-use Rattle.std.proofs.Common.{◌≡◌, [], Err, ap, subst}
+use Rattle.std.proofs.Common.{[], Err, ap, subst}
 use Rattle.litmus_command.proofs.ResultLemmas.{err_holds, map_err, preparing_stops, ready_stops}
 use Rattle.litmus_command.proofs.engine.run_program.Goals as goal
 use Rattle.litmus_command.specs.Engine.{Stops}
