@@ -1,11 +1,6 @@
--- Counts of 64 bits, and what holds of each task.
-use Rattle.std.proofs.Common.{◌≡◌, ◌-◌, ◌^◌, All, ℕ, zero, suc, List, [], ◌∷◌, None, Some, map, slice_get, subst}
+-- What holds of each task.
+use Rattle.std.proofs.Common.{◌≡◌, All, ℕ, zero, suc, List, [], ◌∷◌, None, Some, map, slice_get, subst}
 use Rattle.std.proofs.lemmas.List.Elements.{All-head, All-tail}
-use Rattle.std.specs.Prelude.{min}
-
--- a count of 64 bits stays at its last value
-abbrev pub capped : ℕ → ℕ
-capped count = min count (2 ^ 64 - 1)
 
 -- what holds of each is true of the one of a number
 pub of_each : {A B : Type 0} (view : A → B) (P : B → Type 0) (list : List A) (number : ℕ) (one : A) → All P (map view list)

@@ -1,7 +1,7 @@
 -- The tables of a program that was made ready under some settings.
 use Rattle.std.specs.Prelude.{ℕ, List, [], ◌∷◌, codes, length}
 use Rattle.std.specs.List.{concat, flat_map}
-use Rattle.litmus_syntax.specs.Views.{program_of}
+use Rattle.litmus_syntax.specs.Views.{program_of, proposition_of}
 use Rattle.litmus_syntax.specs.declared.program.Program.{Program}
 use Rattle.program_layout.specs.Places.{places_of}
 use Rattle.program_sites.specs.Prepared.{sites_in}
@@ -31,7 +31,7 @@ variables_text program settings = concat
 unfoldable pub limits_text : (bytes : ℕ) → Program → Prepared → List ℕ
 limits_text bytes program prepared = concat
     (codes "\nlimit                             used        of\n"
-    ∷ counts.program_lines bytes (length program.tasks) (length program.variables)
+    ∷ counts.program_lines bytes (length program.tasks) (length program.variables) (proposition_of program.condition)
     ∷ counts.lines_from prepared.accesses.items 0 program.tasks ∷ [])
 
 -- All of them: the accesses of the program's sites, which stand at these places of the text and have these words.

@@ -1,11 +1,14 @@
 //! How much a program has of what is limited.
 
-ghost use Rattle.std.specs.Prelude.{◌≡◌, ◌-◌, ◌^◌, All, IfOk, map, min};
+ghost use Rattle.std.specs.Prelude.{◌≡◌, All, IfOk, map};
 ghost use Rattle.litmus_syntax.specs.Limits.{BodyKeepsLimits, block_count, statement_count};
-ghost use Rattle.litmus_syntax.specs.Views.{block_of, statement_of, task_of};
+ghost use Rattle.litmus_syntax.specs.Views.{block_of, proposition_of, statement_of, task_of};
 ghost use Rattle.program_table.specs.Counts as spec;
+ghost use Rattle.program_table.specs.Counts.{capped};
 
-use litmus_syntax::{Statement, Task};
+use crate::nesting::{open_blocks, scoped_in_force};
+use crate::operators::{in_proposition, most_in_block};
+use litmus_syntax::{Proposition, Statement, Task};
 use std::alloc::{AllocError, Global};
 use text_pieces::{joined, number, padded};
 
@@ -24,13 +27,22 @@ const REGISTERS: usize = 32;
 /// Statements of a task.
 const STATEMENTS: usize = 256;
 
+/// Blocks and parentheses that are open at one place.
+const NESTING: usize = 16;
+
+/// Scoped assertions in force at one place.
+const SCOPED: usize = 8;
+
+/// Operators of an expression or a condition.
+const OPERATORS: usize = 256;
+
 /// How often the statements of a task that have an access are repeated, in all.
 const REPEATS: usize = 1024;
 
 /// How many statements a block has, with those in their blocks. A count of 64 bits stays at its last value.
 #[cycle(counted)]
 fn in_block(block: &[Statement]) -> u64
-    ensures { result ≡ min (block_count (block_of block.now)) (2 ^ 64 - 1) }
+    ensures { result ≡ capped (block_count (block_of block.now)) }
 {
     let mut all = 0u64;
     for statement in block {
@@ -42,7 +54,7 @@ fn in_block(block: &[Statement]) -> u64
 /// How many a statement is, with those in its blocks.
 #[cycle(counted)]
 fn in_statement(statement: &Statement) -> u64
-    ensures { result ≡ min (statement_count (statement_of statement.now)) (2 ^ 64 - 1) }
+    ensures { result ≡ capped (statement_count (statement_of statement.now)) }
 {
     match statement {
         Statement::If { body, .. } => in_block(body.as_slice()).saturating_add(1),
@@ -59,6 +71,14 @@ fn in_statement(statement: &Statement) -> u64
         Statement::For { body, .. } => in_block(body.as_slice()).saturating_add(1),
         _ => 1,
     }
+}
+
+/// How many statements a task with this body has.
+fn statements_in(body: &[Statement]) -> usize
+    requires { BodyKeepsLimits (block_of body.now) }
+    ensures { result ≡ block_count (block_of body.now) }
+{
+    in_block(body) as usize
 }
 
 /// The line that says that there is so much, and how much there may be.
@@ -89,6 +109,29 @@ fn used_by_task(
     used(alloc, &name, count, limit)
 }
 
+/// The lines of the body of a task.
+fn body_lines(alloc: Global, number: usize, body: &[Statement]) -> Result<Vec<u8>, AllocError>
+    requires { BodyKeepsLimits (block_of body.now) }
+    ensures { IfOk result (λ text. text.items ≡ spec.body_lines number (block_of body.now)) }
+{
+    let statements = statements_in(body);
+    let statements = used_by_task(alloc, number, " statements", statements, STATEMENTS)?;
+    let blocks = open_blocks(body);
+    let blocks = used_by_task(alloc, number, " blocks, one in another", blocks, NESTING)?;
+    let scoped = scoped_in_force(body);
+    let scoped = used_by_task(alloc, number, " scoped assertions in force", scoped, SCOPED)?;
+    let most = most_in_block(body) as usize;
+    let most = used_by_task(
+        alloc,
+        number,
+        " operators of an expression",
+        most,
+        OPERATORS,
+    )?;
+    let lines = joined(alloc, &[&statements, &blocks, &scoped, &most])?;
+    Ok(lines)
+}
+
 /// The lines of a task that can begin so many accesses.
 #[tactic(auto, unfolding(crate::specs::Counts::task_lines))]
 fn task_lines(
@@ -100,12 +143,11 @@ fn task_lines(
     requires { BodyKeepsLimits (block_of task.now.body.items) }
     ensures { IfOk result (λ text. text.items ≡ spec.task_lines number task.now accesses) }
 {
-    let statements = in_block(task.body.as_slice()) as usize;
-    let statements = used_by_task(alloc, number, " statements", statements, STATEMENTS)?;
+    let body = body_lines(alloc, number, task.body.as_slice())?;
     let registers = task.registers.as_slice().len();
     let registers = used_by_task(alloc, number, " registers", registers, REGISTERS)?;
     let accesses = used_by_task(alloc, number, " accesses, with turns", accesses, REPEATS)?;
-    joined(alloc, &[&statements, &registers, &accesses])
+    joined(alloc, &[&body, &registers, &accesses])
 }
 
 /// The lines of tasks, which can begin so many accesses each.
@@ -133,11 +175,14 @@ pub(crate) fn program_lines(
     bytes: usize,
     tasks: usize,
     variables: usize,
+    condition: &Proposition,
 ) -> Result<Vec<u8>, AllocError>
-    ensures { IfOk result (λ text. text.items ≡ spec.program_lines bytes tasks variables) }
+    ensures { IfOk result (λ text. text.items ≡ spec.program_lines bytes tasks variables (proposition_of condition.now)) }
 {
     let bytes = used(alloc, b"bytes", bytes, FILE_BYTES)?;
     let tasks = used(alloc, b"processes", tasks, TASKS)?;
     let variables = used(alloc, b"variables", variables, VARIABLES)?;
-    joined(alloc, &[&bytes, &tasks, &variables])
+    let operators = in_proposition(condition) as usize;
+    let operators = used(alloc, b"operators of the condition", operators, OPERATORS)?;
+    joined(alloc, &[&bytes, &tasks, &variables, &operators])
 }

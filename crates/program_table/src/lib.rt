@@ -5,6 +5,8 @@
 pub mod accesses;
 pub mod counts;
 mod hex;
+mod nesting;
+mod operators;
 pub mod rows;
 pub mod tables;
 pub mod variables;

@@ -78,7 +78,7 @@ fn limits_text(
 {
     let tasks = program.tasks.as_slice();
     let variables = program.variables.as_slice().len();
-    let all = program_lines(alloc, bytes, tasks.len(), variables)?;
+    let all = program_lines(alloc, bytes, tasks.len(), variables, &program.condition)?;
     let own = tasks_lines(alloc, tasks, &prepared.accesses)?;
     joined(
         alloc,

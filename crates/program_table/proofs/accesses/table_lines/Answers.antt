@@ -1,5 +1,5 @@
 -- One task more.
-use Rattle.std.proofs.Common.{◌≡◌, ◌≤◌, ◌<◌, ◌+◌, ◌++◌, ◌∙◌, List, Some, ap, arith, drop, length, map, refl, slice_get, subst, sym, ℕ}
+use Rattle.std.proofs.Common.{◌≡◌, ◌<◌, ◌+◌, ◌++◌, ◌∙◌, List, Some, ap, arith, drop, length, map, refl, slice_get, subst, ℕ}
 use Rattle.std.proofs.lemmas.Option.{slice_get-map, slice_get_read}
 use Rattle.std.specs.List.{flat_map}
 use Rattle.std.specs.Option.{option_map}

@@ -2,7 +2,7 @@
 use Rattle.std.proofs.Common.{◌≡◌, ◌<◌, ◌+◌, ◌^◌, drop}
 use Rattle.litmus_syntax.specs.Limits.{block_count}
 use Rattle.litmus_syntax.specs.Views.{block_of}
-use Rattle.program_table.proofs.CountLemmas.{capped}
+use Rattle.program_table.specs.Counts.{capped}
 use Rattle.program_table.proofs.counts.+counted.Given as goal
 
 abbrev pub invariant-in_block-loop-statement : goal.invariant-in_block-loop-statement
