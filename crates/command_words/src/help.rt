@@ -146,7 +146,7 @@ pub const RUNS: &str = "How many runs there are, 1 to 100000";
 
 /// What `--delay` says.
 pub const DELAY: &str =
-    "How many loads of a word a task waits at most at each watchpoint that it sets up, to 1000000";
+    "How many rounds of up to 64 loads of a word a task waits at most at each watchpoint that it sets up, to 1000000";
 
 /// What `--jobs` says.
 pub const JOBS: &str = "How many runs are made side by side, 1 to 64";

@@ -98,7 +98,7 @@ pub struct RunRequest<'a> {
     pub file: &'a str,
     /// How many runs there are to be.
     pub runs: u64,
-    /// How many loads of a word the delay of a watch takes.
+    /// How many turns the delay of a watch takes at most.
     pub delay: u64,
     /// How many runs are made side by side.
     pub jobs: u64,

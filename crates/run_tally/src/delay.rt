@@ -2,29 +2,29 @@
 
 ghost use Rattle.std.specs.Prelude.{◌≡◌};
 
-use crate::turns::turns_until;
+use crate::turns::{soon, turns_until};
 use crossbeam_utils::atomic::AtomicCell;
 use runner::{Gate, Point, Stall};
 use std::thread;
 
-/// After so many loads nobody waits any more for a task that hasn't come: its thread may not have started. The number
-/// is a choice: threads were seen to take some ten times 64 loads to start. With fewer a run would go on without a slow
+/// After so many turns nobody waits any more for a task that hasn't come: its thread may not have started. The number
+/// is a choice: threads were seen to take some ten times 64 turns to start. With fewer a run would go on without a slow
 /// thread, and with more it would wait longer for one that never starts.
 const PATIENCE: u64 = 100_000;
 
-/// The delay of one run: at most so many loads of a word, after each of which other threads may run. Without that it is
-/// over before another task, which may have no processor yet, comes to the watchpoint. The loads count from when each
-/// task has come to its first access: a thread may take longer to start than all of them. It ends early once no other
-/// task can come: each delays too, waits for a lock, or makes no step more.
+/// The delay of one run: at most so many turns, in each of which a word is loaded, again and again up to 64 times, and then
+/// other threads may run. Without that it is over before another task, which may have no processor yet, comes to the
+/// watchpoint. The turns count from when each task has come to its first access: a thread may take longer to start than
+/// all of them. It ends early once no other task can come: each delays too, waits for a lock, or makes no step more.
 ///
 /// Also it has the others wait with their first access until the task that starts first has set up a watchpoint or
 /// ended an access: a thread that starts later may be sooner there.
 ///
-/// Of no loads, each task only waits with its first access until all have come: of runs that are made by the same
+/// Of no turns, each task only waits with its first access until all have come: of runs that are made by the same
 /// threads one thread would otherwise be through with all of them before another has started.
 #[derive(Drop)]
 pub struct Delay {
-    loads: u64,
+    most: u64,
     tasks: u64,
     first: usize,
     /// A bit for each task that has come.
@@ -40,13 +40,13 @@ pub struct Delay {
 }
 
 impl Delay {
-    /// That of at most so many loads, in a run of so many tasks of which this one starts first.
-    pub fn new(loads: u64, tasks: u64, first: usize) -> Delay
-        ensures loads { result.loads ≡ loads }
+    /// That of at most so many turns, in a run of so many tasks of which this one starts first.
+    pub fn new(most: u64, tasks: u64, first: usize) -> Delay
+        ensures most { result.most ≡ most }
         ensures tasks { result.tasks ≡ tasks }
     {
         Delay {
-            loads,
+            most,
             tasks,
             first,
             here: AtomicCell::new(0),
@@ -57,7 +57,7 @@ impl Delay {
         }
     }
 
-    /// How many turns all tasks together have delayed so far: a load and a yield each.
+    /// How many turns all tasks together have delayed so far, each with a yield at its end.
     pub fn turns(&self) -> u64 {
         self.turns.load()
     }
@@ -82,11 +82,8 @@ impl Delay {
         if task == self.first {
             return;
         }
-        for _ in 0..PATIENCE {
-            if self.open.load() == 1 {
-                return;
-            }
-            thread::yield_now();
+        if turns_until(PATIENCE, || soon(|| self.open.load() == 1)) < PATIENCE {
+            return;
         }
         // It opens for all and for good: whoever starts first may never come, and is so waited for once a run.
         self.open.store(1);
@@ -99,11 +96,8 @@ impl Delay {
 
     /// Waits until all tasks have come. Where one doesn't, nobody waits for it again.
     fn awaits_all(&self) {
-        for _ in 0..PATIENCE {
-            if self.has_all() {
-                return;
-            }
-            thread::yield_now();
+        if turns_until(PATIENCE, || soon(|| self.has_all())) < PATIENCE {
+            return;
         }
         self.here.store(u64::MAX);
     }
@@ -121,21 +115,21 @@ impl Delay {
 impl Stall for Delay {
     fn stall(&self, task: usize, _index: usize) {
         // Without a delay no watch waits: a conflicting access comes in it only as the machine has it.
-        if self.loads == 0 {
+        if self.most == 0 {
             return;
         }
         self.opens(task);
         self.awaits_all();
         self.delaying.fetch_add(1);
         self.away.fetch_add(1);
-        let turns = turns_until(self.loads, || self.away.load() >= self.tasks);
+        let turns = turns_until(self.most, || soon(|| self.away.load() >= self.tasks));
         self.turns.fetch_add(turns);
         self.away.fetch_sub(1);
         self.delaying.fetch_sub(1);
     }
 
     /// A task that waits for a lock may wait for the delays of many others, each of which would use up as many of its
-    /// tries as it has loads: so it tries again only once nobody delays, or after as many loads.
+    /// tries as it has turns: so it tries again only once nobody delays, or after as many turns.
     fn wait(&self, task: usize) {
         // Whoever waits for a lock can't come to an access before it is free, and its holder may be waiting for this
         // task: so it counts as come, and holds nobody back. The holder may also wait for a task whose thread hasn't
@@ -143,7 +137,7 @@ impl Stall for Delay {
         self.opens(task);
         self.meets(task);
         self.away.fetch_add(1);
-        for _ in 0..self.loads.max(1) {
+        for _ in 0..self.most.max(1) {
             thread::yield_now();
             if self.delaying.load() == 0 {
                 break;
@@ -162,7 +156,7 @@ impl Stall for Delay {
 impl Gate for Delay {
     fn pass(&self, task: usize, point: Point) {
         match point {
-            Point::Begin if self.loads == 0 => self.meets(task),
+            Point::Begin if self.most == 0 => self.meets(task),
             Point::Begin => {
                 self.comes(task);
                 self.awaits_first(task);

@@ -11,13 +11,13 @@ pub trait Hooks: Sync {
     /// What one run calls.
     type OfRun: Stall + Gate + Drop;
 
-    /// What one run calls has been asked to have a watch delay for so many loads of a word.
+    /// What one run calls has been asked to have a watch delay for so many turns.
     ghost asks: { Self.OfRun → ℕ → Type 0 };
 
-    /// What one run more calls, in which a watch is asked to delay for so many loads of a word, of so many tasks of
-    /// which this one starts first.
-    fn of_run(&self, loads: u64, tasks: u64, first: usize) -> Self::OfRun
-        ensures { asks result loads };
+    /// What one run more calls, in which a watch is asked to delay for so many turns, of so many tasks of which this one
+    /// starts first.
+    fn of_run(&self, turns: u64, tasks: u64, first: usize) -> Self::OfRun
+        ensures { asks result turns };
 }
 
 /// Each run has a delay of its own.
@@ -27,9 +27,9 @@ pub struct Delays;
 impl Hooks for Delays {
     type OfRun = Delay;
 
-    ghost asks = { λ delay loads. delay.loads ≡ loads };
+    ghost asks = { λ delay turns. delay.most ≡ turns };
 
-    fn of_run(&self, loads: u64, tasks: u64, first: usize) -> Delay {
-        Delay::new(loads, tasks, first)
+    fn of_run(&self, turns: u64, tasks: u64, first: usize) -> Delay {
+        Delay::new(turns, tasks, first)
     }
 }

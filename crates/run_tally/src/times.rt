@@ -5,7 +5,7 @@
 pub struct Times {
     /// How many runs there are.
     pub runs: u64,
-    /// How many loads of a word the delay of a watch takes, after each of which other threads may run.
+    /// How many turns the delay of a watch takes at most, at the end of each of which other threads may run.
     pub delay: u64,
     /// How many runs are made side by side.
     pub jobs: u64,
