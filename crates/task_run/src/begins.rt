@@ -41,29 +41,20 @@ use task_plan::{Plan, Planner, Taker, Then, is_lock_at, load_in};
 use text_walk::Due;
 
 impl<'a> Machine<'a> {
-    /// Goes on in the text to the next part that makes a step, or to the end.
-    pub(crate) fn advance(&mut self) -> Stage<'a>
-        ensures begins { (s : Setting) (before : List Record → Standing) → StandsBy s before self.old
-            → Begins s (WalkLeft s self.old.walk) before self.new result }
-        ensures room { room_of self.new ≡ room_of self.old }
-    {
-        loop {
-            let due = self.walk.go_on();
-            match self.begins(due) {
-                Some(stage) => return stage,
-                None => {}
-            }
-        }
-    }
-
-    /// The stage becomes that of the next part. It stands apart from what takes an answer, so that those many answers
-    /// on which the stage stays need no room for another.
-    pub(crate) fn goes_on(&mut self, stage: &mut Stage<'a>)
+    /// Goes on in the text to the next part that makes a step, or to the end: the stage becomes that of it.
+    pub(crate) fn advance(&mut self, stage: &mut Stage<'a>)
         ensures begins { (s : Setting) (before : List Record → Standing) → StandsBy s before self.old
             → Begins s (WalkLeft s self.old.walk) before self.new stage.new }
         ensures room { room_of self.new ≡ room_of self.old }
     {
-        *stage = self.advance();
+        loop {
+            let due = self.walk.go_on();
+            // A stage is large, so it is moved to its place at once.
+            if let Some(next) = self.begins(due) {
+                *stage = next;
+                return;
+            }
+        }
     }
 
     /// What is due begins. It is over at once where there is no stage: it makes no step.

@@ -15,7 +15,7 @@ use program_sites::{Prepared, RunError, Settings};
 use slot_table::{Answer, Step};
 use std::alloc::{AllocError, Global};
 use std::sync::Arc;
-use task_plan::{Progress, Then};
+use task_plan::Progress;
 use task_points::{After, Before, Latest};
 use text_walk::Walk;
 
@@ -46,6 +46,7 @@ impl<'a> TaskRun<'a> {
     ghost use Rattle.slot_table.specs.declared.step.Step.{Step};
     ghost use Rattle.task_run.specs.Leads.{BeginsNext, IsStuck, Leads, LeadsOn, stands_at};
     ghost use Rattle.task_plan.specs.Counts.{up_to_last};
+    ghost use Rattle.task_plan.specs.declared.follow.Then.{Then};
     ghost use Rattle.task_run.specs.Says.{IsGoing, IsStopped, Says};
     ghost use Rattle.task_run.specs.Fell.{FellAt, fell_of};
     ghost use Rattle.std.specs.Option.{is_some};
@@ -127,7 +128,8 @@ impl<'a> TaskRun<'a> {
             checker,
             begins: None,
         };
-        let stage = machine.advance();
+        let mut stage = Stage::Over;
+        machine.advance(&mut stage);
         Ok(TaskRun {
             machine,
             stage,
@@ -233,8 +235,8 @@ impl<'a> TaskRun<'a> {
         let latest = self.latest(step);
         match self.stage {
             Stage::Over | Stage::Stopped => unreachable!(),
-            Stage::Making(_, after) => {
-                let fell = self.answers_access(after, answer);
+            Stage::Making(_, _after) => {
+                let fell = self.answers_access(answer);
                 self.news.tell(fell, latest);
             }
             Stage::Opening | Stage::Closing => {
@@ -287,8 +289,8 @@ impl<'a> TaskRun<'a> {
     }
 
     /// An access takes the answer where it stands, and what fell is told. Once it is over, what follows on it is done.
-    fn answers_access(&mut self, after: Then<'a>, answer: Answer) -> Option<Outcome>
-        requires making { (run : accesses.AccessRun) × (self.old.stage ≡ Making run after) }
+    fn answers_access(&mut self, answer: Answer) -> Option<Outcome>
+        requires making { (run : accesses.AccessRun) × (after : Then) × (self.old.stage ≡ Making run after) }
         requires says { (step : Step) × Says self.old step × Answers step answer }
         ensures leads { LeadsOn self.old self.new answer }
         ensures fell { FellAt self.old result answer }
@@ -303,8 +305,12 @@ impl<'a> TaskRun<'a> {
         let fell = self.machine.came_after(came);
         if run.is_over() {
             // Before the next part begins: a mark, or the end of a silence, is for the very next access.
-            self.machine.follows(after, run.effect());
-            self.machine.goes_on(&mut self.stage);
+            let effect = run.effect();
+            let Stage::Making(_, after) = self.stage else {
+                unreachable!()
+            };
+            self.machine.follows(after, effect);
+            self.machine.advance(&mut self.stage);
         }
         fell
     }
@@ -324,7 +330,7 @@ impl<'a> TaskRun<'a> {
                 Stage::Opening => self.machine.opened(),
                 _ => self.machine.closed(),
             }
-            self.machine.goes_on(&mut self.stage);
+            self.machine.advance(&mut self.stage);
         }
         came.fell
     }
@@ -343,7 +349,7 @@ impl<'a> TaskRun<'a> {
         wait.answer(answer);
         if wait.is_taken() {
             self.machine.progress.set_lock(*variable, true);
-            self.machine.goes_on(&mut self.stage);
+            self.machine.advance(&mut self.stage);
         }
     }
 
@@ -353,7 +359,7 @@ impl<'a> TaskRun<'a> {
         ensures room { room_of self.new.machine ≡ room_of self.old.machine }
     {
         self.machine.progress.set_lock(variable, false);
-        self.machine.goes_on(&mut self.stage);
+        self.machine.advance(&mut self.stage);
     }
 
     /// The values of the task's registers, by number.

@@ -9,11 +9,11 @@ use Rattle.text_walk.specs.Cost.{walk_cost}
 use Rattle.text_walk.specs.Left.{WalkLeft}
 use Rattle.text_walk.specs.of_written_order_Standing.{Setting, Standing}
 
-abbrev pub invariant-loop-stage : goal.invariant-loop-stage
-invariant-loop-stage l = record {
+abbrev pub invariant-loop-next : goal.invariant-loop-next
+invariant-loop-next l = record {
   stands : (s : Setting) (before : List Record → Standing) → StandsBy s before l.fn.self → EndsAtOnce s (WalkLeft s l.fn.self.walk) before l.self;
   room : room_of l.self ≡ room_of l.fn.self;
 }
 
-abbrev pub decreases-loop-stage : goal.decreases-loop-stage
-decreases-loop-stage l = walk_cost l.self.walk
+abbrev pub decreases-loop-next : goal.decreases-loop-next
+decreases-loop-next l = walk_cost l.self.walk

@@ -11,24 +11,24 @@ use Rattle.task_run.specs.declared.stage.Stage.TheVariants as stages
 use Rattle.task_run.proofs.run.TaskRun.answers_access.Goals as goal
 use Rattle.text_walk.specs.of_written_order_Standing.{checks_of}
 
-pub returns-then-is_over-clause-leads : goal.returns-then-is_over-clause-leads
-returns-then-is_over-clause-leads c = λ s registers body records step leads says.
-    let both : stages.Making c.in-Making.run' c.in-Making.field-1 ≡ stages.Making c.requires.making.0 c.args.after = sym c.in-Making.is ∙ c.requires.making.1 in
-    let same : c.in-Making.field-1 ≡ c.args.after = cc in
-    let is : c.args.self.now.stage ≡ stages.Making c.in-Making.run' c.args.after =
+pub returns-in-Making-stage-clause-leads : goal.returns-in-Making-stage-clause-leads
+returns-in-Making-stage-clause-leads c = λ s registers body records step leads says.
+    let both : stages.Making c.answers_access.new.run c.in-Making.field-1 ≡ stages.Making c.in-Making-stage.field-0 c.in-Making-stage.after = c.in-Making-stage.is in
+    let same : c.in-Making.field-1 ≡ c.in-Making-stage.after = cc in
+    let is : c.args.self.now.stage ≡ stages.Making c.in-Making.run' c.in-Making-stage.after =
     subst (λ (x : Then). c.args.self.now.stage ≡ stages.Making c.in-Making.run' x) same c.in-Making.is in
     let checker = c.answers_access.new.self.checker in
-    access_ended s registers body records c.args.self.now leads (made s.text.task step c.args.answer) c.in-Making.run' c.answers_access.new.run c.args.after
+    access_ended s registers body records c.args.self.now leads (made s.text.task step c.args.answer) c.in-Making.run' c.answers_access.new.run c.in-Making-stage.after
     c.answers_access.new.self is c.answers_access.ensures.kept c.answers_access.ensures.context
     (λ scopes begun asked operation so_far sites l. c.answers_access.ensures.leads (checks_of s) scopes begun asked operation so_far step sites l
     (subst (λ stage. StageSays stage c.args.self.now step) is says))
     (no_try_no_wait step c.args.answer (access_no_try c.args.self.now.machine.checker c.in-Making.run'.stage step
     (subst (λ stage. StageSays stage c.args.self.now step) is says)))
-    c.effect.result
-    (λ scopes begun asked operation so_far l. c.effect.ensures.complete (checks_of s) scopes begun asked operation so_far checker l
+    c.effect-effect.result
+    (λ scopes begun asked operation so_far l. c.effect-effect.ensures.complete (checks_of s) scopes begun asked operation so_far checker l
     ((c.is_over.ensures (checks_of s) scopes begun asked operation so_far checker l).0 c.if-is_over.true))
     c.follows.new.self (λ before stands read. c.follows.ensures.stands s before stands read) _
-    (λ before stands. c.goes_on.ensures.begins s before stands)
+    (λ before stands. c.advance.ensures.begins s before stands)
 
 pub returns-else-is_over-clause-leads : goal.returns-else-is_over-clause-leads
 returns-else-is_over-clause-leads c = λ s registers body records step leads says.
@@ -40,8 +40,8 @@ returns-else-is_over-clause-leads c = λ s registers body records step leads say
     ∙ (c.is_over.ensures (checks_of s) scopes begun asked operation so_far c.answers_access.new.self.checker l).1 done in cc))
     c.answers_access.ensures.begun
 
-pub returns-then-is_over-clause-fell : goal.returns-then-is_over-clause-fell
-returns-then-is_over-clause-fell c = λ s registers body records step leads says later.
+pub returns-in-Making-stage-clause-fell : goal.returns-in-Making-stage-clause-fell
+returns-in-Making-stage-clause-fell c = λ s registers body records step leads says later.
     making_fell s registers body records c.args.self.now leads (made s.text.task step c.args.answer) c.answers_access.new.self c.came_after-fell.result
     (c.came_after-fell.ensures ∙ ap (λ n. slice_get (outcomes_of c.answers_access.new.self.checker) n) c.came-came.ensures)
     later c.in-Making.run' c.answers_access.new.run c.in-Making.field-1 c.in-Making.is

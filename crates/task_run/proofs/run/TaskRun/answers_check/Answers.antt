@@ -44,7 +44,7 @@ returns-after-self-clause-leads c = λ s registers body records step leads says.
           (λ scopes what asked so_far l. c.answers_check-came.ensures.complete (checks_of s) scopes what asked so_far l
           ((c.answers_check-came.ensures.over (checks_of s) scopes what asked so_far l).0 c.if-came.true))
           w.opened.new.self.checker (w.opened.ensures.opens (checks_of s)) w.opened.ensures.context w.opened.new.self.in_force w.opened.ensures.in_force _
-          (goes_from s _ _ _ _ (ap (λ (run : TaskRun). run.machine) w.self-is ∙ w.opened.ensures.kept) (c.goes_on.ensures.begins s))
+          (goes_from s _ _ _ _ (ap (λ (run : TaskRun). run.machine) w.self-is ∙ w.opened.ensures.kept) (c.advance.ensures.begins s))
       | in_default w ↦ closing_ended s registers body records c.args.self.now leads (made s.text.task step c.args.answer)
           c.answers_check-came.new.self
           (closes_else c.args.self.now.stage c.requires.checking w.in_default.not-Opening)
@@ -55,7 +55,7 @@ returns-after-self-clause-leads c = λ s registers body records step leads says.
           (says_as_check c.args.self.now step c.requires.checking says))))
           (λ scopes what asked so_far l. c.answers_check-came.ensures.complete (checks_of s) scopes what asked so_far l
           ((c.answers_check-came.ensures.over (checks_of s) scopes what asked so_far l).0 c.if-came.true))
-          _ (goes_from s _ _ _ _ (ap (λ (run : TaskRun). run.machine) w.self-is ∙ w.closed.ensures) (c.goes_on.ensures.begins s))
+          _ (goes_from s _ _ _ _ (ap (λ (run : TaskRun). run.machine) w.self-is ∙ w.closed.ensures) (c.advance.ensures.begins s))
     ]
 
 pub returns-else-came-clause-leads : goal.returns-else-came-clause-leads

@@ -11,7 +11,7 @@ returns-then-is_taken-clause-leads c = λ s registers body records step leads sa
     (λ lock so_far l. c.answer.ensures s.text.task lock so_far step l (subst (λ stage. StageSays stage c.args.self.now step) c.in-Locking.is says))
     (λ lock so_far l. (c.is_taken.ensures.records s.text.task lock so_far l).0 c.if-is_taken.true)
     c.set_lock.new.self (λ variables before later keeps below. c.set_lock.ensures.keeps variables before later keeps below) _
-    (λ before stands. c.goes_on.ensures.begins s before stands)
+    (λ before stands. c.advance.ensures.begins s before stands)
 
 pub returns-else-is_taken-clause-leads : goal.returns-else-is_taken-clause-leads
 returns-else-is_taken-clause-leads c = λ s registers body records step leads says.

@@ -14,4 +14,4 @@ returns-clause-leads c = λ is s registers body records step leads says.
     (λ before stands. subst (λ stage. StageSays stage c.args.self.now step) is says
     ∙ ap (λ vs. LockStore (count_by (λ v. is_lock v.contents) (take c.args.variable vs))) stands.of.variables) refl
     c.set_lock.new.self (λ variables before later keeps below. c.set_lock.ensures.keeps variables before later keeps below) _
-    (λ before stands. c.goes_on.ensures.begins s before stands)
+    (λ before stands. c.advance.ensures.begins s before stands)

@@ -71,7 +71,7 @@ returns-clause-leads c = λ settings task prepared is.
       checker = c.in_ok-checker.checker;
       begins = None;
     } in
-    let new : TaskRun = record { machine = c.advance-stage.new.self; stage = c.advance-stage.result; news = record { fell = None; latest = Other } } in
+    let new : TaskRun = record { machine = c.advance.new.self; stage = c.advance.new.stage; news = record { fell = None; latest = Other } } in
     subst (λ (t : Task). Leads s (length t.registers) (block_of t.body.items) [] new) (some_same read task (sym stands ∙ is))
     (starts s registers (block_of read.body.items) machine new
     (first_stands s registers machine
@@ -79,4 +79,4 @@ returns-clause-leads c = λ settings task prepared is.
     (rw (← c.as_slice-variables.ensures, ← c.as_slice-registers.ensures) c.in_ok-progress.ensures) c.in_ok-checker.ensures.context refl
     (rw (← prepared.cells, ← prepared.rules) (c.in_ok-checker.ensures.rests (sites_in c.args.prepared.now))))
     (λ before records after rest. rw (← c.as_slice-2.ensures.value) (c.in_ok-walk.ensures.left s before records after rest))
-    (λ before stands. c.advance-stage.ensures.begins s before stands))
+    (λ before stands. c.advance.ensures.begins s before stands))
