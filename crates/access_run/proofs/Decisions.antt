@@ -8,13 +8,13 @@ use Rattle.access_types.specs.Kind.{is_assertion}
 use Rattle.setup_access.specs.Hits.{Hits}
 use Rattle.setup_access.specs.Setting.{IsWatched, Setting, seed_of}
 use Rattle.setup_access.specs.Verdicts as verdicts
-use Rattle.setup_access.specs.Verdicts.{ChangeOf, HitOutcome, SharesByte, UntouchedOutcome, seen_values}
+use Rattle.setup_access.specs.Verdicts.{ChangeOf, HitOutcome, SharesByte, UntouchedOutcome}
 use Rattle.setup_access.specs.declared.outcome.Outcome.{Outcome}
 use Rattle.setup_access.specs.declared.outcome.Outcome.TheVariants as outcomes
 use Rattle.setup_access.specs.of_skip_sampler_Sampler.{LeadsTo, Sampler, SamplerPositions, position}
 use Rattle.setup_access.proofs.of_skip_sampler_Positions.{not_yet, some_sampler}
 use Rattle.slot_table.specs.of_slot_Pair.{Halves}
-use Rattle.setup_access.specs.of_value_filter_Change.{BitDiffers, IsSeen}
+use Rattle.setup_access.specs.of_value_filter_Change.{BitDiffers, IsSeen, seen_values}
 use Rattle.setup_access.specs.of_value_filter_Verdict as table
 use Rattle.setup_access.specs.of_value_filter_Verdict.{MattersUnchanged}
 use Rattle.setup_access.specs.of_value_filter_declared.verdict.Change.{Change}

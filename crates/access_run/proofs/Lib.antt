@@ -8,6 +8,7 @@ pub mod Decisions
 pub mod CheckEnds
 pub mod AccessEnds
 pub mod StampLemmas
+pub mod Compared
 pub use Rattle.memory_operation.proofs.of_task_context_Leads as of_task_context_Leads
 pub use Rattle.memory_operation.proofs.of_task_context_Moments as of_task_context_Moments
 pub use Rattle.memory_operation.proofs.of_task_context_NextMarks as of_task_context_NextMarks

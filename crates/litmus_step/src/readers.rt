@@ -23,14 +23,15 @@ use run_kept::logs::a_machine_says_what_begins;
 use run_kept::run_headline::histories::{cells_hold_the_content, reports_are_true};
 use run_kept::run_headline::laws::the_headline_holds;
 use run_kept::task_log::Counters;
-use run_kept::task_run::{After, Before};
+use run_kept::task_run::{After, Before, TaskRun};
+use slot_table::PlainBoard;
 use std::alloc::{AllocError, Global};
 
 impl<'a> World<'a> {
     ghost use Rattle.litmus_step.specs.Readers.{AreRegisters, IsBefore, IsMeant, steps_told};
     ghost use Rattle.run_kept.specs.Lists.{AreAccesses, AreArms, AreTakes};
     ghost use Rattle.run_kept.specs.Totals.{CountsList, IsUnbalanced};
-    ghost use Rattle.litmus_step.specs.Steps.{LeadsTo, tasks_in};
+    ghost use Rattle.litmus_step.specs.Steps.{IsMachine, LeadsTo, tasks_in};
     ghost use Rattle.run_kept.specs.of_task_run_Points.{last_was};
 
     /// How many tasks there are.
@@ -38,6 +39,21 @@ impl<'a> World<'a> {
         ensures { result ≡ tasks_in self.now }
     {
         self.tasks.len()
+    }
+
+    /// The machine of a task.
+    pub fn task_run(&self, task: usize) -> &TaskRun<'a>
+        requires { task < tasks_in self.now }
+        ensures { IsMachine self.now task result.now }
+    {
+        &self.tasks[task]
+    }
+
+    /// The words that the tasks share.
+    pub fn board(&self) -> &PlainBoard
+        ensures { result.now ≡ self.now.board }
+    {
+        &self.board
     }
 
     /// How many steps were made, up to the largest number that there is.

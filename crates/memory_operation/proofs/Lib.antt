@@ -7,6 +7,7 @@ pub mod LeadsLemmas
 pub mod LockLemmas
 pub mod Fronts
 pub mod FrameLemmas
+pub mod Compared
 pub use Rattle.setup_access.proofs.of_task_context_Leads as of_task_context_Leads
 pub use Rattle.setup_access.proofs.of_task_context_Moments as of_task_context_Moments
 pub use Rattle.setup_access.proofs.of_task_context_NextMarks as of_task_context_NextMarks

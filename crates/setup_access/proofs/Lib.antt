@@ -25,3 +25,4 @@ pub use Rattle.task_context.proofs.OneContext as of_task_context_OneContext
 pub use Rattle.task_context.proofs.OtherMoments as of_task_context_OtherMoments
 pub use Rattle.task_context.proofs.Surpluses as of_task_context_Surpluses
 pub use Rattle.skip_sampler.proofs.Positions as of_skip_sampler_Positions
+pub mod Compared

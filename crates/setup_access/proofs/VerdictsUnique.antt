@@ -3,12 +3,13 @@ use Rattle.std.proofs.Common.{◌≡◌, ◌∙◌, ℕ, Bool, true, false, Opti
 use Rattle.std.proofs.lemmas.Grind.{common_steps}
 use Rattle.access_types.specs.Access.{Access}
 use Rattle.slot.specs.Pair.{Halves}
+use Rattle.value_filter.specs.Change.{seen_values}
 use Rattle.value_filter.specs.Verdict.{VerdictOf}
 use Rattle.value_filter.specs.declared.verdict.Change.{Change}
 use Rattle.value_filter.specs.declared.verdict.Verdict.{Verdict}
 use Rattle.value_filter.specs.declared.verdict.Verdict.TheVariants as verdicts
 use Rattle.setup_access.specs.Setting.{Setting}
-use Rattle.setup_access.specs.Verdicts.{ChangeOf, HitOutcome, UntouchedOutcome, seen_values}
+use Rattle.setup_access.specs.Verdicts.{ChangeOf, HitOutcome, UntouchedOutcome}
 use Rattle.setup_access.specs.Verdicts as of
 use Rattle.setup_access.specs.declared.outcome.Outcome.{Outcome}
 use Rattle.setup_access.specs.declared.outcome.Outcome.TheVariants.{Quiet, Report, Unknown}

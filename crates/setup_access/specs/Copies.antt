@@ -1,4 +1,4 @@
--- A copy of a checker keeps all that the checker keeps, in lists of its own.
+-- When a checker is a copy of another, and when two stand as one.
 use Rattle.std.specs.Prelude.{◌≡◌}
 use Rattle.access_types.specs.Sites.{AccessMap}
 use Rattle.setup_access.specs.Kept.{setting_with}
@@ -15,3 +15,10 @@ pub record IsCopy (checker copy : Checker) : Type 0 where
   pub stage : copy.stage ≡ checker.stage
   pub outcomes : copy.outcomes ≡ checker.outcomes
   pub room : room_of copy ≡ room_of checker
+
+-- two checkers stand as one: all that they keep of where their checks stand is the same
+pub record StandAsOne (one other : Checker) : Type 0 where
+  pub context : one.context ≡ other.context
+  pub sampler : one.sampler ≡ other.sampler
+  pub scopes : one.scopes.items ≡ other.scopes.items
+  pub stage : one.stage ≡ other.stage

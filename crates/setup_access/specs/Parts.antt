@@ -22,7 +22,7 @@ use Rattle.setup_access.specs.declared.found.Taking.{Taking}
 use Rattle.setup_access.specs.declared.found.Taking.TheVariants as takings
 use Rattle.setup_access.specs.declared.outcome.Outcome.{Outcome}
 use Rattle.setup_access.specs.declared.outcome.Watchpoint.{Watchpoint}
-use Rattle.index_order.specs.Indices.{look_index, place_after, try_index}
+use Rattle.index_order.specs.Indices.{look_index, try_index}
 use Rattle.index_order.specs.declared.place.Place.{Place}
 use Rattle.index_order.specs.declared.place.Place.TheVariants.{First, Second, Third}
 use Rattle.setup_access.specs.declared.setup.Setup.{Setup}

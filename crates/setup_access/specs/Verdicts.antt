@@ -1,11 +1,10 @@
 -- The outcome of a watch, where the watchpoint was hit and where nobody hit it.
-use Rattle.std.specs.Prelude.{◌≡◌, ℕ, Option, None, Some, IsNone, IsSome, IsSomeAnd, true, false}
+use Rattle.std.specs.Prelude.{◌≡◌, ℕ, Option, Some, IsNone, IsSome, IsSomeAnd, true, false}
 use Rattle.std.specs.FinMap as map
 use Rattle.access_types.specs.Access.{Access, Overlap}
 use Rattle.access_types.specs.Sites.{AccessMap}
-use Rattle.access_types.specs.declared.report.ValueChange.{ValueChange}
 use Rattle.slot.specs.Pair.{Halves}
-use Rattle.value_filter.specs.Change.{IsSeen}
+use Rattle.value_filter.specs.Change.{IsSeen, seen_values}
 use Rattle.value_filter.specs.Verdict.{VerdictOf}
 use Rattle.value_filter.specs.declared.verdict.Change.{Change}
 use Rattle.value_filter.specs.declared.verdict.Change.TheVariants.{Maybe, Ruled, Seen}
@@ -21,13 +20,6 @@ pub data ChangeOf (a : Access) (values : Option (ℕ × ℕ)) (change : Change) 
   seen : IsSeen a values → change ≡ Seen → ChangeOf a values change
   ruled : ¬ IsSeen a values → IsSome a.mask → change ≡ Ruled → ChangeOf a values change
   maybe : ¬ IsSeen a values → IsNone a.mask → change ≡ Maybe → ChangeOf a values change
-
--- old and new are reported where a change was seen
-abbrev pub seen_values : Change → Option (ℕ × ℕ) → Option ValueChange
-seen_values Seen None = None
-seen_values Seen (Some values) = Some (record { old = values.0; new = values.1 })
-seen_values Maybe values = None
-seen_values Ruled values = None
 
 -- the ticket names an access that shares a byte with the setter's
 abbrev pub SharesByte : AccessMap → Access → ℕ → Type 0

@@ -78,7 +78,7 @@ impl Found {
                 heard_setter(index, tries, setter)
             }
             (Found::Tell { setter, .. }, Answer::Done) => Taking::Over(Outcome::Told {
-                pair: pair_of(setter, ticket(access)),
+                pair: Pair::of(setter, ticket(access)),
             }),
             _ => unreachable!(),
         }
@@ -126,14 +126,4 @@ pub(crate) fn took(found: Found, begun: &Begun, answer: Answer) -> Turn
         Taking::Going(found) => Turn::going(Pass::Found(found)),
         Taking::Over(outcome) => Turn::over(outcome, To::Settled),
     }
-}
-
-/// The pair with these halves.
-pub(crate) fn pair_of(setter: u32, finder: u32) -> Pair
-    ensures { result ≡ record { setter = setter; finder = finder } }
-{
-    let mut pair = Pair::new();
-    pair.name(setter);
-    pair.tell(finder);
-    pair
 }

@@ -14,21 +14,20 @@ ghost use Rattle.setup_access.specs.Setting as spec;
 ghost use Rattle.setup_access.specs.Setup.{Judged};
 ghost use Rattle.setup_access.specs.Waiting.{Counts, setup_wait, to_wait, watching_wait};
 ghost use Rattle.setup_access.specs.Values as values;
-ghost use Rattle.setup_access.specs.Verdicts.{HitOutcome, SharesByte, UntouchedOutcome, seen_values};
+ghost use Rattle.setup_access.specs.Verdicts.{HitOutcome, SharesByte, UntouchedOutcome};
 ghost use Rattle.setup_access.specs.declared.outcome.Outcome.{Outcome};
 
 use crate::begun::Begun;
-use crate::found::pair_of;
 use crate::outcome::Outcome;
 use crate::pass::{Pass, To, Turn};
 use crate::setting::Setting;
 use crate::source::Source;
 use crate::values::{source_of, value_in};
-use access_types::{Access, Sites, ValueChange, overlaps, ticket};
+use access_types::{Access, Sites, overlaps, ticket};
 use index_order::Place;
 use slot::Pair;
 use slot_table::{Answer, Step, page_slot};
-use value_filter::{Change, Reason, Verdict, change, judge};
+use value_filter::{Reason, Verdict, change, judge, seen_change};
 use watch_word::encode_in;
 
 /// An access that sets a watchpoint up and watches it.
@@ -161,7 +160,7 @@ impl Setup {
                         tries: tries.saturating_add(1),
                     });
                 }
-                let outcome = hit(setting, sites, access, values, pair_of(setter, finder));
+                let outcome = hit(setting, sites, access, values, Pair::of(setter, finder));
                 Watching::Judged { index, outcome }
             }
             _ => unreachable!(),
@@ -287,7 +286,7 @@ fn hit(
         Verdict::Drop(reason) => Outcome::Dropped(reason),
         Verdict::Report => Outcome::Report {
             pair,
-            seen: seen(change, values),
+            seen: seen_change(change, values),
         },
         Verdict::Quiet => unreachable!(),
     }
@@ -301,14 +300,5 @@ fn shares_byte(sites: &Sites, access: &Access, ticket: u32) -> bool
     match sites.get(ticket) {
         Some(finder) => overlaps(access, finder),
         None => false,
-    }
-}
-
-fn seen(change: Change, values: Option<(u64, u64)>) -> Option<ValueChange>
-    ensures { result ≡ seen_values change values }
-{
-    match (change, values) {
-        (Change::Seen, Some((old, new))) => Some(ValueChange { old, new }),
-        _ => None,
     }
 }

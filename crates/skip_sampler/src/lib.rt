@@ -20,7 +20,7 @@ pub use laws::{
 
 /// Says of each access that asks whether it is watched. Of two that are watched, `skip` others are
 /// skipped in between, or, randomized, from 1 to `skip` others.
-#[derive(Debug, Drop)]
+#[derive(Debug, PartialEq, Eq, Drop)]
 pub struct Sampler {
     skip: u64,
     randomize: bool,
@@ -32,6 +32,13 @@ impl Model for Sampler {
     ghost Value = { spec.Sampler };
 
     ghost view = { λ s. record {
+      skip = s.skip;
+      randomize = s.randomize;
+      counter = s.counter;
+      generator = s.generator;
+    } };
+
+    ghost inverse = { λ s. record {
       skip = s.skip;
       randomize = s.randomize;
       counter = s.counter;

@@ -33,6 +33,13 @@ impl Pair {
         }
     }
 
+    /// The pair with these halves.
+    pub fn of(setter: u32, finder: u32) -> Pair
+        ensures { result ≡ record { setter = setter; finder = finder } }
+    {
+        Pair { setter, finder }
+    }
+
     /// Names the setter: the bits of its ticket are set in the setter's half.
     pub fn name(&mut self, ticket: u32)
         ensures { self.new ≡ (name_line self.old ticket).after }

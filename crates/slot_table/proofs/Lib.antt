@@ -13,3 +13,4 @@ pub mod Hearings
 pub mod Bags
 pub mod Parts
 pub mod Prefixes
+pub mod Boards

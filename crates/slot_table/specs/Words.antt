@@ -21,3 +21,7 @@ words_at_first page_slots locks cells = record {
   locks = replicate locks 0;
   clock = 0;
 }
+
+-- the words, and the clock put back to 0
+abbrev pub but_clock : Words → Words
+but_clock words = record words { clock = 0 }

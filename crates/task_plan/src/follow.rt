@@ -1,11 +1,12 @@
 //! What follows on an access.
 
-ghost use Rattle.std.specs.Prelude.{◌≡◌};
+ghost use Rattle.std.specs.Prelude.{◌≡◌, IsTrue};
 ghost use Rattle.task_plan.specs.Follow as spec;
 ghost use Rattle.task_plan.specs.Follow.{so_many_off, taker_off};
 ghost use Rattle.task_plan.specs.Views.{follow_of, taker_of};
 
 use litmus_syntax::Loading;
+use same_text::is_same_loading;
 
 /// What takes the value of a load.
 #[derive(Clone, Copy, Debug)]
@@ -59,6 +60,33 @@ impl<'a> Taker<'a> {
             Taker::Register { data_race, .. } => so_often(data_race),
         }
     }
+
+    /// Both take the value in the same way.
+    pub fn is_as(&self, other: &Taker<'_>) -> bool
+        ensures { IsTrue result → taker_of self.now ≡ taker_of other.now }
+    {
+        match self {
+            Taker::Nobody => matches!(other, Taker::Nobody),
+            Taker::Register {
+                register,
+                value,
+                data_race,
+            } => match other {
+                Taker::Register {
+                    register: second,
+                    value: other_value,
+                    data_race: inside,
+                } => {
+                    register == second && data_race == inside && is_same_loading(value, other_value)
+                }
+                _ => false,
+            },
+            Taker::Condition(value) => match other {
+                Taker::Condition(second) => is_same_loading(value, second),
+                _ => false,
+            },
+        }
+    }
 }
 
 impl<'a> Then<'a> {
@@ -74,6 +102,32 @@ impl<'a> Then<'a> {
                 taker,
                 ..
             } => data_races.saturating_add(taker.data_races()),
+        }
+    }
+
+    /// The same follows.
+    pub fn is_as(&self, other: &Then<'_>) -> bool
+        ensures { IsTrue result → follow_of self.now ≡ follow_of other.now }
+    {
+        match self {
+            Then::GoesOn => matches!(other, Then::GoesOn),
+            Then::MarksNext => matches!(other, Then::MarksNext),
+            Then::Assigned { data_race } => match other {
+                Then::Assigned { data_race: second } => data_race == second,
+                _ => false,
+            },
+            Then::Loaded {
+                size,
+                data_races,
+                taker,
+            } => match other {
+                Then::Loaded {
+                    size: second,
+                    data_races: inside,
+                    taker: other_taker,
+                } => size == second && data_races == inside && taker.is_as(other_taker),
+                _ => false,
+            },
         }
     }
 }

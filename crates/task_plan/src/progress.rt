@@ -1,6 +1,6 @@
 //! How far a task has come, as far as its next steps depend on it.
 
-ghost use Rattle.std.specs.Prelude.{◌≡◌, ◌<◌, ℕ, List, [], ◌∷◌, true, IfOk, if◌then◌else◌, count_by};
+ghost use Rattle.std.specs.Prelude.{◌≡◌, ◌<◌, ℕ, List, [], ◌∷◌, true, IfOk, IsTrue, if◌then◌else◌, count_by};
 ghost use Rattle.access_types.specs.Access.{Access};
 ghost use Rattle.access_types.specs.declared.history.Happening.TheVariants.{Begin, Lock, Unlock};
 ghost use Rattle.litmus_meaning.specs.Task.{begins_at, has_lock};
@@ -56,6 +56,16 @@ impl Progress {
             held: copied(alloc, &self.held)?,
             unbalanced: self.unbalanced,
         })
+    }
+
+    /// Both have the same registers, as many accesses begun at each site, and the same locks. How many calls had nothing
+    /// to end may differ.
+    pub fn keeps_as(&self, other: &Progress) -> bool
+        ensures registers { IsTrue result → self.now.registers.items ≡ other.now.registers.items }
+        ensures begun { IsTrue result → self.now.begun.items ≡ other.now.begun.items }
+        ensures locks { IsTrue result → self.now.held.items ≡ other.now.held.items }
+    {
+        self.registers == other.registers && self.begun == other.begun && self.held == other.held
     }
 
     /// The values of the registers, by number.

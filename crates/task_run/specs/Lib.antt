@@ -13,6 +13,7 @@ pub mod Fell
 pub mod Points
 pub mod Room
 pub mod Copies
+pub mod Keys
 pub use Rattle.text_walk.specs.Left as of_text_walk_Left
 pub use Rattle.text_walk.specs.declared as of_text_walk_declared
 pub use Rattle.program_sites.specs.of_program_layout_Cells as of_program_layout_Cells

@@ -7,7 +7,7 @@ use access_run::AccessRun;
 use access_run::memory_operation::Operation;
 use access_types::{Access, Kind, Sites};
 use slot_table::{Board, PlainBoard, Shape};
-use std::alloc::Global;
+use std::alloc::{AllocError, Global};
 use task_log::setup_access::{Checker, Rules};
 use watch_word::Layout;
 
@@ -27,11 +27,12 @@ const RULES: Rules = Rules {
     turns: 2,
 };
 
-/// A task with an access under way, and the board.
+/// A task with an access under way, both also as they were when it began, and the board.
 #[derive(Drop)]
 struct Scene {
     board: PlainBoard,
     sites: Sites,
+    first: (Checker, AccessRun),
     checker: Checker,
     run: AccessRun,
 }
@@ -77,6 +78,7 @@ fn begun(
     Ok(Scene {
         board: PlainBoard::new(alloc, shape)?,
         sites: Sites::new(alloc),
+        first: (checker.copy(alloc)?, run),
         checker,
         run,
     })
@@ -96,6 +98,8 @@ fn goes_on(came: &mut String, scene: &mut Scene, word: &str) -> Result<(), Fault
         "effect" => push_two(came, run.effect().read, run.effect().written)?,
         "stamps" => push_two(came, run.stamps().begin, run.stamps().end)?,
         "outcomes" => push_outcomes(came, &scene.checker)?,
+        "as_first" => push_as_first(came, scene)?,
+        "opens" => scene.checker.open_scoped(),
         _ => make_other(came, &mut scene.board, phrase)?,
     }
     Ok(())
@@ -106,6 +110,16 @@ fn push_outcomes(came: &mut String, checker: &Checker) -> Result<(), Fault> {
     let outcomes = checker.outcomes();
     write!(came, "{outcomes:?}")?;
     Ok(())
+}
+
+/// Writes whether the checker stands as when the access began, the access too, and whether this is still the last one.
+fn push_as_first(came: &mut String, scene: &Scene) -> Result<(), AllocError> {
+    let (checker, run) = &scene.first;
+    push_flag(came, scene.checker.stands_as(checker))?;
+    came.push(',')?;
+    push_flag(came, scene.run.stands_as(run))?;
+    came.push(',')?;
+    push_flag(came, scene.checker.began_as(checker))
 }
 
 /// Makes the step that the access says. It says none where it is over or stuck.

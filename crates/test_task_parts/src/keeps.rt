@@ -16,20 +16,27 @@ use task_plan::Progress;
 pub fn progress(alloc: Global, start: &str, script: &str) -> Result<String, Fault> {
     let (registers, variables) = cut(start, ' ')?;
     let (registers, variables) = (number(registers)? as usize, number(variables)? as usize);
-    let mut progress = Progress::new(alloc, registers, variables)?;
+    let first = Progress::new(alloc, registers, variables)?;
+    let mut progress = first.copy(alloc)?;
     let mut came = String::new(alloc);
     for word in script.split(' ') {
         let Asked::Question(phrase) = begin_word(&mut came, word)? else {
             return Err(Fault::NoRow);
         };
-        goes_on(&mut came, &mut progress, phrase)?;
+        goes_on(&mut came, &mut progress, &first, phrase)?;
     }
     Ok(came)
 }
 
-/// What comes at a word: what is kept, or something that the task does.
-fn goes_on(came: &mut String, progress: &mut Progress, phrase: Phrase<'_>) -> Result<(), Fault> {
+/// What comes at a word: what is kept, whether that is what was kept first, or something that the task does.
+fn goes_on(
+    came: &mut String,
+    progress: &mut Progress,
+    first: &Progress,
+    phrase: Phrase<'_>,
+) -> Result<(), Fault> {
     match phrase.name {
+        "as_first" => push_flag(came, progress.keeps_as(first))?,
         "registers" => push_all(came, progress.registers())?,
         "begun" => push_number(came, progress.begun_at(phrase.index()?))?,
         "has" => push_flag(came, progress.has_lock(phrase.index()?))?,

@@ -1,5 +1,6 @@
 //! Reads rows from standard input, each a part of a task and what comes of it: what is done to memory, accesses, the
-//! walk of a text, what a statement is about to do, and what is kept. Prints those of which something else comes.
+//! walk of a text, what a statement is about to do, what is kept, and what is the same of two texts. Prints those of
+//! which something else comes.
 #![tactic(auto)]
 
 mod accesses;
@@ -7,6 +8,7 @@ mod fault;
 mod keeps;
 mod notation;
 mod operations;
+mod pairs;
 mod plans;
 mod process;
 mod script;
@@ -104,6 +106,8 @@ fn outcome(alloc: Global, start: &str, script: &str) -> Result<String, Fault> {
         "locks" => plans::locks(alloc, rest, script),
         "progress" => keeps::progress(alloc, rest, script),
         "log" => keeps::log(alloc, rest),
+        "apart" => pairs::apart(alloc, rest),
+        "places" => pairs::places(alloc, rest, script),
         _ => Err(Fault::NoRow),
     }
 }

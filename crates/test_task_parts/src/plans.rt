@@ -5,6 +5,7 @@ use crate::notation::{cut, number, push_flag, push_number, push_two};
 use crate::process::{body_of, layout_of, program_of, walk_of};
 use crate::script::{Asked, begin_word};
 use access_types::Access;
+use litmus_parse::Program;
 use litmus_syntax::Statement;
 use std::alloc::{AllocError, Global};
 use task_plan::{Plan, Planner, Taker, Then, is_lock_at, lock_number};
@@ -24,6 +25,20 @@ pub fn plan(alloc: Global, start: &str) -> Result<String, Fault> {
     match planned(planner, walk.go_on()) {
         Some(plan) => said(alloc, plan),
         None => Ok(String::from_str(alloc, "none")?),
+    }
+}
+
+/// What follows on the access of the first statement of a process, if that makes one; its registers have no values.
+pub fn after_first(alloc: Global, program: &Program) -> Result<Option<Then<'_>>, Fault> {
+    let layout = layout_of(alloc, program)?;
+    let mut walk = walk_of(alloc, body_of(program)?)?;
+    let planner = Planner {
+        layout: &layout,
+        registers: &[],
+    };
+    match planned(planner, walk.go_on()) {
+        Some(plan) => Ok(Some(plan.after)),
+        None => Ok(None),
     }
 }
 

@@ -8,6 +8,7 @@ fn names_both_sides(rt: HostRuntime) {
     pair.name(1);
     pair.tell(65537);
     assert_eq!(rt; pair.halves(), (1, 65537));
+    assert_eq!(rt; pair, Pair::of(1, 65537));
     pair.clear();
     assert_eq!(rt; pair.halves(), (0, 0));
     assert_eq!(rt; pair, Pair::default());

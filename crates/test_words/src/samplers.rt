@@ -32,3 +32,18 @@ fn randomized_skips_are_those_of_the_generator(rt: HostRuntime) {
     ];
     expect_watched(&rt, Sampler::new(10, true, 1), 160, &wanted);
 }
+
+#[test]
+fn samplers_are_the_same_or_not(rt: HostRuntime) {
+    let mut sampler = Sampler::new(1, true, 1);
+    let first = sampler.copy();
+    assert!(rt; sampler == first);
+    assert!(rt; Sampler::new(1, true, 2) != first);
+    assert!(rt; Sampler::new(1, false, 1) != first);
+    assert!(rt; Sampler::new(2, true, 1) != first);
+    // The second asking comes to a yes and draws: the counter is as it was, and the generator isn't.
+    for _ in 0..2 {
+        let _watched = sampler.should_watch();
+        assert!(rt; sampler != first);
+    }
+}

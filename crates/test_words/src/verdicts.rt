@@ -1,8 +1,8 @@
 //! What values say of a change, and the verdict.
 
-use access_types::{Access, Claim, Kind, Operation};
+use access_types::{Access, Claim, Kind, Operation, ValueChange};
 use std::test::Fail;
-use value_filter::values::change;
+use value_filter::values::{change, seen_change};
 use value_filter::verdict::Change::{Maybe, Ruled, Seen};
 use value_filter::verdict::Verdict::{Quiet, Report};
 use value_filter::verdict::{Reason, Verdict, judge};
@@ -27,6 +27,23 @@ fn values_say_whether_they_changed(rt: HostRuntime) -> Result<(), Fail> {
         assert_eq!(rt; change(&access, values), wanted, "{mask:?} {values:?}");
     }
     Ok(())
+}
+
+#[test]
+fn values_are_told_where_a_change_was_seen(rt: HostRuntime) {
+    let told = Some(ValueChange { old: 0, new: 16 });
+    for (change, values, wanted) in [
+        (Seen, Some((0, 16)), told),
+        (Seen, None, None),
+        (Maybe, Some((5, 5)), None),
+        (Ruled, Some((0, 16)), None),
+    ] {
+        assert_eq!(rt;
+            seen_change(change, values),
+            wanted,
+            "{change:?} {values:?}"
+        );
+    }
 }
 
 #[test]

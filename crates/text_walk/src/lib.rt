@@ -4,6 +4,7 @@
 mod block;
 pub mod count;
 pub mod due;
+mod places;
 pub mod walk;
 
 pub use due::Due;

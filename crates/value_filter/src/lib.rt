@@ -4,5 +4,5 @@
 pub mod values;
 pub mod verdict;
 
-pub use values::{change, seen_changes_differ};
+pub use values::{change, seen_change, seen_changes_differ};
 pub use verdict::{Change, Reason, Verdict, judge, verdicts_are_unique};

@@ -2,10 +2,10 @@
 
 ghost use Rattle.std.specs.Prelude.{◌≡◌, ◌↔◌, ℕ, IsNone, IsSome, IsTrue, Option};
 ghost use Rattle.access_types.specs.Race.{Differ};
-ghost use Rattle.value_filter.specs.Change.{BitDiffers, IsSeen};
+ghost use Rattle.value_filter.specs.Change.{BitDiffers, IsSeen, seen_values};
 
 use crate::verdict::Change;
-use access_types::Access;
+use access_types::{Access, ValueChange};
 
 /// What the old and the new value of an access's bytes say of a change, or what is said where none
 /// were loaded. The mask of an access has a bit, since `Access::new_rep` makes one without a bit
@@ -23,6 +23,16 @@ pub fn change(access: &Access, values: Option<(u64, u64)>) -> Change
         // Also where no values were loaded: KCSAN too asks of a mask that a change be seen.
         _ if mask.is_some() => Change::Ruled,
         _ => Change::Maybe,
+    }
+}
+
+/// The old and the new value, where a change was seen.
+pub fn seen_change(change: Change, values: Option<(u64, u64)>) -> Option<ValueChange>
+    ensures { result ≡ seen_values change values }
+{
+    match (change, values) {
+        (Change::Seen, Some((old, new))) => Some(ValueChange { old, new }),
+        _ => None,
     }
 }
 

@@ -49,7 +49,7 @@ returns-else-finder-eq0-clause-left c = λ judged later rest.
     rw (c.in-HearFinder-Halves.is-0, c.in-HearFinder-Halves.is-1)
     (hit_left (setting_with c.args.setting.now c.args.sites.now) c.args.access.now c.in-HearFinder-Halves.index later rest
     c.in-HearFinder-Halves.values c.in-HearFinder-Halves.setter c.in-HearFinder-Halves.finder c.hit-outcome.result judged (omega arith)
-    (rw c.pair_of.ensures at c.hit-outcome.ensures))
+    (rw c.of.ensures at c.hit-outcome.ensures))
 
 pub returns-in-Insert-Flag-clause-waits : goal.returns-in-Insert-Flag-clause-waits
 returns-in-Insert-Flag-clause-waits c = λ wait before.
@@ -97,7 +97,7 @@ returns-else-finder-eq0-clause-falls c =
     rw (c.in-HearFinder-Halves.is-0, c.in-HearFinder-Halves.is-1)
     (hit_falls (setting_with c.args.setting.now c.args.sites.now) c.args.access.now c.hit-outcome.result c.in-HearFinder-Halves.index c.in-HearFinder-Halves.values
     (record { setter = c.in-HearFinder-Halves.setter; finder = c.in-HearFinder-Halves.finder }) _ (refl, omega arith)
-    (rw c.pair_of.ensures at c.hit-outcome.ensures))
+    (rw c.of.ensures at c.hit-outcome.ensures))
 
 pub returns-in-Name-Done-clause-falls : goal.returns-in-Name-Done-clause-falls
 returns-in-Name-Done-clause-falls c = rw (c.named.ensures c.args.sites.now) tt

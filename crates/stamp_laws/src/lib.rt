@@ -1,0 +1,6 @@
+//! What the clock's stamps tell: nothing that a task goes by. No code.
+#![tactic(auto)]
+
+pub mod laws;
+
+pub use written_tellings;
