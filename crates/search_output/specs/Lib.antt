@@ -1,6 +1,8 @@
 pub mod Lists
 pub mod Traces
 pub mod Findings
+pub mod StateFindings
+pub mod Ends
 pub use Rattle.schedule_search.specs.of_slot_table_declared as of_slot_table_declared
 pub use Rattle.schedule_search.specs.of_program_layout_Places as of_program_layout_Places
 pub use Rattle.schedule_search.specs.of_program_sites_Errors as of_program_sites_Errors

@@ -2,10 +2,13 @@
 #![tactic(auto)]
 
 pub mod findings;
+pub mod laws;
+pub mod state_findings;
 
 pub use findings::Findings;
 pub use run_output;
 pub use schedule_search;
 pub use schedule_search::litmus_step;
 pub use search_text;
-pub use search_text::{Asked, Entry, MemorySink, Sink, WriteError};
+pub use search_text::{Asked, Entry, MemorySink, Sink, Visited, WriteError};
+pub use state_findings::StateFindings;

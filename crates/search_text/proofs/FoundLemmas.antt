@@ -1,16 +1,19 @@
 -- What is found of lists, with one list more.
-use Rattle.std.proofs.Common.{◌≡◌, ◌+◌, ◌<◌, ◌++◌, ◌∷◌, ◌∙◌, ◌==◌, ◌||◌, ℕ, List, [], Bool, Option, None, Some, true, false, ap, arith, fold, inl, inr, length, length-append, map, not, refl, sym, if◌then◌else◌}
+use Rattle.std.proofs.Common.{◌≡◌, ◌↔◌, ◌+◌, ◌<◌, ◌++◌, ◌∷◌, ◌∙◌, ◌==◌, ◌||◌, ℕ, Contains, IsTrue, List, [], Bool, Option, None, Some, true, false, ap, arith, fold, inl, inr, length, length-append, map, not, refl, sym, if◌then◌else◌}
 use Rattle.std.specs.List.{flat_map, list_any}
 use Rattle.std.proofs.lemmas.Bool.Decides.{eqb_tells}
 use Rattle.std.proofs.lemmas.Cmp.{nat_list_eq_equiv}
 use Rattle.std.proofs.lemmas.List.{length-map}
+use Rattle.std.proofs.lemmas.Map.Views.{Contains-from_any, list_any-from_Contains}
+use Rattle.std.specs.Cmp.Lexicographic.{same_text}
 use Rattle.report_text.specs.Groups.{first_seen, is_text, one_more}
 use Rattle.search_text.proofs.SightingLemmas.{count_on, counted_more, seen_on, sightings_on}
 use Rattle.search_text.proofs.TextLists.{any_fold}
-use Rattle.search_text.specs.Found.{Finds, Searched, ends_so, fails, is_deadlocked, is_none, meets, option_again, resting, sightings_in, state_in, states_of, texts_of_all}
+use Rattle.search_text.specs.Found.{Finds, Searched, ends_so, fails, has, is_deadlocked, is_none, meets, option_again, resting, sightings_in, state_in, states_of, texts_of_all, times_in}
 use Rattle.search_text.specs.Seen.{sighted}
 use Rattle.search_text.specs.Texts.{End}
-use Rattle.search_text.specs.Write.{found_text, search_text, text_found}
+use Rattle.search_text.specs.Times.{Sighting, Times}
+use Rattle.search_text.specs.Write.{found_text, search_text, states_search_text, text_found, text_of_both}
 use Rattle.search_text.specs.declared.found.Found.{Found}
 
 -- a final state is one text
@@ -72,3 +75,31 @@ pub text_found_is : (name : List ℕ) (switches : ℕ) (stopped : Bool) (lists :
     → text_found name switches stopped found ≡ search_text name switches stopped lists
 text_found_is name switches stopped lists found finds =
     rw (finds.reports, finds.stuck, finds.states, finds.searched, finds.held, finds.failed)
+
+pub text_of_both_is : (name : List ℕ) (stopped : Bool) (visited : ℕ) (reports ends : List Searched) (reported ended : Found)
+    → Finds reports reported → Finds ends ended
+    → text_of_both name stopped visited reported ended ≡ states_search_text name stopped visited reports ends
+text_of_both_is name stopped visited reports ends reported ended first second =
+    rw (first.reports, second.stuck, second.states, second.held, second.failed)
+
+-- a text is among those that are kept of texts where it is among these
+any_each : (text : List ℕ) (times : List ℕ → Times) (texts : List (List ℕ))
+    → list_any (λ (sighting : Sighting). is_text text sighting.0) (map (λ one. (one, times one)) texts) ≡ list_any (is_text text) texts
+any_each text times [] = refl
+any_each text times (first ∷ texts) = ap (λ b. is_text text first || b) (any_each text times texts)
+
+any_state : (text : List ℕ) (lists : List Searched) (found : Found) → Finds lists found
+    → list_any (λ sighting. is_text text sighting.0) found.states ≡ list_any (is_text text) (flat_map states_of lists)
+any_state text lists found finds =
+    ap (list_any (λ sighting. is_text text sighting.0)) finds.states
+    ∙ any_each text (λ one. times_in (has states_of one) lists) (first_seen (flat_map states_of lists))
+    ∙ any_fold text [] (flat_map states_of lists)
+
+pub state_there : (text : List ℕ) (lists : List Searched) (found : Found) (result : Bool)
+    → result ≡ list_any (λ sighting. is_text text sighting.0) found.states → Finds lists found
+    → IsTrue result ↔ Contains (flat_map states_of lists) text
+state_there text lists found result told finds =
+    let same = told ∙ any_state text lists found finds in (
+      λ is. Contains-from_any (λ one other e. same_text one other (sym e)) text (flat_map states_of lists) (sym same ∙ is),
+      λ there. same ∙ list_any-from_Contains nat_list_eq_equiv text (flat_map states_of lists) there,
+    )

@@ -1,6 +1,7 @@
 pub mod TextLists
 pub mod SightingLemmas
 pub mod FoundLemmas
+pub mod CountedOnce
 pub mod JoinLemmas
 pub mod Shown
 pub mod VecTexts

@@ -1,5 +1,6 @@
 -- The sightings that a map's entries show.
 use Rattle.std.proofs.Common.{◌≡◌, ◌++◌, ◌∷◌, ◌∙◌, ℕ, List, [], Bool, None, Option, Some, true, false, ap, append_assoc, flat_map, is_some, map, position, refl, slice_get, sym, Vec, Global}
+use Rattle.std.specs.List.{list_any}
 use Rattle.std.specs.Map.{keys_of, lookup, values_of}
 use Rattle.indexmap.specs.IndexMap.{insert_entry, set_value_at}
 use Rattle.indexmap.proofs.MapLemmas.{Found-position, insert_entry-first}
@@ -103,3 +104,18 @@ pub one_more_text : (text : Sighting → List ℕ) (written : List ℕ) (entry :
 one_more_text text written entry before after all e h =
     append_assoc written (text (entry.0.items, entry.1)) (flat_map text (shown after))
     ∙ ap (λ es. written ++ flat_map text (shown es)) (sym e) ∙ h
+
+-- a text is among what is shown where a look-up finds it
+pub found_is : (entries : List Entry) (text : List ℕ)
+    → is_some (lookup (λ (key : Vec ℕ Global). is_text text key.items) entries)
+    ≡ list_any (λ (sighting : Sighting). is_text text sighting.0) (shown entries)
+found_is [] text = refl
+found_is (entry ∷ entries) text = by (is_text text entry.0.items) refl (found_is entries text)
+  where
+    by : (b : Bool) → is_text text entry.0.items ≡ b
+        → is_some (lookup (λ (key : Vec ℕ Global). is_text text key.items) entries)
+        ≡ list_any (λ (sighting : Sighting). is_text text sighting.0) (shown entries)
+        → is_some (lookup (λ (key : Vec ℕ Global). is_text text key.items) (entry ∷ entries))
+        ≡ list_any (λ (sighting : Sighting). is_text text sighting.0) (shown (entry ∷ entries))
+    by true p rest = rw p refl
+    by false p rest = rw p rest

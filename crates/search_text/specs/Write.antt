@@ -83,3 +83,36 @@ abbrev pub search_text : (name : List ℕ) → (switches : ℕ) → (stopped : B
 search_text name switches stopped lists =
     found_text name switches stopped (sightings_in (λ one. one.texts) lists) (seen_in is_deadlocked lists) (sightings_in states_of lists)
     (resting (length lists)) (resting (count_by meets lists)) (resting (count_by fails lists))
+
+-- how many states were searched
+unfoldable pub visited_line : ℕ → List ℕ
+visited_line visited = line (codes "searched " ++ decimal visited ++ codes " states of all schedules")
+
+-- the search was stopped after so many states
+unfoldable pub stopped_at_line : ℕ → List ℕ
+stopped_at_line visited = line (codes "stopped after " ++ decimal visited ++ codes " states: others remain")
+
+abbrev pub stopped_at_text : (stopped : Bool) → ℕ → List ℕ
+stopped_at_text true visited = stopped_at_line visited
+stopped_at_text false visited = []
+
+-- how many states were searched, and that others remain, if they do
+abbrev pub visited_text : (visited : ℕ) → (stopped : Bool) → List ℕ
+visited_text visited stopped = visited_line visited ++ stopped_at_text stopped visited
+
+-- What a search over the states of the test of this name writes, stopped at its limit or not: each distinct report and in how many lists it
+-- was seen; in how many not all tasks ended; how many states were searched; and how the others end.
+abbrev pub states_text : (name : List ℕ) → (stopped : Bool) → (visited : ℕ) → (reports : List Sighting) → (stuck : Option Times)
+    → (states : List Sighting) → (held failed : ℕ) → List ℕ
+states_text name stopped visited reports stuck states held failed =
+    flat_map sighting_text reports ++ (stuck_text stuck ++ (visited_text visited stopped ++ endings_text name states held failed))
+
+abbrev pub text_of_both : (name : List ℕ) → (stopped : Bool) → (visited : ℕ) → (reported ended : Found) → List ℕ
+text_of_both name stopped visited reported ended =
+    states_text name stopped visited reported.reports ended.stuck ended.states ended.held ended.failed
+
+-- so it is where at the last step of some of these lists reports fall, and others end
+abbrev pub states_search_text : (name : List ℕ) → (stopped : Bool) → (visited : ℕ) → (reported ended : List Searched) → List ℕ
+states_search_text name stopped visited reported ended =
+    states_text name stopped visited (sightings_in (λ one. one.texts) reported) (seen_in is_deadlocked ended)
+    (sightings_in states_of ended) (resting (count_by meets ended)) (resting (count_by fails ended))

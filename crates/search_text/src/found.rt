@@ -1,8 +1,9 @@
 //! What is found of the lists that were searched.
 
-ghost use Rattle.std.specs.Prelude.{◌≡◌, ◌==◌, ◌++◌, ◌∷◌, [], IfOk, List, OnOk, fold, length, map, not};
+ghost use Rattle.std.specs.Prelude.{◌≡◌, ◌==◌, ◌↔◌, ◌++◌, ◌∷◌, [], Contains, IfOk, IsTrue, List, OnOk, fold, length, map, not};
+ghost use Rattle.std.specs.List.{flat_map};
 ghost use Rattle.report_text.specs.ReportOf.{report_text};
-ghost use Rattle.search_text.specs.Found.{EndsAdded, Finds, Searched, option_again, texts_of_all};
+ghost use Rattle.search_text.specs.Found.{EndsAdded, Finds, Searched, option_again, states_of, texts_of_all};
 ghost use Rattle.search_text.specs.Seen.{sighted};
 ghost use Rattle.search_text.specs.Texts.{ending_of, texts_in};
 
@@ -85,6 +86,13 @@ impl Found {
         ensures { (lists : List Searched) → Finds lists self.now → result ≡ not (length (texts_of_all lists) == 0) }
     {
         self.reports.len() != 0
+    }
+
+    /// Whether a whole one of them has this final state, as text.
+    pub fn has_state(&self, state: &[u8]) -> bool
+        ensures { (lists : List Searched) → Finds lists self.now → IsTrue result ↔ Contains (flat_map states_of lists) state.now }
+    {
+        self.states.contains(state)
     }
 
     /// Counts how a list of this schedule ended, or that not all its tasks did.

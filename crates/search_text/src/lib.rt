@@ -10,6 +10,7 @@ pub mod schedules;
 pub mod seen;
 pub mod states;
 pub mod texts;
+pub mod visited;
 pub mod write;
 
 pub use found::{Ending, Found};
@@ -17,4 +18,8 @@ pub use locations::{Location, locations_of};
 pub use report_text::{MemorySink, Sink, WriteError};
 pub use states::state_of;
 pub use step_schedule::Entry;
+pub use visited::{Visited, write_states_search};
 pub use write::{Asked, write_search};
+
+#[cfg(test)]
+mod tests;

@@ -1,6 +1,8 @@
 //! What is seen in lists that are searched, one after the other.
 
 ghost use Rattle.std.specs.Prelude.{◌≡◌, ◌==◌, [], IfOk, OnOk, length};
+ghost use Rattle.std.specs.List.{list_any};
+ghost use Rattle.report_text.specs.Groups.{is_text};
 ghost use Rattle.search_text.specs.Joined.{both};
 ghost use Rattle.search_text.specs.Seen as spec;
 ghost use Rattle.search_text.specs.Seen.{sighted};
@@ -97,6 +99,13 @@ impl Sightings {
         ensures { result ≡ length self.now }
     {
         self.seen.len()
+    }
+
+    /// Whether a text is one of them.
+    pub fn contains(&self, text: &[u8]) -> bool
+        ensures { result ≡ list_any (λ sighting. is_text text.now sighting.0) self.now }
+    {
+        self.seen.contains_key(text)
     }
 
     /// Adds a text of the list of this schedule, which has not been added of it yet.

@@ -84,7 +84,7 @@ fn write_state<K: Sink>(sink: &mut K, state: &[u8], times: u64) -> Result<(), Wr
 
 impl Sightings {
     /// Writes the text of each report, and in how many schedules it was seen.
-    fn write_reports<K: Sink>(&self, sink: &mut K) -> Result<(), WriteError>
+    pub(crate) fn write_reports<K: Sink>(&self, sink: &mut K) -> Result<(), WriteError>
         ensures { Writes K.written K.failures result (flat_map sighting_text self.now) sink.old sink.new }
     {
         for (text, seen) in self.seen.iter() {
@@ -105,7 +105,7 @@ impl Sightings {
 }
 
 /// Writes in how many schedules not all tasks ended, if there are any.
-fn write_stuck<K: Sink>(sink: &mut K, stuck: &Option<Seen>) -> Result<(), WriteError>
+pub(crate) fn write_stuck<K: Sink>(sink: &mut K, stuck: &Option<Seen>) -> Result<(), WriteError>
     ensures { Writes K.written K.failures result (stuck_text stuck.now) sink.old sink.new }
 {
     match stuck {
@@ -233,7 +233,11 @@ fn write_bounds<K: Sink>(sink: &mut K, searched: u64, asked: Asked) -> Result<()
 }
 
 /// Writes how whole lists end: how many final states there are, each of them, and whether a proposition holds there.
-fn write_ending<K: Sink>(sink: &mut K, found: &Found, name: &str) -> Result<(), WriteError>
+pub(crate) fn write_ending<K: Sink>(
+    sink: &mut K,
+    found: &Found,
+    name: &str,
+) -> Result<(), WriteError>
     ensures { Writes K.written K.failures result (endings_text name.now found.now.states found.now.held found.now.failed)
         sink.old sink.new }
 {

@@ -1,0 +1,11 @@
+-- each part is what its call left, up to the one that failed
+use Rattle.report_text.proofs.SinkSteps.{fails_first, writes_after, writes_error}
+use Rattle.search_text.proofs.visited.write_visited.Goals as goal
+
+pub returns-in_err-write_visited_line : goal.returns-in_err-write_visited_line
+returns-in_err-write_visited_line g c =
+    writes_error g.K.Sink.written g.K.Sink.failures _ _ _ _ c.from_residual.ensures.0
+    (fails_first g.K.Sink.written g.K.Sink.failures _ _ _ _ c.in_err-write_visited_line.ensures)
+
+pub returns : goal.returns
+returns g c = writes_after g.K.Sink.written g.K.Sink.failures _ _ _ _ _ _ c.in_ok-write_visited_line.ensures c.write_stopped_at.ensures
