@@ -1,6 +1,6 @@
 -- What is read of the values of options.
 use Rattle.std.proofs.Common.{◌≡◌, ◌∙◌, ◌<◌, ◌^◌, ℕ, Bool, true, false, List, Option, None, Some, Result, Ok, Err, IfErr, IfSome, ap, ap₂, arith, get_or, is_some, length}
-use Rattle.std.proofs.Common.{not, option_map, refl, subst, sym, Bor, ◌&&◌}
+use Rattle.std.proofs.Common.{◌≤◌, not, option_map, refl, subst, sym, Bor, ◌&&◌}
 use Rattle.std.proofs.lemmas.Option.{same_Some}
 use Rattle.std.proofs.lemmas.Slice.Eq.{bytes_eq-Decides}
 use Rattle.std.specs.Prelude.{◌↔◌, [], IsErrAnd, IsTrue, bytes_eq, codes, map, unwrap_or}
@@ -9,9 +9,12 @@ use Rattle.std.specs.Str.Parse.{IsNumeral, digits_value, without_leading_plus}
 use Rattle.clap.specs.Words.{ReadsOne, Row, Text, first_of, first_value, is_simple, is_simple_and_free, matched_of, one_text, raw_values, rows_of, subcommand_of}
 use Rattle.clap.specs.declared.parser.matches.Found.{Found}
 use Rattle.clap.proofs.WalkLemmas.{first_value-rows, one_text-rows, raw_values-rows}
-use Rattle.command_words.specs.Words.{AreSizes, Ask, IsAskedBy, IsAskedOf, IsFlag, IsGiven, IsNumber, program_app, words_of}
+use Rattle.command_words.specs.Bounds.{KeepsSwitches}
+use Rattle.command_words.specs.Words.{AreSizes, Ask, AskSwitches, IsAskedBy, IsAskedOf, IsFlag, IsNumber, program_app, words_of}
 use Rattle.command_words.specs.declared.request.Request.{Request}
 use Rattle.command_words.specs.declared.request.Request.TheVariants as requests
+use Rattle.command_words.specs.declared.request.Switches.{Switches}
+use Rattle.command_words.specs.declared.request.Switches.TheVariants as switches
 
 -- the text of an option that was read is its first value
 pub text_read : (found : Found) (option : Text) (result : Option (Bor Text))
@@ -93,6 +96,12 @@ number_same gives spelled found option result number other some value asks =
     let read : one_text found option ≡ Some asks.text = one_text-rows found option ∙ asks.given in
     spelled asks.text number (subst (ReadsOne gives asks.text) some (value asks.text read)) ∙ asks.spelled
 
+-- where the value of `--switches` is neither a number within its bounds nor `all`, it asks for nothing
+pub no_switches : (values : List Row) → ((number : ℕ) → number ≤ 16 → IsNumber values (codes "switches") number → ⊥)
+    → (first_of (codes "switches") values ≡ Some (codes "all") → ⊥) → (asked : Switches) → KeepsSwitches asked → AskSwitches values asked → ⊥
+no_switches values no_number not_all (switches.AtMost number) bound asks = no_number number bound asks
+no_switches values no_number not_all switches.All bound asks = not_all asks
+
 -- whether an option that stands alone is set
 pub flag_read : (found : Found) (option : Text) (set : Bool) → (one_text found option ≡ None → set ≡ false)
     → (one_text found option ≡ Some (codes "true") → set ≡ true) → (one_text found option ≡ Some (codes "false") → set ≡ false)
@@ -103,20 +112,20 @@ flag_read found option set none on off = record {
   none = λ is. none (one_text-rows found option ∙ is);
 }
 
--- an option that stands alone is given where its value says so
-pub given_read : (found : Found) (option : Text) (result : Option (Bor Text)) (value : Bor Text) (same : Bool)
+-- an option has a word for its first value where that was read and is this word
+pub value_read : (found : Found) (option word : Text) (result : Option (Bor Text)) (value : Bor Text) (same : Bool)
     → option_map (λ text. text.now) result ≡ first_value found option → result ≡ Some value
-    → same ≡ bytes_eq value.now (codes "true") → IsTrue same ↔ IsGiven (rows_of found) option
-given_read found option result value same is some compared =
+    → same ≡ bytes_eq value.now word → IsTrue same ↔ (first_of option (rows_of found) ≡ Some word)
+value_read found option word result value same is some compared =
     let first = some_read found option result value is some in (
-      λ yes. first ∙ ap Some ((bytes_eq-Decides value.now (codes "true")).0 (sym compared ∙ yes)),
-      λ given. compared ∙ (bytes_eq-Decides value.now (codes "true")).1 (same_Some value.now (codes "true") (sym first ∙ given)),
+      λ yes. first ∙ ap Some ((bytes_eq-Decides value.now word).0 (sym compared ∙ yes)),
+      λ given. compared ∙ (bytes_eq-Decides value.now word).1 (same_Some value.now word (sym first ∙ given)),
     )
 
-pub given_unread : (found : Found) (option : Text) (result : Option (Bor Text))
-    → option_map (λ text. text.now) result ≡ first_value found option → result ≡ None → IsTrue false ↔ IsGiven (rows_of found) option
-given_unread found option result is none =
-    (λ yes. absurd (cc), λ given. absurd (text_there found option result (codes "true") is given none))
+pub value_unread : (found : Found) (option word : Text) (result : Option (Bor Text))
+    → option_map (λ text. text.now) result ≡ first_value found option → result ≡ None
+    → IsTrue false ↔ (first_of option (rows_of found) ≡ Some word)
+value_unread found option word result is none = (λ yes. absurd (cc), λ given. absurd (text_there found option result word is given none))
 
 -- the words of an argument are those that were read of it
 pub words_read : (found : Found) (name : Text) (result : Option (Bor (List (Bor Text)))) (words : List (Bor Text)) (given : Option (List Text))

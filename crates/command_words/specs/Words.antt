@@ -22,6 +22,8 @@ use Rattle.command_words.specs.declared.request.RunRequest.{RunRequest}
 use Rattle.command_words.specs.declared.request.SearchRequest.{SearchRequest}
 use Rattle.command_words.specs.declared.request.ShowRequest.{ShowRequest}
 use Rattle.command_words.specs.declared.request.StepRequest.{StepRequest}
+use Rattle.command_words.specs.declared.request.Switches.{Switches}
+use Rattle.command_words.specs.declared.request.Switches.TheVariants as switches
 use Rattle.watch_word.specs.declared.layout.Layout.{Layout}
 use Rattle.watch_word.specs.declared.layout.Layout.TheVariants as layouts
 
@@ -85,13 +87,13 @@ run_app sizes =
     (flag_rule (codes "stop-at-first")))
     (flag_rule (codes "keep-going"))) sizes
 
--- `search`, with its file, how many switches a schedule has at most, after how many schedules the search stops, how many threads share the
--- work, and those options
+-- `search`, with its file, how many switches a schedule has at most, after how many schedules or states the search stops, how many threads
+-- share the work, and those options; what `--switches` takes is said below
 abbrev pub search_app : Bor (List (Bor Text)) → App
 search_app sizes =
     with_options (with_rule (with_rule (with_rule (with_rule (new_app (codes "search"))
     (word_rule (codes "FILE")))
-    (number_rule (codes "switches") 0 16 (codes "2")))
+    (default_rule (codes "switches") (codes "2")))
     (number_rule (codes "limit") 1 1000000000 (codes "1000000")))
     (number_rule (codes "jobs") 1 64 (codes "1"))) sizes
 
@@ -203,10 +205,15 @@ pub record AskRun (values : List Row) (request : RunRequest) : Type 0 where
   pub keep_going : IsFlag values (codes "keep-going") request.keep_going
   pub options : AskOptions values request.options
 
+-- the value of `--switches` asks for so many at most, or, as the word `all`, for all schedules
+abbrev pub AskSwitches : List Row → Switches → Type 0
+AskSwitches values (switches.AtMost number) = IsNumber values (codes "switches") number
+AskSwitches values switches.All = first_of (codes "switches") values ≡ Some (codes "all")
+
 -- the values of `search` ask for this
 pub record AskSearch (values : List Row) (request : SearchRequest) : Type 0 where
   pub file : first_of (codes "FILE") values ≡ Some request.file.now
-  pub switches : IsNumber values (codes "switches") request.switches
+  pub switches : AskSwitches values request.switches
   pub limit : IsNumber values (codes "limit") request.limit
   pub jobs : IsNumber values (codes "jobs") request.jobs
   pub options : AskOptions values request.options

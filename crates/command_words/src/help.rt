@@ -159,7 +159,7 @@ pub const KEEP_GOING: &str = "Counts runs in which a task gets stuck, and goes o
 
 /// What `search` does.
 pub const SEARCH: &str =
-    "Steps the program of a litmus file under every schedule with few switches from task to task";
+    "Steps the program of a litmus file under all schedules, or those with few switches between tasks";
 
 /// What follows the options of `search`.
 pub const AFTER_SEARCH: &str = "\
@@ -167,15 +167,19 @@ pub const AFTER_SEARCH: &str = "\
     that other has ended by it, or only tried in vain, as for a lock that was not free. The\n\
     program is stepped under every schedule with at most so many switches, each from the start,\n\
     with the same settings; and no task tries anew in vain before another has done something.\n\
-    With each switch more there are many more schedules. For example\n\
+    With each switch more there are many more schedules.\n\
+    \n\
+    With --switches all there is no such bound. Then what follows on a state is stepped once,\n\
+    though many schedules lead to it: states are counted, and of schedules those by which the\n\
+    search went on, one to each state, or to a report, with which it ends. For example\n\
     \n\
     \x20\x20\x20\x20kcsan_litmus search race.litmus\n\
     \n\
     finds the race of race.litmus without being told a schedule,\n\
     \n\
-    \x20\x20\x20\x20kcsan_litmus search race.litmus --switches 3 --limit 1000\n\
+    \x20\x20\x20\x20kcsan_litmus search race.litmus --switches all --limit 1000\n\
     \n\
-    tries those with three switches too, and stops after a thousand if others remain, and\n\
+    goes through all schedules, and stops after a thousand states if others remain, and\n\
     \n\
     \x20\x20\x20\x20kcsan_litmus search race.litmus --switches 1 --trace race.trace\n\
     \n\
@@ -186,10 +190,10 @@ pub const AFTER_SEARCH: &str = "\
     many schedules give it, and the first of them: under it, with the same options, so does\n\
     'kcsan_litmus step', unless tasks wait there for ever.\n\
     Where no task can go on and not all have ended, a line says in how many schedules. Then come\n\
-    the number of schedules, whether others remain, what the registers and variables of the\n\
-    condition hold where all tasks have ended, as herd7 writes it, and in how many of these the\n\
-    proposition holds. While the search goes on, a line on standard error counts the schedules,\n\
-    where that is a terminal.\n\
+    the number of schedules or states, whether others remain, what the registers and variables\n\
+    of the condition hold where all tasks have ended, as herd7 writes it, with the number of\n\
+    schedules that end so, or with 1, and in how many of these the proposition holds. While the\n\
+    search goes on, a line on standard error counts, where that is a terminal.\n\
     \n\
     'kcsan_litmus step --help' says what a schedule and a place list are.\n\
     \n\
@@ -200,14 +204,15 @@ pub const AFTER_SEARCH: &str = "\
     trace's file.";
 
 /// What `--switches` says.
-pub const SWITCHES: &str =
-    "How many switches a schedule has at most, 0 to 16; there is no search without this bound yet";
+pub const SWITCHES: &str = "How many switches a schedule has at most, 0 to 16, or all for no bound";
 
 /// What `--limit` says.
-pub const LIMIT: &str = "After how many schedules the search stops, 1 to 1000000000";
+pub const LIMIT: &str =
+    "After how many schedules, or states with all, the search stops, 1 to 1000000000";
 
 /// What `--jobs` of `search` says.
-pub const SEARCH_JOBS: &str = "How many threads share the work, 1 to 64; the output is the same";
+pub const SEARCH_JOBS: &str =
+    "How many threads share the work, 1 to 64; the output is the same, and with all one works";
 
 /// What `show` does.
 pub const SHOW: &str = "Draws a trace: which access was in progress when, who watched, who took it";

@@ -6,5 +6,5 @@ pub mod request;
 
 pub use request::{
     CheckRequest, ReplayRequest, Request, RunOptions, RunRequest, SearchRequest, ShowRequest,
-    StepRequest, asked,
+    StepRequest, Switches, asked,
 };

@@ -1,12 +1,12 @@
 //! What the words ask for.
 
 ghost use Rattle.std.specs.Prelude.{◌≡◌, ◌≢◌, ◌↔◌, ◌≤◌, ◌<◌, ℕ, IfErr, IfOk, IfSome, IsSome, IsTrue, Some, [], codes, length, map};
-ghost use Rattle.command_words.specs.Bounds.{KeepsBounds, KeepsCheckBounds, KeepsRunBounds, KeepsSearchBounds, MayBeAsked};
-ghost use Rattle.command_words.specs.Words.{AreSizes, Ask, AskCheck, AskOptions, AskRun, AskSearch, AskShow, AskStep};
+ghost use Rattle.command_words.specs.Bounds.{KeepsBounds, KeepsCheckBounds, KeepsRunBounds, KeepsSearchBounds, KeepsSwitches, MayBeAsked};
+ghost use Rattle.command_words.specs.Words.{AreSizes, Ask, AskCheck, AskOptions, AskRun, AskSearch, AskShow, AskStep, AskSwitches};
 ghost use Rattle.command_words.specs.Words.{IsArg, IsAskedBy, IsAskedOf, IsGiven, IsLayout, IsNumber, IsProgram, MayFail, words_of};
 ghost use Rattle.command_words.specs.Words.{check_app, default_rule, flag_rule, name_rule, number_rule, replay_app, run_app, search_app, show_app, step_app};
 ghost use Rattle.command_words.specs.Words.{text_rule, with_options, word_rule, words_rule};
-ghost use Rattle.clap.specs.Words.{app_of, found_of, kind_of, rows_of, subcommand_rows_of};
+ghost use Rattle.clap.specs.Words.{app_of, first_of, found_of, kind_of, rows_of, subcommand_rows_of};
 
 use crate::help;
 use clap::builder::ValueParser;
@@ -25,10 +25,10 @@ const DELAY: (u64, u64) = (0, 1_000_000);
 /// The fewest and the most runs side by side, and the fewest and the most threads of a search.
 const JOBS: (u64, u64) = (1, 64);
 
-/// The fewest and the most switches from task to task.
-const SWITCHES: (u64, u64) = (0, 16);
+/// The fewest and the most switches from task to task, where there are so many at most.
+const AT_MOST: (u64, u64) = (0, 16);
 
-/// The fewest and the most schedules that a search may go through.
+/// The fewest and the most schedules that a search may go through, or states.
 const LIMIT: (u64, u64) = (1, 1_000_000_000);
 
 /// The fewest and the most page slots.
@@ -50,7 +50,7 @@ pub enum Request<'a> {
     Step(StepRequest<'a>),
     /// To run the program of a litmus file on threads.
     Run(RunRequest<'a>),
-    /// To step the program of a litmus file under every schedule with few switches.
+    /// To step the program of a litmus file under all schedules, or those with few switches.
     Search(SearchRequest<'a>),
     /// To check a trace.
     Replay(ReplayRequest<'a>),
@@ -110,16 +110,26 @@ pub struct RunRequest<'a> {
     pub options: RunOptions<'a>,
 }
 
+/// How often a schedule that is searched may switch from task to task.
+#[derive(Clone, Copy, Debug, PartialEq, Eq)]
+pub enum Switches {
+    /// So often at most.
+    AtMost(u64),
+    /// Without a bound: all schedules are searched.
+    All,
+}
+
 /// What `search` is asked to do.
 #[derive(Clone, Copy, Debug, PartialEq, Eq)]
 pub struct SearchRequest<'a> {
     /// The name of the litmus file.
     pub file: &'a str,
     /// How often a schedule may switch from task to task.
-    pub switches: u64,
-    /// After how many schedules the search stops, though others remain.
+    pub switches: Switches,
+    /// After how many schedules the search stops, though others remain: after how many states, where all schedules are
+    /// searched.
     pub limit: u64,
-    /// How many threads share the work.
+    /// How many threads share the work. Where all schedules are searched, one works, whatever this is.
     pub jobs: u64,
     /// What `step` could be given as well.
     pub options: RunOptions<'a>,
@@ -176,9 +186,32 @@ pub fn asked<'a, S: AsStr>(alloc: Global, words: &'a [S]) -> Result<Request<'a>,
     if let Some(request) = request {
         return Ok(request);
     }
-    // Of all that a command's own rules let through, this alone asks for nothing.
-    let files_or_calls = "'check' takes one FILE or more, or --calls and no FILE";
-    Err(program(alloc)?.error(ErrorKind::ValueValidation, files_or_calls)?)
+    Err(refused(alloc, &matches)?)
+}
+
+/// What is said where a command's own rules let words through, and yet they ask for nothing. Of all commands `search`
+/// and `check` alone do so.
+fn refused(alloc: Global, matches: &ArgMatches<'_>) -> Result<clap::Error, AllocError>
+    ensures { IfOk result (λ error. kind_of error ≡ ErrorKind.ValueValidation) }
+{
+    match matches.subcommand() {
+        Some(("search", values)) => switches_refused(alloc, values),
+        _ => {
+            let files_or_calls = "'check' takes one FILE or more, or --calls and no FILE";
+            program(alloc)?.error(ErrorKind::ValueValidation, files_or_calls)
+        }
+    }
+}
+
+/// What is said of a value of `--switches` that asks for nothing.
+fn switches_refused(alloc: Global, search: &ArgMatches<'_>) -> Result<clap::Error, AllocError>
+    ensures { IfOk result (λ error. kind_of error ≡ ErrorKind.ValueValidation) }
+{
+    let value = search.get_str("switches").unwrap_or("");
+    let why = format!(in alloc;
+        "invalid value '{value}' for '--switches <N>': not all, and no number in 0..=16"
+    )?;
+    program(alloc)?.error(ErrorKind::ValueValidation, why.as_str())
 }
 
 /// What is asked, by the values of the words.
@@ -272,8 +305,15 @@ fn words_given<'a>(
 fn is_given(matches: &ArgMatches<'_>, option: &str) -> bool
     ensures { IsTrue result ↔ IsGiven (rows_of (found_of matches.now)) option.now }
 {
+    has_value(matches, option, "true")
+}
+
+/// Whether the first value of an option is this word.
+fn has_value(matches: &ArgMatches<'_>, option: &str, word: &str) -> bool
+    ensures { IsTrue result ↔ (first_of option.now (rows_of (found_of matches.now)) ≡ Some word.now) }
+{
     match matches.get_str(option) {
-        Some(value) => value == "true",
+        Some(value) => value == word,
         None => false,
     }
 }
@@ -318,11 +358,24 @@ fn search_request<'a>(search: &ArgMatches<'a>) -> Option<SearchRequest<'a>>
 {
     Some(SearchRequest {
         file: search.get_str("FILE")?,
-        switches: number(search, "switches", SWITCHES)?,
+        switches: switches_asked(search)?,
         limit: number(search, "limit", LIMIT)?,
         jobs: number(search, "jobs", JOBS)?,
         options: options(search)?,
     })
+}
+
+/// How often a schedule that is searched may switch, by the value of `--switches`.
+fn switches_asked(search: &ArgMatches<'_>) -> Option<Switches>
+    ensures bounds { IfSome result KeepsSwitches }
+    ensures asked { IfSome result (AskSwitches (rows_of (found_of search.now))) }
+    ensures complete { (switches : Switches) → KeepsSwitches switches → AskSwitches (rows_of (found_of search.now)) switches
+        → IsSome result }
+{
+    if has_value(search, "switches", "all") {
+        return Some(Switches::All);
+    }
+    Some(Switches::AtMost(number(search, "switches", AT_MOST)?))
 }
 
 /// What `show` is asked to do, by the values of its options.
@@ -498,7 +551,7 @@ fn search_command<'a>(
         .about(help::SEARCH)
         .after_help(help::AFTER_SEARCH)
         .arg(file(alloc, "FILE", help::FILE))?
-        .arg(number_option(alloc, "switches", help::SWITCHES, SWITCHES, "2"))?
+        .arg(default_option(alloc, "switches", "N", help::SWITCHES, "2"))?
         .arg(number_option(alloc, "limit", help::LIMIT, LIMIT, "1000000"))?
         .arg(number_option(alloc, "jobs", help::SEARCH_JOBS, JOBS, "1"))?;
     with_shared(alloc, command, sizes)
@@ -533,6 +586,19 @@ fn text_option<'a>(alloc: Global, name: &'a str, value: &'a str, help: &'a str) 
         .value_name(value)
         .help(help)
         .action(ArgAction::Set)
+}
+
+/// An option that takes a text, and has one where it isn't given.
+fn default_option<'a>(
+    alloc: Global,
+    name: &'a str,
+    value: &'a str,
+    help: &'a str,
+    default: &'a str,
+) -> Arg<'a>
+    ensures { IsArg (default_rule name.entry.now default.entry.now) result }
+{
+    text_option(alloc, name, value, help).default_value(default)
 }
 
 /// An option that takes a list, which is empty where it isn't given.

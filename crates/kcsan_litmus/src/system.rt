@@ -117,16 +117,27 @@ impl Progress for System {
     }
 }
 
-/// After so many schedules the line of progress is written again.
-const SCHEDULES: u64 = 10_000;
+/// After so many schedules, or states, the line of progress is written again.
+const SEARCHED: u64 = 10_000;
+
+impl System {
+    /// Where standard error is a terminal, a line there counts what a search goes over. What is written next goes over
+    /// it.
+    fn count(&self, searched: u64, what: &str) {
+        let rt = &self.output.rt;
+        if searched.is_multiple_of(SEARCHED) && rt.stderr().is_terminal() {
+            let _ = rt.eprint(format_args!("searched {searched} {what}\x1b[K\r"));
+        }
+    }
+}
 
 impl SearchProgress for System {
-    /// Where standard error is a terminal, a line there counts the schedules. What is written next goes over it.
     fn searched(&self, schedules: u64) {
-        let rt = &self.output.rt;
-        if schedules.is_multiple_of(SCHEDULES) && rt.stderr().is_terminal() {
-            let _ = rt.eprint(format_args!("searched {schedules} schedules\x1b[K\r"));
-        }
+        self.count(schedules, "schedules");
+    }
+
+    fn visited(&self, states: u64) {
+        self.count(states, "states");
     }
 
     fn search_over(&self) {

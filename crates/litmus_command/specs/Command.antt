@@ -17,6 +17,8 @@ use Rattle.command_words.specs.declared.request.RunRequest.{RunRequest}
 use Rattle.command_words.specs.declared.request.SearchRequest.{SearchRequest}
 use Rattle.command_words.specs.declared.request.ShowRequest.{ShowRequest}
 use Rattle.command_words.specs.declared.request.StepRequest.{StepRequest}
+use Rattle.command_words.specs.declared.request.Switches.{Switches}
+use Rattle.command_words.specs.declared.request.Switches.TheVariants as switches
 use Rattle.run_tally.specs.of_litmus_parse_Grammar.{SpellsProgram}
 use Rattle.run_tally.specs.of_litmus_parse_Text.{file_bytes}
 use Rattle.litmus_syntax.specs.Tree as tree
@@ -34,6 +36,8 @@ use Rattle.run_tally.specs.of_program_sites_declared.error.RunError.TheVariants 
 use Rattle.step_schedule.specs.Spelling as schedules
 use Rattle.step_schedule.specs.declared.schedule.Entry.{Entry}
 use Rattle.run_tally.specs.of_program_sites_declared.settings.Settings.{Settings}
+use Rattle.search_all.specs.Texts.{AllIsSearched}
+use Rattle.search_all.specs.declared.wanted.AllWanted.{AllWanted}
 use Rattle.search_run.specs.Texts as search
 use Rattle.search_run.specs.declared.wanted.Wanted.{Wanted}
 use Rattle.run_tally.specs.of_trace_replay_Answer as answers
@@ -167,14 +171,26 @@ pub record AreLeft (request : RunRequest) (text : List ℕ) (raced : Bool) (outp
   pub asks : AskSettings request.options settings
   pub leaves : tally_output.TextLeaves text settings (times_of request) (is_some request.options.trace) raced output trace
 
--- what is wanted of a search, as it is asked for
-abbrev pub wanted_of : SearchRequest → Wanted
-wanted_of request = record {
-  switches = request.switches;
+-- what is wanted of a search of schedules with at most so many switches, as it is asked for
+abbrev pub wanted_of : SearchRequest → (most : ℕ) → Wanted
+wanted_of request most = record {
+  switches = most;
   limit = request.limit;
   traced = is_some request.options.trace;
   jobs = request.jobs;
 }
+
+-- and of one of all schedules
+abbrev pub all_wanted_of : SearchRequest → AllWanted
+all_wanted_of request = record { limit = request.limit; traced = is_some request.options.trace }
+
+-- a search of a text, over schedules with at most so many switches or over all, leaves this of what is asked for
+abbrev pub IsSearchedFor : SearchRequest → Switches → (text : List ℕ) → Settings → (raced stopped : Bool) → (output : List ℕ) →
+    (trace : Option (List ℕ)) → Type 0
+IsSearchedFor request (switches.AtMost most) text settings raced stopped output trace =
+    search.TextIsSearched text settings (wanted_of request most) raced stopped output trace
+IsSearchedFor request switches.All text settings raced stopped output trace =
+    AllIsSearched text settings (all_wanted_of request) raced stopped output trace
 
 -- This is left of a search over the program that a text spells, within the bounds and under the settings that are asked for: whether there
 -- was a report, whether others remain, the output, and the trace of the first list with a report, if it is asked for and there is one.
@@ -182,7 +198,7 @@ pub record IsFound (request : SearchRequest) (stopped : Bool) (text : List ℕ) 
     Type 0 where
   pub settings : Settings
   pub asks : AskSettings request.options settings
-  pub found : search.TextIsSearched text settings (wanted_of request) raced stopped output trace
+  pub found : IsSearchedFor request request.switches text settings raced stopped output trace
 
 -- What is left of runs was given: standard output took the output, and the trace was written, if it is asked for and there is one.
 pub record IsGiven (path : Option (List ℕ)) (output : List ℕ) (trace : Option (List ℕ)) (before after : State) : Type 0 where

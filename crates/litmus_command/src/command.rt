@@ -9,7 +9,7 @@ ghost use Rattle.litmus_command.specs.Command.{HelpIsCut, HelpIsGiven, IsCut, Is
 ghost use Rattle.litmus_command.specs.Command.{DoesNotRead, DoesRead, IsFault, IsMisused, NothingIsWritten, Reads, ReplayIsCut, ReplayIsRefused, RunRefuses};
 ghost use Rattle.litmus_command.specs.Command.{SearchEnds, SearchRefuses, ShowIsRefused, SpellsNoPlaces, StepRefuses, Tells, UsageIsTold};
 ghost use Rattle.litmus_command.specs.Command.{engine_status_of, read_failure, run_status_of, settings_of, state_of, status_of, text_status_of};
-ghost use Rattle.litmus_command.specs.Command.{picture_status_of, search_status_of, times_of, trace_path, trace_status_of, wanted_of, with_trace};
+ghost use Rattle.litmus_command.specs.Command.{picture_status_of, search_status_of, times_of, trace_path, trace_status_of, with_trace};
 ghost use Rattle.litmus_command.specs.Check.{whole_of};
 ghost use Rattle.litmus_command.specs.Command.{IsChecked, IsOfSeveral};
 ghost use Rattle.litmus_command.specs.Told.{heard};
@@ -25,6 +25,7 @@ use crate::complaint::Complaint;
 use crate::desk::{Desk, ReadFault};
 use crate::engine::run_text;
 use crate::replay::replayed;
+use crate::search::search_for;
 use crate::show::drawn;
 use clap::error::ErrorKind;
 use command_words::{
@@ -39,7 +40,7 @@ use run_tally::litmus_step::{RunError, Settings};
 use run_tally::run_output::{EngineError, Written};
 use run_tally::trace_replay::{SIZE_LIMIT, TraceError};
 use run_tally::{Times, run_text_often};
-use search_run::{SearchText, Wanted, search_text};
+use search_run::SearchText;
 use std::alloc::{AllocError, Global};
 use std::convert::AsStr;
 use std::sync::Wait;
@@ -583,18 +584,6 @@ fn search_status(raced: bool, stopped: bool) -> u8
     }
 }
 
-/// What is wanted of a search, as it is asked for.
-fn wanted_for(request: &SearchRequest<'_>) -> Wanted
-    ensures { result ≡ wanted_of request.now }
-{
-    Wanted {
-        switches: request.switches,
-        limit: request.limit,
-        traced: request.options.trace.is_some(),
-        jobs: request.jobs,
-    }
-}
-
 /// Gives what a search leaves: the trace, if it is asked for and there is one, and then the output. The status that the
 /// search ends with.
 fn give_found<D: Desk>(path: Option<&str>, found: &SearchText, desk: &mut D) -> Result<u8, Failure>
@@ -641,8 +630,7 @@ fn search<R: Threads + Sync, D: Desk>(
 {
     let settings = settings_for(alloc, &request.options)?;
     let text = desk.read_file(alloc, request.file, FILE_BYTES)?;
-    let wanted = wanted_for(request);
-    let found = search_text(rt, alloc, &text, &settings, wanted, &*desk)?;
+    let found = search_for(rt, alloc, request, &text, &settings, &*desk)?;
     give_found(request.options.trace, &found, desk)
 }
 

@@ -8,6 +8,7 @@ pub mod complaint;
 pub mod desk;
 pub mod engine;
 pub mod replay;
+mod search;
 pub mod show;
 
 pub use run_tally::run_output::EngineError;

@@ -2,7 +2,7 @@
 
 use clap::error::ErrorKind;
 use command_words::request::{
-    ReplayRequest, Request, RunOptions, RunRequest, SearchRequest, StepRequest, asked,
+    ReplayRequest, Request, RunOptions, RunRequest, SearchRequest, StepRequest, Switches, asked,
 };
 use std::alloc::Global;
 use std::process::Abort;
@@ -221,7 +221,7 @@ fn runs_are_asked_for(rt: HostRuntime) -> Result<(), Fail> {
 }
 
 /// What `search t` asks for with these bounds and options.
-fn search(switches: u64, limit: u64, jobs: u64, options: RunOptions<'_>) -> Request<'_> {
+fn search(switches: Switches, limit: u64, jobs: u64, options: RunOptions<'_>) -> Request<'_> {
     Request::Search(SearchRequest {
         file: "t",
         switches,
@@ -237,13 +237,13 @@ fn searches_are_asked_for(rt: HostRuntime) -> Result<(), Fail> {
         &rt,
         rt.alloc(),
         &["k", "search", "t"],
-        search(2, 1_000_000, 1, OPTIONS),
+        search(Switches::AtMost(2), 1_000_000, 1, OPTIONS),
     )?;
     ask(
         &rt,
         rt.alloc(),
         &["k", "search", "--switches", "0", "t", "--limit", "1"],
-        search(0, 1, 1, OPTIONS),
+        search(Switches::AtMost(0), 1, 1, OPTIONS),
     )?;
     ask(
         &rt,
@@ -257,7 +257,19 @@ fn searches_are_asked_for(rt: HostRuntime) -> Result<(), Fail> {
             "--jobs",
             "64",
         ],
-        search(16, 1_000_000_000, 64, OPTIONS),
+        search(Switches::AtMost(16), 1_000_000_000, 64, OPTIONS),
+    )?;
+    ask(
+        &rt,
+        rt.alloc(),
+        &["k", "search", "t", "--switches", "all", "--jobs=2"],
+        search(Switches::All, 1_000_000, 2, OPTIONS),
+    )?;
+    ask(
+        &rt,
+        rt.alloc(),
+        &["k", "search", "--switches=+016", "t", "--limit", "7"],
+        search(Switches::AtMost(16), 7, 1, OPTIONS),
     )?;
     ask(
         &rt,
@@ -266,7 +278,7 @@ fn searches_are_asked_for(rt: HostRuntime) -> Result<(), Fail> {
             "k", "search", "t", "--strict", "--slots", "3", "--trace", "r", "--place", "x=0x1000",
         ],
         search(
-            2,
+            Switches::AtMost(2),
             1_000_000,
             1,
             RunOptions {
@@ -391,7 +403,11 @@ fn other_words_make_no_sense(rt: HostRuntime) {
 fn other_searches_make_no_sense(rt: HostRuntime) {
     for words in [
         ["k", "search", "t", "--switches", "17"].as_slice(),
-        ["k", "search", "t", "--switches", "all"].as_slice(),
+        ["k", "search", "t", "--switches", "ALL"].as_slice(),
+        ["k", "search", "t", "--switches", "all "].as_slice(),
+        ["k", "search", "t", "--switches", ""].as_slice(),
+        ["k", "search", "t", "--switches=-1"].as_slice(),
+        ["k", "search", "t", "--switches", "18446744073709551616"].as_slice(),
         ["k", "search", "t", "--limit", "0"].as_slice(),
         ["k", "search", "t", "--limit", "1000000001"].as_slice(),
         ["k", "search", "t", "--jobs", "0"].as_slice(),

@@ -38,7 +38,7 @@ returns-clause-fails g c =
     ∙ sym (c.in_ok-matches.ensures.matches (ap is_simple program.is ∙ program_is_simple program.sizes)).1 in
     let sound = c.in_ok-matches.ensures.kinds (ap is_simple_and_free program.is ∙ program_is_free program.sizes) in
     inr (inl (
-      c.in_ok-error.ensures.kind,
+      c.in_ok-refused.ensures,
       record {
         sizes = program.sizes;
         sizes_are = program.sizes_are;

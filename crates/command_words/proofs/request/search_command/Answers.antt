@@ -10,9 +10,9 @@ pub returns : goal.returns
 returns c =
     let first : app_of c.after_help.result ≡ new_app (codes "search") =
     ap app_of_fields c.after_help.ensures ∙ (ap app_of_fields c.about.ensures ∙ c.new.ensures.app) in
-    let before = c.in_ok-command.ensures.shape c.number_option-3.ensures.own
-    ∙ ap₂ with_rule (c.in_ok-arg-3.ensures.shape c.number_option-2.ensures.own
-    ∙ ap₂ with_rule (c.in_ok-arg-2.ensures.shape c.number_option.ensures.own
+    let before = c.in_ok-command.ensures.shape c.number_option-2.ensures.own
+    ∙ ap₂ with_rule (c.in_ok-arg-3.ensures.shape c.number_option.ensures.own
+    ∙ ap₂ with_rule (c.in_ok-arg-2.ensures.shape c.default_option.ensures.own
     ∙ ap₂ with_rule (c.in_ok-arg.ensures.shape c.file.ensures.own ∙ ap₂ with_rule first c.file.ensures.rule_is)
-    c.number_option.ensures.rule_is) c.number_option-2.ensures.rule_is) c.number_option-3.ensures.rule_is in
+    c.default_option.ensures.rule_is) c.number_option.ensures.rule_is) c.number_option-2.ensures.rule_is in
     IfOk-weaker c.with_shared.result _ _ (λ command adds. adds ∙ ap (λ app. with_options app c.args.sizes) before) c.with_shared.ensures

@@ -7,9 +7,9 @@ use Rattle.command_words.proofs.request.search_request.Goals as goal
 pub returns-clause-asked : goal.returns-clause-asked
 returns-clause-asked c = record {
   file = some_read (found_of c.args.search.now) (codes "FILE") c.get_str.result _ c.get_str.ensures c.in_ok-get_str.was;
-  switches = c.in_ok-number.ensures.asked;
-  limit = c.in_ok-number-2.ensures.asked;
-  jobs = c.in_ok-number-3.ensures.asked;
+  switches = c.in_ok-switches_asked.ensures.asked;
+  limit = c.in_ok-number.ensures.asked;
+  jobs = c.in_ok-number-2.ensures.asked;
   options = c.in_ok-options.ensures.asked;
 }
 
@@ -18,12 +18,12 @@ returns-in_err-get_str-clause-complete c = λ request bounds asks.
     absurd (text_there (found_of c.args.search.now) (codes "FILE") c.get_str.result request.file.now c.get_str.ensures asks.file
     c.in_err-get_str.was)
 
+pub returns-in_err-number-clause-complete : goal.returns-in_err-number-clause-complete
+returns-in_err-number-clause-complete c = λ request bounds asks.
+    absurd (not_missing c.number.result (c.number.ensures.complete request.limit bounds.limit bounds.limit_to asks.limit)
+    c.in_err-number.was)
+
 pub returns-in_err-number-2-clause-complete : goal.returns-in_err-number-2-clause-complete
 returns-in_err-number-2-clause-complete c = λ request bounds asks.
-    absurd (not_missing c.number-2.result (c.number-2.ensures.complete request.limit bounds.limit bounds.limit_to asks.limit)
+    absurd (not_missing c.number-2.result (c.number-2.ensures.complete request.jobs bounds.jobs bounds.jobs_to asks.jobs)
     c.in_err-number-2.was)
-
-pub returns-in_err-number-3-clause-complete : goal.returns-in_err-number-3-clause-complete
-returns-in_err-number-3-clause-complete c = λ request bounds asks.
-    absurd (not_missing c.number-3.result (c.number-3.ensures.complete request.jobs bounds.jobs bounds.jobs_to asks.jobs)
-    c.in_err-number-3.was)

@@ -1,25 +1,24 @@
 -- what was asked for was searched, and what is left of that was given
 use Rattle.std.proofs.Common.{◌≡◌, ℕ, Bool, Err, List, Ok, Option, ap, arith, inl, inr, refl, subst, sym}
 use Rattle.std.specs.Option.{option_map}
+use Rattle.command_words.specs.declared.request.SearchRequest.{SearchRequest}
 use Rattle.litmus_command.proofs.ResultLemmas.{err_holds, failed_counts, failed_of_no_file, failed_reads, failed_silent, found_done, found_in_part, is_once_read}
 use Rattle.litmus_command.proofs.ResultLemmas.{reads_no_sink, spells_none_searched, writes_no_sink}
 use Rattle.litmus_command.proofs.command.search.Goals as goal
-use Rattle.litmus_command.specs.Command.{FileIsRefused, IsFound, SearchRefuses, once_read, read_failure, state_of}
+use Rattle.litmus_command.specs.Command.{FileIsRefused, IsFound, IsSearchedFor, SearchRefuses, once_read, read_failure, state_of}
 use Rattle.litmus_command.specs.declared.command.Failure.TheVariants.{Engine}
 use Rattle.litmus_command.specs.declared.desk.ReadFault.TheVariants as fault
 use Rattle.report_text.specs.Sink.{CountsFailure}
 use Rattle.run_tally.specs.of_litmus_parse_Text.{file_bytes}
 use Rattle.run_tally.specs.of_program_sites_declared.settings.Settings.{Settings}
-use Rattle.search_run.specs.Texts.{IsRefused, TextIsSearched}
-use Rattle.search_run.specs.declared.wanted.Wanted.{Wanted}
+use Rattle.search_run.specs.Texts.{IsRefused}
 
--- what is found is found as it was asked for
-found_as_asked : {read text : List ℕ} {settings : Settings} {given wanted : Wanted} {raced stopped : Bool} {output : List ℕ}
-    {trace : Option (List ℕ)} → read ≡ text → given ≡ wanted → TextIsSearched read settings given raced stopped output trace
-    → TextIsSearched text settings wanted raced stopped output trace
-found_as_asked {read} {text} {settings} {given} {wanted} {raced} {stopped} {output} {trace} is_text is_wanted found =
-    subst (λ (t : List ℕ). TextIsSearched t settings wanted raced stopped output trace) is_text
-    (subst (λ (w : Wanted). TextIsSearched read settings w raced stopped output trace) is_wanted found)
+-- what is found in what was read is found in this text
+found_in : (request : SearchRequest) (settings : Settings) (raced stopped : Bool) (output : List ℕ) (trace : Option (List ℕ)) (read text : List ℕ)
+    → read ≡ text → IsSearchedFor request request.switches read settings raced stopped output trace
+    → IsSearchedFor request request.switches text settings raced stopped output trace
+found_in request settings raced stopped output trace read text is_text found =
+    subst (λ (t : List ℕ). IsSearchedFor request request.switches t settings raced stopped output trace) is_text found
 
 pub returns-clause-done : goal.returns-clause-done
 returns-clause-done g c =
@@ -34,7 +33,8 @@ returns-clause-done g c =
     let found : IsFound request c.in_ok-found.found.stopped text written.raced output trace = record {
       settings = c.in_ok-settings.settings;
       asks = c.in_ok-settings.ensures.asks;
-      found = found_as_asked c.deref.ensures.value c.wanted_for-wanted.ensures c.in_ok-found.ensures.searched;
+      found = found_in request c.in_ok-settings.settings written.raced c.in_ok-found.found.stopped output trace c.deref.result.now text
+          c.deref.ensures.value c.in_ok-found.ensures.searched;
     } in
     let read : middle ≡ once_read request.file.now file_bytes text before = is_once_read before.written middle.written before.failures middle.failures before.files
     middle.files request.file.now file_bytes text c.read_file.ensures.written c.read_file.ensures.failures c.in_ok-text.ensures.gave in
@@ -54,7 +54,8 @@ returns-clause-cut g c =
     let found : IsFound request c.in_ok-found.found.stopped text written.raced output trace = record {
       settings = c.in_ok-settings.settings;
       asks = c.in_ok-settings.ensures.asks;
-      found = found_as_asked c.deref.ensures.value c.wanted_for-wanted.ensures c.in_ok-found.ensures.searched;
+      found = found_in request c.in_ok-settings.settings written.raced c.in_ok-found.found.stopped output trace c.deref.result.now text
+          c.deref.ensures.value c.in_ok-found.ensures.searched;
     } in
     let read : middle ≡ once_read request.file.now file_bytes text before = is_once_read before.written middle.written before.failures middle.failures before.files
     middle.files request.file.now file_bytes text c.read_file.ensures.written c.read_file.ensures.failures c.in_ok-text.ensures.gave in
@@ -141,8 +142,8 @@ returns-in_err-settings-clause-misused g c =
     (λ is. inl (c.in_err-settings.ensures.misused is, refl))
 
 -- there is a vain try at least
-pub search_text-requires : goal.search_text-requires
-search_text-requires g c =
+pub search_for-requires : goal.search_for-requires
+search_for-requires g c =
     let asks = c.in_ok-settings.ensures.asks in
     let same : c.in_ok-settings.settings.turns ≡ c.args.request.now.options.turns = ap (λ (s : Settings). s.turns) asks.settings_are in
     let some = asks.bounds.turns_from in

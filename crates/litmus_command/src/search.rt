@@ -1,0 +1,60 @@
+//! A litmus text is searched as it is asked for.
+
+ghost use Rattle.std.specs.Prelude.{◌≡◌, ◌<◌, IfErr, IfOk};
+ghost use Rattle.std.specs.Option.{option_map};
+ghost use Rattle.litmus_command.specs.Command.{IsSearchedFor, all_wanted_of, wanted_of};
+ghost use Rattle.search_run.specs.Texts.{IsRefused};
+
+use command_words::{SearchRequest, Switches};
+use run_tally::litmus_step::Settings;
+use run_tally::run_output::EngineError;
+use search_all::{AllWanted, search_all};
+use search_run::{SearchProgress, SearchText, Wanted, search_text};
+use std::alloc::Global;
+use std::thread::Threads;
+
+/// What is wanted of a search of schedules with at most so many switches, as it is asked for.
+fn wanted_for(request: &SearchRequest<'_>, most: u64) -> Wanted
+    ensures { result ≡ wanted_of request.now most }
+{
+    Wanted {
+        switches: most,
+        limit: request.limit,
+        traced: request.options.trace.is_some(),
+        jobs: request.jobs,
+    }
+}
+
+/// What is wanted of a search of all schedules, as it is asked for.
+fn all_wanted_for(request: &SearchRequest<'_>) -> AllWanted
+    ensures { result ≡ all_wanted_of request.now }
+{
+    AllWanted {
+        limit: request.limit,
+        traced: request.options.trace.is_some(),
+    }
+}
+
+/// Searches a litmus text, over schedules with at most so many switches or over all, as it is asked for. Over all one
+/// thread searches.
+pub(crate) fn search_for<R: Threads + Sync, P: SearchProgress>(
+    rt: &R,
+    alloc: Global,
+    request: &SearchRequest<'_>,
+    text: &[u8],
+    settings: &Settings,
+    progress: &P,
+) -> Result<SearchText, EngineError>
+    requires { 0 < settings.now.turns }
+    ensures searched { IfOk result (λ found. IsSearchedFor request.now request.now.switches text.now settings.now found.written.raced
+        found.stopped found.written.output.items (option_map (λ trace. trace.items) found.written.trace)) }
+    ensures refused { IfErr result (IsRefused text.now settings.now) }
+{
+    match request.switches {
+        Switches::AtMost(most) => {
+            let wanted = wanted_for(request, most);
+            search_text(rt, alloc, text, settings, wanted, progress)
+        }
+        Switches::All => search_all(alloc, text, settings, all_wanted_for(request), progress),
+    }
+}
