@@ -235,10 +235,7 @@ impl<'a> TaskRun<'a> {
         let latest = self.latest(step);
         match self.stage {
             Stage::Over | Stage::Stopped => unreachable!(),
-            Stage::Making(_, _after) => {
-                let fell = self.answers_access(answer);
-                self.news.tell(fell, latest);
-            }
+            Stage::Making(_, _after) => self.answers_access(answer, latest),
             Stage::Opening | Stage::Closing => {
                 let fell = self.answers_check(answer);
                 self.news.tell(fell, latest);
@@ -288,13 +285,14 @@ impl<'a> TaskRun<'a> {
         self.news.latest.and(step, self.begins().is_some())
     }
 
-    /// An access takes the answer where it stands, and what fell is told. Once it is over, what follows on it is done.
-    fn answers_access(&mut self, answer: Answer) -> Option<Outcome>
+    /// An access takes the answer where it stands, and what fell is told, with what is to be kept of the last steps. Once
+    /// the access is over, what follows on it is done.
+    fn answers_access(&mut self, answer: Answer, latest: Latest)
         requires making { (run : accesses.AccessRun) × (after : Then) × (self.old.stage ≡ Making run after) }
         requires says { (step : Step) × Says self.old step × Answers step answer }
         ensures leads { LeadsOn self.old self.new answer }
-        ensures fell { FellAt self.old result answer }
-        ensures news { self.new.news ≡ self.old.news }
+        ensures fell { FellAt self.old (fell_of self.new) answer }
+        ensures latest { self.new.news.latest ≡ latest }
         ensures room { room_of self.new.machine ≡ room_of self.old.machine }
     {
         let Stage::Making(run, _) = &mut self.stage else {
@@ -302,7 +300,8 @@ impl<'a> TaskRun<'a> {
         };
         let came = self.machine.came();
         self.machine.answers_access(run, answer);
-        let fell = self.machine.came_after(came);
+        let outcomes = self.machine.checker.outcomes();
+        self.news.tell_newest(outcomes, came, latest);
         if run.is_over() {
             // Before the next part begins: a mark, or the end of a silence, is for the very next access.
             let effect = run.effect();
@@ -312,7 +311,6 @@ impl<'a> TaskRun<'a> {
             self.machine.follows(after, effect);
             self.machine.advance(&mut self.stage);
         }
-        fell
     }
 
     /// The check of a scoped assertion takes the answer, and what fell is told. Once it is over, the assertion is in

@@ -12,16 +12,6 @@ use Rattle.task_run.specs.Leads.{Leads}
 use Rattle.task_run.specs.Part.{Part}
 use Rattle.task_run.specs.Says.{StageSays}
 
-pub returns-in-Making-clause-leads : goal.returns-in-Making-clause-leads
-returns-in-Making-clause-leads c = λ s registers body records step leads says.
-    keeping s registers body (records ++ made s.text.task step c.args.answer ∷ []) c.answers_access-fell.new.self _
-    (c.answers_access-fell.ensures.leads s registers body records step leads says)
-
-pub returns-in-Making-clause-fell : goal.returns-in-Making-clause-fell
-returns-in-Making-clause-fell c = λ s registers body records step leads says later. subst (λ (o : Option Outcome). FallsInPart s leads.part (leads.now (leads.mine ++ made s.text.task step c.args.answer ∷ later))
-    (leads.mine ++ made s.text.task step c.args.answer ∷ later) later o) (sym c.tell.ensures.fell)
-    (c.answers_access-fell.ensures.fell s registers body records step leads says later)
-
 pub returns-in-Opening-clause-leads : goal.returns-in-Opening-clause-leads
 returns-in-Opening-clause-leads c = λ s registers body records step leads says.
     keeping s registers body (records ++ made s.text.task step c.args.answer ∷ []) c.answers_check-fell.new.self _
@@ -29,7 +19,7 @@ returns-in-Opening-clause-leads c = λ s registers body records step leads says.
 
 pub returns-in-Opening-clause-fell : goal.returns-in-Opening-clause-fell
 returns-in-Opening-clause-fell c = λ s registers body records step leads says later. subst (λ (o : Option Outcome). FallsInPart s leads.part (leads.now (leads.mine ++ made s.text.task step c.args.answer ∷ later))
-    (leads.mine ++ made s.text.task step c.args.answer ∷ later) later o) (sym c.tell-in-Opening.ensures.fell)
+    (leads.mine ++ made s.text.task step c.args.answer ∷ later) later o) (sym c.tell.ensures.fell)
     (c.answers_check-fell.ensures.fell s registers body records step leads says later)
 
 pub returns-in-Locking-clause-leads : goal.returns-in-Locking-clause-leads
@@ -61,11 +51,11 @@ returns-in-Unlocking-clause-fell c = λ s registers body records step leads says
 
 pub returns-in-Making-clause-points : goal.returns-in-Making-clause-points
 returns-in-Making-clause-points c = λ s registers body records leads begins steps next so_far.
-    c.tell.ensures.latest ∙ c.latest-latest.ensures s registers body records leads begins steps next so_far
+    c.answers_access.ensures.latest ∙ c.latest-latest.ensures s registers body records leads begins steps next so_far
 
 pub returns-in-Opening-clause-points : goal.returns-in-Opening-clause-points
 returns-in-Opening-clause-points c = λ s registers body records leads begins steps next so_far.
-    c.tell-in-Opening.ensures.latest ∙ c.latest-latest.ensures s registers body records leads begins steps next so_far
+    c.tell.ensures.latest ∙ c.latest-latest.ensures s registers body records leads begins steps next so_far
 
 pub returns-in-Locking-clause-points : goal.returns-in-Locking-clause-points
 returns-in-Locking-clause-points c = λ s registers body records leads begins steps next so_far.

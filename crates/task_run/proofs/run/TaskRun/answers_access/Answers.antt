@@ -1,9 +1,11 @@
 -- The access goes on, or is over, and what follows on it and is left of the text follows.
-use Rattle.std.proofs.Common.{◌≡◌, ◌∙◌, ap, false, slice_get, subst, sym, true}
+use Rattle.std.proofs.Common.{◌≡◌, ◌∙◌, ◌++◌, ◌∷◌, [], List, ap, false, slice_get, subst, sym, true}
 use Rattle.access_run.specs.of_setup_access_Shown.{outcomes_of}
 use Rattle.task_run.proofs.NewsLemmas.{making_fell}
 use Rattle.access_run.specs.of_setup_access_Parts.{made}
+use Rattle.access_run.specs.of_setup_access_declared.outcome.Outcome.{Outcome}
 use Rattle.task_run.proofs.RunLemmas.{access_ended, access_inside}
+use Rattle.task_run.proofs.TellLemmas.{keeping}
 use Rattle.task_run.proofs.WaitLemmas.{access_no_try, no_try_no_wait}
 use Rattle.task_plan.specs.declared.follow.Then.{Then}
 use Rattle.task_run.specs.Says.{StageSays}
@@ -32,26 +34,29 @@ returns-in-Making-stage-clause-leads c = λ s registers body records step leads 
 
 pub returns-else-is_over-clause-leads : goal.returns-else-is_over-clause-leads
 returns-else-is_over-clause-leads c = λ s registers body records step leads says.
-    access_inside s registers body records c.args.self.now leads (made s.text.task step c.args.answer) c.in-Making.run' c.answers_access.new.run c.in-Making.field-1
+    keeping s registers body (records ++ made s.text.task step c.args.answer ∷ []) _ c.tell_newest.new.self
+    (access_inside s registers body records c.args.self.now leads (made s.text.task step c.args.answer) c.in-Making.run' c.answers_access.new.run c.in-Making.field-1
     c.answers_access.new.self c.in-Making.is c.answers_access.ensures.kept c.answers_access.ensures.context
     (λ scopes begun asked operation so_far sites l. c.answers_access.ensures.leads (checks_of s) scopes begun asked operation so_far step sites l
     (subst (λ stage. StageSays stage c.args.self.now step) c.in-Making.is says))
     (λ scopes begun asked operation so_far l done. absurd (let no : false ≡ true = sym c.if-is_over.false
     ∙ (c.is_over.ensures (checks_of s) scopes begun asked operation so_far c.answers_access.new.self.checker l).1 done in cc))
-    c.answers_access.ensures.begun
+    c.answers_access.ensures.begun)
 
 pub returns-in-Making-stage-clause-fell : goal.returns-in-Making-stage-clause-fell
 returns-in-Making-stage-clause-fell c = λ s registers body records step leads says later.
-    making_fell s registers body records c.args.self.now leads (made s.text.task step c.args.answer) c.answers_access.new.self c.came_after-fell.result
-    (c.came_after-fell.ensures ∙ ap (λ n. slice_get (outcomes_of c.answers_access.new.self.checker) n) c.came-came.ensures)
+    making_fell s registers body records c.args.self.now leads (made s.text.task step c.args.answer) c.answers_access.new.self c.tell_newest.new.self.fell
+    (c.tell_newest.ensures.fell ∙ ap (λ (l : List Outcome). slice_get l c.came-came.result) c.outcomes-outcomes.ensures.value
+    ∙ ap (λ n. slice_get (outcomes_of c.answers_access.new.self.checker) n) c.came-came.ensures)
     later c.in-Making.run' c.answers_access.new.run c.in-Making.field-1 c.in-Making.is
     (λ scopes begun asked operation so_far sites l. c.answers_access.ensures.leads (checks_of s) scopes begun asked operation so_far step sites l
     (subst (λ stage. StageSays stage c.args.self.now step) c.in-Making.is says))
 
 pub returns-else-is_over-clause-fell : goal.returns-else-is_over-clause-fell
 returns-else-is_over-clause-fell c = λ s registers body records step leads says later.
-    making_fell s registers body records c.args.self.now leads (made s.text.task step c.args.answer) c.answers_access.new.self c.came_after-fell.result
-    (c.came_after-fell.ensures ∙ ap (λ n. slice_get (outcomes_of c.answers_access.new.self.checker) n) c.came-came.ensures)
+    making_fell s registers body records c.args.self.now leads (made s.text.task step c.args.answer) c.answers_access.new.self c.tell_newest.new.self.fell
+    (c.tell_newest.ensures.fell ∙ ap (λ (l : List Outcome). slice_get l c.came-came.result) c.outcomes-outcomes.ensures.value
+    ∙ ap (λ n. slice_get (outcomes_of c.answers_access.new.self.checker) n) c.came-came.ensures)
     later c.in-Making.run' c.answers_access.new.run c.in-Making.field-1 c.in-Making.is
     (λ scopes begun asked operation so_far sites l. c.answers_access.ensures.leads (checks_of s) scopes begun asked operation so_far step sites l
     (subst (λ stage. StageSays stage c.args.self.now step) c.in-Making.is says))
