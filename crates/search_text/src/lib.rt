@@ -20,6 +20,3 @@ pub use states::state_of;
 pub use step_schedule::Entry;
 pub use visited::{Visited, write_states_search};
 pub use write::{Asked, write_search};
-
-#[cfg(test)]
-mod tests;
