@@ -91,25 +91,27 @@ fn goes_on(came: &mut String, scene: &mut Scene, word: &str) -> Result<(), Fault
         Asked::Question(phrase) => phrase,
     };
     let run = scene.run;
-    match phrase.name {
-        "over" => push_flag(came, run.is_over())?,
-        "stuck" => push_flag(came, run.stuck(&scene.checker))?,
-        "next" => push_step(came, run.next(&scene.checker))?,
-        "effect" => push_two(came, run.effect().read, run.effect().written)?,
-        "stamps" => push_two(came, run.stamps().begin, run.stamps().end)?,
-        "outcomes" => push_outcomes(came, &scene.checker)?,
-        "as_first" => push_as_first(came, scene)?,
-        "opens" => scene.checker.open_scoped(),
-        _ => make_other(came, &mut scene.board, phrase)?,
-    }
-    Ok(())
+    let pushed = match phrase.name {
+        "over" => push_flag(came, run.is_over()),
+        "stuck" => push_flag(came, run.stuck(&scene.checker)),
+        "next" => push_step(came, run.next(&scene.checker)),
+        "effect" => push_two(came, run.effect().read, run.effect().written),
+        "stamps" => push_two(came, run.stamps().begin, run.stamps().end),
+        "outcomes" => push_outcomes(came, &scene.checker),
+        "as_first" => push_as_first(came, scene),
+        "opens" => {
+            scene.checker.open_scoped();
+            Ok(())
+        }
+        _ => return make_other(came, &mut scene.board, phrase),
+    };
+    Ok(pushed?)
 }
 
 /// Writes what came of the checks.
-fn push_outcomes(came: &mut String, checker: &Checker) -> Result<(), Fault> {
+fn push_outcomes(came: &mut String, checker: &Checker) -> Result<(), AllocError> {
     let outcomes = checker.outcomes();
-    write!(came, "{outcomes:?}")?;
-    Ok(())
+    write!(came, "{outcomes:?}")
 }
 
 /// Writes whether the checker stands as when the access began, the access too, and whether this is still the last one.

@@ -3,7 +3,7 @@
 use access_types::AccessError;
 use litmus_parse::ParseError;
 use slot_table::BoardError;
-use std::alloc::AllocError;
+use std::alloc::{AllocError, AllocFailed};
 use task_log::setup_access::CheckerError;
 use task_plan::program_layout::LayoutError;
 
@@ -18,6 +18,12 @@ pub enum Fault {
 
 impl From<AllocError> for Fault {
     fn from(_: AllocError) -> Fault {
+        Fault::OutOfMemory
+    }
+}
+
+impl<T: Drop> From<AllocFailed<T>> for Fault {
+    fn from(_: AllocFailed<T>) -> Fault {
         Fault::OutOfMemory
     }
 }

@@ -7,6 +7,7 @@ use crate::script::{Asked, begin_word};
 use access_types::Access;
 use slot_table::{Answer, Step};
 use std::alloc::{AllocError, Global};
+use task_log::counters::Counters;
 use task_log::log::TaskLog;
 use task_log::noted::Noted;
 use task_log::setup_access::Begun;
@@ -16,14 +17,15 @@ use task_plan::Progress;
 pub fn progress(alloc: Global, start: &str, script: &str) -> Result<String, Fault> {
     let (registers, variables) = cut(start, ' ')?;
     let (registers, variables) = (number(registers)? as usize, number(variables)? as usize);
-    let first = Progress::new(alloc, registers, variables)?;
+    kept_from(alloc, &Progress::new(alloc, registers, variables)?, script)
+}
+
+/// What is kept from a first one on.
+fn kept_from(alloc: Global, first: &Progress, script: &str) -> Result<String, Fault> {
     let mut progress = first.copy(alloc)?;
     let mut came = String::new(alloc);
     for word in script.split(' ') {
-        let Asked::Question(phrase) = begin_word(&mut came, word)? else {
-            return Err(Fault::NoRow);
-        };
-        goes_on(&mut came, &mut progress, &first, phrase)?;
+        goes_on(&mut came, &mut progress, first, word)?;
     }
     Ok(came)
 }
@@ -33,19 +35,46 @@ fn goes_on(
     came: &mut String,
     progress: &mut Progress,
     first: &Progress,
-    phrase: Phrase<'_>,
+    word: &str,
 ) -> Result<(), Fault> {
+    let Asked::Question(phrase) = begin_word(came, word)? else {
+        return Err(Fault::NoRow);
+    };
+    let pushed = match phrase.name {
+        "as_first" => push_flag(came, progress.keeps_as(first)),
+        "registers" => push_all(came, progress.registers()),
+        "unbalanced" => push_number(came, progress.unbalanced()),
+        "counts" => {
+            progress.counts_unbalanced();
+            Ok(())
+        }
+        _ => return goes_on_at(came, progress, phrase, phrase.index()?),
+    };
+    Ok(pushed?)
+}
+
+/// What comes at a word with an index.
+fn goes_on_at(
+    came: &mut String,
+    progress: &mut Progress,
+    phrase: Phrase<'_>,
+    index: usize,
+) -> Result<(), Fault> {
+    let pushed = match phrase.name {
+        "begun" => push_number(came, progress.begun_at(index)),
+        "has" => push_flag(came, progress.has_lock(index)),
+        _ => return does(progress, phrase, index),
+    };
+    Ok(pushed?)
+}
+
+/// The task does something with a register, a site or a lock.
+fn does(progress: &mut Progress, phrase: Phrase<'_>, index: usize) -> Result<(), Fault> {
     match phrase.name {
-        "as_first" => push_flag(came, progress.keeps_as(first))?,
-        "registers" => push_all(came, progress.registers())?,
-        "begun" => push_number(came, progress.begun_at(phrase.index()?))?,
-        "has" => push_flag(came, progress.has_lock(phrase.index()?))?,
-        "unbalanced" => push_number(came, progress.unbalanced())?,
-        "assign" => progress.assign(phrase.index()?, phrase.number(1)?),
-        "begins" => begins(progress, phrase.index()?)?,
-        "takes" => progress.set_lock(phrase.index()?, true),
-        "gives" => progress.set_lock(phrase.index()?, false),
-        "counts" => progress.counts_unbalanced(),
+        "assign" => progress.assign(index, phrase.number(1)?),
+        "begins" => return begins(progress, index),
+        "takes" => progress.set_lock(index, true),
+        "gives" => progress.set_lock(index, false),
         _ => return Err(Fault::NoRow),
     }
     Ok(())
@@ -87,14 +116,24 @@ pub fn log(alloc: Global, start: &str) -> Result<String, Fault> {
     };
     let mut log = TaskLog::new(alloc, 2, 1)?;
     let is_reported = log.note(&begins).is_some();
+    kept_in(alloc, &log, is_reported)
+}
+
+/// What a log keeps.
+fn kept_in(alloc: Global, log: &TaskLog, is_reported: bool) -> Result<String, Fault> {
     let accesses = log.accesses(alloc)?.len();
     let (arms, takes) = (log.arms().len(), log.takes().len());
-    let counters = log.counters();
+    let mut kept = format!(in alloc;
+        "reported={is_reported} accesses={accesses} arms={arms} takes={takes} "
+    )?;
+    push_counters(&mut kept, log.counters())?;
+    Ok(kept)
+}
+
+/// Writes counters, the last of them of their sum with themselves.
+fn push_counters(text: &mut String, counters: Counters) -> Result<(), AllocError> {
     let mut sum = counters;
     sum.add(&counters);
     let (armed, lost, quiet) = (counters.arms, counters.lost, sum.quiet);
-    let kept = format!(in alloc;
-        "reported={is_reported} accesses={accesses} arms={arms} takes={takes}"
-    )?;
-    Ok(format!(in alloc; "{kept} armed={armed} lost={lost} quiet={quiet}")?)
+    write!(text, "armed={armed} lost={lost} quiet={quiet}")
 }

@@ -30,8 +30,18 @@ pub fn operation(alloc: Global, start: &str, script: &str) -> Result<String, Fau
     let (cell, rest) = cut(start, ' ')?;
     let (bytes, operation) = cut(rest, ' ')?;
     let (first, size) = cut(bytes, '+')?;
-    let mut board = board_of(alloc, number(cell)?)?;
-    let mut run = begun(number(first)?, number(size)?, Phrase::read(operation))?;
+    let run = begun(number(first)?, number(size)?, Phrase::read(operation))?;
+    operated(alloc, number(cell)?, run, script)
+}
+
+/// What comes of an operation on a cell.
+fn operated(
+    alloc: Global,
+    cell: u64,
+    mut run: OperationRun,
+    script: &str,
+) -> Result<String, Fault> {
+    let mut board = board_of(alloc, cell)?;
     let mut came = String::new(alloc);
     for word in script.split(' ') {
         operation_goes_on(&mut came, &mut board, &mut run, word)?;
@@ -61,14 +71,14 @@ fn operation_goes_on(
         Asked::Step => return Ok(push_made(came, make_next(board, run))?),
         Asked::Question(phrase) => phrase,
     };
-    match phrase.name {
-        "stuck" => push_flag(came, run.stuck(phrase.number(0)?))?,
-        "next" => push_step(came, run.next(phrase.number(0)?))?,
-        "effect" => push_two(came, run.effect().read, run.effect().written)?,
-        "cell" => push_optional(came, board.cells().first().copied())?,
-        _ => make_other(came, board, phrase)?,
-    }
-    Ok(())
+    let pushed = match phrase.name {
+        "stuck" => push_flag(came, run.stuck(phrase.number(0)?)),
+        "next" => push_step(came, run.next(phrase.number(0)?)),
+        "effect" => push_two(came, run.effect().read, run.effect().written),
+        "cell" => push_optional(came, board.cells().first().copied()),
+        _ => return make_other(came, board, phrase),
+    };
+    Ok(pushed?)
 }
 
 /// Makes the step that the operation says.
@@ -87,8 +97,13 @@ fn make_next(board: &mut PlainBoard, run: &mut OperationRun) -> Option<Made> {
 /// What comes of a lock that a task tries: `TASK LOCK`.
 pub fn lock(alloc: Global, start: &str, script: &str) -> Result<String, Fault> {
     let (task, lock) = cut(start, ' ')?;
+    let wait = LockWait::new(short(number(task)?)?, number(lock)? as usize);
+    tried(alloc, wait, script)
+}
+
+/// What comes of the tries of a lock.
+fn tried(alloc: Global, mut wait: LockWait, script: &str) -> Result<String, Fault> {
     let mut board = board_of(alloc, 0)?;
-    let mut wait = LockWait::new(short(number(task)?)?, number(lock)? as usize);
     let mut came = String::new(alloc);
     for word in script.split(' ') {
         lock_goes_on(&mut came, &mut board, &mut wait, word)?;
@@ -107,13 +122,13 @@ fn lock_goes_on(
         Asked::Step => return Ok(push_made(came, try_next(board, wait))?),
         Asked::Question(phrase) => phrase,
     };
-    match phrase.name {
-        "stuck" => push_flag(came, wait.stuck(phrase.number(0)?))?,
-        "next" => push_step(came, wait.next(phrase.number(0)?))?,
-        "taken" => push_flag(came, wait.is_taken())?,
-        _ => make_other(came, board, phrase)?,
-    }
-    Ok(())
+    let pushed = match phrase.name {
+        "stuck" => push_flag(came, wait.stuck(phrase.number(0)?)),
+        "next" => push_step(came, wait.next(phrase.number(0)?)),
+        "taken" => push_flag(came, wait.is_taken()),
+        _ => return make_other(came, board, phrase),
+    };
+    Ok(pushed?)
 }
 
 /// Makes the try that the task says.

@@ -6,7 +6,7 @@ use crate::process::{body_of, layout_of, program_of, walk_of};
 use crate::script::{Asked, begin_word};
 use access_types::Access;
 use litmus_parse::Program;
-use litmus_syntax::Statement;
+use litmus_syntax::{Statement, Variable};
 use std::alloc::{AllocError, Global};
 use task_plan::{Plan, Planner, Taker, Then, is_lock_at, lock_number};
 use text_walk::Due;
@@ -14,15 +14,14 @@ use text_walk::Due;
 /// What comes of the first statement of a process, with these values of its registers: `REGISTERS PROCESS`.
 pub fn plan(alloc: Global, start: &str) -> Result<String, Fault> {
     let (registers, process) = cut(start, ' ')?;
-    let registers = registers_of(alloc, registers)?;
     let program = program_of(alloc, process)?;
-    let layout = layout_of(alloc, &program)?;
-    let mut walk = walk_of(alloc, body_of(&program)?)?;
-    let planner = Planner {
-        layout: &layout,
-        registers: registers.as_slice(),
-    };
-    match planned(planner, walk.go_on()) {
+    said_of_first(alloc, &program, registers)
+}
+
+/// What comes of the first statement of a program, with these values of its registers.
+fn said_of_first(alloc: Global, program: &Program, registers: &str) -> Result<String, Fault> {
+    let registers = registers_of(alloc, registers)?;
+    match first_plan(alloc, program, registers.as_slice())? {
         Some(plan) => said(alloc, plan),
         None => Ok(String::from_str(alloc, "none")?),
     }
@@ -30,16 +29,25 @@ pub fn plan(alloc: Global, start: &str) -> Result<String, Fault> {
 
 /// What follows on the access of the first statement of a process, if that makes one; its registers have no values.
 pub fn after_first(alloc: Global, program: &Program) -> Result<Option<Then<'_>>, Fault> {
+    match first_plan(alloc, program, &[])? {
+        Some(plan) => Ok(Some(plan.after)),
+        None => Ok(None),
+    }
+}
+
+/// The access of the first statement of a process, if that makes one.
+fn first_plan<'p>(
+    alloc: Global,
+    program: &'p Program,
+    registers: &[u64],
+) -> Result<Option<Plan<'p>>, Fault> {
     let layout = layout_of(alloc, program)?;
     let mut walk = walk_of(alloc, body_of(program)?)?;
     let planner = Planner {
         layout: &layout,
-        registers: &[],
+        registers,
     };
-    match planned(planner, walk.go_on()) {
-        Some(plan) => Ok(Some(plan.after)),
-        None => Ok(None),
-    }
+    Ok(planned(planner, walk.go_on()))
 }
 
 /// Values with commas between them; `-` for none.
@@ -49,7 +57,7 @@ fn registers_of(alloc: Global, text: &str) -> Result<Vec<u64>, Fault> {
         return Ok(registers);
     }
     for value in text.split(',') {
-        registers.push(number(value)?).map_err(AllocError::from)?;
+        registers.push(number(value)?)?;
     }
     Ok(registers)
 }
@@ -125,18 +133,28 @@ fn push_taker(text: &mut String, taker: Taker<'_>) -> Result<(), AllocError> {
 /// it.
 pub fn locks(alloc: Global, process: &str, script: &str) -> Result<String, Fault> {
     let program = program_of(alloc, process)?;
-    let variables = program.variables.as_slice();
+    said_of_each(alloc, program.variables.as_slice(), script)
+}
+
+/// What variables say by a script.
+fn said_of_each(alloc: Global, variables: &[Variable], script: &str) -> Result<String, Fault> {
     let mut came = String::new(alloc);
     for word in script.split(' ') {
-        let Asked::Question(phrase) = begin_word(&mut came, word)? else {
-            return Err(Fault::NoRow);
-        };
-        let variable = phrase.index()?;
-        match phrase.name {
-            "is_lock" => push_flag(&mut came, is_lock_at(variables, variable))?,
-            "number" => push_number(&mut came, lock_number(variables, variable) as u64)?,
-            _ => return Err(Fault::NoRow),
-        }
+        goes_on(&mut came, variables, word)?;
     }
     Ok(came)
+}
+
+/// What comes at a word of the script.
+fn goes_on(came: &mut String, variables: &[Variable], word: &str) -> Result<(), Fault> {
+    let Asked::Question(phrase) = begin_word(came, word)? else {
+        return Err(Fault::NoRow);
+    };
+    let variable = phrase.index()?;
+    let pushed = match phrase.name {
+        "is_lock" => push_flag(came, is_lock_at(variables, variable)),
+        "number" => push_number(came, lock_number(variables, variable) as u64),
+        _ => return Err(Fault::NoRow),
+    };
+    Ok(pushed?)
 }

@@ -23,11 +23,7 @@ pub fn begin_word<'t>(came: &mut String, word: &'t str) -> Result<Asked<'t>, All
     if !came.is_empty() {
         came.push(' ')?;
     }
-    if word
-        .as_bytes()
-        .first()
-        .is_some_and(|byte| byte.is_ascii_uppercase())
-    {
+    if matches!(word.as_bytes().first().copied(), Some(b'A'..=b'Z')) {
         return Ok(Asked::Step);
     }
     match word.split_once('=') {

@@ -6,29 +6,47 @@ use crate::process::{body_of, program_of, walk_of};
 use crate::script::{Asked, begin_word};
 use litmus_syntax::{Assignment, Expression, Fetch, Load, Loading, Statement};
 use std::alloc::{AllocError, Global};
-use text_walk::Due;
+use std::str::Bytes;
 use text_walk::count::{depth_in, sites_in};
+use text_walk::{Due, Walk};
 
 /// What is due in a text whose conditions hold, where there is a `1`, or not, in this order: `CONDITIONS PROCESS`.
 pub fn walk(alloc: Global, start: &str, script: &str) -> Result<String, Fault> {
     let (conditions, process) = cut(start, ' ')?;
     let program = program_of(alloc, process)?;
-    let body = body_of(&program)?;
+    walked(alloc, body_of(&program)?, conditions, script)
+}
+
+/// What comes of the walk of a body.
+fn walked(
+    alloc: Global,
+    body: &[Statement],
+    conditions: &str,
+    script: &str,
+) -> Result<String, Fault> {
     let mut walk = walk_of(alloc, body)?;
     let mut conditions = conditions.bytes();
     let mut came = String::new(alloc);
     for word in script.split(' ') {
-        if let Asked::Question(phrase) = begin_word(&mut came, word)? {
-            push_number(&mut came, measure(body, phrase.name)?)?;
-            continue;
-        }
-        let due = walk.go_on();
-        push_due(&mut came, due)?;
-        if matches!(due, Due::Condition { .. }) && conditions.next() == Some(b'1') {
-            walk.holds();
+        match begin_word(&mut came, word)? {
+            Asked::Question(phrase) => push_number(&mut came, measure(body, phrase.name)?)?,
+            Asked::Step => goes_on(&mut came, &mut walk, &mut conditions)?,
         }
     }
     Ok(came)
+}
+
+/// What is due next. Where that is a condition, it takes one of those that are left.
+fn goes_on(
+    came: &mut String,
+    walk: &mut Walk<'_>,
+    conditions: &mut Bytes<'_>,
+) -> Result<(), AllocError> {
+    let due = walk.go_on();
+    if matches!(due, Due::Condition { .. }) && conditions.next() == Some(b'1') {
+        walk.holds();
+    }
+    push_due(came, due)
 }
 
 /// How many statements with an access a body has, or how many blocks in each other.
