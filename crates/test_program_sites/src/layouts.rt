@@ -1,5 +1,6 @@
 //! Variables at their default addresses and at places.
 
+use crate::same::same;
 use access_types::Bytes;
 use litmus_syntax::{Contents, Name, Variable};
 use program_layout::layout::{Layout, LayoutError};
@@ -55,35 +56,39 @@ fn variables_stand_64_bytes_apart_unless_they_are_placed(rt: HostRuntime) -> Res
         placed(rt.alloc(), "c", 0x1003)?,
     ];
     let layout = laid(rt.alloc(), variables.as_slice(), &places)?;
-    assert_eq!(rt;
+    same(
+        &rt,
         layout.bytes_in(0),
         Bytes {
             addr: 0x1003,
-            size: 1
-        }
+            size: 1,
+        },
     );
-    assert_eq!(rt;
+    same(
+        &rt,
         layout.bytes_in(1),
         Bytes {
             addr: 0x1004,
-            size: 4
-        }
+            size: 4,
+        },
     );
-    assert_eq!(rt;
+    same(
+        &rt,
         layout.bytes_in(2),
         Bytes {
             addr: 0x10080,
-            size: 0
-        }
+            size: 0,
+        },
     );
-    assert_eq!(rt;
+    same(
+        &rt,
         layout.bytes_in(3),
         Bytes {
             addr: 0x100c0,
-            size: 8
-        }
+            size: 8,
+        },
     );
-    assert_eq!(rt; layout.bytes_in(4), Bytes { addr: 0, size: 0 });
+    same(&rt, layout.bytes_in(4), Bytes { addr: 0, size: 0 });
     Ok(())
 }
 
@@ -139,13 +144,14 @@ fn cells_hold_the_bytes_of_their_variables(rt: HostRuntime) -> Result<(), Fail> 
     ];
     let layout = laid(rt.alloc(), variables.as_slice(), &places)?;
     let cells = layout.cells(rt.alloc())?;
-    assert_eq!(rt; cells.as_slice(), [0x1000, 0x100c0].as_slice());
+    same(&rt, cells.as_slice(), [0x1000, 0x100c0].as_slice());
     let words = layout.cells_at_first(rt.alloc())?;
-    assert_eq!(rt;
+    same(
+        &rt,
         words.as_slice(),
-        [0x0102_0304_ff00_0000, 0xffff_ffff_ffff_fffe].as_slice()
+        [0x0102_0304_ff00_0000, 0xffff_ffff_ffff_fffe].as_slice(),
     );
-    assert_eq!(rt; layout.locks(), 1);
+    same(&rt, layout.locks(), 1);
     Ok(())
 }
 
@@ -160,10 +166,10 @@ fn later_variables_lie_over_earlier_ones(rt: HostRuntime) -> Result<(), Fail> {
     let places = [placed(rt.alloc(), "y", 0x10000)?];
     let layout = laid(rt.alloc(), variables.as_slice(), &places)?;
     let cells = layout.cells(rt.alloc())?;
-    assert_eq!(rt; cells.as_slice(), [0x10000].as_slice());
+    same(&rt, cells.as_slice(), [0x10000].as_slice());
     let words = layout.cells_at_first(rt.alloc())?;
-    assert_eq!(rt; words.as_slice(), [1].as_slice());
-    assert_eq!(rt; layout.locks(), 0);
-    assert_eq!(rt; layout.all_bytes(rt.alloc())?.len(), 2);
+    same(&rt, words.as_slice(), [1].as_slice());
+    same(&rt, layout.locks(), 0);
+    same(&rt, layout.all_bytes(rt.alloc())?.len(), 2);
     Ok(())
 }

@@ -8,6 +8,8 @@ mod layouts;
 #[cfg(test)]
 mod names;
 #[cfg(test)]
+mod same;
+#[cfg(test)]
 mod sites;
 #[cfg(test)]
 mod values;

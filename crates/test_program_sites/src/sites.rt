@@ -4,6 +4,7 @@ ghost use Rattle.std.specs.Prelude.{IfOk};
 ghost use Rattle.litmus_syntax.specs.Limits.{KeepsLimits};
 ghost use Rattle.litmus_syntax.specs.Views.{program_of};
 
+use crate::same::same_at;
 use access_types::{Access, Claim, Kind, Operation, Sites};
 use litmus_parse::{ParseError, Program, parse};
 use litmus_syntax::Name;
@@ -65,7 +66,7 @@ fn shown(access: &Access) -> Shown {
 /// Each ticket names such an access, or none.
 fn expect_accesses(rt: &impl Abort, sites: &Sites, wanted: &[(u32, Option<Shown>)]) {
     for (ticket, wanted) in wanted {
-        assert_eq!(rt; sites.get(*ticket).map(shown), *wanted, "ticket {ticket}");
+        same_at(&rt, ticket, sites.get(*ticket).map(shown), *wanted);
     }
 }
 

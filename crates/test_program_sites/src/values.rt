@@ -1,5 +1,6 @@
 //! Values at the edges of 64 bits, of 8, 16 and 32 bits.
 
+use crate::same::{same, same_at};
 use access_types::{Bytes, Claim, Kind, Operation};
 use litmus_meaning::expression::pure_value;
 use litmus_meaning::site::{Site, text_sites};
@@ -61,10 +62,11 @@ fn binary_operators_at_their_edges(rt: HostRuntime) -> Result<(), Fail> {
         (BitOr, 0xf0f0, 0xff00, 0xfff0),
     ] {
         let pure = between(rt.alloc(), operator)?;
-        assert_eq!(rt;
+        same_at(
+            &rt,
+            (operator, left, right),
             pure_value(&pure, &[left, right]),
             wanted,
-            "{operator:?} {left} {right}"
         );
     }
     Ok(())
@@ -82,14 +84,14 @@ fn unary_operators_at_their_edges(rt: HostRuntime) -> Result<(), Fail> {
         (Complement, GREATEST, LEAST),
     ] {
         let pure = before(rt.alloc(), operator, operand)?;
-        assert_eq!(rt; pure_value(&pure, &[]), wanted, "{operator:?} {operand}");
+        same_at(&rt, (operator, operand), pure_value(&pure, &[]), wanted);
     }
     Ok(())
 }
 
 #[test]
 fn a_register_that_is_not_there_is_0(rt: HostRuntime) {
-    assert_eq!(rt; pure_value(&Pure::Register(1), &[7]), 0);
+    same(&rt, pure_value(&Pure::Register(1), &[7]), 0);
 }
 
 #[test]
@@ -103,12 +105,8 @@ fn values_are_cut_and_their_sign_extended(rt: HostRuntime) {
         (4, 0x8000_0000, 0x8000_0000, 0xffff_ffff_8000_0000),
         (8, LEAST, LEAST, LEAST),
     ] {
-        assert_eq!(rt; cut(value, size), low, "{value} in {size} bytes");
-        assert_eq!(rt;
-            sign_extended(value, size),
-            extended,
-            "{value} in {size} bytes"
-        );
+        same_at(&rt, (value, size), cut(value, size), low);
+        same_at(&rt, (value, size), sign_extended(value, size), extended);
     }
 }
 
@@ -155,7 +153,7 @@ fn sites_of_a_text(rt: HostRuntime) -> Result<(), Fail> {
     };
     let text = vec![in rt.alloc(); in_turns, Statement::Call(nothing), Statement::Call(bits)]?;
     let sites = text_sites(rt.alloc(), &text, &[bytes])?;
-    assert_eq!(rt; sites.len(), 2);
+    same(&rt, sites.len(), 2);
     for (number, kind, mask, times) in [
         (0, Kind::Plain(Operation::Read), None, 3),
         (1, Kind::Assert(Claim::NoWrites), Some(0xf), 1),
@@ -166,7 +164,7 @@ fn sites_of_a_text(rt: HostRuntime) -> Result<(), Fail> {
             mask,
             times,
         };
-        assert_eq!(rt; sites.get(number).copied(), Some(wanted));
+        same(&rt, sites.get(number).copied(), Some(wanted));
     }
     Ok(())
 }

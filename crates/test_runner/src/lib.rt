@@ -8,4 +8,6 @@ mod points;
 #[cfg(test)]
 mod runs;
 #[cfg(test)]
+mod same;
+#[cfg(test)]
 mod words;

@@ -1,6 +1,7 @@
 //! Many runs, of which each is made once.
 
 use crate::runs::{Meeting, RACE, THOUSAND, TWO_STUCK, Unseen, has, parsed, settings};
+use crate::same::same;
 use run_tally::litmus_step::Prepared;
 use run_tally::runner::{Gate, NoStall, Open, Point, RunError, Stall, Turn, run_batch};
 use run_tally::trace_replay::{Accepted, replay};
@@ -151,13 +152,13 @@ fn each_run_that_is_asked_for_is_made_once(rt: HostRuntime) -> Result<(), Fail> 
         assert!(rt; has(left.output.as_slice(), "\nseen 3 times\n"));
         assert!(rt; has(left.output.as_slice(), " two-sided 3 "));
         let trace = left.trace.unwrap_or(Vec::new(alloc));
-        assert_eq!(rt; replay(alloc, trace.as_slice())?, ONE_RACE);
-        assert_eq!(rt; counts.runs.load(Ordering::SeqCst), 3);
-        assert_eq!(rt; counts.reader_begins.load(Ordering::SeqCst), 3);
-        assert_eq!(rt; counts.writer_begins.load(Ordering::SeqCst), 3);
-        assert_eq!(rt; counts.loads.load(Ordering::SeqCst), 27);
-        assert_eq!(rt; counts.ran_out.load(Ordering::SeqCst), 0);
-        assert_eq!(rt; counts.told.load(Ordering::SeqCst), 10_609);
+        same(&rt, replay(alloc, trace.as_slice())?, ONE_RACE);
+        same(&rt, counts.runs.load(Ordering::SeqCst), 3);
+        same(&rt, counts.reader_begins.load(Ordering::SeqCst), 3);
+        same(&rt, counts.writer_begins.load(Ordering::SeqCst), 3);
+        same(&rt, counts.loads.load(Ordering::SeqCst), 27);
+        same(&rt, counts.ran_out.load(Ordering::SeqCst), 0);
+        same(&rt, counts.told.load(Ordering::SeqCst), 10_609);
     }
     Ok(())
 }
@@ -188,8 +189,8 @@ fn each_stuck_run_is_made_once(rt: HostRuntime) -> Result<(), Fail> {
         &hooks,
     )?;
     assert!(rt; has(left.output.as_slice(), "\nstuck in 3 of 3 runs\n"));
-    assert_eq!(rt; counts.runs.load(Ordering::SeqCst), 3);
-    assert_eq!(rt; counts.reader_begins.load(Ordering::SeqCst), 3);
+    same(&rt, counts.runs.load(Ordering::SeqCst), 3);
+    same(&rt, counts.reader_begins.load(Ordering::SeqCst), 3);
     Ok(())
 }
 
@@ -210,17 +211,17 @@ fn a_batch_makes_each_of_its_runs(rt: HostRuntime) -> Result<(), Fail> {
     let all = run_batch(
         &rt, alloc, &program, &strict, &prepared, &turns, &meetings, &meetings,
     )?;
-    assert_eq!(rt; all.len(), 3);
+    same(&rt, all.len(), 3);
     let mut number = 7;
     for ran in all {
         let ran = ran?;
-        assert_eq!(rt; ran.number(), number);
-        assert_eq!(rt; ran.reports().len(), 1);
-        assert_eq!(rt; ran.counters().two_sided, 1);
+        same(&rt, ran.number(), number);
+        same(&rt, ran.reports().len(), 1);
+        same(&rt, ran.counters().two_sided, 1);
         number = number.saturating_add(1);
     }
     for meeting in &meetings {
-        assert_eq!(rt; meeting.ran_out.load(Ordering::SeqCst), 0);
+        same(&rt, meeting.ran_out.load(Ordering::SeqCst), 0);
     }
     Ok(())
 }
@@ -238,9 +239,9 @@ fn a_batch_goes_on_behind_a_stuck_run(rt: HostRuntime) -> Result<(), Fail> {
     let all = run_batch(
         &rt, alloc, &program, &settings, &prepared, &turns, &stalls, &gates,
     )?;
-    assert_eq!(rt; all.len(), 2);
+    same(&rt, all.len(), 2);
     for ran in all {
-        assert_eq!(rt; ran.err(), Some(RunError::Stuck { task: 1 }));
+        same(&rt, ran.err(), Some(RunError::Stuck { task: 1 }));
     }
     Ok(())
 }

@@ -1,6 +1,7 @@
 //! What a run calls on the way of its tasks, and when.
 
 use crate::runs::{RACE, parsed, settings, wait};
+use crate::same::same;
 use run_tally::runner::{Gate, NoStall, Point, Stall, run_once};
 use std::sync::atomic::{AtomicU64, Ordering};
 use std::test::Fail;
@@ -142,10 +143,10 @@ fn hooks_come_in_their_order(rt: HostRuntime) -> Result<(), Fail> {
     let strict = settings(alloc, true, 1_000_000_000);
     let crossing = Crossing::new();
     let ran = run_once(&rt, alloc, &program, &strict, &crossing, &crossing)?;
-    assert_eq!(rt; ran.reports().len(), 1);
-    assert_eq!(rt; crossing.reader.all(), [1, 2, 3, 0, 4, 5]);
-    assert_eq!(rt; crossing.writer.all(), [1, 0, 0, 2, 3, 4]);
-    assert_eq!(rt; crossing.ran_out.load(Ordering::SeqCst), 0);
+    same(&rt, ran.reports().len(), 1);
+    same(&rt, crossing.reader.all(), [1, 2, 3, 0, 4, 5]);
+    same(&rt, crossing.writer.all(), [1, 0, 0, 2, 3, 4]);
+    same(&rt, crossing.ran_out.load(Ordering::SeqCst), 0);
     Ok(())
 }
 
@@ -163,7 +164,7 @@ fn begins_and_ends_stand_beside_their_steps(rt: HostRuntime) -> Result<(), Fail>
         stamps.push(access.begin())?;
         stamps.push(access.end())?;
     }
-    assert_eq!(rt; stamps.as_slice(), [0, 1, 2, 3].as_slice());
-    assert_eq!(rt; in_turn.crossing.ran_out.load(Ordering::SeqCst), 0);
+    same(&rt, stamps.as_slice(), [0, 1, 2, 3].as_slice());
+    same(&rt, in_turn.crossing.ran_out.load(Ordering::SeqCst), 0);
     Ok(())
 }

@@ -4,6 +4,7 @@ ghost use Rattle.std.specs.Prelude.{◌≤◌, IfOk};
 ghost use Rattle.run_tally.specs.of_litmus_syntax_Limits.{KeepsLimits};
 ghost use Rattle.run_tally.specs.of_litmus_syntax_Views.{program_of};
 
+use crate::same::same;
 use run_tally::litmus_parse::{ParseError, Program, parse};
 use run_tally::litmus_step::{Prepared, Settings};
 use run_tally::runner::{
@@ -230,12 +231,13 @@ fn stall_holds_until_told(rt: HostRuntime) -> Result<(), Fail> {
     let strict = settings(alloc, true, 1_000_000_000);
     let ran = run_once(&rt, alloc, &program, &strict, &meeting, &meeting)?;
     let counters = ran.counters();
-    assert_eq!(rt;
+    same(
+        &rt,
         (counters.arms, counters.taken, counters.two_sided),
-        (1, 1, 1)
+        (1, 1, 1),
     );
-    assert_eq!(rt; ran.reports().len(), 1);
-    assert_eq!(rt; meeting.ran_out.load(Ordering::SeqCst), 0);
+    same(&rt, ran.reports().len(), 1);
+    same(&rt, meeting.ran_out.load(Ordering::SeqCst), 0);
     Ok(())
 }
 
@@ -250,9 +252,9 @@ fn all_begin(rt: HostRuntime) -> Result<(), Fail> {
     };
     let settings = settings(alloc, false, 1_000_000_000);
     let ran = run_once(&rt, alloc, &program, &settings, &NoStall, &start)?;
-    assert_eq!(rt; ran.tasks(), 16);
-    assert_eq!(rt; start.there.load(Ordering::SeqCst), 16);
-    assert_eq!(rt; start.ran_out.load(Ordering::SeqCst), 0);
+    same(&rt, ran.tasks(), 16);
+    same(&rt, start.there.load(Ordering::SeqCst), 16);
+    same(&rt, start.ran_out.load(Ordering::SeqCst), 0);
     Ok(())
 }
 
@@ -263,8 +265,8 @@ fn own_write_read(rt: HostRuntime) -> Result<(), Fail> {
     let settings = settings(alloc, false, 1000);
     for _ in 0..RUNS {
         let ran = run_once(&rt, alloc, &program, &settings, &NoStall, &Open)?;
-        assert_eq!(rt; register(&ran, 0), Some(7));
-        assert_eq!(rt; ran.counters().arms, 0);
+        same(&rt, register(&ran, 0), Some(7));
+        same(&rt, ran.counters().arms, 0);
     }
     Ok(())
 }
@@ -276,9 +278,9 @@ fn locked_increments(rt: HostRuntime) -> Result<(), Fail> {
     let settings = settings(alloc, false, 1_000_000_000);
     for _ in 0..RUNS {
         let ran = run_once(&rt, alloc, &program, &settings, &NoStall, &Open)?;
-        assert_eq!(rt; ran.memory().first().copied(), Some(2));
+        same(&rt, ran.memory().first().copied(), Some(2));
         let counters = ran.counters();
-        assert_eq!(rt; (counters.arms, counters.quiet), (2, 2));
+        same(&rt, (counters.arms, counters.quiet), (2, 2));
     }
     Ok(())
 }
@@ -292,9 +294,9 @@ fn full_slots_sixteen(rt: HostRuntime) -> Result<(), Fail> {
     for _ in 0..RUNS {
         let ran = run_once(&rt, alloc, &program, &settings, &NoStall, &Open)?;
         let counters = ran.counters();
-        assert_eq!(rt; counters.arms, counters.quiet);
-        assert_eq!(rt; counters.arms.saturating_add(counters.capacity), 16);
-        assert_eq!(rt; ran.accesses(alloc)?.len(), 16);
+        same(&rt, counters.arms, counters.quiet);
+        same(&rt, counters.arms.saturating_add(counters.capacity), 16);
+        same(&rt, ran.accesses(alloc)?.len(), 16);
         assert!(rt; ran.reports().is_empty());
     }
     Ok(())
@@ -307,7 +309,7 @@ fn the_smallest_stuck_task_is_named(rt: HostRuntime) -> Result<(), Fail> {
     let settings = settings(alloc, false, 3);
     for _ in 0..RUNS {
         let refused = run_once(&rt, alloc, &program, &settings, &NoStall, &Open).err();
-        assert_eq!(rt; refused, Some(RunError::Stuck { task: 1 }));
+        same(&rt, refused, Some(RunError::Stuck { task: 1 }));
     }
     Ok(())
 }
@@ -324,8 +326,8 @@ fn no_task_is_stuck_without_a_vain_try(rt: HostRuntime) -> Result<(), Fail> {
             ran_out: AtomicU64::new(0),
         };
         let ran = run_once(&rt, alloc, &program, &settings, &behind, &behind)?;
-        assert_eq!(rt; ran.tasks(), 2);
-        assert_eq!(rt; behind.ran_out.load(Ordering::SeqCst), 0);
+        same(&rt, ran.tasks(), 2);
+        same(&rt, behind.ran_out.load(Ordering::SeqCst), 0);
     }
     Ok(())
 }
@@ -339,8 +341,8 @@ fn each_arming_stalls_once(rt: HostRuntime) -> Result<(), Fail> {
         stalls: AtomicU64::new(0),
     };
     let ran = run_once(&rt, alloc, &program, &settings, &counted, &Open)?;
-    assert_eq!(rt; ran.counters().arms, 2);
-    assert_eq!(rt; counted.stalls.load(Ordering::SeqCst), 2);
+    same(&rt, ran.counters().arms, 2);
+    same(&rt, counted.stalls.load(Ordering::SeqCst), 2);
     Ok(())
 }
 
@@ -351,16 +353,16 @@ fn a_delay_counts_its_turns(rt: HostRuntime) -> Result<(), Fail> {
     delay.pass(0, Point::Begin);
     delay.pass(1, Point::Begin);
     delay.stall(0, 0);
-    assert_eq!(rt; delay.turns(), 64);
+    same(&rt, delay.turns(), 64);
     delay.over(1);
     delay.stall(0, 0);
-    assert_eq!(rt; delay.turns(), 64);
+    same(&rt, delay.turns(), 64);
     let none = Delay::new(0, 2, 0);
     none.stall(0, 0);
-    assert_eq!(rt; none.turns(), 0);
+    same(&rt, none.turns(), 0);
     let alone = Delay::new(64, 2, 0);
     alone.stall(0, 0);
-    assert_eq!(rt; alone.turns(), 64);
+    same(&rt, alone.turns(), 64);
     Ok(())
 }
 
@@ -380,10 +382,10 @@ fn any_task_may_start_first(rt: HostRuntime) -> Result<(), Fail> {
             &rt, alloc, &program, &settings, &prepared, turn, &NoStall, &Open,
         )?;
         for task in 0..16 {
-            assert_eq!(rt; register(&ran, task), Some(7));
+            same(&rt, register(&ran, task), Some(7));
         }
-        assert_eq!(rt; ran.accesses(alloc)?.len(), 48);
-        assert_eq!(rt; ran.number(), 5);
+        same(&rt, ran.accesses(alloc)?.len(), 48);
+        same(&rt, ran.number(), 5);
     }
     Ok(())
 }

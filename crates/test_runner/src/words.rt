@@ -4,6 +4,7 @@ ghost use Rattle.std.specs.Prelude.{◌≡◌, ◌≤◌, [], All, IfOk, reverse
 ghost use Rattle.std.specs.Thread.{IsSync};
 ghost use Rattle.slot_table.specs.Records.{records_of};
 
+use crate::same::{same, same_at};
 use run_tally::shared_table::{Gathered, SharedBoard, SharedTable, TaskSeat};
 use slot_table::discipline::allows;
 use slot_table::{Answer, Board, BoardError, Record, Shape, Step};
@@ -267,7 +268,7 @@ impl<'a> Player<'a> {
         {
             let cell = stamp as usize + 1;
             let answer = self.step(rt, Step::CellExchange(cell, 0, 1));
-            assert_eq!(rt; answer, Answer::Flag(true), "a stamp stood before");
+            same_at(rt, ("stamp", stamp), answer, Answer::Flag(true));
         }
     }
 
@@ -297,7 +298,7 @@ impl<'a> Player<'a> {
         ensures { self.new.table.now ≡ self.old.table.now }
     {
         assert!(rt; wait(&gate.armed, 1), "no watchpoint is set up");
-        assert_eq!(rt; self.step(rt, Step::Load(INDEX)), Answer::Word(READ));
+        same(rt, self.step(rt, Step::Load(INDEX)), Answer::Word(READ));
         gate.loaded.fetch_add(1, Ordering::SeqCst);
         assert!(rt; wait(&gate.loaded, finders), "the other hasn't loaded it");
         self.step(rt, Step::TryConsume(INDEX, READ)) == Answer::Flag(true)
@@ -415,7 +416,7 @@ fn four_seats(rt: HostRuntime) -> Result<(), Fail> {
         let (table, seats) = opened(rt.alloc(), 4, &[7, 8])?;
         let seats = all_played(&rt, rt.alloc(), &table, seats, Game::Checks, &gate)?;
         let gathered = table.gather(seats).expect(&rt, "no check is unfinished");
-        assert_eq!(rt; gathered.cells(), [7, 8].as_slice());
+        same(&rt, gathered.cells(), [7, 8].as_slice());
     }
     assert!(rt;
         gate.armed.load(Ordering::SeqCst) > 0,
@@ -425,9 +426,10 @@ fn four_seats(rt: HostRuntime) -> Result<(), Fail> {
         gate.told.load(Ordering::SeqCst) > 0,
         "no watchpoint was taken"
     );
-    assert_eq!(rt;
+    same(
+        &rt,
         gate.told.load(Ordering::SeqCst),
-        gate.heard.load(Ordering::SeqCst)
+        gate.heard.load(Ordering::SeqCst),
     );
     Ok(())
 }
@@ -438,8 +440,8 @@ fn one_goes_on_while_another_is_paused(rt: HostRuntime) -> Result<(), Fail> {
     let gate = Gate::new();
     let seats = all_played(&rt, rt.alloc(), &table, seats, Game::Paused, &gate)?;
     assert!(rt; table.gather(seats).is_some(), "a check is unfinished");
-    assert_eq!(rt; gate.told.load(Ordering::SeqCst), 1);
-    assert_eq!(rt; gate.heard.load(Ordering::SeqCst), 1);
+    same(&rt, gate.told.load(Ordering::SeqCst), 1);
+    same(&rt, gate.heard.load(Ordering::SeqCst), 1);
     Ok(())
 }
 
@@ -455,7 +457,7 @@ fn a_lock_a_cell_and_stamps_under_four(rt: HostRuntime) -> Result<(), Fail> {
         &Gate::new(),
     )?;
     let gathered = table.gather(seats).expect(&rt, "no check is unfinished");
-    assert_eq!(rt; gathered.cells().first().copied(), Some(400));
+    same(&rt, gathered.cells().first().copied(), Some(400));
     assert!(rt;
         gathered.cells().iter().skip(1).all(|mark| *mark == 1),
         "a stamp wasn't drawn"
@@ -469,8 +471,8 @@ fn two_finders(rt: HostRuntime) -> Result<(), Fail> {
     let gate = Gate::new();
     let seats = all_played(&rt, rt.alloc(), &table, seats, Game::Finders, &gate)?;
     assert!(rt; table.gather(seats).is_some(), "a check is unfinished");
-    assert_eq!(rt; gate.told.load(Ordering::SeqCst), 1);
-    assert_eq!(rt; gate.lost.load(Ordering::SeqCst), 1);
+    same(&rt, gate.told.load(Ordering::SeqCst), 1);
+    same(&rt, gate.lost.load(Ordering::SeqCst), 1);
     Ok(())
 }
 
@@ -481,7 +483,7 @@ fn gather_wants_each_seat(rt: HostRuntime) -> Result<(), Fail> {
     assert!(rt; table.gather(seats).is_none());
     let (table, seats) = opened(rt.alloc(), 2, &[7])?;
     let gathered = table.gather(seats).expect(&rt, "both seats are here");
-    assert_eq!(rt; gathered.cells(), [7].as_slice());
+    same(&rt, gathered.cells(), [7].as_slice());
     Ok(())
 }
 
@@ -504,9 +506,10 @@ fn limits_of_slots(rt: HostRuntime) {
             locks: 0,
             cells: &[],
         };
-        assert_eq!(rt;
+        same(
+            &rt,
             SharedTable::new(rt.alloc(), wrong).err(),
-            Some(BoardError::BadSlots)
+            Some(BoardError::BadSlots),
         );
     }
 }
@@ -515,7 +518,7 @@ fn limits_of_slots(rt: HostRuntime) {
 fn a_new_table_or_no_memory(rt: HostRuntime) {
     // Each growth refused in turn, by `rt try --test --fail-alloc N`, is answered so.
     match opened(rt.alloc(), 2, &[7, 8]) {
-        Ok((_, seats)) => assert_eq!(rt; seats.len(), 2),
-        Err(error) => assert_eq!(rt; error, BoardError::OutOfMemory),
+        Ok((_, seats)) => same(&rt, seats.len(), 2),
+        Err(error) => same(&rt, error, BoardError::OutOfMemory),
     }
 }

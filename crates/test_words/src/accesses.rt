@@ -1,5 +1,6 @@
 //! Accesses, their ranges, and which of them conflict.
 
+use crate::same::same;
 use access_types::access::{Access, AccessError, conflicts, overlaps};
 use access_types::kind::{Claim, Kind, Operation};
 use std::test::Fail;
@@ -13,13 +14,13 @@ const CLAIM: Kind = Kind::Assert(Claim::NoAccesses);
 #[test]
 fn accesses_read_back(rt: HostRuntime) -> Result<(), Fail> {
     let access = Access::new(1, 2, 0x10000, 4, WRITE, Some(0xff))?;
-    assert_eq!(rt; (access.task(), access.site(), access.rep()), (1, 2, 0));
-    assert_eq!(rt; (access.addr(), access.size()), (0x10000, 4));
-    assert_eq!(rt; access.kind(), WRITE);
-    assert_eq!(rt; access.mask(), Some(0xff));
+    same(&rt, (access.task(), access.site(), access.rep()), (1, 2, 0));
+    same(&rt, (access.addr(), access.size()), (0x10000, 4));
+    same(&rt, access.kind(), WRITE);
+    same(&rt, access.mask(), Some(0xff));
     let access = Access::new_rep(0, 0, 2, 0x10000, 4, READ, Some(0))?;
-    assert_eq!(rt; access.rep(), 2);
-    assert_eq!(rt; access.mask(), None);
+    same(&rt, access.rep(), 2);
+    same(&rt, access.mask(), None);
     Ok(())
 }
 
@@ -28,7 +29,7 @@ fn ranges_end_at_the_end_of_addresses(rt: HostRuntime) {
     let at_end = Access::new(0, 0, 1 << 63, 0, READ, None);
     assert!(rt; at_end.is_ok());
     let past_end = Access::new(0, 0, 1 << 63, 1, READ, None);
-    assert_eq!(rt; past_end, Err(AccessError::RangeTooLong));
+    same(&rt, past_end, Err(AccessError::RangeTooLong));
 }
 
 #[test]
@@ -41,8 +42,8 @@ fn conflicts_need_a_common_byte_and_a_write(rt: HostRuntime) -> Result<(), Fail>
     ] {
         let a = Access::new(0, 0, 0x10000, 4, READ, None)?;
         let b = Access::new(1, 0, addr, 4, kind, None)?;
-        assert_eq!(rt; (overlaps(&a, &b), conflicts(&a, &b)), wanted);
-        assert_eq!(rt; (overlaps(&b, &a), conflicts(&b, &a)), wanted);
+        same(&rt, (overlaps(&a, &b), conflicts(&a, &b)), wanted);
+        same(&rt, (overlaps(&b, &a), conflicts(&b, &a)), wanted);
     }
     Ok(())
 }

@@ -1,5 +1,6 @@
 //! What a run keeps of its armings.
 
+use crate::same::same;
 use access_types::arms::{Arm, ArmOutcome, HitResult};
 
 #[test]
@@ -13,8 +14,8 @@ fn armings_read_back(rt: HostRuntime) {
         },
     ] {
         let arm = Arm::new(1, 2, 17, 0x0008_0000_0001_0000, outcome);
-        assert_eq!(rt; (arm.setter(), arm.number(), arm.index()), (1, 2, 17));
-        assert_eq!(rt; arm.watch_word(), 0x0008_0000_0001_0000);
-        assert_eq!(rt; arm.outcome(), outcome);
+        same(&rt, (arm.setter(), arm.number(), arm.index()), (1, 2, 17));
+        same(&rt, arm.watch_word(), 0x0008_0000_0001_0000);
+        same(&rt, arm.outcome(), outcome);
     }
 }

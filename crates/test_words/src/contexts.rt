@@ -1,5 +1,6 @@
 //! What a task's calls lead to.
 
+use crate::same::{same, same_at};
 use access_types::{Access, AccessError, Claim, Kind, Operation};
 use std::test::Fail;
 use task_context::context::{Context, ContextError};
@@ -29,7 +30,7 @@ fn next_counts_down(rt: HostRuntime) -> Result<(), Fail> {
         context.atomic_next(2);
         for (kind, want) in [READ, WRITE, READ, READ].into_iter().zip(wanted) {
             let marked = context.counts_as_marked(&access(kind, 0x10000, 4)?, plain_writes_atomic);
-            assert_eq!(rt; marked, want, "at {kind:?}");
+            same_at(&rt, kind, marked, want);
         }
     }
     Ok(())
@@ -50,14 +51,14 @@ fn a_later_next_forgets_an_earlier_one(rt: HostRuntime) -> Result<(), Fail> {
 fn the_third_call_is_unbalanced(rt: HostRuntime) {
     let mut context = Context::new();
     context.nest_begin();
-    assert_eq!(rt; context.nest_end(), Ok(()));
-    assert_eq!(rt; context.nest_end(), Err(ContextError::Unbalanced));
-    assert_eq!(rt; context, Context::new());
+    same(&rt, context.nest_end(), Ok(()));
+    same(&rt, context.nest_end(), Err(ContextError::Unbalanced));
+    same(&rt, context, Context::new());
     let mut context = Context::default();
     context.disable();
-    assert_eq!(rt; context.enable(), Ok(()));
-    assert_eq!(rt; context.enable(), Err(ContextError::Unbalanced));
-    assert_eq!(rt; context, Context::new());
+    same(&rt, context.enable(), Ok(()));
+    same(&rt, context.enable(), Err(ContextError::Unbalanced));
+    same(&rt, context, Context::new());
 }
 
 #[test]
@@ -67,9 +68,9 @@ fn a_task_is_heard_once_each_disable_is_taken_back(rt: HostRuntime) {
     context.disable();
     context.disable();
     assert!(rt; !context.enabled());
-    assert_eq!(rt; context.enable(), Ok(()));
+    same(&rt, context.enable(), Ok(()));
     assert!(rt; !context.enabled());
-    assert_eq!(rt; context.enable(), Ok(()));
+    same(&rt, context.enable(), Ok(()));
     assert!(rt; context.enabled());
 }
 
@@ -79,9 +80,9 @@ fn nested_regions_count_and_the_flat_one_does_not(rt: HostRuntime) -> Result<(),
     let mut context = Context::new();
     context.nest_begin();
     context.nest_begin();
-    assert_eq!(rt; context.nest_end(), Ok(()));
+    same(&rt, context.nest_end(), Ok(()));
     assert!(rt; context.counts_as_marked(&read, true));
-    assert_eq!(rt; context.nest_end(), Ok(()));
+    same(&rt, context.nest_end(), Ok(()));
     assert!(rt; !context.counts_as_marked(&read, true));
     context.flat_begin();
     context.flat_begin();
@@ -109,7 +110,7 @@ fn accesses_count_by_what_they_are(rt: HostRuntime) -> Result<(), Fail> {
             context.counts_as_marked(&access, true),
             context.counts_as_marked(&access, false),
         );
-        assert_eq!(rt; answers, (assumed, strict), "at {access:?}");
+        same_at(&rt, access, answers, (assumed, strict));
     }
     Ok(())
 }

@@ -1,5 +1,6 @@
 //! The kinds of an access, their flags and their words.
 
+use crate::same::{same, same_at};
 use access_types::kind::{Claim, Kind, KindError, Operation, words};
 use std::process::Abort;
 
@@ -7,12 +8,12 @@ use std::process::Abort;
 fn expect_flags(rt: &impl Abort, kind: Kind, flags: [bool; 5]) {
     let [write, compound, marked, assert, scoped] = flags;
     let made = Kind::new(write, compound, marked, assert, scoped);
-    assert_eq!(rt; made, Ok(kind));
-    assert_eq!(rt; kind.write(), write, "at {kind:?}");
-    assert_eq!(rt; kind.is_compound(), compound, "at {kind:?}");
-    assert_eq!(rt; kind.is_marked(), marked, "at {kind:?}");
-    assert_eq!(rt; kind.is_assertion(), assert, "at {kind:?}");
-    assert_eq!(rt; kind.is_scoped(), scoped, "at {kind:?}");
+    same(rt, made, Ok(kind));
+    same_at(rt, kind, kind.write(), write);
+    same_at(rt, kind, kind.is_compound(), compound);
+    same_at(rt, kind, kind.is_marked(), marked);
+    same_at(rt, kind, kind.is_assertion(), assert);
+    same_at(rt, kind, kind.is_scoped(), scoped);
 }
 
 #[test]
@@ -49,7 +50,7 @@ fn kinds_have_their_words(rt: HostRuntime) {
         (Kind::AssertScoped(Claim::NoWrites), "assert no writes"),
         (Kind::AssertScoped(Claim::NoAccesses), "assert no accesses"),
     ] {
-        assert_eq!(rt; words(&kind), text);
+        same(&rt, words(&kind), text);
     }
 }
 
@@ -65,7 +66,7 @@ fn ten_of_the_combinations_are_kinds(rt: HostRuntime) {
         )
         .is_ok()
     });
-    assert_eq!(rt; kinds.count(), 10);
+    same(&rt, kinds.count(), 10);
 }
 
 #[test]
@@ -77,6 +78,6 @@ fn other_flags_are_bad(rt: HostRuntime) {
         [true, false, true, true, false],
     ] {
         let kind = Kind::new(write, compound, marked, assert, scoped);
-        assert_eq!(rt; kind, Err(KindError::BadKind));
+        same(&rt, kind, Err(KindError::BadKind));
     }
 }

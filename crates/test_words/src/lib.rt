@@ -19,6 +19,8 @@ mod lists;
 #[cfg(test)]
 mod pairs;
 #[cfg(test)]
+mod same;
+#[cfg(test)]
 mod samplers;
 #[cfg(test)]
 mod sites;

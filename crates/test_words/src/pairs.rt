@@ -1,5 +1,6 @@
 //! The calls on one pair word.
 
+use crate::same::same;
 use slot::pair::Pair;
 
 #[test]
@@ -7,9 +8,9 @@ fn names_both_sides(rt: HostRuntime) {
     let mut pair = Pair::new();
     pair.name(1);
     pair.tell(65537);
-    assert_eq!(rt; pair.halves(), (1, 65537));
-    assert_eq!(rt; pair, Pair::of(1, 65537));
+    same(&rt, pair.halves(), (1, 65537));
+    same(&rt, pair, Pair::of(1, 65537));
     pair.clear();
-    assert_eq!(rt; pair.halves(), (0, 0));
-    assert_eq!(rt; pair, Pair::default());
+    same(&rt, pair.halves(), (0, 0));
+    same(&rt, pair, Pair::default());
 }

@@ -1,5 +1,6 @@
 //! Which accesses are watched.
 
+use crate::same::same_at;
 use skip_sampler::Sampler;
 use std::process::Abort;
 
@@ -7,7 +8,7 @@ use std::process::Abort;
 fn expect_watched(rt: &impl Abort, mut sampler: Sampler, askings: u64, wanted: &[u64]) {
     for asking in 1..=askings {
         let watched = sampler.should_watch();
-        assert_eq!(rt; watched, wanted.contains(&asking), "at {asking}");
+        same_at(rt, asking, watched, wanted.contains(&asking));
     }
 }
 

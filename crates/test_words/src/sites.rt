@@ -1,5 +1,6 @@
 //! Accesses by ticket.
 
+use crate::same::same_at;
 use access_types::access::Access;
 use access_types::kind::{Kind, Operation};
 use access_types::sites::Sites;
@@ -20,7 +21,7 @@ fn expect_sites_below(rt: &impl Abort, sites: &Sites, count: u8) {
         let access = read_at(site).expect(rt, "an access");
         let found = sites.get(ticket(&access)).copied();
         let wanted = (site < count).then_some(access);
-        assert_eq!(rt; found, wanted, "site {site} of {count}");
+        same_at(rt, (site, count), found, wanted);
     }
 }
 
@@ -40,7 +41,7 @@ fn accesses_are_found_by_ticket(rt: HostRuntime) -> Result<(), Fail> {
         (65536, None),
         (65537, Some(write)),
     ] {
-        assert_eq!(rt; sites.get(number).copied(), wanted, "ticket {number}");
+        same_at(&rt, number, sites.get(number).copied(), wanted);
     }
     Ok(())
 }

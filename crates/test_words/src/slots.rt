@@ -1,5 +1,6 @@
 //! The calls on one watch word.
 
+use crate::same::same;
 use slot::Slot;
 
 const READ: u64 = 0x0008_0000_0001_0000;
@@ -20,9 +21,9 @@ fn slots() -> [Slot; 4] {
 #[test]
 fn slots_hold_their_words(rt: HostRuntime) {
     for (slot, word) in slots().into_iter().zip([0, 1, READ, WRITE]) {
-        assert_eq!(rt; slot.load(), word);
+        same(&rt, slot.load(), word);
     }
-    assert_eq!(rt; Slot::default(), Slot::new());
+    same(&rt, Slot::default(), Slot::new());
 }
 
 #[test]
@@ -30,7 +31,7 @@ fn insert_fills_an_empty_slot_only(rt: HostRuntime) {
     let wanted = [(true, READ), (false, 1), (false, READ), (false, WRITE)];
     for (mut slot, want) in slots().into_iter().zip(wanted) {
         let answer = slot.insert(READ);
-        assert_eq!(rt; (answer, slot.load()), want);
+        same(&rt, (answer, slot.load()), want);
     }
 }
 
@@ -39,7 +40,7 @@ fn try_consume_takes_its_word_only(rt: HostRuntime) {
     let wanted = [(false, 0), (false, 1), (true, 1), (false, WRITE)];
     for (mut slot, want) in slots().into_iter().zip(wanted) {
         let answer = slot.try_consume(READ);
-        assert_eq!(rt; (answer, slot.load()), want);
+        same(&rt, (answer, slot.load()), want);
     }
 }
 
@@ -48,7 +49,7 @@ fn consume_tells_an_untouched_watchpoint(rt: HostRuntime) {
     let wanted = [(false, 1), (false, 1), (true, 1), (true, 1)];
     for (mut slot, want) in slots().into_iter().zip(wanted) {
         let answer = slot.consume();
-        assert_eq!(rt; (answer, slot.load()), want);
+        same(&rt, (answer, slot.load()), want);
     }
 }
 
@@ -56,6 +57,6 @@ fn consume_tells_an_untouched_watchpoint(rt: HostRuntime) {
 fn remove_empties_any_slot(rt: HostRuntime) {
     for mut slot in slots() {
         slot.remove();
-        assert_eq!(rt; slot.load(), 0);
+        same(&rt, slot.load(), 0);
     }
 }

@@ -1,5 +1,6 @@
 //! Tickets name accesses.
 
+use crate::same::same;
 use access_types::access::Access;
 use access_types::kind::{Kind, Operation};
 use access_types::tickets::{rep_of, site_of, task_of, ticket};
@@ -11,11 +12,12 @@ fn tickets_name_accesses(rt: HostRuntime) -> Result<(), Fail> {
         assert!(rt; task < 16 && site < 256 && rep < 256);
         let read = Kind::Plain(Operation::Read);
         let access = Access::new_rep(task, site, rep, 0x10000, 4, read, None)?;
-        assert_eq!(rt; ticket(&access), number);
+        same(&rt, ticket(&access), number);
         assert!(rt; number > 0);
-        assert_eq!(rt;
+        same(
+            &rt,
             (task_of(number), site_of(number), rep_of(number)),
-            (task, site, rep)
+            (task, site, rep),
         );
     }
     Ok(())

@@ -1,5 +1,6 @@
 //! What values say of a change, and the verdict.
 
+use crate::same::{same, same_at};
 use access_types::{Access, Claim, Kind, Operation, ValueChange};
 use std::test::Fail;
 use value_filter::values::{change, seen_change};
@@ -24,7 +25,7 @@ fn values_say_whether_they_changed(rt: HostRuntime) -> Result<(), Fail> {
         (Some(0), None, Maybe),
     ] {
         let access = Access::new(0, 0, 0x10000, 4, BITS, mask)?;
-        assert_eq!(rt; change(&access, values), wanted, "{mask:?} {values:?}");
+        same_at(&rt, (mask, values), change(&access, values), wanted);
     }
     Ok(())
 }
@@ -38,11 +39,7 @@ fn values_are_told_where_a_change_was_seen(rt: HostRuntime) {
         (Maybe, Some((5, 5)), None),
         (Ruled, Some((0, 16)), None),
     ] {
-        assert_eq!(rt;
-            seen_change(change, values),
-            wanted,
-            "{change:?} {values:?}"
-        );
+        same_at(&rt, (change, values), seen_change(change, values), wanted);
     }
 }
 
@@ -62,10 +59,10 @@ fn verdicts_are_those_of_the_table(rt: HostRuntime) -> Result<(), Fail> {
         (PLAIN, 9, Maybe, [Report, Report, Quiet]),
     ] {
         let setter = Access::new(0, 0, 0x10000, size, kind, None)?;
-        assert_eq!(rt; judge(change, &setter, true, true), changes_only);
-        assert_eq!(rt; judge(change, &setter, true, false), all);
-        assert_eq!(rt; judge(change, &setter, false, true), untaken);
-        assert_eq!(rt; judge(change, &setter, false, false), untaken);
+        same(&rt, judge(change, &setter, true, true), changes_only);
+        same(&rt, judge(change, &setter, true, false), all);
+        same(&rt, judge(change, &setter, false, true), untaken);
+        same(&rt, judge(change, &setter, false, false), untaken);
     }
     Ok(())
 }

@@ -1,5 +1,6 @@
 //! Watch words: what they say, and what they match.
 
+use crate::same::same;
 use access_types::{Access, AccessError, Claim, Kind, Operation};
 use std::process::Abort;
 use std::test::Fail;
@@ -34,12 +35,12 @@ fn words_and_what_they_say(rt: HostRuntime) -> Result<(), Fail> {
     ] {
         let access = access(kind, addr, size)?;
         let watch = Some(Watch { write, size, addr });
-        assert_eq!(rt; encode(&access), Some(wide));
-        assert_eq!(rt; encode_in(Layout::W64, &access), Some(wide));
-        assert_eq!(rt; encode_in(Layout::W32, &access), Some(narrow));
-        assert_eq!(rt; decode(wide), watch);
-        assert_eq!(rt; decode_in(Layout::W64, wide), watch);
-        assert_eq!(rt; decode_in(Layout::W32, narrow), watch);
+        same(&rt, encode(&access), Some(wide));
+        same(&rt, encode_in(Layout::W64, &access), Some(wide));
+        same(&rt, encode_in(Layout::W32, &access), Some(narrow));
+        same(&rt, decode(wide), watch);
+        same(&rt, decode_in(Layout::W64, wide), watch);
+        same(&rt, decode_in(Layout::W32, narrow), watch);
     }
     Ok(())
 }
@@ -48,8 +49,8 @@ fn words_and_what_they_say(rt: HostRuntime) -> Result<(), Fail> {
 fn some_accesses_have_no_word(rt: HostRuntime) -> Result<(), Fail> {
     for (addr, size) in [(4095, 4), (0x10000, 8193), (0x10000, 0)] {
         let access = access(READ, addr, size)?;
-        assert_eq!(rt; encode(&access), None);
-        assert_eq!(rt; encode_in(Layout::W32, &access), None);
+        same(&rt, encode(&access), None);
+        same(&rt, encode_in(Layout::W32, &access), None);
     }
     Ok(())
 }
@@ -62,10 +63,10 @@ fn some_words_say_nothing(rt: HostRuntime) {
         (0x0000_0000_0001_0000, 0x0001_0000),
         (0x4002_0000_0001_0000, 0x4003_0000),
     ] {
-        assert_eq!(rt; decode(wide), None);
-        assert_eq!(rt; decode_in(Layout::W32, narrow), None);
+        same(&rt, decode(wide), None);
+        same(&rt, decode_in(Layout::W32, narrow), None);
     }
-    assert_eq!(rt; decode_in(Layout::W32, 0x1_0009_0000), None);
+    same(&rt, decode_in(Layout::W32, 0x1_0009_0000), None);
 }
 
 #[test]
@@ -79,8 +80,8 @@ fn masked_ranges_match(rt: HostRuntime) -> Result<(), Fail> {
     ] {
         let watched = access(WRITE, watched.0, watched.1)?;
         let other = access(READ, other.0, other.1)?;
-        assert_eq!(rt; meets(&rt, Layout::W64, &watched, &other), wide);
-        assert_eq!(rt; meets(&rt, Layout::W32, &watched, &other), narrow);
+        same(&rt, meets(&rt, Layout::W64, &watched, &other), wide);
+        same(&rt, meets(&rt, Layout::W32, &watched, &other), narrow);
     }
     Ok(())
 }
