@@ -1,13 +1,13 @@
 //! Whether two expressions are the same.
 
-ghost use Rattle.std.specs.Prelude.{◌≡◌, IsTrue};
+ghost use Rattle.std.specs.Prelude.{◌≡◌, ◌↔◌, IsTrue};
 ghost use Rattle.litmus_syntax.specs.Views.{expression_of, fetch_of, load_of, loading_of, pure_of};
 
 use litmus_syntax::{Expression, Fetch, Load, Loading, Pure};
 
 /// Both are the same expression without a load.
 pub(crate) fn is_same_pure(one: &Pure, other: &Pure) -> bool
-    ensures { IsTrue result → pure_of one.now ≡ pure_of other.now }
+    ensures { IsTrue result ↔ (pure_of one.now ≡ pure_of other.now) }
 {
     match (one, other) {
         (Pure::Number(number), Pure::Number(second)) => number == second,
@@ -24,7 +24,7 @@ pub(crate) fn is_same_pure(one: &Pure, other: &Pure) -> bool
 
 /// Both do the same to one variable.
 fn is_same_fetch(one: &Fetch, other: &Fetch) -> bool
-    ensures { IsTrue result → fetch_of one.now ≡ fetch_of other.now }
+    ensures { IsTrue result ↔ (fetch_of one.now ≡ fetch_of other.now) }
 {
     match one {
         Fetch::Read { form, variable } => match other {
@@ -62,14 +62,14 @@ fn is_same_fetch(one: &Fetch, other: &Fetch) -> bool
 
 /// Both are the same load, inside as many `data_race( )`.
 pub(crate) fn is_same_load(one: &Load, other: &Load) -> bool
-    ensures { IsTrue result → load_of one.now ≡ load_of other.now }
+    ensures { IsTrue result ↔ (load_of one.now ≡ load_of other.now) }
 {
     one.data_races == other.data_races && is_same_fetch(&one.fetch, &other.fetch)
 }
 
 /// Both are the same expression with a load.
 pub fn is_same_loading(one: &Loading, other: &Loading) -> bool
-    ensures { IsTrue result → loading_of one.now ≡ loading_of other.now }
+    ensures { IsTrue result ↔ (loading_of one.now ≡ loading_of other.now) }
 {
     match (one, other) {
         (Loading::Load(load), Loading::Load(second)) => is_same_load(load, second),
@@ -93,7 +93,7 @@ pub fn is_same_loading(one: &Loading, other: &Loading) -> bool
 
 /// Both are the same expression, with or without a load.
 pub(crate) fn is_same_expression(one: &Expression, other: &Expression) -> bool
-    ensures { IsTrue result → expression_of one.now ≡ expression_of other.now }
+    ensures { IsTrue result ↔ (expression_of one.now ≡ expression_of other.now) }
 {
     match (one, other) {
         (Expression::Pure(value), Expression::Pure(second)) => is_same_pure(value, second),

@@ -1,16 +1,17 @@
 //! Whether two statements are the same, and two blocks.
 
-ghost use Rattle.std.specs.Prelude.{◌≡◌, IsTrue};
-ghost use Rattle.litmus_syntax.specs.Views.{block_of, statement_of};
+ghost use Rattle.std.specs.Prelude.{◌≡◌, ◌↔◌, IsTrue};
+ghost use Rattle.litmus_syntax.specs.Tree as tree;
+ghost use Rattle.litmus_syntax.specs.Views.{assignment_of, block_of, expression_of, load_of, statement_of};
 
 use crate::assignment::is_same_assignment;
 use crate::expression::{is_same_expression, is_same_load};
-use litmus_syntax::Statement;
+use litmus_syntax::{Assignment, Call, Expression, Load, Statement};
 
 /// Both are the same statements, in one order.
 #[cycle(same)]
 pub fn is_same_block(one: &[Statement], other: &[Statement]) -> bool
-    ensures { IsTrue result → block_of one.now ≡ block_of other.now }
+    ensures { IsTrue result ↔ (block_of one.now ≡ block_of other.now) }
 {
     if one.len() != other.len() {
         return false;
@@ -26,100 +27,112 @@ pub fn is_same_block(one: &[Statement], other: &[Statement]) -> bool
 /// Both are the same statement, with the same blocks.
 #[cycle(same)]
 fn is_same_statement(one: &Statement, other: &Statement) -> bool
-    ensures { IsTrue result → statement_of one.now ≡ statement_of other.now }
+    ensures { IsTrue result ↔ (statement_of one.now ≡ statement_of other.now) }
 {
-    match one {
-        Statement::If { .. } | Statement::IfElse { .. } => is_same_choice(one, other),
-        Statement::For { .. } => is_same_loop(one, other),
-        _ => is_same_simple(one, other),
-    }
-}
-
-/// Both are the same `if`, with or without `else`.
-#[cycle(same)]
-fn is_same_choice(one: &Statement, other: &Statement) -> bool
-    ensures { IsTrue result → statement_of one.now ≡ statement_of other.now }
-{
-    match one {
-        Statement::If { condition, body } => match other {
-            Statement::If {
-                condition: asked,
-                body: inner,
-            } => {
-                is_same_expression(condition, asked)
-                    && is_same_block(body.as_slice(), inner.as_slice())
-            }
-            _ => false,
-        },
+    match other {
+        Statement::Load(load) => is_load(one, load),
+        Statement::Assign {
+            data_race,
+            assignment,
+        } => is_assignment(one, *data_race, assignment),
+        Statement::Call(call) => is_call(one, call),
+        Statement::If { condition, body } => is_if(one, condition, body.as_slice()),
         Statement::IfElse {
             condition,
             body,
             otherwise,
-        } => match other {
-            Statement::IfElse {
-                condition: asked,
-                body: inner,
-                otherwise: last,
-            } => {
-                is_same_expression(condition, asked)
-                    && is_same_block(body.as_slice(), inner.as_slice())
-                    && is_same_block(otherwise.as_slice(), last.as_slice())
-            }
-            _ => false,
-        },
-        _ => false,
-    }
-}
-
-/// Both are the same loop.
-#[cycle(same)]
-fn is_same_loop(one: &Statement, other: &Statement) -> bool
-    ensures { IsTrue result → statement_of one.now ≡ statement_of other.now }
-{
-    match one {
+        } => is_if_else(one, condition, body.as_slice(), otherwise.as_slice()),
         Statement::For {
             register,
             turns,
             body,
-        } => match other {
-            Statement::For {
-                register: counter,
-                turns: times,
-                body: inner,
-            } => {
-                register == counter
-                    && turns == times
-                    && is_same_block(body.as_slice(), inner.as_slice())
-            }
-            _ => false,
-        },
+        } => is_loop(one, *register, *turns, body.as_slice()),
+    }
+}
+
+/// The statement is this load alone.
+fn is_load(statement: &Statement, load: &Load) -> bool
+    ensures { IsTrue result ↔ (statement_of statement.now ≡ tree.load_only (load_of load.now)) }
+{
+    match statement {
+        Statement::Load(own) => is_same_load(own, load),
         _ => false,
     }
 }
 
-/// Both are the same statement, and have no block.
-fn is_same_simple(one: &Statement, other: &Statement) -> bool
-    ensures { IsTrue result → statement_of one.now ≡ statement_of other.now }
+/// The statement is this assignment, inside `data_race( )` or not.
+fn is_assignment(statement: &Statement, data_race: bool, assignment: &Assignment) -> bool
+    ensures { IsTrue result ↔ (statement_of statement.now ≡ tree.assign data_race (assignment_of assignment.now)) }
 {
-    match one {
-        Statement::Load(load) => match other {
-            Statement::Load(second) => is_same_load(load, second),
-            _ => false,
-        },
+    match statement {
         Statement::Assign {
-            data_race,
-            assignment,
-        } => match other {
-            Statement::Assign {
-                data_race: inside,
-                assignment: second,
-            } => data_race == inside && is_same_assignment(assignment, second),
-            _ => false,
-        },
-        Statement::Call(call) => match other {
-            Statement::Call(second) => call == second,
-            _ => false,
-        },
+            data_race: inside,
+            assignment: own,
+        } => *inside == data_race && is_same_assignment(own, assignment),
+        _ => false,
+    }
+}
+
+/// The statement is this call.
+fn is_call(statement: &Statement, call: &Call) -> bool
+    ensures { IsTrue result ↔ (statement_of statement.now ≡ tree.call call.now) }
+{
+    match statement {
+        Statement::Call(own) => own == call,
+        _ => false,
+    }
+}
+
+/// The statement is an `if` without `else`, of this condition and this block.
+#[cycle(same)]
+fn is_if(statement: &Statement, condition: &Expression, body: &[Statement]) -> bool
+    ensures { IsTrue result ↔ (statement_of statement.now ≡ tree.if_block (expression_of condition.now) (block_of body.now)) }
+{
+    match statement {
+        Statement::If {
+            condition: asked,
+            body: inner,
+        } => is_same_expression(asked, condition) && is_same_block(inner.as_slice(), body),
+        _ => false,
+    }
+}
+
+/// The statement is an `if` with `else`, of this condition and these blocks.
+#[cycle(same)]
+fn is_if_else(
+    statement: &Statement,
+    condition: &Expression,
+    body: &[Statement],
+    otherwise: &[Statement],
+) -> bool
+    ensures { IsTrue result ↔ (statement_of statement.now
+        ≡ tree.if_else (expression_of condition.now) (block_of body.now) (block_of otherwise.now)) }
+{
+    match statement {
+        Statement::IfElse {
+            condition: asked,
+            body: inner,
+            otherwise: last,
+        } => {
+            is_same_expression(asked, condition)
+                && is_same_block(inner.as_slice(), body)
+                && is_same_block(last.as_slice(), otherwise)
+        }
+        _ => false,
+    }
+}
+
+/// The statement is a loop with this register, so many turns and this block.
+#[cycle(same)]
+fn is_loop(statement: &Statement, register: usize, turns: u64, body: &[Statement]) -> bool
+    ensures { IsTrue result ↔ (statement_of statement.now ≡ tree.for_turns register turns (block_of body.now)) }
+{
+    match statement {
+        Statement::For {
+            register: counter,
+            turns: times,
+            body: inner,
+        } => { *counter == register && *times == turns && is_same_block(inner.as_slice(), body) }
         _ => false,
     }
 }

@@ -1,6 +1,6 @@
 //! What follows on an access.
 
-ghost use Rattle.std.specs.Prelude.{◌≡◌, IsTrue};
+ghost use Rattle.std.specs.Prelude.{◌≡◌, ◌↔◌, IsTrue};
 ghost use Rattle.task_plan.specs.Follow as spec;
 ghost use Rattle.task_plan.specs.Follow.{so_many_off, taker_off};
 ghost use Rattle.task_plan.specs.Views.{follow_of, taker_of};
@@ -63,7 +63,7 @@ impl<'a> Taker<'a> {
 
     /// Both take the value in the same way.
     pub fn is_as(&self, other: &Taker<'_>) -> bool
-        ensures { IsTrue result → taker_of self.now ≡ taker_of other.now }
+        ensures { IsTrue result ↔ (taker_of self.now ≡ taker_of other.now) }
     {
         match self {
             Taker::Nobody => matches!(other, Taker::Nobody),
@@ -107,7 +107,7 @@ impl<'a> Then<'a> {
 
     /// The same follows.
     pub fn is_as(&self, other: &Then<'_>) -> bool
-        ensures { IsTrue result → follow_of self.now ≡ follow_of other.now }
+        ensures { IsTrue result ↔ (follow_of self.now ≡ follow_of other.now) }
     {
         match self {
             Then::GoesOn => matches!(other, Then::GoesOn),

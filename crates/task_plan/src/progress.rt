@@ -64,6 +64,8 @@ impl Progress {
         ensures registers { IsTrue result → self.now.registers.items ≡ other.now.registers.items }
         ensures begun { IsTrue result → self.now.begun.items ≡ other.now.begun.items }
         ensures locks { IsTrue result → self.now.held.items ≡ other.now.held.items }
+        ensures same { self.now.registers.items ≡ other.now.registers.items → self.now.begun.items ≡ other.now.begun.items
+            → self.now.held.items ≡ other.now.held.items → IsTrue result }
     {
         self.registers == other.registers && self.begun == other.begun && self.held == other.held
     }
