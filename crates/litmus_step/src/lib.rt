@@ -11,6 +11,8 @@ mod schedules;
 pub mod world;
 
 pub use ran::Ran;
-pub use run_kept::program_sites::{Prepared, RunError, Settings};
+pub use run_kept::program_sites::{Prepared, RunError, Settings, sites_of};
+pub use run_kept::task_run::TaskRun;
+pub use step_schedule::Schedule;
 pub use task_laws;
 pub use world::{Stepped, World};
