@@ -7,6 +7,7 @@ use Rattle.search_text.specs.Found.{Searched, fails, is_deadlocked, meets, resti
 use Rattle.search_text.specs.Schedules.{schedule_text}
 use Rattle.search_text.specs.Times.{Sighting, Times}
 use Rattle.search_text.specs.declared.found.Found.{Found}
+use Rattle.step_schedule.specs.declared.schedule.Entry.{Entry}
 
 -- in how many schedules something was, behind this word
 unfoldable pub times_head : List ℕ → ℕ → List ℕ
@@ -100,12 +101,26 @@ stopped_at_text false visited = []
 abbrev pub visited_text : (visited : ℕ) → (stopped : Bool) → List ℕ
 visited_text visited stopped = visited_line visited ++ stopped_at_text stopped visited
 
--- What a search over the states of the test of this name writes, stopped at its limit or not: each distinct report and in how many lists it
--- was seen; in how many not all tasks ended; how many states were searched; and how the others end.
+-- the schedule of the first list in which something was seen
+abbrev pub first_line : List Entry → List ℕ
+first_line schedule = codes "first with --schedule " ++ (schedule_text schedule ++ codes "\n")
+
+-- the text of a report, and the schedule of the first list in which it was seen
+abbrev pub first_text : Sighting → List ℕ
+first_text sighting = sighting.0 ++ first_line sighting.1.1
+
+-- the schedule of the first list after which not all tasks have ended, if there is one
+abbrev pub deadlock_text : Option Times → List ℕ
+deadlock_text None = []
+deadlock_text (Some times) = codes "stuck, " ++ first_line times.1
+
+-- What a search over the states of the test of this name writes, stopped at its limit or not: each distinct report and the schedule of the
+-- first list in which it was seen; that of the first after which not all tasks have ended; how many states were searched; and how the others
+-- end. No lists are counted: which of the lists that lead to a state is visited says nothing.
 abbrev pub states_text : (name : List ℕ) → (stopped : Bool) → (visited : ℕ) → (reports : List Sighting) → (stuck : Option Times)
     → (states : List Sighting) → (held failed : ℕ) → List ℕ
 states_text name stopped visited reports stuck states held failed =
-    flat_map sighting_text reports ++ (stuck_text stuck ++ (visited_text visited stopped ++ endings_text name states held failed))
+    flat_map first_text reports ++ (deadlock_text stuck ++ (visited_text visited stopped ++ endings_text name states held failed))
 
 abbrev pub text_of_both : (name : List ℕ) → (stopped : Bool) → (visited : ℕ) → (reported ended : Found) → List ℕ
 text_of_both name stopped visited reported ended =

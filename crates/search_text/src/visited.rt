@@ -1,15 +1,19 @@
 //! What a search over states writes, which visits each state once.
 
-ghost use Rattle.std.specs.Prelude.{List};
+ghost use Rattle.std.specs.Prelude.{◌++◌, List, codes};
+ghost use Rattle.std.specs.List.{flat_map};
 ghost use Rattle.report_text.specs.Sink.{Writes};
 ghost use Rattle.search_text.specs.Found.{Finds, Searched};
-ghost use Rattle.search_text.specs.Write.{endings_text, sighting_text, states_search_text, stopped_at_line, stopped_at_text, stuck_text};
-ghost use Rattle.search_text.specs.Write.{text_of_both, visited_line, visited_text};
+ghost use Rattle.search_text.specs.Write.{deadlock_text, endings_text, first_line, first_text, states_search_text, stopped_at_line};
+ghost use Rattle.search_text.specs.Write.{stopped_at_text, text_of_both, visited_line, visited_text};
 
 use crate::found::Found;
-use crate::write::{write_ending, write_stuck};
+use crate::schedules::write_schedule;
+use crate::seen::{Seen, Sightings};
+use crate::write::write_ending;
 use report_text::pieces::{Piece, write_pieces};
-use report_text::{Sink, WriteError};
+use report_text::{Sink, WriteError, write_all};
+use step_schedule::Entry;
 
 /// How many states were searched: all of them, or as many as there may be at most.
 #[derive(Clone, Copy, Debug, PartialEq, Eq)]
@@ -17,6 +21,53 @@ pub struct Visited {
     pub states: u64,
     /// The search was stopped at its limit, and other states remain.
     pub stopped: bool,
+}
+
+/// Writes the schedule of the first list in which something was seen.
+fn write_first<K: Sink>(sink: &mut K, first: &[Entry]) -> Result<(), WriteError>
+    ensures { Writes K.written K.failures result (first_line first.now) sink.old sink.new }
+{
+    write_all(sink, b"first with --schedule ")?;
+    write_schedule(sink, first)?;
+    write_all(sink, b"\n")
+}
+
+/// Writes the text of a report, and the schedule of the first list in which it was seen.
+fn write_report<K: Sink>(sink: &mut K, text: &[u8], first: &[Entry]) -> Result<(), WriteError>
+    ensures { Writes K.written K.failures result (text.now ++ first_line first.now) sink.old sink.new }
+{
+    write_all(sink, text)?;
+    write_first(sink, first)
+}
+
+impl Sightings {
+    /// Writes the text of each report, and the schedule of the first list in which it was seen.
+    fn write_firsts<K: Sink>(&self, sink: &mut K) -> Result<(), WriteError>
+        ensures { Writes K.written K.failures result (flat_map first_text self.now) sink.old sink.new }
+    {
+        for (text, seen) in self.seen.iter() {
+            write_report(sink, text.as_slice(), seen.first())?;
+        }
+        Ok(())
+    }
+}
+
+/// Writes the schedule of a list after which not all tasks have ended.
+fn write_deadlock_line<K: Sink>(sink: &mut K, first: &[Entry]) -> Result<(), WriteError>
+    ensures { Writes K.written K.failures result (codes "stuck, " ++ first_line first.now) sink.old sink.new }
+{
+    write_all(sink, b"stuck, ")?;
+    write_first(sink, first)
+}
+
+/// Writes the schedule of the first list after which not all tasks have ended, if there is one.
+fn write_deadlock<K: Sink>(sink: &mut K, stuck: &Option<Seen>) -> Result<(), WriteError>
+    ensures { Writes K.written K.failures result (deadlock_text stuck.now) sink.old sink.new }
+{
+    match stuck {
+        Some(seen) => write_deadlock_line(sink, seen.first()),
+        None => Ok(()),
+    }
 }
 
 /// Writes how many states were searched.
@@ -78,14 +129,14 @@ fn write_both<K: Sink>(
     ensures { Writes K.written K.failures result (text_of_both name.now visited.stopped visited.states reported.now ended.now)
         sink.old sink.new }
 {
-    reported.reports.write_reports(sink)?;
-    write_stuck(sink, &ended.stuck)?;
+    reported.reports.write_firsts(sink)?;
+    write_deadlock(sink, &ended.stuck)?;
     write_visited(sink, visited)?;
     write_ending(sink, ended, name)
 }
 
 /// Writes what is found by a search over the states of the test of this name: the reports that fall at the last steps
-/// of some lists, how many states were searched, and how others end.
+/// of some lists, how many states were searched, and how others end. It counts states, and no lists.
 ///
 /// `SinkFailed`: the sink failed in this call, and holds a beginning of the text.
 pub fn write_states_search<K: Sink>(

@@ -84,7 +84,7 @@ fn write_state<K: Sink>(sink: &mut K, state: &[u8], times: u64) -> Result<(), Wr
 
 impl Sightings {
     /// Writes the text of each report, and in how many schedules it was seen.
-    pub(crate) fn write_reports<K: Sink>(&self, sink: &mut K) -> Result<(), WriteError>
+    fn write_reports<K: Sink>(&self, sink: &mut K) -> Result<(), WriteError>
         ensures { Writes K.written K.failures result (flat_map sighting_text self.now) sink.old sink.new }
     {
         for (text, seen) in self.seen.iter() {
@@ -105,7 +105,7 @@ impl Sightings {
 }
 
 /// Writes in how many schedules not all tasks ended, if there are any.
-pub(crate) fn write_stuck<K: Sink>(sink: &mut K, stuck: &Option<Seen>) -> Result<(), WriteError>
+fn write_stuck<K: Sink>(sink: &mut K, stuck: &Option<Seen>) -> Result<(), WriteError>
     ensures { Writes K.written K.failures result (stuck_text stuck.now) sink.old sink.new }
 {
     match stuck {
