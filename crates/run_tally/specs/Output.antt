@@ -1,5 +1,5 @@
 -- What is written of runs.
-use Rattle.std.specs.Prelude.{◌≡◌, ◌≤◌, ◌<◌, ◌+◌, ◌++◌, ◌∷◌, [], ◌==◌, ◌&&◌, ℕ, Bool, List, Option, IfSome, count_by, false, is_some, length, map, not, true}
+use Rattle.std.specs.Prelude.{◌≡◌, ◌≤◌, ◌<◌, ◌+◌, ◌++◌, ◌∷◌, [], ◌==◌, ◌&&◌, ℕ, All, Bool, List, Option, IfSome, count_by, false, is_some, length, map, not, true}
 use Rattle.std.specs.List.{flat_map, sum_by}
 use Rattle.access_types.specs.Sites.{AccessMap}
 use Rattle.access_types.specs.declared.report.Report.{Report}
@@ -83,7 +83,8 @@ AreQuietBeforeLast {program = program} {settings = settings} runs =
 
 -- Of the runs that are asked for these were made and ended, and in these others a task got stuck. That is all of them, or, where it is
 -- asked for, those up to the first with a report; and stuck ones are among them only where they are counted. Each that ended was made by a
--- call of its own.
+-- call of its own, under a number below how many all these are. The numbers rise, so just as many are left out as runs got stuck: none
+-- stands in for another that was dropped under an earlier number.
 pub record AreAsMany {program : Program} {settings : Settings} (times : Times) (runs : List (OneRun program settings))
     (stuck : List (StuckRun program settings)) : Type 0 where
   pub most : length runs + length stuck ≤ times.runs
@@ -91,6 +92,7 @@ pub record AreAsMany {program : Program} {settings : Settings} (times : Times) (
   pub first : times.stop_at_first ≡ true → AreQuietBeforeLast runs
   pub counted : times.keep_going ≡ false → stuck ≡ []
   pub apart : AreMadeApart runs
+  pub numbers : All (λ one. one.result.number < length runs + length stuck) runs
 
 -- This is left of runs of the program on threads, under these settings, as often as is asked for: whether there was a report, the output,
 -- and the trace of the last run that ended, where one is wanted and there is such a run.

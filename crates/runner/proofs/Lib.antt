@@ -7,4 +7,5 @@ pub mod BatchLemmas
 pub mod TurnLemmas
 pub mod PartLemmas
 pub mod OutcomeLemmas
+pub mod HitLemmas
 pub mod ResultLemmas

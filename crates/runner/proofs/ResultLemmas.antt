@@ -7,6 +7,7 @@ use Rattle.access_types.specs.declared.report.Report.{Report}
 use Rattle.litmus_step.specs.Kept.{AreLogs, accesses_kept, watches_kept}
 use Rattle.litmus_step.specs.Readers.{AreRegisters}
 use Rattle.litmus_step.specs.Runs.{CanBeMade, tasks_of}
+use Rattle.litmus_syntax.specs.Limits.{KeepsLimits}
 use Rattle.litmus_syntax.specs.Tree.{Block, Task}
 use Rattle.accepted_traces.specs.of_run_headline_Headline.{Headline}
 use Rattle.accepted_traces.specs.of_run_kept_Setters.{AreReports, reports_by}
@@ -17,6 +18,7 @@ use Rattle.accepted_traces.specs.of_run_kept_Lists.{ByTask}
 use Rattle.accepted_traces.specs.of_run_kept_Noted.{AreNoted, Notes}
 use Rattle.accepted_traces.specs.of_run_kept_Totals.{IsUnbalanced, unbalanced_below}
 use Rattle.runner.specs.Found.{AreFound, IsFound, calls_below, calls_of}
+use Rattle.runner.specs.Hits.{AllHitsOverlap}
 use Rattle.runner.specs.Result.{IsOf}
 use Rattle.runner.specs.declared.result.RunResult.{RunResult}
 use Rattle.runner.specs.declared.seated.Found.{Found}
@@ -45,6 +47,11 @@ ReportsItsOwn = (run : Run) (records : List Record) (list : RunList run records)
 
 abbrev pub HeadlineHolds : Type 0
 HeadlineHolds = (run : Run) (records : List Record) → (list : RunList run records) → Headline list
+
+-- what the law on the two sides of hits says
+abbrev pub SidesOfHitsOverlap : Type 0
+SidesOfHitsOverlap = (run : Run) (records : List Record) (list : RunList run records) → KeepsLimits run.program → AllHaveEnded run records
+    → AllHitsOverlap list
 
 -- what was found of a task is what its records say
 record Tells (run : Run) (task : ℕ) (own : List Record) (written : InWrittenOrder run task own) (one : Found) : Type 0 where
@@ -242,20 +249,22 @@ module _ (run : Run) (opened : Opened) (found : List Found) (records : List Reco
       is_sum ∙ (unbalanced_by (length found) (omega arith) ∙ ap (λ (n : ℕ). unbalanced_below one_list n) are.all)
 
 -- so what came of a run is what the list gives
-pub is_of : ReportsItsOwn → HeadlineHolds → (run : Run) (opened : Opened) (found : List Found) (result : RunResult) (records : List Record)
+pub is_of : ReportsItsOwn → HeadlineHolds → SidesOfHitsOverlap → (run : Run) (opened : Opened) (found : List Found) (result : RunResult) (records : List Record)
     → CanBeMade run → AreFound run opened found → (first : RunList run []) → result.gathered.seats ≡ map (λ (f : Found). f.seat) found
     → result.gathered.given.tasks ≡ tasks_of run → given.first_words result.gathered.given ≡ first_words run
     → IsListOf result.gathered records → result.logs.items ≡ map (λ (f : Found). f.log) found
     → result.reports.items ≡ flat_map (λ (f : Found). f.reports.items) found
     → result.registers.items ≡ map (λ (f : Found). f.registers) found → result.unbalanced ≡ calls_below found (length found)
     → (list : RunList run records) × IsOf list result
-is_of own holds run opened found result records can are first seats tasks words is logs reports registers unbalanced =
-    let list = one_list run opened found records result.gathered are first seats tasks words is in (
+is_of own holds overlap run opened found result records can are first seats tasks words is logs reports registers unbalanced =
+    let list = one_list run opened found records result.gathered are first seats tasks words is in
+    let ended = all_ended run opened found records result.gathered are first seats tasks words is in (
       list,
       record {
         can = can;
-        ended = all_ended run opened found records result.gathered are first seats tasks words is;
+        ended = ended;
         headline = holds run records list;
+        hits_overlap = overlap run records list can.limits ended;
         gathered = is;
         logs = logs_are run opened found records result.gathered are first seats tasks words is result.logs.items logs;
         reports = reports_are run opened found records result.gathered are first seats tasks words is own result.reports.items reports;

@@ -14,17 +14,20 @@ use Rattle.accepted_traces.specs.of_run_kept_Totals.{IsUnbalanced}
 use Rattle.accepted_traces.specs.of_program_sites_declared.error.RunError.{RunError}
 use Rattle.accepted_traces.specs.of_program_sites_declared.error.RunError.TheVariants.{Stuck}
 use Rattle.runner.specs.Found.{IsInVain, IsOfThreads, IsThrough}
+use Rattle.runner.specs.Hits.{AllHitsOverlap}
 use Rattle.runner.specs.declared.result.RunResult.{RunResult}
 use Rattle.runner.specs.declared.run.Turn.{Turn}
 use Rattle.shared_table.specs.Ended.{IsListOf}
 use Rattle.slot_table.specs.Records.{words_after}
 use Rattle.slot_table.specs.declared.records.Record.{Record}
 
--- What came of a run is what the list of all its steps gives, of which the gathered seats know. The headline holds of the list.
+-- What came of a run is what the list of all its steps gives, of which the gathered seats know. The headline holds of the list, and the two
+-- sides of each hit overlap by their stamps.
 pub record IsOf {run : Run} {records : List Record} (list : RunList run records) (result : RunResult) : Type 0 where
   pub can : CanBeMade run
   pub ended : AllHaveEnded run records
   pub headline : Headline list
+  pub hits_overlap : AllHitsOverlap list
   pub gathered : IsListOf result.gathered records
   pub logs : AreLogs list result.logs.items
   pub reports : AreReports list result.reports.items

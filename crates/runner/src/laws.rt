@@ -16,6 +16,7 @@ ghost use Rattle.accepted_traces.specs.of_run_lists_Run.{Run, first_words};
 ghost use Rattle.accepted_traces.specs.of_run_lists_RunList.{AllHaveEnded, RunList};
 ghost use Rattle.accepted_traces.specs.of_run_lists_Told.{history_of};
 ghost use Rattle.accepted_traces.specs.of_run_kept_Lists.{AreAccesses};
+ghost use Rattle.runner.specs.Hits.{AllHitsOverlap};
 ghost use Rattle.runner.specs.Led.{IsLed};
 ghost use Rattle.runner.specs.Machine.{SaysBegin};
 ghost use Rattle.runner.specs.Result.{IsOf};
@@ -37,18 +38,23 @@ ghost use Rattle.accepted_traces.specs.of_task_run_declared.run.TaskRun.{TaskRun
 use accepted_traces::run_headline::histories::{
     cells_hold_the_content, reports_are_true, unknown_origins_changed,
 };
-use accepted_traces::run_headline::verdicts::records_tell_their_events;
+use accepted_traces::run_headline::verdicts::{
+    answers_are_on_a_watch_and_a_find, records_tell_their_events, verdicts_are_on_watches,
+};
+use accepted_traces::run_kept::bags::{armings_have_their_own_verdicts, the_bags_are_equal};
 use accepted_traces::run_kept::logs::one_more_is_noted;
 use accepted_traces::run_kept::watched::{
     accesses_of_ended_tasks_have_ended, accesses_that_begin_fit, stamps_tell_the_order,
     watched_accesses_are_unmarked_and_heard,
 };
-use accepted_traces::run_lists::laws::reports_name_two_sides;
+use accepted_traces::run_lists::laws::{reports_name_two_sides, run_lists_keep_the_discipline};
 use accepted_traces::written_order::laws::the_written_order_keeps_the_discipline;
 use accepted_traces::written_tellings::steps_name_words_of_the_run;
 use litmus_meaning::laws::tickets_have_room;
 use litmus_step::laws::machines_stand_where_the_list_does;
 use litmus_step::task_laws::laws::an_answer_leads_on;
+use slot_table::laws::heard_is_told;
+use watch_word::words_read_back;
 
 /// Law: where a task's own records lead to its machine, the step that it makes next names a word of the run, and the
 /// discipline of watchpoints allows it. Followed by the record of this step, whatever is answered, they lead on, and
@@ -88,6 +94,27 @@ pub fn reports_are_of_ended_accesses()
     reports_name_two_sides();
     unknown_origins_changed();
     reports_are_true();
+}
+
+/// Law: once all tasks of a run list have ended the two sides of each hit, also of one that was dropped, are accesses
+/// that ended there, and each of the two began before the other's end by their stamps.
+pub fn sides_of_hits_overlap()
+    ensures { (run : Run) (records : List Record) (list : RunList run records) → KeepsLimits run.program → AllHaveEnded run records
+        → AllHitsOverlap list }
+{
+    records_tell_their_events();
+    stamps_tell_the_order();
+    accesses_that_begin_fit();
+    accesses_of_ended_tasks_have_ended();
+    watched_accesses_are_unmarked_and_heard();
+    tickets_have_room();
+    run_lists_keep_the_discipline();
+    heard_is_told();
+    verdicts_are_on_watches();
+    answers_are_on_a_watch_and_a_find();
+    words_read_back();
+    armings_have_their_own_verdicts();
+    the_bags_are_equal();
 }
 
 /// Law: what came of a run on threads is of its program. What a task did, and its registers at the end, are what its

@@ -13,6 +13,7 @@ ghost use Rattle.runner.specs.Terms.{AreGiven, AreGivenEach};
 ghost use Rattle.accepted_traces.specs.of_program_sites_declared.error.RunError.TheVariants.{OutOfMemory, Stuck};
 ghost use Rattle.shared_table.specs.Seats.{Opened};
 
+use crate::laws::sides_of_hits_overlap;
 use crate::result::RunResult;
 use crate::run::Turn;
 use crate::seated::Found;
@@ -123,6 +124,7 @@ fn result_of(
     the_written_order_keeps_the_discipline();
     a_task_reports_its_own();
     the_headline_holds();
+    sides_of_hits_overlap();
     let found = all_found(alloc, outcomes)?;
     let reports = reports_of(alloc, found.as_slice())?;
     let unbalanced = calls_of(found.as_slice());

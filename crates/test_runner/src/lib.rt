@@ -2,6 +2,8 @@
 #![tactic(auto)]
 
 #[cfg(test)]
+mod checkers;
+#[cfg(test)]
 mod many;
 #[cfg(test)]
 mod points;

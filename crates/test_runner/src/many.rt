@@ -1,6 +1,6 @@
 //! Many runs, of which each is made once.
 
-use crate::runs::{Meeting, RACE, THOUSAND, TWO_STUCK, Unseen, has, parsed, settings};
+use crate::runs::{Meeting, RACE, THOUSAND, TWO_STUCK, Unseen, has, parsed, settings, wait};
 use crate::same::same;
 use run_tally::litmus_step::Prepared;
 use run_tally::runner::{Gate, NoStall, Open, Point, RunError, Stall, Turn, run_batch};
@@ -8,6 +8,10 @@ use run_tally::trace_replay::{Accepted, replay};
 use run_tally::{Hooks, Progress, Times, run_text_often, run_text_with};
 use std::sync::atomic::{AtomicU64, Ordering};
 use std::test::Fail;
+
+/// One plain read, which is watched, beside 200 marked reads of something else, which aren't.
+const BESIDE: &str =
+    "C beside\n\n{}\n\nP0(int *x)\n{\n\tint r0;\n\n\tr0 = *x;\n}\n\nP1(int *y)\n{\n\tint r0;\n\tint i;\n\n\tfor (i = 0; i < 200; i++) {\n\t\tr0 = READ_ONCE(*y);\n\t}\n}\n\nexists (true)\n";
 
 /// The trace of a run in which the race is found.
 const ONE_RACE: Accepted = Accepted::Second {
@@ -121,6 +125,49 @@ impl<'a> Stall for CountedMeeting<'a> {
     }
 }
 
+/// Of the second of three runs the writer begins only once the reader has begun in the third.
+#[derive(Drop)]
+struct ReaderAhead<'a> {
+    counts: &'a Counts,
+}
+
+/// What one of these runs calls.
+#[derive(Drop)]
+struct RunOf<'a> {
+    number: u64,
+    counts: &'a Counts,
+}
+
+impl<'a> Hooks for ReaderAhead<'a> {
+    type OfRun = RunOf<'a>;
+
+    ghost asks = { λ run loads. Unit {0} };
+
+    fn of_run(&self, _loads: u64, _tasks: u64, _first: usize) -> RunOf<'a> {
+        RunOf {
+            number: self.counts.runs.fetch_add(1, Ordering::SeqCst),
+            counts: self.counts,
+        }
+    }
+}
+
+impl<'a> Gate for RunOf<'a> {
+    fn pass(&self, task: usize, point: Point) {
+        if (task, point) == (0, Point::Begin) {
+            self.counts.reader_begins.fetch_add(1, Ordering::SeqCst);
+        }
+        if (task, point, self.number) == (1, Point::Begin, 1)
+            && !wait(&self.counts.reader_begins, 3)
+        {
+            self.counts.ran_out.fetch_add(1, Ordering::SeqCst);
+        }
+    }
+}
+
+impl<'a> Stall for RunOf<'a> {
+    fn stall(&self, _task: usize, _index: usize) {}
+}
+
 /// Runs whose reports are thrown away, or one that is counted for many, would begin more accesses or fewer.
 #[test]
 fn each_run_that_is_asked_for_is_made_once(rt: HostRuntime) -> Result<(), Fail> {
@@ -191,6 +238,46 @@ fn each_stuck_run_is_made_once(rt: HostRuntime) -> Result<(), Fail> {
     assert!(rt; has(left.output.as_slice(), "\nstuck in 3 of 3 runs\n"));
     same(&rt, counts.runs.load(Ordering::SeqCst), 3);
     same(&rt, counts.reader_begins.load(Ordering::SeqCst), 3);
+    Ok(())
+}
+
+/// Of three runs the last two are one batch: a thread goes on with the next run while another is held in this one. With
+/// threads of its own for each run it couldn't.
+#[test]
+fn the_runs_of_a_batch_have_the_same_threads(rt: HostRuntime) -> Result<(), Fail> {
+    let alloc = rt.alloc();
+    let settings = settings(alloc, false, 1_000_000);
+    let counts = Counts::new();
+    let hooks = ReaderAhead { counts: &counts };
+    let times = Times {
+        runs: 3,
+        ..THOUSAND
+    };
+    let text = RACE.as_bytes();
+    let left = run_text_with(&rt, alloc, text, &settings, times, false, &Unseen, &hooks)?;
+    assert!(rt; has(left.output.as_slice(), " of 3 runs\n"));
+    same(&rt, counts.reader_begins.load(Ordering::SeqCst), 3);
+    same(&rt, counts.ran_out.load(Ordering::SeqCst), 0);
+    Ok(())
+}
+
+/// The access of the first task is watched until the second, of 200 accesses, makes no step more: so its end draws the
+/// last stamp.
+#[test]
+fn a_long_delay_lasts_until_nobody_can_come(rt: HostRuntime) -> Result<(), Fail> {
+    let alloc = rt.alloc();
+    let settings = settings(alloc, false, 1_000_000);
+    let times = Times {
+        runs: 1,
+        delay: 1_000_000_000,
+        ..THOUSAND
+    };
+    let text = BESIDE.as_bytes();
+    for _ in 0..10 {
+        let left = run_text_often(&rt, alloc, text, &settings, times, true, &Unseen)?;
+        let trace = left.trace.unwrap_or(Vec::new(alloc));
+        assert!(rt; has(trace.as_slice(), " 401\naccess 1 0 "));
+    }
     Ok(())
 }
 

@@ -2,6 +2,7 @@
 
 ghost use Rattle.std.specs.Prelude.{◌≡◌, ◌≤◌, [], All, IfOk, reverse};
 ghost use Rattle.std.specs.Thread.{IsSync};
+ghost use Rattle.slot_table.specs.Answer.{Answers};
 ghost use Rattle.slot_table.specs.Records.{records_of};
 
 use crate::same::{same, same_at};
@@ -21,11 +22,8 @@ const READ: u64 = 0x0008_0000_0001_0000;
 /// For how many turns a thread waits for another at most.
 const TURNS: u32 = 100_000_000;
 
-/// How often the same game is played.
-const GAMES: u32 = 4;
-
 /// How many checks a task makes that checks often.
-const CHECKS: u32 = 250;
+const CHECKS: u32 = 1000;
 
 /// The index of all watchpoints here.
 const INDEX: usize = 17;
@@ -39,8 +37,6 @@ enum Game {
     Paused,
     /// Each adds 1 to the first cell 100 times, and each time stamps a cell of its own.
     Increments,
-    /// The first is watched, and two others find it at once.
-    Finders,
     /// One stops between insert and remove.
     StopsBeforeRemove,
     /// The first is watched, and the others stop between taking and tell.
@@ -49,19 +45,25 @@ enum Game {
 
 /// How often something has come about, for those who wait for it.
 #[derive(Drop)]
-struct Gate {
-    armed: AtomicU64,
-    loaded: AtomicU64,
-    told: AtomicU64,
-    heard: AtomicU64,
-    lost: AtomicU64,
-    through: AtomicU64,
+pub(crate) struct Gate {
+    pub(crate) armed: AtomicU64,
+    /// An insert met another watchpoint.
+    full: AtomicU64,
+    /// A watchpoint was removed that nobody had taken.
+    quiet: AtomicU64,
+    pub(crate) loaded: AtomicU64,
+    pub(crate) told: AtomicU64,
+    pub(crate) heard: AtomicU64,
+    pub(crate) lost: AtomicU64,
+    pub(crate) through: AtomicU64,
 }
 
 impl Gate {
-    fn new() -> Gate {
+    pub(crate) fn new() -> Gate {
         Gate {
             armed: AtomicU64::new(0),
+            full: AtomicU64::new(0),
+            quiet: AtomicU64::new(0),
             loaded: AtomicU64::new(0),
             told: AtomicU64::new(0),
             heard: AtomicU64::new(0),
@@ -69,10 +71,23 @@ impl Gate {
             through: AtomicU64::new(0),
         }
     }
+
+    /// How many inserts succeeded and met another watchpoint, how many watchpoints were quiet and taken, and how many
+    /// tries succeeded and came too late.
+    fn checks(&self) -> [u64; 6] {
+        [
+            self.armed.load(Ordering::SeqCst),
+            self.full.load(Ordering::SeqCst),
+            self.quiet.load(Ordering::SeqCst),
+            self.heard.load(Ordering::SeqCst),
+            self.told.load(Ordering::SeqCst),
+            self.lost.load(Ordering::SeqCst),
+        ]
+    }
 }
 
 /// Waits until this has come about so often, and answers whether it has.
-fn wait(count: &AtomicU64, least: u64) -> bool {
+pub(crate) fn wait(count: &AtomicU64, least: u64) -> bool {
     for _ in 0..TURNS {
         if count.load(Ordering::SeqCst) >= least {
             return true;
@@ -84,8 +99,8 @@ fn wait(count: &AtomicU64, least: u64) -> bool {
 
 /// A task before the shared words, with all that it has done.
 #[derive(Drop)]
-struct Player<'a> {
-    table: &'a SharedTable,
+pub(crate) struct Player<'a> {
+    pub(crate) table: &'a SharedTable,
     board: SharedBoard<'a>,
     task: u32,
     made: Vec<Record>,
@@ -96,7 +111,7 @@ struct Player<'a> {
 
 impl<'a> Player<'a> {
     /// A task at its seat, which has made no step.
-    fn new(alloc: Global, table: &'a SharedTable, seat: TaskSeat) -> Player<'a>
+    pub(crate) fn new(alloc: Global, table: &'a SharedTable, seat: TaskSeat) -> Player<'a>
         requires here { seat.table ≡ table.now }
         requires begins { seat.records ≡ [] }
         ensures { result.table.now ≡ table.entry.now }
@@ -111,8 +126,9 @@ impl<'a> Player<'a> {
     }
 
     /// Makes a step that it may make.
-    fn step<R: Abort>(&mut self, rt: &R, step: Step) -> Answer
-        ensures { self.new.table.now ≡ self.old.table.now }
+    pub(crate) fn step<R: Abort>(&mut self, rt: &R, step: Step) -> Answer
+        ensures kind { Answers step result }
+        ensures table { self.new.table.now ≡ self.old.table.now }
     {
         assert!(rt; self.table.has(step), "it names no word of the table");
         assert!(rt;
@@ -127,6 +143,13 @@ impl<'a> Player<'a> {
             answer,
         });
         answer
+    }
+
+    /// Its seat, with all that it has done.
+    pub(crate) fn into_seat(self) -> TaskSeat
+        ensures { result.table ≡ self.entry.table.now }
+    {
+        self.board.into_seat()
     }
 
     /// The ticket of its first access.
@@ -190,18 +213,30 @@ impl<'a> Player<'a> {
         if let Answer::Word(word) = self.step(rt, Step::Load(INDEX))
             && word > 1
         {
-            if self.step(rt, Step::TryConsume(INDEX, word)) == Answer::Flag(true) {
-                self.tell(rt);
-                gate.told.fetch_add(1, Ordering::SeqCst);
-            }
+            return self.find(rt, gate, word);
+        }
+        if !self.is_watched(rt) {
+            gate.full.fetch_add(1, Ordering::SeqCst);
             return;
         }
-        if self.is_watched(rt) {
-            gate.armed.fetch_add(1, Ordering::SeqCst);
-            thread::yield_now();
-            if self.end_watch(rt) {
-                gate.heard.fetch_add(1, Ordering::SeqCst);
-            }
+        gate.armed.fetch_add(1, Ordering::SeqCst);
+        thread::yield_now();
+        if self.end_watch(rt) {
+            gate.heard.fetch_add(1, Ordering::SeqCst);
+        } else {
+            gate.quiet.fetch_add(1, Ordering::SeqCst);
+        }
+    }
+
+    /// Takes the watchpoint whose word it has loaded, and tells, unless it comes too late.
+    fn find<R: Abort>(&mut self, rt: &R, gate: &Gate, word: u64)
+        ensures { self.new.table.now ≡ self.old.table.now }
+    {
+        if self.step(rt, Step::TryConsume(INDEX, word)) == Answer::Flag(true) {
+            self.tell(rt);
+            gate.told.fetch_add(1, Ordering::SeqCst);
+        } else {
+            gate.lost.fetch_add(1, Ordering::SeqCst);
         }
     }
 
@@ -282,38 +317,13 @@ impl<'a> Player<'a> {
         }
     }
 
-    /// Is watched until somebody has told.
-    fn be_found<R: Abort>(&mut self, rt: &R, gate: &Gate)
-        ensures { self.new.table.now ≡ self.old.table.now }
-    {
-        assert!(rt; self.is_watched(rt), "another watchpoint is there");
-        gate.armed.fetch_add(1, Ordering::SeqCst);
-        assert!(rt; wait(&gate.told, 1), "nobody told");
-        assert!(rt; self.end_watch(rt), "nobody took it");
-    }
-
-    /// Takes the watchpoint that is set up, after both finders have loaded its word, and answers
-    /// whether it did.
-    fn take<R: Abort>(&mut self, rt: &R, gate: &Gate, finders: u64) -> bool
+    /// Takes the watchpoint that is set up, and answers whether it did.
+    fn take<R: Abort>(&mut self, rt: &R, gate: &Gate) -> bool
         ensures { self.new.table.now ≡ self.old.table.now }
     {
         assert!(rt; wait(&gate.armed, 1), "no watchpoint is set up");
         same(rt, self.step(rt, Step::Load(INDEX)), Answer::Word(READ));
-        gate.loaded.fetch_add(1, Ordering::SeqCst);
-        assert!(rt; wait(&gate.loaded, finders), "the other hasn't loaded it");
         self.step(rt, Step::TryConsume(INDEX, READ)) == Answer::Flag(true)
-    }
-
-    /// Tells, if it is the one of two that takes the watchpoint.
-    fn find<R: Abort>(&mut self, rt: &R, gate: &Gate)
-        ensures { self.new.table.now ≡ self.old.table.now }
-    {
-        if self.take(rt, gate, 2) {
-            self.tell(rt);
-            gate.told.fetch_add(1, Ordering::SeqCst);
-        } else {
-            gate.lost.fetch_add(1, Ordering::SeqCst);
-        }
     }
 
     /// Stops between taking and tell, or as the one whose watchpoint is taken.
@@ -324,7 +334,7 @@ impl<'a> Player<'a> {
             assert!(rt; self.is_watched(rt), "another watchpoint is there");
             gate.armed.fetch_add(1, Ordering::SeqCst);
         } else {
-            assert!(rt; self.take(rt, gate, 1), "it was gone");
+            assert!(rt; self.take(rt, gate), "it was gone");
         }
     }
 
@@ -337,8 +347,6 @@ impl<'a> Player<'a> {
             Game::Paused if self.task == 0 => self.pause(rt, gate),
             Game::Paused => self.go_on(rt, gate),
             Game::Increments => self.increment_often(rt),
-            Game::Finders if self.task == 0 => self.be_found(rt, gate),
-            Game::Finders => self.find(rt, gate),
             Game::StopsBeforeTell => self.stop(rt, gate),
             Game::StopsBeforeRemove => {
                 self.is_watched(rt);
@@ -362,7 +370,7 @@ fn played<R: Abort>(
 {
     let mut player = Player::new(alloc, table, seat);
     player.play(rt, game, gate);
-    player.board.into_seat()
+    player.into_seat()
 }
 
 /// Plays at all of these seats at once, each in a thread of its own.
@@ -388,7 +396,7 @@ fn all_played<R: Abort + Threads + Sync>(
 }
 
 /// A table of this many tasks, with 64 page slots and a lock, and a seat for each task.
-fn opened(
+pub(crate) fn opened(
     alloc: Global,
     tasks: u32,
     cells: &[u64],
@@ -409,28 +417,22 @@ fn opened(
     )
 }
 
+/// Each of 4,000 checks at one index takes a watchpoint or comes too late for it, or it sets one up or meets another
+/// there. Each that is set up is taken or not.
 #[test]
 fn four_seats(rt: HostRuntime) -> Result<(), Fail> {
     let gate = Gate::new();
-    for _ in 0..GAMES {
-        let (table, seats) = opened(rt.alloc(), 4, &[7, 8])?;
-        let seats = all_played(&rt, rt.alloc(), &table, seats, Game::Checks, &gate)?;
-        let gathered = table.gather(seats).expect(&rt, "no check is unfinished");
-        same(&rt, gathered.cells(), [7, 8].as_slice());
-    }
-    assert!(rt;
-        gate.armed.load(Ordering::SeqCst) > 0,
-        "no insert succeeded"
-    );
-    assert!(rt;
-        gate.told.load(Ordering::SeqCst) > 0,
-        "no watchpoint was taken"
-    );
-    same(
-        &rt,
-        gate.told.load(Ordering::SeqCst),
-        gate.heard.load(Ordering::SeqCst),
-    );
+    let (table, seats) = opened(rt.alloc(), 4, &[7, 8])?;
+    let seats = all_played(&rt, rt.alloc(), &table, seats, Game::Checks, &gate)?;
+    let gathered = table.gather(seats).expect(&rt, "no check is unfinished");
+    same(&rt, gathered.cells(), [7, 8].as_slice());
+    let [armed, full, quiet, heard, told, lost] = gate.checks();
+    assert!(rt; told > 0, "no watchpoint was taken");
+    same(&rt, heard, told);
+    same(&rt, quiet.saturating_add(heard), armed);
+    let inserts = armed.saturating_add(full);
+    let tries = told.saturating_add(lost);
+    same(&rt, inserts.saturating_add(tries), 4000);
     Ok(())
 }
 
@@ -462,17 +464,6 @@ fn a_lock_a_cell_and_stamps_under_four(rt: HostRuntime) -> Result<(), Fail> {
         gathered.cells().iter().skip(1).all(|mark| *mark == 1),
         "a stamp wasn't drawn"
     );
-    Ok(())
-}
-
-#[test]
-fn two_finders(rt: HostRuntime) -> Result<(), Fail> {
-    let (table, seats) = opened(rt.alloc(), 3, &[])?;
-    let gate = Gate::new();
-    let seats = all_played(&rt, rt.alloc(), &table, seats, Game::Finders, &gate)?;
-    assert!(rt; table.gather(seats).is_some(), "a check is unfinished");
-    same(&rt, gate.told.load(Ordering::SeqCst), 1);
-    same(&rt, gate.lost.load(Ordering::SeqCst), 1);
     Ok(())
 }
 

@@ -1,6 +1,6 @@
 //! Six rows are stopped after every step.
 
-use crate::play::{Row, holds};
+use crate::play::{Counted, Row, holds};
 use std::test::Fail;
 
 /// The read of task 0 arms, and the write of task 1 takes its watchpoint.
@@ -12,10 +12,18 @@ const RACE: Row = Row {
     order: &[(0, 7), (1, 9), (0, 7)],
     steps: 23,
     reports: 1,
+    counted: None,
 };
 
 const ROWS: [Row; 6] = [
-    RACE,
+    Row {
+        counted: Some(Counted {
+            arms: 5,
+            taken: 18,
+            two_sided: 19,
+        }),
+        ..RACE
+    },
     // Two writes find one watchpoint, and one of them loses it.
     Row {
         text: "C t\n{}\nP0(int *x) { int r0; r0 = *x; }\nP1(int *x) { *x = 1; }\nP2(int *x) { *x = 2; }\nexists (0:r0=1)\n",

@@ -69,7 +69,7 @@ returns-clause-once c =
       unbalanced = c.calls_of-unbalanced.result;
       gathered = c.in-Some.gathered;
     } in
-    let it = is_of c.a_task_reports_its_own.ensures c.the_headline_holds.ensures run opened found result list.0 given.can
+    let it = is_of c.a_task_reports_its_own.ensures c.the_headline_holds.ensures c.sides_of_hits_overlap.ensures run opened found result list.0 given.can
     (c.in_ok-found.ensures.found run opened c.requires.outcomes) given.list
     (same.1 ∙ parts.seats) (ap (λ (given : Given). given.tasks) same.0 ∙ given.tasks)
     (ap (λ (given : Given). first_words given) same.0 ∙ given.words) list.1 parts.logs
