@@ -4,13 +4,13 @@ ghost use Rattle.std.specs.Prelude.{◌≡◌, None};
 ghost use Rattle.report_text.specs.Sink.{CountsFailure};
 
 use crate::locale;
+use crate::whole_file::write_whole;
 use litmus_command::complaint::Complaint;
 use litmus_command::desk::{Desk, ReadFault};
 use litmus_command::{Progress, SearchProgress};
 use litmus_lex::{ReadError, Source, SourceFault, read_all};
 use report_text::{Sink, SinkFault, WriteError, write_all};
 use std::alloc::Global;
-use std::fs;
 use std::fs::File;
 use std::io::{IsTerminal, Read};
 
@@ -175,7 +175,7 @@ impl Desk for System {
     }
 
     fn write_file(&mut self, path: &str, bytes: &[u8]) -> Result<(), WriteError> {
-        if fs::write(&self.output.rt, path, bytes).is_err() {
+        if write_whole(&self.output.rt, path, bytes).is_err() {
             self.output.fail();
             return Err(WriteError::SinkFailed);
         }

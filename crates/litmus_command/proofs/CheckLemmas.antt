@@ -95,6 +95,11 @@ pub list_fault : (error : Failure) (IsFault : List ℕ → Type 0) (AllRead : Ty
 list_fault error IsFault AllRead None said found none is = inr (none, is)
 list_fault error IsFault AllRead (Some line) said found none is = inl (record { bytes = line }, found, is)
 
+-- what isn't missing is there
+pub is_there : {X : Type 0} (it : Option X) (none : Bool) → is_some it ≡ not none → none ≡ false → (x : X) × (it ≡ Some x)
+is_there None none is there = absurd (let no : false ≡ true = is ∙ ap not there in cc)
+is_there (Some x) none is there = (x, refl)
+
 -- a file that has tables was read, and nothing was told
 pub read_and_left : (files : Files) (several : Bool) (found : Found) (before after : Whole) → has_tables found ≡ true
     → IsGoneOver files found before after → IsLeftOver several before after

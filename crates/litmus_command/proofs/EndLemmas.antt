@@ -10,7 +10,7 @@ use Rattle.command_words.specs.Bounds.{KeepsCheckBounds}
 use Rattle.command_words.specs.declared.request.CheckRequest.{CheckRequest}
 use Rattle.litmus_command.specs.Check.{AreGoneOver, AreListsAtFault, CheckAsksFor, CheckEnds, Checked, Early, IsGoneOver, IsLeftOver, IsListFault, IsToldOfLost}
 use Rattle.litmus_command.specs.Check.{IsPrinted, IsSeveral, Left, Unread, Whole, asked_of, once_told}
-use Rattle.litmus_command.specs.Command.{EndsAs, Reads, State, Tells, complaint_status_of, status_of, text_status_of}
+use Rattle.litmus_command.specs.Command.{EndsAs, IsOfNoOverwrite, Reads, Tells, complaint_status_of, state_in, status_of, text_status_of}
 use Rattle.litmus_command.specs.Files.{FileEvent, OnlyRead}
 use Rattle.litmus_command.specs.Told.{heard}
 use Rattle.litmus_command.specs.declared.command.Failure.{Failure}
@@ -22,10 +22,6 @@ use Rattle.litmus_syntax.specs.declared.error.ParseError.TheVariants as parse
 use Rattle.report_text.specs.Sink.{CountsFailure, appended}
 use Rattle.run_tally.specs.of_program_sites_declared.settings.Settings.{Settings}
 use Rattle.text_check.specs.declared.checked.Check.TheVariants as checks
-
--- what standard output has taken, and what was done with files
-abbrev pub state_in : Whole → State
-state_in at = record { written = at.written; failures = at.failures; files = at.files }
 
 -- what can be said of the end of a check of one file
 pub record Ends (status : ℕ) (before after : Whole) : Type 0 where
@@ -63,9 +59,9 @@ told_known status (inr (inr (inr is))) = inr (inr (inr (inr (inl is))))
 
 -- an end with a complaint, and nothing printed
 ends_told : (status : ℕ) (before after : Whole) (said : Complaint) → IsTold status → complaint_status_of said ≡ status
-    → after.told ≡ heard before.told said → Reads status before.faults after.faults → after.written ≡ before.written
+    → IsOfNoOverwrite said → after.told ≡ heard before.told said → Reads status before.faults after.faults → after.written ≡ before.written
     → OnlyRead before.files after.files → Ends status before after
-ends_told status before after said few is told reads written files =
+ends_told status before after said few is plain told reads written files =
     let above = told_above status few in
     let low = above.0 in
     let high = above.1 in
@@ -73,7 +69,7 @@ ends_told status before after said few is told reads written files =
       tells = record {
         quiet = λ less. absurd (omega (arith, low, less));
         stopped = λ stops. absurd (omega (arith, high, stops));
-        told = λ from to. (said, is, told);
+        told = λ from to. (said, is, plain, told);
       };
       reads = reads;
       ends = record {
@@ -88,12 +84,12 @@ reads_none status before after other same = record { fails = λ is. absurd (othe
 
 -- an end where standard output failed
 ends_cut : (status : ℕ) (before after : Whole) (said : Complaint) → status ≡ 74 → complaint_status_of said ≡ 74
-    → after.told ≡ heard before.told said → after.faults ≡ before.faults → CountsFailure before.failures after.failures → Ends status before after
-ends_cut status before after said is said_is told faults failed = record {
+    → IsOfNoOverwrite said → after.told ≡ heard before.told said → after.faults ≡ before.faults → CountsFailure before.failures after.failures → Ends status before after
+ends_cut status before after said is said_is plain told faults failed = record {
   tells = record {
     quiet = λ less. absurd (omega (arith, is, less));
     stopped = λ stops. absurd (omega (arith, is, stops));
-    told = λ from to. (said, said_is ∙ sym is, told);
+    told = λ from to. (said, said_is ∙ sym is, plain, told);
   };
   reads = reads_none status before.faults after.faults (λ no. absurd (omega (arith, is, no))) faults;
   ends = record {
@@ -138,18 +134,23 @@ fault_status : (IsFault : List ℕ → Type 0) (AllRead : Type 0) (error : Failu
 fault_status IsFault AllRead error said is (inl explained) = ap complaint_status_of explained.2 ∙ is
 fault_status IsFault AllRead error said is (inr plain) = ap complaint_status_of plain.1 ∙ is
 
+fault_alone : (IsFault : List ℕ → Type 0) (AllRead : Type 0) (error : Failure) (said : Complaint)
+    → IsListFault error IsFault AllRead said → IsOfNoOverwrite said
+fault_alone IsFault AllRead error said (inl explained) = subst IsOfNoOverwrite (sym explained.2) tt
+fault_alone IsFault AllRead error said (inr plain) = subst IsOfNoOverwrite (sym plain.1) tt
+
 -- the end of the check of one file that has no tables: that was told, and nothing is printed
 told_one : (output : List ℕ) (status ends : ℕ) (before middle after : Whole) (said : Complaint) → IsTold status
-    → complaint_status_of said ≡ status → output ≡ [] → middle.told ≡ heard before.told said → Reads status before.faults middle.faults
+    → complaint_status_of said ≡ status → IsOfNoOverwrite said → output ≡ [] → middle.told ≡ heard before.told said → Reads status before.faults middle.faults
     → middle.written ≡ before.written → OnlyRead before.files middle.files → IsPrinted output status ends middle after → Ends ends before after
-told_one output status ends before middle after said few is empty told reads written files (inl done) =
-    ends_told ends before after said (subst IsTold (sym done.0) few) (is ∙ sym done.0) (ap (λ (at : Whole). at.told) done.1 ∙ told)
+told_one output status ends before middle after said few is plain empty told reads written files (inl done) =
+    ends_told ends before after said (subst IsTold (sym done.0) few) (is ∙ sym done.0) plain (ap (λ (at : Whole). at.told) done.1 ∙ told)
     (subst (λ n. Reads n before.faults after.faults) (sym done.0)
     (subst (λ n. Reads status before.faults n) (sym (ap (λ (at : Whole). at.faults) done.1)) reads))
     (ap (λ (at : Whole). at.written) done.1 ∙ (ap (λ (text : List ℕ). appended middle.written text) empty
     ∙ (nothing_more middle.written ∙ written)))
     (subst (λ (f : Option (List FileEvent)). OnlyRead before.files f) (sym (ap (λ (at : Whole). at.files) done.1)) files)
-told_one output status ends before middle after said few is empty told reads written files (inr fails) =
+told_one output status ends before middle after said few is plain empty told reads written files (inr fails) =
     absurd (let some = fails.some in let none : length output ≡ 0 = ap (λ (text : List ℕ). length text) empty in omega (arith, some, none))
 
 -- without several files there is no last line
@@ -164,13 +165,13 @@ one_found files settings (Gave name text (checks.Reads tables printed)) output s
     ends_well ends before after (done.0 ∙ status_is) (ap (λ (at : Whole). at.told) done.1 ∙ gone.1)
     (ap (λ (at : Whole). at.faults) done.1 ∙ ap (λ (at : Whole). at.faults) gone.0)
 one_found files settings (Gave name text (checks.Reads tables printed)) output status ends before middle after one is_found gone output_is status_is (inr fails) =
-    ends_cut ends before after (complaint.Failure failure.CannotWrite) fails.ends_is refl
+    ends_cut ends before after (complaint.Failure failure.CannotWrite) fails.ends_is refl tt
     (ap (λ (at : Whole). at.told) fails.told ∙ ap (λ (t : Option (List Complaint)). heard t (complaint.Failure failure.CannotWrite)) gone.1)
     (ap (λ (at : Whole). at.faults) fails.told ∙ ap (λ (at : Whole). at.faults) gone.0)
     (subst (λ n. CountsFailure n after.failures) (ap (λ (at : Whole). at.failures) gone.0) fails.failed)
 one_found files settings (Gave name text (checks.Misplaced why)) output status ends before middle after one is_found gone output_is status_is done =
     let said = complaint.Explained failure.BadPlace gone.1.lines in
-    told_one output status ends before middle after said (inl status_is) (sym status_is)
+    told_one output status ends before middle after said (inl status_is) (sym status_is) tt
     (output_is ∙ no_last_line files.several _ one) gone.1.told
     (reads_none status before.faults middle.faults (λ no. absurd (let is : 64 ≡ 66 = sym status_is ∙ no in omega (arith, is)))
     (ap (λ (at : Whole). at.faults) gone.0))
@@ -178,13 +179,13 @@ one_found files settings (Gave name text (checks.Misplaced why)) output status e
 one_found files settings (Gave name text (checks.Refused error why)) output status ends before middle after one is_found gone output_is status_is done =
     let said = complaint.Explained (failure.Engine (engine.Text error)) gone.1.lines in
     told_one output status ends before middle after said (inr (inl status_is))
-    (refused_status error is_found.1.no_want ∙ sym status_is)
+    (refused_status error is_found.1.no_want ∙ sym status_is) tt
     (output_is ∙ no_last_line files.several _ one) gone.1.told
     (reads_none status before.faults middle.faults (λ no. absurd (let is : 65 ≡ 66 = sym status_is ∙ no in omega (arith, is)))
     (ap (λ (at : Whole). at.faults) gone.0))
     (ap (λ (at : Whole). at.written) gone.0) (inr (name, file_bytes, text, ap (λ (at : Whole). at.files) gone.0)) done
 one_found files settings (Lost name) output status ends before middle after one is_found gone output_is status_is done =
-    told_one output status ends before middle after (complaint.Failure failure.CannotRead) (inr (inr (inl status_is))) (sym status_is)
+    told_one output status ends before middle after (complaint.Failure failure.CannotRead) (inr (inr (inl status_is))) (sym status_is) tt
     (output_is ∙ no_last_line files.several _ one)
     (lost_alone files.several name before.told middle.told one gone.1.1)
     (record { fails = λ _. gone.1.0; works = λ other. absurd (other status_is) })
@@ -210,7 +211,7 @@ one_left : (request : CheckRequest) (founds : List Found) (status : ℕ) (before
     → AreGoneOver (asked_of request) founds before middle → IsLeftOver (asked_of request).several middle stopped → status ≡ 71
     → after ≡ once_told (complaint.Failure failure.OutOfMemory) stopped → Ends status before after
 one_left request [] status before middle stopped after one left gone over is told =
-    ends_told status before after (complaint.Failure failure.OutOfMemory) (inr (inr (inr is))) (sym is)
+    ends_told status before after (complaint.Failure failure.OutOfMemory) (inr (inr (inr is))) (sym is) tt
     (ap (λ (at : Whole). at.told) told ∙ ap (λ (t : Option (List Complaint)). heard t (complaint.Failure failure.OutOfMemory))
     (ap (λ (at : Whole). at.told) over.rest ∙ ap (λ (at : Whole). at.told) gone))
     (reads_none status before.faults after.faults (λ no. absurd (omega (arith, is, no)))
@@ -227,7 +228,11 @@ one_left request (found ∷ more) status before middle stopped after one (inr ma
 -- a list that doesn't read has the status of a mistake in the words
 list_status : (request : CheckRequest) (said : Complaint) → AreListsAtFault request said → complaint_status_of said ≡ 64
 list_status request said (inl schedule) = fault_status _ _ failure.BadSchedule said refl schedule.1
-list_status request said (inr place) = fault_status _ _ failure.BadPlace said refl place.1
+list_status request said (inr place) = fault_status _ _ failure.BadPlace said refl place.2
+
+list_alone : (request : CheckRequest) (said : Complaint) → AreListsAtFault request said → IsOfNoOverwrite said
+list_alone request said (inl schedule) = fault_alone _ _ failure.BadSchedule said schedule.1
+list_alone request said (inr place) = fault_alone _ _ failure.BadPlace said place.2
 
 -- how the check of one file ends
 pub one_ends : (request : CheckRequest) (status : ℕ) (before after : Whole) → length request.files.items ≡ 1
@@ -240,12 +245,13 @@ one_ends request status before after one (Left it) =
     it.status_is it.told
 one_ends request status before after one (Unread it) =
     ends_told status before after it.said (inl it.status_is) (list_status request it.said it.at_fault ∙ sym it.status_is)
+    (list_alone request it.said it.at_fault)
     (ap (λ (at : Whole). at.told) it.told)
     (reads_none status before.faults after.faults (λ no. absurd (let is = it.status_is in omega (arith, is, no)))
     (ap (λ (at : Whole). at.faults) it.told))
     (ap (λ (at : Whole). at.written) it.told) (inl (ap (λ (at : Whole). at.files) it.told))
 one_ends request status before after one (Early it) =
-    ends_told status before after (complaint.Failure failure.OutOfMemory) (inr (inr (inr it.status_is))) (sym it.status_is)
+    ends_told status before after (complaint.Failure failure.OutOfMemory) (inr (inr (inr it.status_is))) (sym it.status_is) tt
     (ap (λ (at : Whole). at.told) it.told)
     (reads_none status before.faults after.faults (λ no. absurd (let is = it.status_is in omega (arith, is, no)))
     (ap (λ (at : Whole). at.faults) it.told))

@@ -3,3 +3,4 @@ mod ResultLemmas
 mod CheckLemmas
 mod EndLemmas
 mod ToldLemmas
+mod OverwriteLemmas

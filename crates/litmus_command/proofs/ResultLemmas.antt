@@ -218,7 +218,7 @@ pub tells_so : (failure : Failure) (status : ℕ) (before after : Option (List C
 tells_so failure status before after is known told = record {
   quiet = λ low. let above = known_above status known in absurd (omega (arith, low, above));
   stopped = λ stops. let below = known_below status known in absurd (omega (arith, stops, below));
-  told = λ from to. (complaint.Failure failure, sym is, told);
+  told = λ from to. (complaint.Failure failure, sym is, tt, told);
 }
 
 -- how a search ends: by a status that no failure has

@@ -16,6 +16,7 @@ tells_failure error status before middle after is known same told = record {
   told = λ from to. (
     complaint.Failure error,
     sym is,
+    tt,
     told ∙ ap (λ (all : Option (List Complaint)). heard all (complaint.Failure error)) same,
   );
 }

@@ -11,7 +11,7 @@ use Rattle.list_faults.specs.Places as places
 use Rattle.list_faults.specs.Schedules as schedule_items
 use Rattle.litmus_command.specs.Files.{FileEvent, OnlyRead, noted}
 use Rattle.litmus_command.specs.Files as events
-use Rattle.litmus_command.specs.Lists.{SpellsNoPlaces, SpellsNoSchedule}
+use Rattle.litmus_command.specs.Lists.{SpellsNoPlaces, SpellsNoSchedule, SpellsSchedule}
 use Rattle.litmus_command.specs.Settings.{AskSettings}
 use Rattle.litmus_command.specs.Told.{heard}
 use Rattle.litmus_command.specs.declared.check.FileEnd.{FileEnd}
@@ -184,12 +184,12 @@ abbrev pub IsListFault : Failure → (IsFault : List ℕ → Type 0) → (AllRea
 IsListFault error IsFault AllRead said = ((lines : Lines) × IsFault lines.bytes.items × (said ≡ complaint.Explained error lines))
     ⊎ (AllRead × (said ≡ complaint.Failure error))
 
--- so it is of the schedule that is asked for, or of the place list
+-- so it is of the schedule that is asked for, or, where that reads, of the place list
 abbrev pub AreListsAtFault : CheckRequest → Complaint → Type 0
 AreListsAtFault request said =
     (SpellsNoSchedule request.schedule.now × IsListFault failure.BadSchedule (schedule_items.IsFault request.schedule.now)
     (schedule_items.AllRead request.schedule.now) said)
-    ⊎ (SpellsNoPlaces request.places.now × IsListFault failure.BadPlace (places.IsFault request.places.now)
+    ⊎ (SpellsSchedule request.schedule.now × SpellsNoPlaces request.places.now × IsListFault failure.BadPlace (places.IsFault request.places.now)
     (places.AllRead request.places.now) said)
 
 -- the schedule doesn't read, or the place list doesn't: that was told, and no file was asked for
@@ -199,8 +199,8 @@ pub record ListsDoNotRead (request : CheckRequest) (status : ℕ) (before after 
   pub status_is : status ≡ 64
   pub told : after ≡ once_told said before
 
--- memory ran out over these lists
-pub record ListsAreLeft (status : ℕ) (before after : Whole) : Type 0 where
+-- want of memory was told, with its status, and nothing else was done
+pub record IsOutOfMemory (status : ℕ) (before after : Whole) : Type 0 where
   pub status_is : status ≡ 71
   pub told : after ≡ once_told (complaint.Failure failure.OutOfMemory) before
 
@@ -209,4 +209,4 @@ pub data CheckEnds (request : CheckRequest) (status : ℕ) (before after : Whole
   Checked : FilesAreChecked request status before after → CheckEnds request status before after
   Left : FilesAreLeft request status before after → CheckEnds request status before after
   Unread : ListsDoNotRead request status before after → CheckEnds request status before after
-  Early : ListsAreLeft status before after → CheckEnds request status before after
+  Early : IsOutOfMemory status before after → CheckEnds request status before after

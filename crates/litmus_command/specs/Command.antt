@@ -44,11 +44,12 @@ use Rattle.run_tally.specs.of_trace_replay_Answer as answers
 use Rattle.run_tally.specs.of_trace_replay_declared.accepted.TraceError.{TraceError}
 use Rattle.run_tally.specs.of_trace_replay_declared.accepted.TraceError.TheVariants as trace
 use Rattle.text_check.specs.Calls.{calls_text}
-use Rattle.litmus_command.specs.Check.{CheckAsksFor, CheckEnds, Whole, IsSeveral}
+use Rattle.litmus_command.specs.Check.{CheckAsksFor, CheckEnds, IsOutOfMemory, IsSeveral, Whole}
 use Rattle.litmus_command.specs.Engine.{IsRefused, TextLeaves}
 use Rattle.litmus_command.specs.Files.{FileEvent, Gave, Has, OnlyRead, noted}
 use Rattle.litmus_command.specs.Replay.{IsLineOf}
 pub use Rattle.litmus_command.specs.Lists.{SpellsNoPlaces, SpellsNoSchedule}
+use Rattle.litmus_command.specs.Overwrite.{Overwrites}
 pub use Rattle.litmus_command.specs.Settings.{AskSettings, settings_of}
 use Rattle.litmus_command.specs.Show.{IsDrawn}
 use Rattle.picture_text.specs.declared.cells.Style.{Style}
@@ -116,6 +117,7 @@ abbrev pub complaint_status_of : Complaint → ℕ
 complaint_status_of (complaint.Usage error) = 64
 complaint_status_of (complaint.Failure error) = status_of error
 complaint_status_of (complaint.Explained error lines) = status_of error
+complaint_status_of (complaint.Overwrites lines) = 64
 
 -- what a file that gives no bytes means
 abbrev pub read_failure : ReadFault → Failure
@@ -132,6 +134,10 @@ pub record State : Type 0 where
 abbrev pub state_of : {D : Type 0} → (D → Option (List ℕ)) → (D → ℕ) → (D → Option (List FileEvent)) → D → State
 state_of written failures files desk =
     record { written = written desk; failures = failures desk; files = files desk }
+
+-- and that of which more is known
+abbrev pub state_in : Whole → State
+state_in at = record { written = at.written; failures = at.failures; files = at.files }
 
 -- and this is the schedule, as the request's text spells it
 pub record AsksFor (request : StepRequest) (settings : Settings) (entries : List Entry) : Type 0 where
@@ -205,11 +211,11 @@ pub record IsGiven (path : Option (List ℕ)) (output : List ℕ) (trace : Optio
   pub written : after.written ≡ appended before.written output
   pub files : after.files ≡ with_trace before.files path trace
 
--- Not all of it could be given. There is a trace, and its file could not be written: standard output has what it had. Or that was done,
--- and standard output took but a beginning of the output.
+-- Not all of it could be given. There is a trace, and its file could not be written: standard output and all files have what they had. Or
+-- that was done, and standard output took but a beginning of the output.
 abbrev pub IsGivenInPart : (path : Option (List ℕ)) (output : List ℕ) (trace : Option (List ℕ)) (before after : State) → Type 0
 IsGivenInPart path output trace before after =
-    ((is_some trace ≡ true) × (after.written ≡ before.written))
+    ((is_some trace ≡ true) × (after.written ≡ before.written) × (after.files ≡ before.files))
     ⊎ (HoldsBeginning output before.written after.written × (after.files ≡ with_trace before.files path trace))
 
 -- once the file of a name gave this text, of which at most so many bytes and one were asked for
@@ -409,9 +415,11 @@ DoesNotRead (requests.Show request) = ⊥
 DoesNotRead (requests.Check request) = SpellsNoSchedule request.schedule.now ⊎ SpellsNoPlaces request.places.now
 DoesNotRead requests.Calls = ⊥
 
--- Schedule or place list don't read, and no file was touched; or the file that is asked for was read, and they don't suit its program.
+-- Schedule or place list don't read, and no file was touched; or the file that is asked for was read, and they don't suit its program; or
+-- that file would be overwritten, and no file was touched.
 abbrev pub IsMisused : Request → State → State → Type 0
 IsMisused request before after = (DoesNotRead request × (after.files ≡ before.files)) ⊎ IsRefusedOf request 64 before after
+    ⊎ (((path : List ℕ) × Overwrites request path) × (after.files ≡ before.files))
 
 -- the schedule and the place list that are asked for do read
 abbrev pub DoesRead : Request → Type 0
@@ -433,6 +441,11 @@ IsOfSeveral (requests.Show request) = ⊥
 IsOfSeveral (requests.Check request) = IsSeveral request
 IsOfSeveral requests.Calls = ⊥
 
+-- Standard error is told of what is asked in words of their own: of a check of several files of each, and of a file that would be
+-- overwritten that.
+abbrev pub IsToldApart : Request → Type 0
+IsToldApart request = IsOfSeveral request ⊎ ((path : List ℕ) × Overwrites request path)
+
 -- where it is a check: how it ended, with what standard error was told of each file
 abbrev pub IsChecked : Request → (status : ℕ) → Whole → Whole → Type 0
 IsChecked (requests.Step request) status before after = Unit {0}
@@ -448,11 +461,20 @@ pub record Reads (status : ℕ) (before after : ℕ) : Type 0 where
   pub fails : status ≡ 66 → CountsFailure before after
   pub works : status ≢ 66 → after ≡ before
 
--- standard error was told nothing below 64 and at 75, and from 64 to 74 one thing, which comes with this status
+-- it doesn't say that a file would be overwritten
+abbrev pub IsOfNoOverwrite : Complaint → Type 0
+IsOfNoOverwrite (complaint.Usage error) = Unit {0}
+IsOfNoOverwrite (complaint.Failure error) = Unit {0}
+IsOfNoOverwrite (complaint.Explained error lines) = Unit {0}
+IsOfNoOverwrite (complaint.Overwrites lines) = ⊥
+
+-- standard error was told nothing below 64 and at 75, and from 64 to 74 one thing, which comes with this status, and isn't that a file would
+-- be overwritten
 pub record Tells (status : ℕ) (before after : Option (List Complaint)) : Type 0 where
   pub quiet : status < 64 → after ≡ before
   pub stopped : status ≡ 75 → after ≡ before
-  pub told : 64 ≤ status → status ≤ 74 → (said : Complaint) × (complaint_status_of said ≡ status) × (after ≡ heard before said)
+  pub told : 64 ≤ status → status ≤ 74 → (said : Complaint) × (complaint_status_of said ≡ status) × IsOfNoOverwrite said
+      × (after ≡ heard before said)
 
 -- an error of the words themselves: neither want of memory nor help
 abbrev pub IsFault : ErrorKind → Type 0
@@ -501,3 +523,18 @@ pub record EndsAs (status : ℕ) (before after : State) : Type 0 where
   -- no other status
   pub known : (status ≡ 0) ⊎ (status ≡ 2) ⊎ ((64 ≤ status) × (status ≤ 66))
       ⊎ (status ≡ 70) ⊎ (status ≡ 71) ⊎ (status ≡ 74) ⊎ (status ≡ 75)
+
+-- the words ask for help, or are at fault: no file was read, and so much was told and written as the status says
+pub record AreAnswered (words : List (List ℕ)) (status : ℕ) (before after : Whole) : Type 0 where
+  pub kind : ErrorKind
+  pub other : kind ≢ kinds.OutOfMemory
+  pub may : MayFail words kind
+  pub faults : after.faults ≡ before.faults
+  pub tells : Tells status before.told after.told
+  pub ends : EndsAs status (state_in before) (state_in after)
+
+-- The words ask for something of which this holds; or for help, or they are at fault, and that was answered; or memory ran out over them,
+-- which was told, and nothing else was done.
+abbrev pub OfAsked : (words : List (List ℕ)) → (status : ℕ) → (before after : Whole) → (Request → Type 0) → Type 0
+OfAsked words status before after Holds =
+    AskForOne words Holds ⊎ AreAnswered words status before after ⊎ IsOutOfMemory status before after

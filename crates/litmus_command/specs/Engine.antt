@@ -1,6 +1,5 @@
 -- What is left of the run of a litmus text, and why there is none.
-use Rattle.std.specs.Prelude.{◌≡◌, ◌<◌, ◌==◌, ◌↔◌, ◌⊎◌, ◌++◌, ◌∷◌, ℕ, List, [], Option, Bool, IfSome, IsTrue, false, length, not}
-use Rattle.std.specs.List.{flat_map}
+use Rattle.std.specs.Prelude.{◌≡◌, ◌<◌, ◌==◌, ◌↔◌, ◌⊎◌, ◌∷◌, ℕ, List, [], Option, Bool, IfSome, IsTrue, false, length, not}
 use Rattle.litmus_syntax.specs.of_access_types_Sites.{AccessMap}
 use Rattle.run_tally.specs.of_litmus_parse_Read.{IsReadAs}
 use Rattle.run_tally.specs.of_program_sites_declared.error.RunError.{RunError}
@@ -14,8 +13,6 @@ use Rattle.run_tally.specs.of_litmus_step_Runs.{HasEnded, IsStuck, run_of, tasks
 use Rattle.run_tally.specs.of_program_sites_declared.settings.Settings.{Settings}
 use Rattle.litmus_syntax.specs.declared.program.Program.{Program}
 use Rattle.place_list.specs.of_program_layout_Places.{AreFit}
-use Rattle.report_text.specs.ReportOf.{report_text}
-use Rattle.report_text.specs.Sink.{HoldsBeginning, appended}
 use Rattle.run_tally.specs.of_run_headline_Headline.{Headline}
 use Rattle.run_tally.specs.of_run_lists_Reports.{reports_of}
 use Rattle.run_tally.specs.of_run_lists_Run as lists
@@ -42,8 +39,9 @@ pub record AreStepped (run : lists.Run) (entries : List Entry) (records : List R
   pub in_order : IsOrder entries (tasks_of run) order
   pub asked : AreAsked (tasks_known run) (tasks_of run) [] order records
 
--- What is left of one run of the program, under these settings and this schedule, in which all tasks ended: its output and its trace, if
--- there is one, which `replay` accepts. There was a race if there is a report. And of that run the headline holds.
+-- What is left of one run of the program, under these settings and this schedule, in which all tasks ended: its output, which begins with
+-- the reports of its steps, and its trace, if there is one, which `replay` accepts. There was a race if there is a report. And of its steps
+-- the headline holds: each report names a true race, or bytes that changed.
 pub record Leaves (program : Program) (settings : Settings) (entries : List Entry) (raced : Bool) (output : List ℕ)
     (trace : Option (List ℕ)) : Type 0 where
   pub fit : AreFit program.variables settings.places.items
@@ -64,36 +62,6 @@ pub record TextLeaves (text : List ℕ) (settings : Settings) (entries : List En
   pub program : Program
   pub read : IsReadAs text program
   pub leaves : Leaves program settings entries raced output trace
-
--- behind what was there stands the output of such a run
-pub record HoldsOutput (text : List ℕ) (settings : Settings) (entries : List Entry) (raced : Bool) (before after :
-    Option (List ℕ)) : Type 0 where
-  pub output : List ℕ
-  pub trace : Option (List ℕ)
-  pub leaves : TextLeaves text settings entries raced output trace
-  pub holds : after ≡ appended before output
-
--- behind what was there stands a beginning of the output of such a run
-pub record HoldsBeginningOfOutput (text : List ℕ) (settings : Settings) (entries : List Entry) (before after :
-    Option (List ℕ)) : Type 0 where
-  pub raced : Bool
-  pub output : List ℕ
-  pub trace : Option (List ℕ)
-  pub leaves : TextLeaves text settings entries raced output trace
-  pub begun : HoldsBeginning output before after
-
--- The text spells a program, and behind what was there stand, first, the reports of a list of steps of this program, under these settings,
--- of which the headline holds: each names a true race, or bytes that changed.
-pub record HoldsTrueReports (text : List ℕ) (settings : Settings) (entries : List Entry) (before after : Option (List ℕ)) :
-    Type 0 where
-  pub program : Program
-  pub read : IsReadAs text program
-  pub sites : AccessMap
-  pub records : List Record
-  pub stepped : AreStepped (run_of program settings sites) entries records
-  pub headline : Headline stepped.list
-  pub lines : List ℕ
-  pub holds : after ≡ appended before (flat_map (report_text sites) (reports_of stepped.list) ++ lines)
 
 -- The tasks of the program were asked for steps under these settings in the order of the schedule, and then a wait of the task had as
 -- many vain tries as are allowed.

@@ -6,4 +6,5 @@ pub mod Settings
 pub mod Replay
 pub mod Show
 pub mod Check
+pub mod Overwrite
 pub mod Command

@@ -1,4 +1,4 @@
--- Which lists on the command line don't read.
+-- Which lists on the command line read.
 use Rattle.std.specs.Prelude.{ℕ, List}
 use Rattle.place_list.specs.Spelling as places
 use Rattle.place_list.specs.of_program_layout_declared.place.Place.{Place}
@@ -11,3 +11,7 @@ SpellsNoPlaces text = (given : List Place) → places.Spells text given → ⊥
 
 abbrev pub SpellsNoSchedule : List ℕ → Type 0
 SpellsNoSchedule text = (entries : List Entry) → schedules.Spells text entries → ⊥
+
+-- the text spells a schedule
+abbrev pub SpellsSchedule : List ℕ → Type 0
+SpellsSchedule text = (entries : List Entry) × schedules.Spells text entries

@@ -10,8 +10,9 @@ ghost use Rattle.litmus_command.specs.Command.{DoesNotRead, DoesRead, IsFault, I
 ghost use Rattle.litmus_command.specs.Command.{SearchEnds, SearchRefuses, ShowIsRefused, SpellsNoPlaces, StepRefuses, Tells, UsageIsTold};
 ghost use Rattle.litmus_command.specs.Command.{engine_status_of, read_failure, run_status_of, settings_of, state_of, status_of, text_status_of};
 ghost use Rattle.litmus_command.specs.Command.{picture_status_of, search_status_of, times_of, trace_path, trace_status_of, with_trace};
-ghost use Rattle.litmus_command.specs.Check.{whole_of};
-ghost use Rattle.litmus_command.specs.Command.{IsChecked, IsOfSeveral};
+ghost use Rattle.litmus_command.specs.Check.{IsOutOfMemory, once_told, whole_of};
+ghost use Rattle.litmus_command.specs.Command.{IsChecked, IsOfSeveral, IsToldApart, OfAsked};
+ghost use Rattle.litmus_command.specs.Overwrite.{IsKept, Overwrites};
 ghost use Rattle.litmus_command.specs.Told.{heard};
 ghost use Rattle.litmus_command.specs.declared.command.Failure.TheVariants.{Engine, OutOfMemory, Picture, Trace};
 ghost use Rattle.picture_text.specs.declared.cells.Style.TheVariants.{Ascii};
@@ -24,6 +25,7 @@ use crate::check::{carry_check, list_calls};
 use crate::complaint::Complaint;
 use crate::desk::{Desk, ReadFault};
 use crate::engine::run_text;
+use crate::overwrite::{overwritten, refuse_overwrite};
 use crate::replay::replayed;
 use crate::search::search_for;
 use crate::show::drawn;
@@ -216,12 +218,13 @@ fn picture_status(error: PictureError) -> u8
 /// with. The first word is the program's name.
 ///
 /// 0: no report, a trace that is accepted or drawn, files that read where they are checked, or help. 2: a report. 64:
-/// usage, a schedule that doesn't read or names a task that isn't there, or a place that doesn't read or doesn't suit.
+/// usage, a file that would be written over its input, a schedule that doesn't read or names a task that isn't there, or
+/// a place that doesn't read or doesn't suit.
 /// 65: the file is refused. 66: it can't be read. 70: a task is stuck. 71: out of memory, or a thread couldn't be
 /// started. 74: output can't be written. 75: a search was stopped at its limit, and no list that it went over has a
 /// report. Of several files that are checked the greatest status counts. At 64 to 71 nothing goes to standard output, but
-/// for what is printed of several files that are checked, and no file is written. At 74 standard output has what it had,
-/// or a beginning of what should stand there.
+/// for what is printed of several files that are checked, and no file is written. At 74 standard output and all files
+/// have what they had, or standard output has a beginning of what should stand there.
 pub fn command<R: Threads + Wait + Sync, S: AsStr, D: Desk>(
     rt: &R,
     alloc: Global,
@@ -255,14 +258,19 @@ pub fn command<R: Threads + Wait + Sync, S: AsStr, D: Desk>(
 
     // What `check` found of each file, in order, is what `check_text` says of its text. So much was told and printed, and
     // the status follows.
-    ensures checks { AskForOne (map S.text words.now) (λ request.
-        IsChecked request result (whole_of D.written D.failures D.files D.told D.faults desk.old)
-        (whole_of D.written D.failures D.files D.told D.faults desk.new))
-        ⊎ ((kind : ErrorKind) × MayFail (map S.text words.now) kind) }
+    ensures checks { OfAsked (map S.text words.now) result (whole_of D.written D.failures D.files D.told D.faults desk.old)
+        (whole_of D.written D.failures D.files D.told D.faults desk.new) (λ request. IsChecked request result
+        (whole_of D.written D.failures D.files D.told D.faults desk.old) (whole_of D.written D.failures D.files D.told D.faults desk.new)) }
+
+    // A file that would be written over its input is named, and nothing else is done. `misused` and `tells` say that this
+    // is said of no other.
+    ensures keeps { OfAsked (map S.text words.now) result (whole_of D.written D.failures D.files D.told D.faults desk.old)
+        (whole_of D.written D.failures D.files D.told D.faults desk.new) (λ request. (path : List ℕ) → Overwrites request path → IsKept path result
+        (whole_of D.written D.failures D.files D.told D.faults desk.old) (whole_of D.written D.failures D.files D.told D.faults desk.new)) }
 
     // Only of a check of several files more was read and told, and something printed with a status from 64 to 66.
     ensures reads { AskForOne (map S.text words.now) IsOfSeveral ⊎ Reads result (D.faults desk.old) (D.faults desk.new) }
-    ensures tells { AskForOne (map S.text words.now) IsOfSeveral ⊎ Tells result (D.told desk.old) (D.told desk.new) }
+    ensures tells { AskForOne (map S.text words.now) IsToldApart ⊎ Tells result (D.told desk.old) (D.told desk.new) }
     ensures ends { AskForOne (map S.text words.now) IsOfSeveral ⊎ EndsAs result (state_of D.written D.failures D.files desk.old)
         (state_of D.written D.failures D.files desk.new) }
 {
@@ -295,11 +303,17 @@ pub fn carry_out<R: Threads + Wait + Sync, D: Desk>(
     ensures unread { result ≡ 66 → DoesRead request.now }
     ensures checks { IsChecked request.now result (whole_of D.written D.failures D.files D.told D.faults desk.old)
         (whole_of D.written D.failures D.files D.told D.faults desk.new) }
+    ensures keeps { (path : List ℕ) → Overwrites request.now path → IsKept path result
+        (whole_of D.written D.failures D.files D.told D.faults desk.old) (whole_of D.written D.failures D.files D.told D.faults desk.new) }
     ensures reads { IsOfSeveral request.now ⊎ Reads result (D.faults desk.old) (D.faults desk.new) }
-    ensures tells { IsOfSeveral request.now ⊎ Tells result (D.told desk.old) (D.told desk.new) }
+    ensures tells { IsToldApart request.now ⊎ Tells result (D.told desk.old) (D.told desk.new) }
     ensures ends { IsOfSeveral request.now ⊎ EndsAs result (state_of D.written D.failures D.files desk.old)
         (state_of D.written D.failures D.files desk.new) }
 {
+    // That a file would be lost comes before anything else that is wrong with what is asked.
+    if let Some(path) = overwritten(request) {
+        return refuse_overwrite(alloc, path, desk);
+    }
     let done = match request {
         Request::Step(request) => step(alloc, request, desk),
         Request::Run(request) => run(rt, alloc, request, desk),
@@ -387,6 +401,8 @@ fn fail<D: Desk>(failure: Failure, desk: &mut D) -> u8
     ensures stays { state_of D.written D.failures D.files desk.new ≡ state_of D.written D.failures D.files desk.old }
     ensures told { D.told desk.new ≡ heard (D.told desk.old) (Complaint.Failure failure) }
     ensures faults { D.faults desk.new ≡ D.faults desk.old }
+    ensures whole { whole_of D.written D.failures D.files D.told D.faults desk.new
+        ≡ once_told (Complaint.Failure failure) (whole_of D.written D.failures D.files D.told D.faults desk.old) }
 {
     desk.complain(Complaint::Failure(failure));
     failure.status()
@@ -450,6 +466,7 @@ fn keep_trace<D: Desk>(
         (status_of failure ≡ 74) × CountsFailure (D.failures desk.old) (D.failures desk.new)) }
     ensures works { OnOk result (D.failures desk.new ≡ D.failures desk.old) }
     ensures there { OnErr result (is_some trace.now ≡ true) }
+    ensures kept { OnErr result (D.files desk.new ≡ D.files desk.old) }
     ensures told { D.told desk.new ≡ D.told desk.old }
     ensures faults { D.faults desk.new ≡ D.faults desk.old }
 {
@@ -714,6 +731,8 @@ fn explain<D: Desk>(alloc: Global, error: clap::Error, desk: &mut D) -> u8
         (state_of D.written D.failures D.files desk.new) }
     ensures usage { result ≡ 64 → IsFault (kind_of error) × (D.told desk.new ≡ heard (D.told desk.old) (Complaint.Usage error)) }
     ensures readable { result ≢ 66 }
+    ensures memory { (kind_of error ≢ ErrorKind.OutOfMemory) ⊎ IsOutOfMemory result
+        (whole_of D.written D.failures D.files D.told D.faults desk.old) (whole_of D.written D.failures D.files D.told D.faults desk.new) }
     ensures faults { D.faults desk.new ≡ D.faults desk.old }
     ensures tells { Tells result (D.told desk.old) (D.told desk.new) }
     ensures ends { EndsAs result (state_of D.written D.failures D.files desk.old)

@@ -22,6 +22,9 @@ pub enum Complaint {
     /// So, with lines that say more of it.
     #[error("kcsan_litmus: {0}\n{1}")]
     Explained(Failure, Lines),
+    /// What comes of a file would be written over it, as this line says.
+    #[error("kcsan_litmus: {0}")]
+    Overwrites(Lines),
 }
 
 impl From<AllocError> for Complaint {
@@ -38,7 +41,7 @@ impl Complaint {
         ensures { result ≡ complaint_status_of self.now }
     {
         match self {
-            Complaint::Usage(_) => USAGE,
+            Complaint::Usage(_) | Complaint::Overwrites(_) => USAGE,
             Complaint::Failure(failure) | Complaint::Explained(failure, _) => failure.status(),
         }
     }

@@ -60,9 +60,10 @@ pub trait Desk: Progress + SearchProgress {
         ensures failures { failures self.new ≡ failures self.old }
         ensures told { told self.new ≡ told self.old };
 
-    /// Writes a named file, which then has these bytes and no others.
+    /// Writes a named file, which then has these bytes and no others, or, where that fails, what it had.
     fn write_file(&mut self, path: &str, bytes: &[u8]) -> Result<(), WriteError>
         ensures has { OnOk result (files self.new ≡ noted (files self.old) (Has path.now bytes.now)) }
+        ensures kept { OnErr result (files self.new ≡ files self.old) }
         ensures works { OnOk result (failures self.new ≡ failures self.old) }
         ensures failed { OnErr result (CountsFailure (failures self.old) (failures self.new)) }
         ensures written { written self.new ≡ written self.old }

@@ -1,8 +1,8 @@
-//! The engine: a litmus text, stepped under a schedule, and what is found written to a sink.
+//! The engine: a litmus text, stepped under a schedule, and what is written of that.
 
-ghost use Rattle.std.specs.Prelude.{◌≡◌, ◌≤◌, ◌<◌, ◌==◌, ◌↔◌, [], List, Any, IfErr, IfOk, IfSome, IsErr, IsErrOf, OnOk, is_some, length, not};
+ghost use Rattle.std.specs.Prelude.{◌≡◌, ◌≤◌, ◌<◌, ◌==◌, ◌↔◌, [], List, Any, IfErr, IfOk, IfSome, IsErrOf, is_some, length, not};
 ghost use Rattle.std.specs.Option.{option_map};
-ghost use Rattle.litmus_command.specs.Engine.{HoldsBeginningOfOutput, HoldsOutput, HoldsTrueReports, IsRefused, Leaves, Stops, StopsReady, TextLeaves};
+ghost use Rattle.litmus_command.specs.Engine.{IsRefused, Leaves, Stops, StopsReady, TextLeaves};
 ghost use Rattle.run_tally.specs.of_litmus_parse_Text.{IsTextByte, file_bytes};
 ghost use Rattle.run_tally.specs.of_program_sites_Prepared.{IsPrepared};
 ghost use Rattle.run_tally.specs.of_litmus_step_Runs.{run_of};
@@ -10,7 +10,6 @@ ghost use Rattle.run_tally.specs.of_litmus_step_Steps.{LeadsTo};
 ghost use Rattle.litmus_syntax.specs.Limits.{KeepsLimits};
 ghost use Rattle.litmus_syntax.specs.Views.{program_of};
 ghost use Rattle.run_tally.specs.of_program_sites_Prepared.{sites_in};
-ghost use Rattle.report_text.specs.Sink.{CountsFailure};
 ghost use Rattle.run_tally.specs.of_run_output_Output.{IsOutput};
 ghost use Rattle.run_tally.specs.of_run_output_Traces.{IsToBeAccepted, IsTraceOf};
 ghost use Rattle.run_tally.specs.of_run_output_declared.error.EngineError.TheVariants.{SinkFailed, Text};
@@ -20,52 +19,11 @@ ghost use Rattle.run_tally.specs.of_run_lists_RunList.{AllHaveEnded};
 ghost use Rattle.run_tally.specs.of_slot_table_declared.records.Record.{Record};
 ghost use Rattle.step_schedule.specs.Schedule.{entries_of};
 
-use report_text::{Sink, write_all};
 use run_tally::litmus_parse::{Limit, ParseError, Program, parse};
 use run_tally::litmus_step::{Prepared, Settings, World};
 use run_tally::run_output::{EngineError, Written, output_of, trace_if};
 use std::alloc::{AllocError, Global};
 use step_schedule::Schedule;
-
-/// Steps the program of a litmus text under a schedule, and writes the reports in order, the line
-/// of counters and the line on the condition to the sink. Answers whether there was a report.
-///
-/// Nothing is written before the run has ended and the whole output stands in memory.
-pub fn step_file<K: Sink>(
-    alloc: Global,
-    text: &[u8],
-    settings: &Settings,
-    schedule: &Schedule,
-    sink: &mut K,
-) -> Result<bool, EngineError>
-    ensures written { IfOk result (λ raced.
-        HoldsOutput text.now settings.now (entries_of schedule.now) raced (K.written sink.old) (K.written sink.new)) }
-
-    // The headline: what was written begins with the reports of a run of the program that the text spells, of which
-    // each names a true race, or bytes that changed.
-    ensures headline { OnOk result
-        (HoldsTrueReports text.now settings.now (entries_of schedule.now) (K.written sink.old) (K.written sink.new)) }
-
-    // The sink's count of failures rose in this call, or stood at its last value.
-    ensures failed { IsErrOf result SinkFailed →
-        CountsFailure (K.failures sink.old) (K.failures sink.new) }
-    ensures beginning { IsErrOf result SinkFailed →
-        HoldsBeginningOfOutput text.now settings.now (entries_of schedule.now) (K.written sink.old) (K.written sink.new) }
-
-    // Every other refusal comes before anything is written, and only where its reason stands.
-    ensures unwritten { IsErr result → (IsErrOf result SinkFailed → ⊥) → sink.new ≡ sink.old }
-    ensures refused { (IsErrOf result SinkFailed → ⊥)
-        → IfErr result (IsRefused text.now settings.now (entries_of schedule.now)) }
-    ensures file_limit { IsErrOf result (Text (ParseError.Limit Limit.File)) ↔ (file_bytes < length text.now) }
-    ensures not_ascii { IsErrOf result (Text ParseError.NotAscii) ↔
-        ((length text.now ≤ file_bytes) × Any (λ byte. ¬ IsTextByte byte) text.now) }
-{
-    let written = run_text(alloc, text, settings, schedule, false)?;
-    match write_all(sink, written.output.as_slice()) {
-        Ok(()) => Ok(written.raced),
-        Err(_) => Err(EngineError::SinkFailed),
-    }
-}
 
 /// Steps the program of a litmus text under a schedule to its end, and keeps what is written of the run: its trace only
 /// where that is wanted.

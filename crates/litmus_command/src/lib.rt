@@ -7,6 +7,7 @@ pub mod command;
 pub mod complaint;
 pub mod desk;
 pub mod engine;
+mod overwrite;
 pub mod replay;
 mod search;
 pub mod show;

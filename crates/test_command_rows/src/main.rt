@@ -5,7 +5,6 @@
 mod cuts;
 mod desk;
 mod row;
-mod stepped;
 mod texts;
 mod wanted;
 
@@ -16,7 +15,6 @@ use std::io;
 use std::process::ExitCode;
 use std::sync::Wait;
 use std::thread::Threads;
-use stepped::steps_as_said;
 use texts::Texts;
 
 /// The status where something else comes of a row, or a line is no row.
@@ -76,8 +74,8 @@ fn is_text(texts: &mut Texts, line: &str) -> Result<bool, AllocError> {
     Ok(false)
 }
 
-/// Tries what a line says: a row, one of which each write is also tried failing, for writes of several sizes, a text
-/// that is stepped to a sink, or the beginnings of a file.
+/// Tries what a line says: a row, one of which each write is also tried failing, for writes of several sizes, or the
+/// beginnings of a file.
 fn comes_as_said<R: Threads + Wait + Sync>(
     rt: &R,
     alloc: Global,
@@ -88,7 +86,6 @@ fn comes_as_said<R: Threads + Wait + Sync>(
     match kind {
         "row" => row_comes_as_said(rt, alloc, texts, rest, &[]),
         "writes" => row_comes_as_said(rt, alloc, texts, rest, &[0, 1, 7, usize::MAX]),
-        "steps" => steps_as_said(alloc, texts, rest),
         "cuts" => match Cuts::read(alloc, texts, rest)? {
             Some(cuts) => cuts.come_as_said(rt, alloc),
             None => Ok(false),

@@ -13,19 +13,25 @@ pub enum Wanted {
     /// Words of the command line's reader.
     Something,
     Text(String),
+    /// One of two texts: which of them is left to how threads meet.
+    Either(String, String),
 }
 
 impl Wanted {
     /// What a word calls for: `-` nothing, `*` something that isn't the program's own, names with `+` between them the
-    /// texts of these names.
+    /// texts of these names, and two such with `/` between them one of both.
     pub fn read(texts: &Texts, word: &str) -> Result<Option<Wanted>, AllocError> {
         match word {
-            "-" => Ok(Some(Wanted::Nothing)),
-            "*" => Ok(Some(Wanted::Something)),
-            names => match texts.join(names)? {
-                Some(text) => Ok(Some(Wanted::Text(text))),
-                None => Ok(None),
-            },
+            "-" => return Ok(Some(Wanted::Nothing)),
+            "*" => return Ok(Some(Wanted::Something)),
+            _ => {}
+        }
+        let Some((one, other)) = word.split_once('/') else {
+            return Ok(texts.join(word)?.map(Wanted::Text));
+        };
+        match (texts.join(one)?, texts.join(other)?) {
+            (Some(one), Some(other)) => Ok(Some(Wanted::Either(one, other))),
+            _ => Ok(None),
         }
     }
 
@@ -35,6 +41,7 @@ impl Wanted {
             Wanted::Nothing => stream.is_empty(),
             Wanted::Something => !stream.is_empty() && !stream.starts_with(OWN),
             Wanted::Text(text) => stream == text.as_bytes(),
+            Wanted::Either(one, other) => stream == one.as_bytes() || stream == other.as_bytes(),
         }
     }
 }

@@ -3,7 +3,7 @@ use Rattle.std.proofs.Common.{◌≡◌, ◌∙◌, None, Some, ap, inl, inr, sy
 use Rattle.std.specs.Option.{option_map}
 use Rattle.list_faults.specs.Places as places
 use Rattle.list_faults.specs.Schedules as schedules
-use Rattle.litmus_command.proofs.CheckLemmas.{is_missing, list_fault}
+use Rattle.litmus_command.proofs.CheckLemmas.{is_missing, is_there, list_fault}
 use Rattle.litmus_command.specs.declared.command.Failure.TheVariants.{BadPlace, BadSchedule}
 use Rattle.step_schedule.specs.Schedule.{entries_of}
 use Rattle.litmus_command.proofs.check.settings_asked.Goals as goal
@@ -25,7 +25,9 @@ pub returns-in_ok-line-in-None-clause-at_fault : goal.returns-in_ok-line-in-None
 returns-in_ok-line-in-None-clause-at_fault c =
     let text = c.args.request.now.places.now in
     let parsed = c.in_ok-places.field-0 in
+    let there = is_there c.in_ok-parse.field-0 c.is_none.result c.is_none.ensures c.if-is_none.false in
     inl (inr (
+      (entries_of there.0, (c.in_ok-parse.ensures (entries_of there.0)).1 (ap (option_map entries_of) there.1)),
       (λ given spells.
           let read : option_map (λ list. list.items) parsed ≡ Some given = (c.in_ok-places.ensures given).0 spells in
           let none : option_map (λ list. list.items) parsed ≡ None = ap (option_map (λ list. list.items)) c.in-None.is in

@@ -1,5 +1,6 @@
 -- help is given where the words ask for it
-use Rattle.std.proofs.Common.{inr, map}
+use Rattle.std.proofs.Common.{inl, inr, map}
+use Rattle.clap.specs.Words.{kind_of}
 use Rattle.litmus_command.proofs.EndLemmas.{on_left}
 use Rattle.litmus_command.proofs.command.command.Goals as goal
 
@@ -18,3 +19,36 @@ returns-in-Ok-clause-reads g c =
 pub returns-in-Ok-clause-tells : goal.returns-in-Ok-clause-tells
 returns-in-Ok-clause-tells g c =
     on_left (λ several. (c.in-Ok.request, c.in-Ok.ensures.bounds, c.in-Ok.ensures.asked, several)) c.carry_out.ensures.tells
+
+pub returns-in-Ok-clause-checks : goal.returns-in-Ok-clause-checks
+returns-in-Ok-clause-checks g c = inl (c.in-Ok.request, c.in-Ok.ensures.bounds, c.in-Ok.ensures.asked, c.carry_out.ensures.checks)
+
+pub returns-in-Ok-clause-keeps : goal.returns-in-Ok-clause-keeps
+returns-in-Ok-clause-keeps g c = inl (c.in-Ok.request, c.in-Ok.ensures.bounds, c.in-Ok.ensures.asked, c.carry_out.ensures.keeps)
+
+-- what is wrong with the words was told, or want of memory
+pub returns-in-Err-clause-checks : goal.returns-in-Err-clause-checks
+returns-in-Err-clause-checks g c = elim c.explain.ensures.memory [
+  | inl other ↦ inr (inl (record {
+    kind = kind_of c.in-Err.error;
+    other = other;
+    may = c.in-Err.ensures.fails;
+    faults = c.explain.ensures.faults;
+    tells = c.explain.ensures.tells;
+    ends = c.explain.ensures.ends;
+  }))
+  | inr out ↦ inr (inr out)
+]
+
+pub returns-in-Err-clause-keeps : goal.returns-in-Err-clause-keeps
+returns-in-Err-clause-keeps g c = elim c.explain.ensures.memory [
+  | inl other ↦ inr (inl (record {
+    kind = kind_of c.in-Err.error;
+    other = other;
+    may = c.in-Err.ensures.fails;
+    faults = c.explain.ensures.faults;
+    tells = c.explain.ensures.tells;
+    ends = c.explain.ensures.ends;
+  }))
+  | inr out ↦ inr (inr out)
+]

@@ -119,14 +119,14 @@ returns-in_err-written-clause-misused g c =
     (subst (λ (times : Times). IsRefused times.keep_going c.deref.result.now c.in_ok-settings.settings error) c.times_for-times.ensures
     c.in_err-written.ensures.refused) in
     err_holds _ c.from_residual-in_err-written.result (Engine error) c.from_residual-in_err-written.ensures.1
-    (λ is. inr (record {
+    (λ is. inr (inl (record {
       text = c.in_ok-text.text.items;
       error = error;
       refused = record { settings = c.in_ok-settings.settings; asks = c.in_ok-settings.ensures.asks; refused = refused };
       status_is = sym is;
       spells_none = λ no. absurd (omega (arith, no));
       files = c.in_ok-text.ensures.gave;
-    }))
+    })))
 
 pub returns-in_err-text-clause-unread : goal.returns-in_err-text-clause-unread
 returns-in_err-text-clause-unread g c =

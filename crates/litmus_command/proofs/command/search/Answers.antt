@@ -111,14 +111,14 @@ returns-in_err-found-clause-misused g c =
     let error = c.in_err-found.field-0.0 in
     let refused = subst (λ text. IsRefused text c.in_ok-settings.settings error) c.deref.ensures.value c.in_err-found.ensures.refused in
     err_holds _ c.from_residual-in_err-found.result (Engine error) c.from_residual-in_err-found.ensures.1
-    (λ is. inr (record {
+    (λ is. inr (inl (record {
       text = c.in_ok-text.text.items;
       error = error;
       refused = record { settings = c.in_ok-settings.settings; asks = c.in_ok-settings.ensures.asks; refused = refused };
       status_is = sym is;
       spells_none = λ no. absurd (omega (arith, no));
       files = c.in_ok-text.ensures.gave;
-    }))
+    })))
 
 pub returns-in_err-text-clause-unread : goal.returns-in_err-text-clause-unread
 returns-in_err-text-clause-unread g c =

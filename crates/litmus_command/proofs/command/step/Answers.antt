@@ -1,5 +1,5 @@
 -- what was asked for was run, and what is left of it was given
-use Rattle.std.proofs.Common.{◌≡◌, ◌∙◌, Err, Ok, ap, arith, inr, is_some, refl, rules, subst, sym}
+use Rattle.std.proofs.Common.{◌≡◌, ◌∙◌, Err, Ok, ap, arith, inl, inr, is_some, refl, rules, subst, sym}
 use Rattle.std.specs.Option.{option_map}
 use Rattle.litmus_command.proofs.ResultLemmas.{err_holds, failed_counts, failed_of_no_file, failed_reads, failed_silent, given_done, given_in_part, is_once_read}
 use Rattle.litmus_command.proofs.ResultLemmas.{reads_no_sink, reads_no_usage, some_items, spells_none, writes_no_sink}
@@ -118,7 +118,7 @@ returns-in_err-written-clause-misused g c =
     let refused = subst (λ text. IsRefused text c.in_ok-settings.settings (entries_of c.in_ok-settings.schedule) error) c.deref.ensures.value
     c.in_err-written.ensures.refused in
     err_holds _ c.from_residual-in_err-written.result (Engine error) c.from_residual-in_err-written.ensures.1
-    (λ is. inr (record {
+    (λ is. inr (inl (record {
       text = c.in_ok-text.text.items;
       error = error;
       refused = record {
@@ -130,7 +130,7 @@ returns-in_err-written-clause-misused g c =
       status_is = sym is;
       spells_none = λ no. absurd (omega (arith, no));
       files = c.in_ok-text.ensures.gave;
-    }))
+    })))
 
 pub returns-in_err-text-clause-unread : goal.returns-in_err-text-clause-unread
 returns-in_err-text-clause-unread g c =

@@ -1,0 +1,40 @@
+-- What would be written over the file that it comes from.
+use Rattle.std.specs.Prelude.{◌≡◌, ◌⊎◌, ◌∷◌, [], ℕ, List, Option, Some, codes}
+use Rattle.std.specs.List.{concat}
+use Rattle.std.specs.Option.{option_map}
+use Rattle.check_output.specs.declared.told.Lines.{Lines}
+use Rattle.command_words.specs.declared.request.Request.{Request}
+use Rattle.command_words.specs.declared.request.Request.TheVariants as requests
+use Rattle.litmus_command.specs.Check.{IsOutOfMemory, Whole, once_told}
+use Rattle.litmus_command.specs.declared.complaint.Complaint.TheVariants as complaint
+use Rattle.text_pieces.specs.Shown.{shown}
+
+-- both are this path: that of the file that is read, and that of one that is to be written
+pub record AreSamePath (input : List ℕ) (output : Option (List ℕ)) (path : List ℕ) : Type 0 where
+  pub read : input ≡ path
+  pub written : output ≡ Some path
+
+-- the file of this path is read for what is asked, and is to be written with what comes of that
+abbrev pub Overwrites : Request → (path : List ℕ) → Type 0
+Overwrites (requests.Step request) path = AreSamePath request.file.now (option_map (λ trace. trace.now) request.options.trace) path
+Overwrites (requests.Run request) path = AreSamePath request.file.now (option_map (λ trace. trace.now) request.options.trace) path
+Overwrites (requests.Search request) path = AreSamePath request.file.now (option_map (λ trace. trace.now) request.options.trace) path
+Overwrites (requests.Replay request) path = ⊥
+Overwrites (requests.Show request) path = AreSamePath request.trace.now (option_map (λ svg. svg.now) request.svg) path
+Overwrites (requests.Check request) path = ⊥
+Overwrites requests.Calls path = ⊥
+
+-- what is told of that
+unfoldable pub overwrite_line : (path : List ℕ) → List ℕ
+overwrite_line path = concat (shown path ∷ codes " would overwrite its input\n" ∷ [])
+
+-- so it was told of this path, with its status, and nothing else was done
+pub record OverwriteIsTold (path : List ℕ) (status : ℕ) (before after : Whole) : Type 0 where
+  pub lines : Lines
+  pub text_is : lines.bytes.items ≡ overwrite_line path
+  pub status_is : status ≡ 64
+  pub told : after ≡ once_told (complaint.Overwrites lines) before
+
+-- the file of this path was kept: so it was told, or memory ran out over that
+abbrev pub IsKept : (path : List ℕ) → (status : ℕ) → Whole → Whole → Type 0
+IsKept path status before after = OverwriteIsTold path status before after ⊎ IsOutOfMemory status before after
