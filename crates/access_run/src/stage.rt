@@ -19,7 +19,7 @@ use memory_operation::{Effect, Operation, OperationRun};
 use setup_access::Checker;
 
 /// What an access does next.
-#[derive(Clone, Copy, Debug, PartialEq, Eq)]
+#[derive(Clone, Copy, PartialEq, Eq)]
 pub enum Stage {
     /// Its check, which its task's checker makes; then this operation on memory, if it has one.
     Check(Option<OperationRun>),

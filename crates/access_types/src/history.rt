@@ -36,7 +36,7 @@ pub struct Bytes {
 }
 
 /// What happens at a moment. Values are little-endian.
-#[derive(Clone, Copy, Debug, PartialEq, Eq)]
+#[derive(Clone, Copy, PartialEq, Eq)]
 pub enum Happening {
     Begin(Access),
     End(Access),
@@ -48,7 +48,7 @@ pub enum Happening {
 }
 
 /// A moment of one task.
-#[derive(Clone, Copy, Debug, PartialEq, Eq)]
+#[derive(Clone, Copy, PartialEq, Eq)]
 pub struct Moment {
     pub task: u32,
     pub happening: Happening,

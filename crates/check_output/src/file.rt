@@ -14,7 +14,7 @@ use text_check::{Check, check_text};
 use text_pieces::{joined, shown};
 
 /// What is asked of all files.
-#[derive(Clone, Copy, Debug)]
+#[derive(Clone, Copy)]
 pub struct Files {
     /// Whether there are several, each of which goes by its name.
     pub several: bool,
@@ -23,7 +23,7 @@ pub struct Files {
 }
 
 /// What comes of a file that gave a text.
-#[derive(Debug, Drop)]
+#[derive(Drop)]
 pub enum Comes {
     /// It is read: its tables, and its printed form, where that is wanted.
     Read(Vec<u8>),

@@ -7,7 +7,7 @@ ghost use Rattle.litmus_syntax.specs.Views.{proposition_of};
 use litmus_syntax::Proposition;
 
 /// What registers and variables hold where a run has ended, in 64 bits.
-#[derive(Debug, Drop)]
+#[derive(Drop)]
 pub struct Finals {
     /// The values of the registers of each task, by number.
     pub registers: Vec<Vec<u64>>,

@@ -6,7 +6,7 @@ ghost use Rattle.index_order.specs.Indices.{look_index, place_after, try_index};
 use slot_table::{look_order, try_order};
 
 /// Which of the three indices of an access comes next, in the order of a look-up or of an insertion.
-#[derive(Clone, Copy, Debug, PartialEq, Eq)]
+#[derive(Clone, Copy, PartialEq, Eq)]
 pub enum Place {
     First,
     Second,

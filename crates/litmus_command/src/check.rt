@@ -31,7 +31,7 @@ use step_schedule::Schedule;
 use text_check::calls;
 
 /// What came of a file.
-#[derive(Debug, Drop)]
+#[derive(Drop)]
 enum FileEnd {
     /// It is read, and this is printed of it.
     Read(Vec<u8>),
@@ -40,7 +40,7 @@ enum FileEnd {
 }
 
 /// What came of all files: what is printed, and the status.
-#[derive(Debug, Drop)]
+#[derive(Drop)]
 struct Checked {
     output: Vec<u8>,
     status: u8,

@@ -14,7 +14,7 @@ use search_run::SearchProgress;
 use std::alloc::Global;
 
 /// Why a file gives no bytes.
-#[derive(Clone, Copy, Debug, PartialEq, Eq)]
+#[derive(Clone, Copy, PartialEq, Eq)]
 pub enum ReadFault {
     OutOfMemory,
     CannotRead,

@@ -65,7 +65,7 @@ impl<T: Drop> From<AllocFailed<T>> for Refusal {
 }
 
 /// A token, and where it begins.
-#[derive(Clone, Copy, Debug)]
+#[derive(Clone, Copy)]
 pub struct Spot<'a> {
     pub token: Token<'a>,
     pub at: usize,
@@ -94,7 +94,7 @@ pub fn tokens(alloc: Global, text: &[u8], start: Place) -> Result<Vec<Spot<'_>>,
 }
 
 /// What is left of a text: its tokens, and where the text ends.
-#[derive(Clone, Copy, Debug)]
+#[derive(Clone, Copy)]
 pub struct Cursor<'a> {
     left: &'a [Spot<'a>],
     end: usize,

@@ -27,7 +27,7 @@ pub const TURNS: u64 = 256;
 pub const REPEATS: u64 = 1024;
 
 /// A parameter: a variable, by its number, that the process can name.
-#[derive(Clone, Copy, Debug)]
+#[derive(Clone, Copy)]
 pub struct Parameter<'a> {
     pub name: &'a [u8],
     pub variable: usize,
@@ -35,7 +35,7 @@ pub struct Parameter<'a> {
 }
 
 /// Which types of variables a form of statement takes.
-#[derive(Clone, Copy, Debug, PartialEq, Eq)]
+#[derive(Clone, Copy, PartialEq, Eq)]
 pub enum Takes {
     /// `char`, `short`, `int`, `long`.
     Integers,
@@ -74,7 +74,7 @@ impl Takes {
 }
 
 /// What stands round a place in a body.
-#[derive(Clone, Copy, Debug)]
+#[derive(Clone, Copy)]
 pub struct Surroundings {
     /// How many blocks and parentheses are open.
     depth: usize,

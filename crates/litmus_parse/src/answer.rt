@@ -30,7 +30,7 @@ pub enum Reason {
 
 /// A text that is refused: the error, how many bytes stand before what offends, and why it does. Where memory is
 /// refused, nothing offends.
-#[derive(Clone, Copy, Debug, PartialEq, Eq)]
+#[derive(Clone, Copy, PartialEq, Eq)]
 pub struct Refused {
     pub error: ParseError,
     pub at: usize,

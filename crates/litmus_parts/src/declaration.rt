@@ -21,7 +21,7 @@ use std::alloc::Global;
 pub const VARIABLES: usize = 32;
 
 /// A variable, as far as the text has been read.
-#[derive(Clone, Copy, Debug)]
+#[derive(Clone, Copy)]
 pub struct Declared<'a> {
     pub name: &'a [u8],
     /// The type that items and parameters give it.

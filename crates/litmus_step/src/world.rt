@@ -33,7 +33,7 @@ use std::alloc::{AllocError, Global};
 use std::sync::Arc;
 
 /// What a task is after it was asked for a step.
-#[derive(Clone, Copy, Debug, PartialEq, Eq)]
+#[derive(Clone, Copy, PartialEq, Eq)]
 pub enum Stepped {
     /// It goes on.
     Moved,

@@ -80,7 +80,7 @@ impl BinaryOperator {
 }
 
 /// An expression without a load. Registers are the task's, by number.
-#[derive(Debug, PartialEq, Drop)]
+#[derive(PartialEq, Drop)]
 pub enum Pure {
     Number(u64),
     Register(usize),
@@ -89,7 +89,7 @@ pub enum Pure {
 }
 
 /// How a variable is read.
-#[derive(Clone, Copy, Debug, PartialEq, Eq)]
+#[derive(Clone, Copy, PartialEq, Eq)]
 pub enum ReadForm {
     /// `*x`.
     Plain,
@@ -102,7 +102,7 @@ pub enum ReadForm {
 }
 
 /// What a load does. Variables are the program's, by number.
-#[derive(Debug, PartialEq, Drop)]
+#[derive(PartialEq, Drop)]
 pub enum Fetch {
     Read {
         form: ReadForm,
@@ -122,14 +122,14 @@ pub enum Fetch {
 }
 
 /// A load, inside so many `data_race( )`.
-#[derive(Debug, PartialEq, Drop)]
+#[derive(PartialEq, Drop)]
 pub struct Load {
     pub data_races: u64,
     pub fetch: Fetch,
 }
 
 /// An expression with one load: the load itself, or an operator on one side of which it stands.
-#[derive(Debug, PartialEq, Drop)]
+#[derive(PartialEq, Drop)]
 pub enum Loading {
     Load(Load),
     Unary(UnaryOperator, Box<Loading>),
@@ -138,7 +138,7 @@ pub enum Loading {
 }
 
 /// An expression with one load at most.
-#[derive(Debug, PartialEq, Drop)]
+#[derive(PartialEq, Drop)]
 pub enum Expression {
     Pure(Pure),
     Loading(Loading),

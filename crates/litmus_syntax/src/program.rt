@@ -8,7 +8,7 @@ use crate::proposition::{Proposition, Quantifier};
 use crate::statement::Statement;
 
 /// What a variable holds: its type, and its value at first.
-#[derive(Clone, Copy, Debug, PartialEq, Eq)]
+#[derive(Clone, Copy, PartialEq, Eq)]
 pub enum Contents {
     /// `char`, 1 byte.
     Char(i8),
@@ -41,14 +41,14 @@ impl Contents {
 }
 
 /// A variable of a program.
-#[derive(Debug, PartialEq, Drop)]
+#[derive(PartialEq, Drop)]
 pub struct Variable {
     pub name: Name,
     pub contents: Contents,
 }
 
 /// A task: the variables that it is passed, the names of its registers, and what it does.
-#[derive(Debug, PartialEq, Drop)]
+#[derive(PartialEq, Drop)]
 pub struct Task {
     pub parameters: Sequence<usize>,
     pub registers: Sequence<Name>,
@@ -57,7 +57,7 @@ pub struct Task {
 
 /// A litmus program. Variables and the registers of a task are in the order in which the text first
 /// names them.
-#[derive(Debug, PartialEq, Drop)]
+#[derive(PartialEq, Drop)]
 pub struct Program {
     pub name: Name,
     pub variables: Sequence<Variable>,

@@ -4,7 +4,7 @@ ghost use Rattle.std.specs.Prelude.{◌≡◌};
 ghost use Rattle.litmus_syntax.specs.PrintedForm.{quantifier_text};
 
 /// A proposition on registers and variables.
-#[derive(Debug, PartialEq, Drop)]
+#[derive(PartialEq, Drop)]
 pub enum Proposition {
     True,
     False,
@@ -25,7 +25,7 @@ pub enum Proposition {
 }
 
 /// Whether a proposition is to hold at the end of some run, of none, or of all.
-#[derive(Clone, Copy, Debug, PartialEq, Eq)]
+#[derive(Clone, Copy, PartialEq, Eq)]
 pub enum Quantifier {
     /// `exists`.
     Exists,

@@ -7,7 +7,7 @@ use crate::expression::{Expression, Load, Pure};
 use access_types::Mark;
 
 /// How a variable is written.
-#[derive(Clone, Copy, Debug, PartialEq, Eq)]
+#[derive(Clone, Copy, PartialEq, Eq)]
 pub enum WriteForm {
     /// `*x = e`.
     Plain,
@@ -20,7 +20,7 @@ pub enum WriteForm {
 }
 
 /// What gives a register or a variable a value.
-#[derive(Debug, PartialEq, Drop)]
+#[derive(PartialEq, Drop)]
 pub enum Assignment {
     /// `r0 = e`.
     Register {
@@ -58,7 +58,7 @@ pub enum Assignment {
 }
 
 /// A barrier. Memory is sequentially consistent, so none has an effect.
-#[derive(Clone, Copy, Debug, PartialEq, Eq)]
+#[derive(Clone, Copy, PartialEq, Eq)]
 pub enum Barrier {
     /// `smp_mb`.
     Full,
@@ -94,7 +94,7 @@ impl Barrier {
 }
 
 /// A call that gives no value.
-#[derive(Clone, Copy, Debug, PartialEq, Eq)]
+#[derive(Clone, Copy, PartialEq, Eq)]
 pub enum Call {
     Barrier(Barrier),
     /// `spin_lock(l)`.
@@ -131,7 +131,7 @@ pub enum Call {
 }
 
 /// A statement.
-#[derive(Debug, PartialEq, Drop)]
+#[derive(PartialEq, Drop)]
 pub enum Statement {
     /// A load whose value nothing takes, as `*x;`.
     Load(Load),

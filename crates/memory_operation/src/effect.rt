@@ -7,7 +7,7 @@ use crate::operation::Change;
 use crate::values::new_value;
 
 /// The value that was read in the bytes of an access, and the one that was written there.
-#[derive(Clone, Copy, Debug, PartialEq, Eq)]
+#[derive(Clone, Copy, PartialEq, Eq)]
 pub struct Effect {
     pub read: Option<u64>,
     pub written: Option<u64>,

@@ -11,7 +11,7 @@ ghost use Rattle.slot_table.specs.declared.step.Step.{Step};
 use slot_table::{Answer, Step};
 
 /// A task that tries a lock until it has it.
-#[derive(Clone, Copy, Debug, PartialEq, Eq)]
+#[derive(Clone, Copy, PartialEq, Eq)]
 pub struct LockWait {
     task: u32,
     lock: usize,

@@ -10,7 +10,7 @@ use setup_access::source::Source;
 use slot_table::{Answer, Step};
 
 /// An operation on the bytes of an access, under way.
-#[derive(Clone, Copy, Debug, PartialEq, Eq)]
+#[derive(Clone, Copy, PartialEq, Eq)]
 pub struct OperationRun {
     access: Access,
     source: Source,

@@ -15,7 +15,7 @@ use setup_access::values::value_in;
 use slot_table::{Answer, Step};
 
 /// What an operation does next.
-#[derive(Clone, Copy, Debug, PartialEq, Eq)]
+#[derive(Clone, Copy, PartialEq, Eq)]
 pub enum Stage {
     /// Nothing: it is over.
     Over,
@@ -30,7 +30,7 @@ pub enum Stage {
 }
 
 /// Where an answer leads, and what the step did.
-#[derive(Clone, Copy, Debug, PartialEq, Eq)]
+#[derive(Clone, Copy, PartialEq, Eq)]
 pub struct Turn {
     pub stage: Stage,
     pub effect: Effect,

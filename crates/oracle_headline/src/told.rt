@@ -5,7 +5,7 @@ use setup_access::Outcome;
 use slot_table::Record;
 
 /// An arming, by its index and its number.
-#[derive(Clone, Copy, Debug, PartialEq, Eq)]
+#[derive(Clone, Copy, PartialEq, Eq)]
 pub struct Armed {
     pub index: usize,
     pub number: usize,

@@ -38,14 +38,14 @@ impl<T: Drop> From<AllocFailed<T>> for NoMeaning {
 }
 
 /// The task whose text it is, and the bytes of the program's variables, by their numbers.
-#[derive(Clone, Copy, Debug)]
+#[derive(Clone, Copy)]
 pub struct Given<'a> {
     pub task: u32,
     pub bytes: &'a [Bytes],
 }
 
 /// What a task did so far and its registers, and the values of the reads that are still to come.
-#[derive(Debug, Drop)]
+#[derive(Drop)]
 pub struct Walk {
     pub did: Vec<Happening>,
     pub registers: Vec<u64>,

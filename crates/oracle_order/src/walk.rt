@@ -43,14 +43,14 @@ impl<T: Drop> From<AllocFailed<T>> for NotSpelled {
 }
 
 /// The task whose text it is, and the program's variables.
-#[derive(Clone, Copy, Debug)]
+#[derive(Clone, Copy)]
 pub struct Given<'a> {
     pub task: u32,
     pub variables: &'a [Variable],
 }
 
 /// What a task did so far and its registers, and the records that are left, the oldest first.
-#[derive(Debug, Drop)]
+#[derive(Drop)]
 pub struct Walk {
     pub did: Vec<Happening>,
     pub registers: Vec<u64>,

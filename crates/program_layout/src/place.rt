@@ -8,7 +8,7 @@ use litmus_meaning::size_of;
 use litmus_syntax::{Name, Variable};
 
 /// The address of the variable of a name.
-#[derive(Debug, PartialEq, Drop)]
+#[derive(PartialEq, Drop)]
 pub struct Place {
     pub name: Name,
     pub addr: u64,

@@ -7,7 +7,7 @@ use setup_access::Rules;
 use watch_word::Layout;
 
 /// What a run of a program goes by.
-#[derive(Debug, Drop)]
+#[derive(Drop)]
 pub struct Settings {
     /// How many page slots there are.
     pub slots: usize,

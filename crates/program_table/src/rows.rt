@@ -15,7 +15,7 @@ use std::alloc::{AllocError, Global};
 use watch_word::{Layout, encode_in};
 
 /// Where an access stands in a text.
-#[derive(Clone, Copy, Debug, PartialEq, Eq)]
+#[derive(Clone, Copy, PartialEq, Eq)]
 pub enum Spot {
     Unknown,
     /// Each from 1.
@@ -23,7 +23,7 @@ pub enum Spot {
 }
 
 /// The first access that a task makes at a site.
-#[derive(Clone, Copy, Debug)]
+#[derive(Clone, Copy)]
 pub enum Made {
     /// None: a loop of no turns stands round it.
     Never,
@@ -32,7 +32,7 @@ pub enum Made {
 }
 
 /// A site of a task, by their numbers: where its access stands in the text, and the first access that is made there.
-#[derive(Clone, Copy, Debug)]
+#[derive(Clone, Copy)]
 pub struct SiteRow {
     pub task: usize,
     pub site: usize,

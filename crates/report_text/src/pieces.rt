@@ -10,7 +10,7 @@ use crate::sink::{Sink, WriteError, write_all};
 use itoa::Buffer;
 
 /// A piece of a line.
-#[derive(Clone, Copy, Debug)]
+#[derive(Clone, Copy)]
 pub enum Piece {
     /// A text as it stands.
     Text(&'static str),

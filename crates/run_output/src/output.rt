@@ -22,7 +22,7 @@ use report_text::{MemorySink, Sink, WriteError, write_report};
 use std::alloc::{AllocError, Global};
 
 /// What was found in a run.
-#[derive(Clone, Copy, Debug)]
+#[derive(Clone, Copy)]
 pub struct Found {
     /// How often each thing came of a check.
     pub counters: Counters,

@@ -21,7 +21,7 @@ pub trait Hooks: Sync {
 }
 
 /// Each run has a delay of its own.
-#[derive(Clone, Copy, Debug)]
+#[derive(Clone, Copy)]
 pub struct Delays;
 
 impl Hooks for Delays {

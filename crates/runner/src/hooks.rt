@@ -7,7 +7,7 @@ use slot_table::{Answer, Step};
 use std::thread;
 
 /// A point on a task's way.
-#[derive(Clone, Copy, Debug, PartialEq, Eq)]
+#[derive(Clone, Copy, PartialEq, Eq)]
 pub enum Point {
     /// Directly before the clock step of the begin of an access.
     Begin,
@@ -63,7 +63,7 @@ impl<G: Gate> Gate for &G {
 }
 
 /// A stall that spends no time.
-#[derive(Clone, Copy, Debug)]
+#[derive(Clone, Copy)]
 pub struct NoStall;
 
 impl Stall for NoStall {
@@ -71,7 +71,7 @@ impl Stall for NoStall {
 }
 
 /// A gate that holds nobody.
-#[derive(Clone, Copy, Debug)]
+#[derive(Clone, Copy)]
 pub struct Open;
 
 impl Gate for Open {

@@ -56,7 +56,7 @@ pub fn run_once<R: Threads + Wait + Sync, S: Stall, G: Gate>(
 }
 
 /// Which of many runs one is.
-#[derive(Clone, Copy, Debug, PartialEq, Eq)]
+#[derive(Clone, Copy, PartialEq, Eq)]
 pub struct Turn {
     /// Its number, which stands in its result.
     pub number: u64,

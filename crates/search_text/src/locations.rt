@@ -9,7 +9,7 @@ use litmus_syntax::Proposition;
 use std::alloc::{AllocError, Global};
 
 /// A register of a task, or a variable, by number.
-#[derive(Clone, Copy, Debug, PartialEq, Eq)]
+#[derive(Clone, Copy, PartialEq, Eq)]
 pub enum Location {
     Register { task: usize, register: usize },
     Variable { variable: usize },

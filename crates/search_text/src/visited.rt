@@ -16,7 +16,7 @@ use report_text::{Sink, WriteError, write_all};
 use step_schedule::Entry;
 
 /// How many states were searched: all of them, or as many as there may be at most.
-#[derive(Clone, Copy, Debug, PartialEq, Eq)]
+#[derive(Clone, Copy, PartialEq, Eq)]
 pub struct Visited {
     pub states: u64,
     /// The search was stopped at its limit, and other states remain.

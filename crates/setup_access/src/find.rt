@@ -19,13 +19,13 @@ use watch_word::{Layout, decode_in, matches_in};
 
 /// A look-up under way: the index that it reads next. A watchpoint is one word, so a load has all of it; that it
 /// may be gone by now is left to the try to take it.
-#[derive(Clone, Copy, Debug, PartialEq, Eq)]
+#[derive(Clone, Copy, PartialEq, Eq)]
 pub struct Find {
     place: Place,
 }
 
 /// Where a word that was read leads a look-up.
-#[derive(Clone, Copy, Debug, PartialEq, Eq)]
+#[derive(Clone, Copy, PartialEq, Eq)]
 pub enum Sought {
     Going(Find),
     Found(Watchpoint),

@@ -19,7 +19,7 @@ use slot::Pair;
 use slot_table::{Answer, Step};
 
 /// An access that takes a watchpoint.
-#[derive(Clone, Copy, Debug, PartialEq, Eq)]
+#[derive(Clone, Copy, PartialEq, Eq)]
 pub enum Found {
     /// Take it, if the word that was read stands at its index: so one access alone takes an arming. Where that word was
     /// removed and inserted anew since, the try takes whichever arming has that word now.
@@ -32,7 +32,7 @@ pub enum Found {
 }
 
 /// Where an answer leads an access that takes a watchpoint.
-#[derive(Clone, Copy, Debug, PartialEq, Eq)]
+#[derive(Clone, Copy, PartialEq, Eq)]
 pub enum Taking {
     Going(Found),
     Over(Outcome),

@@ -5,7 +5,7 @@ use slot::Pair;
 use value_filter::Reason;
 
 /// A watchpoint that a look-up found: where it is, and the word that was read there.
-#[derive(Clone, Copy, Debug, PartialEq, Eq)]
+#[derive(Clone, Copy, PartialEq, Eq)]
 pub struct Watchpoint {
     pub index: usize,
     pub word: u64,

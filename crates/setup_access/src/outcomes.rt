@@ -7,7 +7,7 @@ use crate::outcome::Outcome;
 use std::marker::Model;
 
 /// The outcomes of a check so far, in order: at most 9, its own and one for each scoped assertion in force.
-#[derive(Debug, Drop)]
+#[derive(Drop)]
 pub struct Outcomes {
     outcomes: [Outcome; 9],
     count: usize,

@@ -23,7 +23,7 @@ use skip_sampler::Sampler;
 use slot_table::{Answer, Step};
 
 /// A check of an access under way.
-#[derive(Clone, Copy, Debug, PartialEq, Eq)]
+#[derive(Clone, Copy, PartialEq, Eq)]
 pub enum Pass {
     Find(Find),
     Found(Found),
@@ -35,7 +35,7 @@ pub enum Pass {
 }
 
 /// Where an answer leads a check.
-#[derive(Clone, Copy, Debug, PartialEq, Eq)]
+#[derive(Clone, Copy, PartialEq, Eq)]
 pub enum To {
     Going(Pass),
     /// It is over, and has found a watchpoint or set one up.
@@ -45,7 +45,7 @@ pub enum To {
 }
 
 /// Where an answer leads a check, and the outcome that it gives.
-#[derive(Clone, Copy, Debug, PartialEq, Eq)]
+#[derive(Clone, Copy, PartialEq, Eq)]
 pub struct Turn {
     pub(crate) outcome: Option<Outcome>,
     pub(crate) to: To,

@@ -7,7 +7,7 @@ use list_copy::copied;
 use std::alloc::{AllocError, Global};
 
 /// What a task's checks go by: whose they are, the rules of the run, and the addresses of the cells.
-#[derive(Debug, Drop)]
+#[derive(Drop)]
 pub struct Setting {
     pub(crate) task: u32,
     pub(crate) rules: Rules,

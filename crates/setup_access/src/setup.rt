@@ -31,7 +31,7 @@ use value_filter::{Reason, Verdict, change, judge, seen_change};
 use watch_word::encode_in;
 
 /// An access that sets a watchpoint up and watches it.
-#[derive(Clone, Copy, Debug, PartialEq, Eq)]
+#[derive(Clone, Copy, PartialEq, Eq)]
 pub enum Setup {
     /// Try to insert the word.
     Insert {
@@ -69,7 +69,7 @@ pub enum Setup {
 }
 
 /// Where an answer leads an access that sets a watchpoint up.
-#[derive(Clone, Copy, Debug, PartialEq, Eq)]
+#[derive(Clone, Copy, PartialEq, Eq)]
 pub enum Watching {
     Going(Setup),
     /// No index was free. None is waited for: that would hold the task for the stall of another.

@@ -19,7 +19,7 @@ use index_order::Place;
 use skip_sampler::Sampler;
 
 /// Whose check it is.
-#[derive(Clone, Copy, Debug, PartialEq, Eq)]
+#[derive(Clone, Copy, PartialEq, Eq)]
 pub enum Role {
     /// Of the access that began.
     Access,
@@ -30,7 +30,7 @@ pub enum Role {
 }
 
 /// What a checker does next.
-#[derive(Clone, Copy, Debug, PartialEq, Eq)]
+#[derive(Clone, Copy, PartialEq, Eq)]
 pub enum Stage {
     /// Nothing: the check is over.
     Rest,

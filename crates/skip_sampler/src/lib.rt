@@ -20,7 +20,7 @@ pub use laws::{
 
 /// Says of each access that asks whether it is watched. Of two that are watched, `skip` others are
 /// skipped in between, or, randomized, from 1 to `skip` others.
-#[derive(Debug, PartialEq, Eq, Drop)]
+#[derive(PartialEq, Eq, Drop)]
 pub struct Sampler {
     skip: u64,
     randomize: bool,

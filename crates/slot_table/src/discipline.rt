@@ -31,7 +31,7 @@ pub enum Part {
 }
 
 /// The handshake that a task has in hand: at which index, and its part.
-#[derive(Clone, Copy, Debug, PartialEq, Eq)]
+#[derive(Clone, Copy, PartialEq, Eq)]
 pub struct InHand {
     pub index: usize,
     pub part: Part,

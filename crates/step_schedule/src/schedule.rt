@@ -16,7 +16,7 @@ pub struct Entry {
 }
 
 /// Which task makes how many steps, in order. After it the tasks take turns.
-#[derive(Debug, Drop)]
+#[derive(Drop)]
 pub struct Schedule {
     entries: Vec<Entry>,
 }

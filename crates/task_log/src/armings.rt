@@ -13,7 +13,7 @@ use std::alloc::{AllocError, Global};
 const SITES: usize = 256;
 
 /// Of a site, the highest ticket of a setter, and how many armings are by it.
-#[derive(Clone, Copy, Debug)]
+#[derive(Clone, Copy)]
 pub(crate) struct Highest {
     pub setter: u32,
     pub number: u64,
@@ -23,7 +23,7 @@ pub(crate) struct Highest {
 /// repetitions at a site only go up. So the next setter there is the highest or one with no arming yet, and its number
 /// is told at once, however many armings there are. Only those of a lower one would be counted one by one. All room is
 /// taken when it is made, so that no step takes memory.
-#[derive(Debug, Drop)]
+#[derive(Drop)]
 pub(crate) struct Armings {
     pub sites: Vec<Highest>,
 }

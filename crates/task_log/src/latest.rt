@@ -11,7 +11,7 @@ use access_types::ArmOutcome;
 use slot_table::{Answer, Step};
 
 /// What a task last said of a handshake.
-#[derive(Clone, Copy, Debug)]
+#[derive(Clone, Copy)]
 pub(crate) struct Latest {
     /// The ticket by which it named itself as a setter.
     pub named: Option<u32>,

@@ -21,7 +21,7 @@ use slot_table::Step;
 use std::alloc::{AllocError, Global};
 
 /// What a task keeps of its steps. It takes all its room when it is made.
-#[derive(Debug, Drop)]
+#[derive(Drop)]
 pub struct TaskLog {
     touches: Vec<Touch>,
     arms: Vec<Arm>,

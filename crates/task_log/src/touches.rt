@@ -11,7 +11,7 @@ use slot_table::{Answer, Step};
 use std::alloc::{AllocError, Global};
 
 /// An access that began, and that has ended or not.
-#[derive(Clone, Copy, Debug)]
+#[derive(Clone, Copy)]
 pub(crate) struct Touch {
     pub begun: Begun,
     /// The stamp of its begin.

@@ -9,7 +9,7 @@ use litmus_syntax::Loading;
 use same_text::is_same_loading;
 
 /// What takes the value of a load.
-#[derive(Clone, Copy, Debug)]
+#[derive(Clone, Copy)]
 pub enum Taker<'a> {
     /// Nothing: the load is a statement of its own.
     Nobody,
@@ -25,7 +25,7 @@ pub enum Taker<'a> {
 }
 
 /// What follows on an access.
-#[derive(Clone, Copy, Debug)]
+#[derive(Clone, Copy)]
 pub enum Then<'a> {
     /// The next statement.
     GoesOn,

@@ -28,7 +28,7 @@ use program_layout::Layout;
 
 /// An access of a statement: its bytes, its kind and its mask, what it does to its bytes, if it
 /// touches them, and what follows on it.
-#[derive(Clone, Copy, Debug)]
+#[derive(Clone, Copy)]
 pub struct Plan<'a> {
     pub bytes: Bytes,
     pub kind: Kind,

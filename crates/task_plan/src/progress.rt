@@ -18,7 +18,7 @@ use std::alloc::{AllocError, Global};
 pub const SITES: usize = 256;
 
 /// What a task keeps of what it did.
-#[derive(Debug, Drop)]
+#[derive(Drop)]
 pub struct Progress {
     /// The values of its registers, by number.
     registers: Vec<u64>,

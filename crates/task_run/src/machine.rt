@@ -28,5 +28,5 @@ pub(crate) struct Machine<'a> {
 }
 
 /// What is due needs more than the machine has room for.
-#[derive(Clone, Copy, Debug)]
+#[derive(Clone, Copy)]
 pub(crate) struct Beyond;

@@ -7,7 +7,7 @@ use access_run::memory_operation::LockWait;
 use task_plan::Then;
 
 /// What a task is doing: a part of its text with at least one step, or nothing more.
-#[derive(Clone, Copy, Debug)]
+#[derive(Clone, Copy)]
 pub(crate) enum Stage<'a> {
     /// Nothing: the text is over.
     Over,

@@ -28,7 +28,7 @@ const TEXT: &str =
     for (i = 0; i < 3; i++) { spin_lock(l); if (*x) { r0 = READ_ONCE(*x); } spin_unlock(l); } }\nexists (0:r0=1)\n";
 
 /// Where it ended.
-#[derive(Clone, Copy, Debug)]
+#[derive(Clone, Copy)]
 enum End {
     Before,
     Task(RunError),

@@ -18,7 +18,7 @@ use refusal_text::refusal_text;
 use std::alloc::{AllocError, Global};
 
 /// What comes of the check of a text.
-#[derive(Debug, Drop)]
+#[derive(Drop)]
 pub enum Check {
     /// It reads: the tables of its program, and its printed form.
     Reads { tables: Vec<u8>, printed: String },

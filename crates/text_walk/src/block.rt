@@ -7,7 +7,7 @@ ghost use Rattle.litmus_syntax.specs.Views.{block_of};
 use litmus_syntax::Statement;
 
 /// A loop, whose register is the number of the turn.
-#[derive(Clone, Copy, Debug)]
+#[derive(Clone, Copy)]
 pub(crate) struct Loop<'a> {
     pub(crate) register: usize,
     pub(crate) turns: u64,
@@ -18,7 +18,7 @@ pub(crate) struct Loop<'a> {
 }
 
 /// A turn of a loop, by its number from 0.
-#[derive(Clone, Copy, Debug)]
+#[derive(Clone, Copy)]
 pub(crate) struct Turn<'a> {
     pub(crate) of: Loop<'a>,
     pub(crate) number: u64,
@@ -26,7 +26,7 @@ pub(crate) struct Turn<'a> {
 }
 
 /// What follows on the end of a block.
-#[derive(Clone, Copy, Debug)]
+#[derive(Clone, Copy)]
 pub(crate) enum AtEnd<'a> {
     /// The statements after it.
     Leaves,
@@ -35,7 +35,7 @@ pub(crate) enum AtEnd<'a> {
 }
 
 /// A block that a task stands in.
-#[derive(Clone, Copy, Debug)]
+#[derive(Clone, Copy)]
 pub(crate) struct OpenBlock<'a> {
     pub(crate) left: &'a [Statement],
     /// Of the first statement left.
@@ -48,7 +48,7 @@ pub(crate) struct OpenBlock<'a> {
 }
 
 /// The blocks of an `if` whose condition a task has come to; `otherwise` is empty where it has none.
-#[derive(Clone, Copy, Debug)]
+#[derive(Clone, Copy)]
 pub(crate) struct Choice<'a> {
     pub(crate) body: OpenBlock<'a>,
     pub(crate) otherwise: OpenBlock<'a>,

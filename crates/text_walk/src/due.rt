@@ -4,7 +4,7 @@ use access_types::Kind;
 use litmus_syntax::{Expression, Statement};
 
 /// What a task does next. A site is that of the access, or of the next one where there is none.
-#[derive(Clone, Copy, Debug)]
+#[derive(Clone, Copy)]
 pub enum Due<'a> {
     /// A statement without a block, and that is no scoped assertion.
     Statement {
