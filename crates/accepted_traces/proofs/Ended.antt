@@ -4,32 +4,32 @@ use Rattle.std.proofs.Common.{arith, length, refl, subst, sym, take, Bool, true,
 use Rattle.std.proofs.lemmas.Bool.{eq-eqb, eqb-false, eqb-true}
 use Rattle.std.proofs.lemmas.List.{length-append, take-append-drop}
 use Rattle.std.proofs.lemmas.List.Elements.{All-contains, Contains-append_left, Contains-append_right}
-use Rattle.watch_word.specs.of_access_types_Access as access
-use Rattle.watch_word.specs.of_access_types_History.{History, InProgress, beginning, ending, happenings_of}
-use Rattle.watch_word.specs.of_access_types_Stamped.{Stamped}
-use Rattle.watch_word.specs.of_access_types_declared.history.Happening.{Happening}
-use Rattle.watch_word.specs.of_access_types_declared.history.Happening.TheVariants as happenings
-use Rattle.watch_word.specs.of_access_types_declared.history.Moment.{Moment}
-use Rattle.trace_replay.specs.of_report_text_Truth.{AreInProgressAtOnce}
+use Rattle.access_types.specs.Access as access
+use Rattle.access_types.specs.History.{History, InProgress, beginning, ending, happenings_of}
+use Rattle.access_types.specs.Stamped.{Stamped}
+use Rattle.access_types.specs.declared.history.Happening.{Happening}
+use Rattle.access_types.specs.declared.history.Happening.TheVariants as happenings
+use Rattle.access_types.specs.declared.history.Moment.{Moment}
+use Rattle.report_text.specs.Truth.{AreInProgressAtOnce}
 use Rattle.litmus_meaning.specs.RunOfProgram.{setting_of}
 use Rattle.litmus_meaning.specs.TextSites.{FitsTickets, block_sites}
-use Rattle.run_kept.specs.of_run_lists_Run.{Run, task_of, task_setting}
-use Rattle.run_kept.specs.of_run_lists_RunList.{RunList}
-use Rattle.run_kept.specs.of_run_lists_Told.{first_moments, history_by, history_of, made_by, moments_of}
-use Rattle.run_kept.proofs.of_run_lists_Histories.{did_of_all, of_both, of_task}
-use Rattle.run_kept.proofs.of_run_lists_Intervals.{Has, contains_has, has_contains, has_either, has_first, has_last}
+use Rattle.run_lists.specs.Run.{Run, task_of, task_setting}
+use Rattle.run_lists.specs.RunList.{RunList}
+use Rattle.run_lists.specs.Told.{first_moments, history_by, history_of, made_by, moments_of}
+use Rattle.run_lists.proofs.Histories.{did_of_all, of_both, of_task}
+use Rattle.run_lists.proofs.Intervals.{Has, contains_has, has_contains, has_either, has_first, has_last}
 use Rattle.run_kept.specs.Decided.{IsStampedSo}
 use Rattle.run_kept.specs.Lists.{AreAccesses, AreAccessesOf, ByTask}
 use Rattle.run_kept.specs.Spans.{HappensAt, IsSpan}
-use Rattle.run_kept.specs.of_run_headline_Events.{AreMarks, DoesEvent, EachDoesItsEvent, IsEvent}
+use Rattle.run_headline.specs.Events.{AreMarks, DoesEvent, EachDoesItsEvent, IsEvent}
 use Rattle.slot_table.specs.declared.records.Record.{Record}
 use Rattle.slot_table.specs.declared.step.Answer.TheVariants as answers
 use Rattle.slot_table.specs.declared.step.Step.TheVariants as steps
 use Rattle.run_kept.specs.Stamps.{is_clock, stamps_in}
 use Rattle.run_kept.proofs.Clock.{event_turns, turns, turns_both, turns_of_marks}
-use Rattle.run_kept.proofs.of_run_lists_Begun.{once}
-use Rattle.run_kept.specs.of_written_order_Standing as tasks
-use Rattle.run_kept.specs.of_written_order_Told.{did_by, did_next}
+use Rattle.run_lists.proofs.Begun.{once}
+use Rattle.written_order.specs.Standing as tasks
+use Rattle.written_order.specs.Told.{did_by, did_next}
 use Rattle.accepted_traces.proofs.Spans as spans
 use Rattle.accepted_traces.proofs.Spans.{IsTurn, clock_step}
 

@@ -6,29 +6,29 @@ use Rattle.std.specs.FinMap as fin
 use Rattle.std.proofs.lemmas.Bool.{eq-eqb, eqb-true, ne_eqb}
 use Rattle.std.proofs.lemmas.List.{length-append, length-reverse}
 use Rattle.std.proofs.lemmas.List.Elements.{All-append, All-cons, All-contains, All-nil, Contains-append_right}
-use Rattle.watch_word.specs.of_access_types_Access as access
-use Rattle.watch_word.specs.of_access_types_Arms.{Arm}
-use Rattle.watch_word.specs.of_access_types_History.{InProgress, beginning, ending}
-use Rattle.watch_word.specs.of_access_types_Kind.{is_assertion, is_scoped}
-use Rattle.watch_word.specs.of_access_types_Stamped.{Stamped}
-use Rattle.watch_word.specs.of_access_types_Takes.{Take}
-use Rattle.watch_word.specs.of_access_types_Ticket.{ticket_number}
-use Rattle.watch_word.specs.of_access_types_declared.arms.ArmOutcome.{ArmOutcome}
-use Rattle.watch_word.specs.of_access_types_declared.arms.ArmOutcome.TheVariants as became
-use Rattle.watch_word.specs.of_access_types_declared.arms.HitResult.{HitResult}
-use Rattle.watch_word.specs.of_access_types_declared.kind.Kind.{Kind}
-use Rattle.watch_word.specs.of_access_types_declared.kind.Kind.TheVariants as kinds
+use Rattle.access_types.specs.Access as access
+use Rattle.access_types.specs.Arms.{Arm}
+use Rattle.access_types.specs.History.{InProgress, beginning, ending}
+use Rattle.access_types.specs.Kind.{is_assertion, is_scoped}
+use Rattle.access_types.specs.Stamped.{Stamped}
+use Rattle.access_types.specs.Takes.{Take}
+use Rattle.access_types.specs.Ticket.{ticket_number}
+use Rattle.access_types.specs.declared.arms.ArmOutcome.{ArmOutcome}
+use Rattle.access_types.specs.declared.arms.ArmOutcome.TheVariants as became
+use Rattle.access_types.specs.declared.arms.HitResult.{HitResult}
+use Rattle.access_types.specs.declared.kind.Kind.{Kind}
+use Rattle.access_types.specs.declared.kind.Kind.TheVariants as kinds
 use Rattle.litmus_meaning.specs.RunOfProgram.{setting_of}
 use Rattle.litmus_meaning.specs.TextSites.{FitsTickets, block_sites}
-use Rattle.trace_replay.specs.of_report_text_Truth.{AreOneBag, IsIndexOf, hit_in, hits_in, is_take}
-use Rattle.run_kept.specs.of_run_lists_Run.{Run, first_cells, locks_of, task_of, task_setting}
-use Rattle.run_kept.specs.of_run_lists_RunList.{RunList}
-use Rattle.run_kept.specs.of_run_lists_Told.{OutcomeAt, history_of, made_by, outcomes_of}
-use Rattle.run_kept.proofs.of_run_lists_OwnLasts.{one_arming, own_latest, stands_later}
+use Rattle.report_text.specs.Truth.{AreOneBag, IsIndexOf, hit_in, hits_in, is_take}
+use Rattle.run_lists.specs.Run.{Run, first_cells, locks_of, task_of, task_setting}
+use Rattle.run_lists.specs.RunList.{RunList}
+use Rattle.run_lists.specs.Told.{OutcomeAt, history_of, made_by, outcomes_of}
+use Rattle.run_lists.proofs.OwnLasts.{one_arming, own_latest, stands_later}
 use Rattle.run_kept.specs.Lists.{AreAccesses, AreArms, AreArmsBy, AreArmsOf, ByTask, verdicts_by}
-use Rattle.run_kept.specs.of_run_headline_Events.{AreMarks, EachDoesItsEvent}
-use Rattle.run_kept.specs.of_run_headline_Joined.{IfAnswersBoth}
-use Rattle.run_kept.specs.of_run_headline_Watches.{IfVerdict, IsOfWatch, IsWatch}
+use Rattle.run_headline.specs.Events.{AreMarks, EachDoesItsEvent}
+use Rattle.run_headline.specs.Joined.{IfAnswersBoth}
+use Rattle.run_headline.specs.Watches.{IfVerdict, IsOfWatch, IsWatch}
 use Rattle.slot_table.specs.Armings.{Arming}
 use Rattle.slot_table.specs.Hearings.{IsArming, SomeRecord}
 use Rattle.slot_table.specs.Meetings.{finders_told, numbers_met}
@@ -43,8 +43,8 @@ use Rattle.watch_word.specs.declared.layout.Layout.{Layout}
 use Rattle.watch_word.specs.declared.layout.Layout.TheVariants.{W64, W32}
 use Rattle.run_kept.specs.Stamps.{stamps_in}
 use Rattle.run_kept.specs.Watched.{FitsItsTask, IfTold, IfWatched}
-use Rattle.run_kept.specs.of_written_order_Standing.{checks_of}
-use Rattle.run_kept.specs.of_written_order_Told.{did_by}
+use Rattle.written_order.specs.Standing.{checks_of}
+use Rattle.written_order.specs.Told.{did_by}
 use Rattle.accepted_traces.specs.Parts.{ArmFits, OfNamed, OutcomeFits, TakeFits}
 use Rattle.accepted_traces.proofs.Arms as arming
 use Rattle.accepted_traces.proofs.Arms.{arming_of}

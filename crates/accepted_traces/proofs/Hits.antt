@@ -4,55 +4,55 @@ use Rattle.std.proofs.Common.{None, Option, Some, ap, arith, Bool, false, length
 use Rattle.std.proofs.lemmas.Bool.{ne_eqb}
 use Rattle.std.proofs.lemmas.Bool.Decides.{leb_tells}
 use Rattle.std.proofs.lemmas.List.Elements.{All-contains}
-use Rattle.watch_word.specs.of_access_types_Access as access
-use Rattle.watch_word.specs.of_access_types_Access.{Overlap, proper_mask}
-use Rattle.watch_word.specs.of_access_types_Arms.{Arm}
-use Rattle.watch_word.specs.of_access_types_History.{InProgress, beginning, ending}
-use Rattle.watch_word.specs.of_access_types_Kind.{is_assertion}
-use Rattle.watch_word.specs.of_access_types_Marked.{CountedAsMarked, Silenced}
-use Rattle.watch_word.specs.of_access_types_Stamped.{Stamped}
-use Rattle.watch_word.specs.of_access_types_Ticket.{ticket_number}
-use Rattle.watch_word.specs.of_access_types_declared.arms.ArmOutcome.{ArmOutcome}
-use Rattle.watch_word.specs.of_access_types_declared.arms.HitResult.{HitResult}
-use Rattle.watch_word.specs.of_access_types_declared.arms.HitResult.TheVariants as results
+use Rattle.access_types.specs.Access as access
+use Rattle.access_types.specs.Access.{Overlap, proper_mask}
+use Rattle.access_types.specs.Arms.{Arm}
+use Rattle.access_types.specs.History.{InProgress, beginning, ending}
+use Rattle.access_types.specs.Kind.{is_assertion}
+use Rattle.access_types.specs.Marked.{CountedAsMarked, Silenced}
+use Rattle.access_types.specs.Stamped.{Stamped}
+use Rattle.access_types.specs.Ticket.{ticket_number}
+use Rattle.access_types.specs.declared.arms.ArmOutcome.{ArmOutcome}
+use Rattle.access_types.specs.declared.arms.HitResult.{HitResult}
+use Rattle.access_types.specs.declared.arms.HitResult.TheVariants as results
 use Rattle.litmus_meaning.specs.RunOfProgram.{setting_of}
 use Rattle.litmus_meaning.specs.TextSites.{FitsTickets, block_sites}
-use Rattle.trace_replay.specs.of_report_text_Truth.{IsIndexOf, ResultAgrees}
-use Rattle.run_kept.specs.of_run_lists_Answers.{AnswersTaking, is_answer}
-use Rattle.run_kept.specs.of_run_lists_Run.{Run, task_of, task_setting}
-use Rattle.run_kept.specs.of_run_lists_RunList.{RunList}
-use Rattle.run_kept.specs.of_run_lists_Told.{Armed, OutcomeAt, history_of, outcomes_of}
-use Rattle.run_kept.proofs.of_run_lists_Intervals.{Has, contains_has}
-use Rattle.run_kept.proofs.of_run_lists_OwnLasts.{one_arming, stands_later, still_told}
+use Rattle.report_text.specs.Truth.{IsIndexOf, ResultAgrees}
+use Rattle.run_lists.specs.Answers.{AnswersTaking, is_answer}
+use Rattle.run_lists.specs.Run.{Run, task_of, task_setting}
+use Rattle.run_lists.specs.RunList.{RunList}
+use Rattle.run_lists.specs.Told.{Armed, OutcomeAt, history_of, outcomes_of}
+use Rattle.run_lists.proofs.Intervals.{Has, contains_has}
+use Rattle.run_lists.proofs.OwnLasts.{one_arming, stands_later, still_told}
 use Rattle.run_kept.specs.Lists.{AreAccesses, Became, IsHit}
-use Rattle.run_kept.specs.of_run_headline_Events.{AreMarks, EachDoesItsEvent}
-use Rattle.run_kept.specs.of_run_headline_Joined.{AnswersBoth}
-use Rattle.run_kept.proofs.of_run_headline_Makers.{finds_hit}
-use Rattle.run_kept.specs.of_setup_access_Hits.{Hits}
-use Rattle.run_kept.specs.of_setup_access_Setting as checks
-use Rattle.run_kept.specs.of_setup_access_Setting.{look_order, slot_of}
-use Rattle.run_kept.specs.of_setup_access_Verdicts as verdicts
-use Rattle.run_kept.specs.of_setup_access_Verdicts.{ChangeOf, HitOutcome}
-use Rattle.run_kept.specs.of_setup_access_declared.outcome.Outcome.{Outcome}
-use Rattle.run_kept.specs.of_setup_access_declared.outcome.Outcome.TheVariants as outcomes
-use Rattle.slot_table.specs.of_slot_Pair.{Halves}
+use Rattle.run_headline.specs.Events.{AreMarks, EachDoesItsEvent}
+use Rattle.run_headline.specs.Joined.{AnswersBoth}
+use Rattle.run_headline.proofs.Makers.{finds_hit}
+use Rattle.setup_access.specs.Hits.{Hits}
+use Rattle.setup_access.specs.Setting as checks
+use Rattle.setup_access.specs.Setting.{look_order, slot_of}
+use Rattle.setup_access.specs.Verdicts as verdicts
+use Rattle.setup_access.specs.Verdicts.{ChangeOf, HitOutcome}
+use Rattle.setup_access.specs.declared.outcome.Outcome.{Outcome}
+use Rattle.setup_access.specs.declared.outcome.Outcome.TheVariants as outcomes
+use Rattle.slot.specs.Pair.{Halves}
 use Rattle.slot_table.specs.Hearings.{IsArming, SomeRecord}
 use Rattle.slot_table.specs.Meetings.{Meeting, finders_told, numbers_met}
 use Rattle.slot_table.specs.declared.records.Record.{Record}
 use Rattle.slot_table.specs.declared.step.Answer.TheVariants as answers
 use Rattle.slot_table.specs.declared.step.Step.TheVariants as steps
-use Rattle.run_kept.specs.of_task_log_Noted.{dropped}
-use Rattle.run_kept.specs.of_value_filter_Verdict as table
-use Rattle.run_kept.specs.of_value_filter_Verdict.{MattersUnchanged, VerdictOf}
-use Rattle.run_kept.specs.of_value_filter_declared.verdict.Change.{Change}
-use Rattle.run_kept.specs.of_value_filter_declared.verdict.Change.TheVariants.{Maybe, Ruled}
-use Rattle.run_kept.specs.of_value_filter_declared.verdict.Reason.{Reason}
-use Rattle.run_kept.specs.of_value_filter_declared.verdict.Reason.TheVariants.{Encoding, MaskedBits, SameValue}
-use Rattle.run_kept.specs.of_value_filter_declared.verdict.Verdict.TheVariants as verdict
+use Rattle.task_log.specs.Noted.{dropped}
+use Rattle.value_filter.specs.Verdict as table
+use Rattle.value_filter.specs.Verdict.{MattersUnchanged, VerdictOf}
+use Rattle.value_filter.specs.declared.verdict.Change.{Change}
+use Rattle.value_filter.specs.declared.verdict.Change.TheVariants.{Maybe, Ruled}
+use Rattle.value_filter.specs.declared.verdict.Reason.{Reason}
+use Rattle.value_filter.specs.declared.verdict.Reason.TheVariants.{Encoding, MaskedBits, SameValue}
+use Rattle.value_filter.specs.declared.verdict.Verdict.TheVariants as verdict
 use Rattle.run_kept.specs.Stamps.{stamps_in}
 use Rattle.run_kept.specs.Watched.{IfTold}
-use Rattle.run_kept.specs.of_written_order_Standing.{checks_of}
-use Rattle.run_kept.specs.of_written_order_Told.{did_by}
+use Rattle.written_order.specs.Standing.{checks_of}
+use Rattle.written_order.specs.Told.{did_by}
 use Rattle.accepted_traces.specs.Parts.{IsNamed, OutcomeFits}
 use Rattle.accepted_traces.proofs.Ended as ended
 use Rattle.accepted_traces.proofs.Watches.{found_at, looked_index}

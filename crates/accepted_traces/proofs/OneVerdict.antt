@@ -7,27 +7,27 @@ use Rattle.std.proofs.lemmas.Bool.Decides.{eqb_tells, leb_tells}
 use Rattle.std.proofs.lemmas.Bool.{eqb-true}
 use Rattle.std.proofs.lemmas.List.{length-append, length-reverse}
 use Rattle.std.proofs.lemmas.List.Sums.{sum_by-cons}
-use Rattle.watch_word.specs.of_access_types_Access as access
-use Rattle.watch_word.specs.of_access_types_Kind.{is_scoped}
-use Rattle.watch_word.specs.of_access_types_Ticket.{ticket_number}
-use Rattle.watch_word.specs.of_access_types_declared.history.Happening.{Happening}
-use Rattle.watch_word.specs.of_access_types_declared.history.Happening.TheVariants as happenings
+use Rattle.access_types.specs.Access as access
+use Rattle.access_types.specs.Kind.{is_scoped}
+use Rattle.access_types.specs.Ticket.{ticket_number}
+use Rattle.access_types.specs.declared.history.Happening.{Happening}
+use Rattle.access_types.specs.declared.history.Happening.TheVariants as happenings
 use Rattle.litmus_meaning.specs.RunOfProgram.{setting_of}
 use Rattle.litmus_meaning.specs.TextSites.{FitsTickets, block_sites}
 use Rattle.litmus_meaning.proofs.TicketLemmas.{own_tickets}
-use Rattle.run_kept.specs.of_run_lists_Run.{Run, task_of, task_setting}
-use Rattle.run_kept.specs.of_run_lists_RunList.{RunList}
-use Rattle.run_kept.specs.of_run_lists_Told.{OutcomeAt, armed_by, came_next, made_by, outcome_at}
-use Rattle.run_kept.proofs.of_run_lists_Histories.{front_of}
-use Rattle.run_kept.proofs.of_run_lists_OwnLasts.{own_latest}
+use Rattle.run_lists.specs.Run.{Run, task_of, task_setting}
+use Rattle.run_lists.specs.RunList.{RunList}
+use Rattle.run_lists.specs.Told.{OutcomeAt, armed_by, came_next, made_by, outcome_at}
+use Rattle.run_lists.proofs.Histories.{front_of}
+use Rattle.run_lists.proofs.OwnLasts.{own_latest}
 use Rattle.run_kept.specs.Lists.{verdicts_by}
-use Rattle.run_kept.specs.of_run_headline_Watches.{is_verdict}
-use Rattle.run_kept.specs.of_setup_access_Check.{Fallen}
+use Rattle.run_headline.specs.Watches.{is_verdict}
+use Rattle.setup_access.specs.Check.{Fallen}
 use Rattle.slot_table.specs.Records.{records_of}
 use Rattle.slot_table.specs.declared.records.Record.{Record}
 use Rattle.run_kept.proofs.OneVerdictAtMost.{begins_with, few_verdicts, is_verdict_of}
-use Rattle.run_kept.specs.of_written_order_Told.{fell_next, to_come}
-use Rattle.run_kept.proofs.of_written_order_MeaningLemmas.{whole_means}
+use Rattle.written_order.specs.Told.{fell_next, to_come}
+use Rattle.written_order.proofs.MeaningLemmas.{whole_means}
 
 -- ---- counts
 

@@ -7,19 +7,19 @@ use Rattle.std.proofs.lemmas.Grind.{flat_map-append}
 use Rattle.std.proofs.lemmas.List.{length-append}
 use Rattle.std.proofs.lemmas.List.Elements.{All-append, All-filter, filter-append}
 use Rattle.std.proofs.lemmas.List.Sums.{length-filter}
-use Rattle.watch_word.specs.of_access_types_Ticket.{task_in}
-use Rattle.watch_word.specs.of_access_types_declared.report.Report.{Report}
+use Rattle.access_types.specs.Ticket.{task_in}
+use Rattle.access_types.specs.declared.report.Report.{Report}
 use Rattle.run_kept.specs.Setters.{is_by, reports_by, setter_of}
-use Rattle.run_kept.specs.of_run_lists_Reports.{reports_of}
-use Rattle.run_kept.specs.of_run_lists_Run.{Run}
-use Rattle.run_kept.specs.of_run_lists_RunList.{RunList}
+use Rattle.run_lists.specs.Reports.{reports_of}
+use Rattle.run_lists.specs.Run.{Run}
+use Rattle.run_lists.specs.RunList.{RunList}
 use Rattle.run_kept.specs.Lists.{ByTask}
 use Rattle.run_kept.specs.Noted.{AreNoted, Notes}
-use Rattle.run_kept.proofs.of_run_headline_Watches.{is_below}
+use Rattle.run_headline.proofs.Watches.{is_below}
 use Rattle.slot_table.specs.Records.{records_of}
 use Rattle.slot_table.specs.declared.records.Record.{Record}
-use Rattle.run_kept.specs.of_task_log_Reports.{reported_in}
-use Rattle.run_kept.specs.of_task_log_declared.noted.Noted.{Noted}
+use Rattle.task_log.specs.Reports.{reported_in}
+use Rattle.task_log.specs.declared.noted.Noted.{Noted}
 
 count_append : {X : Type 0} (p : X → Bool) (xs ys : List X) → count_by p (xs ++ ys) ≡ count_by p xs + count_by p ys
 count_append p xs ys =

@@ -5,46 +5,46 @@ use Rattle.std.proofs.Math.Nat.{pow-suc}
 use Rattle.std.proofs.lemmas.Bool.{ne_eqb}
 use Rattle.std.proofs.lemmas.Bool.Decides.{eqb_tells}
 use Rattle.std.proofs.lemmas.List.Elements.{All-contains}
-use Rattle.watch_word.specs.of_access_types_Access as access
-use Rattle.watch_word.specs.of_access_types_Access.{proper_mask}
-use Rattle.watch_word.specs.of_access_types_History.{History, InProgress, Memory, after_happening, after_moments, beginning, content, ending, laid, value_from}
-use Rattle.watch_word.specs.of_access_types_Race.{Differ, bytes_of}
-use Rattle.watch_word.specs.of_access_types_Stamped.{Stamped}
-use Rattle.watch_word.specs.of_access_types_Ticket.{ticket_number}
-use Rattle.watch_word.specs.of_access_types_declared.history.Bytes.{Bytes}
-use Rattle.watch_word.specs.of_access_types_declared.history.Happening.{Happening}
-use Rattle.watch_word.specs.of_access_types_declared.history.Happening.TheVariants as happenings
-use Rattle.watch_word.specs.of_access_types_declared.report.Report.{Report}
-use Rattle.watch_word.specs.of_access_types_declared.report.Report.TheVariants as reports
+use Rattle.access_types.specs.Access as access
+use Rattle.access_types.specs.Access.{proper_mask}
+use Rattle.access_types.specs.History.{History, InProgress, Memory, after_happening, after_moments, beginning, content, ending, laid, value_from}
+use Rattle.access_types.specs.Race.{Differ, bytes_of}
+use Rattle.access_types.specs.Stamped.{Stamped}
+use Rattle.access_types.specs.Ticket.{ticket_number}
+use Rattle.access_types.specs.declared.history.Bytes.{Bytes}
+use Rattle.access_types.specs.declared.history.Happening.{Happening}
+use Rattle.access_types.specs.declared.history.Happening.TheVariants as happenings
+use Rattle.access_types.specs.declared.report.Report.{Report}
+use Rattle.access_types.specs.declared.report.Report.TheVariants as reports
 use Rattle.litmus_meaning.specs.Layout.{initial_values, memory_at_first}
 use Rattle.litmus_meaning.specs.RunOfProgram.{setting_of}
 use Rattle.litmus_meaning.specs.TextSites.{FitsTickets, block_sites}
-use Rattle.run_kept.proofs.of_memory_operation_WordLemmas.{range_is}
-use Rattle.trace_replay.specs.of_report_text_Truth.{IsLoadable, MaySee, RaceByStamps}
-use Rattle.run_kept.specs.of_run_headline_Reported.{IsOfOutcome}
-use Rattle.run_kept.specs.of_run_headline_Watched.{ChangedInWatch, IfUnknownInWatch, NamesWatched}
-use Rattle.run_kept.proofs.of_run_headline_Memories.{HoldsBytes, first_bytes}
-use Rattle.run_kept.specs.of_run_lists_Reports.{reported, reports_of}
-use Rattle.run_kept.specs.of_run_lists_Run.{Run, task_of, task_setting}
-use Rattle.run_kept.specs.of_run_lists_RunList.{RunList}
-use Rattle.run_kept.specs.of_run_lists_Told.{OutcomeAt, history_of, outcomes_of}
-use Rattle.run_kept.specs.of_run_lists_TwoSides.{IfTwoSided, NamesBoth, NamesTwoSides}
+use Rattle.memory_operation.proofs.WordLemmas.{range_is}
+use Rattle.report_text.specs.Truth.{IsLoadable, MaySee, RaceByStamps}
+use Rattle.run_headline.specs.Reported.{IsOfOutcome}
+use Rattle.run_headline.specs.Watched.{ChangedInWatch, IfUnknownInWatch, NamesWatched}
+use Rattle.run_headline.proofs.Memories.{HoldsBytes, first_bytes}
+use Rattle.run_lists.specs.Reports.{reported, reports_of}
+use Rattle.run_lists.specs.Run.{Run, task_of, task_setting}
+use Rattle.run_lists.specs.RunList.{RunList}
+use Rattle.run_lists.specs.Told.{OutcomeAt, history_of, outcomes_of}
+use Rattle.run_lists.specs.TwoSides.{IfTwoSided, NamesBoth, NamesTwoSides}
 use Rattle.run_kept.specs.Lists.{AreAccesses}
-use Rattle.run_kept.specs.of_run_headline_Events.{AreMarks, EachDoesItsEvent}
-use Rattle.run_kept.specs.of_run_headline_Watches.{is_verdict}
-use Rattle.run_kept.specs.of_setup_access_Setting as checks
-use Rattle.run_kept.specs.of_setup_access_Values.{has_value, source_of}
-use Rattle.run_kept.specs.of_setup_access_declared.outcome.Outcome.{Outcome}
-use Rattle.run_kept.specs.of_setup_access_declared.outcome.Outcome.TheVariants as outcomes
-use Rattle.run_kept.specs.of_setup_access_declared.source.Source.{Source}
-use Rattle.slot_table.specs.of_slot_Pair.{Halves}
+use Rattle.run_headline.specs.Events.{AreMarks, EachDoesItsEvent}
+use Rattle.run_headline.specs.Watches.{is_verdict}
+use Rattle.setup_access.specs.Setting as checks
+use Rattle.setup_access.specs.Values.{has_value, source_of}
+use Rattle.setup_access.specs.declared.outcome.Outcome.{Outcome}
+use Rattle.setup_access.specs.declared.outcome.Outcome.TheVariants as outcomes
+use Rattle.setup_access.specs.declared.source.Source.{Source}
+use Rattle.slot.specs.Pair.{Halves}
 use Rattle.slot_table.specs.declared.records.Record.{Record}
 use Rattle.slot_table.specs.declared.step.Answer.TheVariants as answers
 use Rattle.slot_table.specs.declared.step.Step.TheVariants as steps
 use Rattle.run_kept.specs.Stamps.{stamps_in}
 use Rattle.run_kept.specs.Watched.{IfWatched}
-use Rattle.run_kept.specs.of_written_order_Standing.{checks_of}
-use Rattle.run_kept.specs.of_written_order_Told.{did_by}
+use Rattle.written_order.specs.Standing.{checks_of}
+use Rattle.written_order.specs.Told.{did_by}
 use Rattle.accepted_traces.specs.Parts.{OfNamed, ReportFits}
 use Rattle.accepted_traces.proofs.Ended as ended
 use Rattle.accepted_traces.proofs.Hits as hits

@@ -3,22 +3,22 @@ use Rattle.std.proofs.Common.{◌≡◌, ◌∷◌, ◌++◌, ◌∙◌, ◌+◌
 use Rattle.std.specs.Prelude.{All, Contains, count_by}
 use Rattle.std.proofs.lemmas.List.{map-append}
 use Rattle.std.proofs.lemmas.List.Elements.{All-append, All-contains, All-cons, All-nil, Contains-append_right}
-use Rattle.watch_word.specs.of_access_types_Arms.{Arm}
-use Rattle.watch_word.specs.of_access_types_Stamped.{Stamped}
-use Rattle.watch_word.specs.of_access_types_Takes.{Take}
-use Rattle.watch_word.specs.of_access_types_Ticket.{ticket_number}
-use Rattle.watch_word.specs.of_access_types_declared.arms.ArmOutcome.{ArmOutcome}
-use Rattle.watch_word.specs.of_access_types_declared.arms.ArmOutcome.TheVariants.{Quiet, Origin, Hit}
-use Rattle.watch_word.specs.of_access_types_declared.report.Report.{Report}
-use Rattle.watch_word.specs.of_access_types_declared.report.Report.TheVariants.{Two, Unknown}
+use Rattle.access_types.specs.Arms.{Arm}
+use Rattle.access_types.specs.Stamped.{Stamped}
+use Rattle.access_types.specs.Takes.{Take}
+use Rattle.access_types.specs.Ticket.{ticket_number}
+use Rattle.access_types.specs.declared.arms.ArmOutcome.{ArmOutcome}
+use Rattle.access_types.specs.declared.arms.ArmOutcome.TheVariants.{Quiet, Origin, Hit}
+use Rattle.access_types.specs.declared.report.Report.{Report}
+use Rattle.access_types.specs.declared.report.Report.TheVariants.{Two, Unknown}
 use Rattle.watch_word.specs.declared.layout.Layout.{Layout}
-use Rattle.trace_replay.specs.of_report_text_Faults.{AreTrue}
-use Rattle.trace_replay.specs.of_report_text_Standing.{FinderStands, HaveOtherStamps, Names, NamesOne, ReportStands, Stands, accesses_of, arms_of, kind_place, reports_of, takes_of}
-use Rattle.trace_replay.specs.of_report_text_TraceText.{Head, second, written_lines}
-use Rattle.trace_replay.specs.of_report_text_Truth.{IsIndexOf, IsLoadable, IsTrueEnd, IsTrueLine, OutcomeIsTrue, ReportIsTrue}
-use Rattle.trace_replay.specs.of_report_text_declared.line.Line.{Line}
-use Rattle.trace_replay.specs.of_report_text_declared.line.Line.TheVariants as lines
-use Rattle.trace_replay.proofs.of_report_text_TrueLines.{accesses-append, arms-append, reports-append, takes-append}
+use Rattle.report_text.specs.Faults.{AreTrue}
+use Rattle.report_text.specs.Standing.{FinderStands, HaveOtherStamps, Names, NamesOne, ReportStands, Stands, accesses_of, arms_of, kind_place, reports_of, takes_of}
+use Rattle.report_text.specs.TraceText.{Head, second, written_lines}
+use Rattle.report_text.specs.Truth.{IsIndexOf, IsLoadable, IsTrueEnd, IsTrueLine, OutcomeIsTrue, ReportIsTrue}
+use Rattle.report_text.specs.declared.line.Line.{Line}
+use Rattle.report_text.specs.declared.line.Line.TheVariants as lines
+use Rattle.report_text.proofs.TrueLines.{accesses-append, arms-append, reports-append, takes-append}
 use Rattle.accepted_traces.specs.Parts.{AccessFits, ArmFits, AreParts, AreOther, IsNamed, OfNamed, OutcomeFits, ReportFits, TakeFits}
 
 -- what is of each kind among lines of one kind

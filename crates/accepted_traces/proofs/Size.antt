@@ -10,31 +10,31 @@ use Rattle.std.proofs.lemmas.Grind.{flat_map-append}
 use Rattle.std.proofs.lemmas.List.Elements.{All-cons, All-contains, All-nil, All-tail, All-weaker}
 use Rattle.std.proofs.lemmas.List.Sums.{count_by-le-length}
 use Rattle.std.proofs.lemmas.Bool.Decides.{eqb_tells}
-use Rattle.watch_word.specs.of_access_types_Arms.{Arm}
-use Rattle.watch_word.specs.of_access_types_ReportText.{hex}
-use Rattle.watch_word.specs.of_access_types_Stamped.{Stamped}
-use Rattle.watch_word.specs.of_access_types_Takes.{Take}
-use Rattle.watch_word.specs.of_access_types_Ticket.{rep_in, site_in, task_in}
-use Rattle.watch_word.specs.of_access_types_declared.arms.ArmOutcome.{ArmOutcome}
-use Rattle.watch_word.specs.of_access_types_declared.arms.ArmOutcome.TheVariants.{Quiet, Origin, Hit}
-use Rattle.watch_word.specs.of_access_types_declared.arms.HitResult.{HitResult}
-use Rattle.watch_word.specs.of_access_types_declared.arms.HitResult.TheVariants as results
-use Rattle.watch_word.specs.of_access_types_declared.kind.Claim.TheVariants.{NoWrites, NoAccesses}
-use Rattle.watch_word.specs.of_access_types_declared.kind.Kind.{Kind}
-use Rattle.watch_word.specs.of_access_types_declared.kind.Kind.TheVariants as kinds
-use Rattle.watch_word.specs.of_access_types_declared.kind.Operation.TheVariants.{Read, Write, ReadWrite}
-use Rattle.watch_word.specs.of_access_types_declared.report.Report.{Report}
-use Rattle.watch_word.specs.of_access_types_declared.report.Report.TheVariants.{Two, Unknown}
-use Rattle.trace_replay.specs.of_report_text_Line.{hex_field, hit_word, kind_letters, letter_if, letters, line_text, name, name_in, outcome_words, repetition, spell_access, spell_arm, spell_origin, spell_race, spell_take}
-use Rattle.trace_replay.specs.of_report_text_declared.line.Line.{Line}
-use Rattle.trace_replay.specs.of_report_text_declared.line.Line.TheVariants as lines
-use Rattle.trace_replay.specs.of_report_text_Faults.{size_limit}
-use Rattle.trace_replay.specs.of_report_text_TraceText.{end_line, second_version, shape_line, width_word, written_lines, written_trace}
+use Rattle.access_types.specs.Arms.{Arm}
+use Rattle.access_types.specs.ReportText.{hex}
+use Rattle.access_types.specs.Stamped.{Stamped}
+use Rattle.access_types.specs.Takes.{Take}
+use Rattle.access_types.specs.Ticket.{rep_in, site_in, task_in}
+use Rattle.access_types.specs.declared.arms.ArmOutcome.{ArmOutcome}
+use Rattle.access_types.specs.declared.arms.ArmOutcome.TheVariants.{Quiet, Origin, Hit}
+use Rattle.access_types.specs.declared.arms.HitResult.{HitResult}
+use Rattle.access_types.specs.declared.arms.HitResult.TheVariants as results
+use Rattle.access_types.specs.declared.kind.Claim.TheVariants.{NoWrites, NoAccesses}
+use Rattle.access_types.specs.declared.kind.Kind.{Kind}
+use Rattle.access_types.specs.declared.kind.Kind.TheVariants as kinds
+use Rattle.access_types.specs.declared.kind.Operation.TheVariants.{Read, Write, ReadWrite}
+use Rattle.access_types.specs.declared.report.Report.{Report}
+use Rattle.access_types.specs.declared.report.Report.TheVariants.{Two, Unknown}
+use Rattle.report_text.specs.Line.{hex_field, hit_word, kind_letters, letter_if, letters, line_text, name, name_in, outcome_words, repetition, spell_access, spell_arm, spell_origin, spell_race, spell_take}
+use Rattle.report_text.specs.declared.line.Line.{Line}
+use Rattle.report_text.specs.declared.line.Line.TheVariants as lines
+use Rattle.report_text.specs.Faults.{size_limit}
+use Rattle.report_text.specs.TraceText.{end_line, second_version, shape_line, width_word, written_lines, written_trace}
 use Rattle.watch_word.specs.declared.layout.Layout.{Layout}
 use Rattle.watch_word.specs.declared.layout.Layout.TheVariants.{W64, W32}
 use Rattle.accepted_traces.specs.Parts.{AccessFits, ArmFits, AreParts, IsNamed, OutcomeFits, ReportFits, TakeFits}
 use Rattle.accepted_traces.proofs.Sections.{index_within, value_limit}
-use Rattle.trace_replay.proofs.of_trace_lines_Hex.{length-hex}
+use Rattle.trace_lines.proofs.Hex.{length-hex}
 
 long_hex : (n : ℕ) → n < 2 ^ 64 → length (hex_field n) ≡ 18
 long_hex n small = omega (arith, length-append (codes "0x") (hex 16 n), length-hex n small)

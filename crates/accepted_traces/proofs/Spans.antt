@@ -3,32 +3,32 @@ use Rattle.std.proofs.Common.{◌≡◌, ◌≢◌, ◌<◌, ◌≤◌, ◌+◌,
 use Rattle.std.proofs.Common.{Some, ap, append_assoc, append-nil, arith, if◌then◌else◌, length, refl, reverse, slice_get, slice_index_or, subst, sym, unwrap_or}
 use Rattle.std.proofs.lemmas.List.{length-append}
 use Rattle.std.proofs.lemmas.List.Elements.{All-append, All-nil, All-weaker}
-use Rattle.watch_word.specs.of_access_types_Access as access
-use Rattle.watch_word.specs.of_access_types_History.{History, beginning}
-use Rattle.watch_word.specs.of_access_types_Kind.{is_assertion, is_marked}
-use Rattle.watch_word.specs.of_access_types_Marked as marked
-use Rattle.watch_word.specs.of_access_types_Marked.{BeginsAfter, CountedAsMarked, CountsAfter}
-use Rattle.watch_word.specs.of_access_types_Stamped.{Stamped}
-use Rattle.watch_word.specs.of_access_types_Ticket.{ticket_number}
-use Rattle.watch_word.specs.of_access_types_declared.history.Happening.{Happening}
-use Rattle.watch_word.specs.of_access_types_declared.history.Happening.TheVariants as happenings
-use Rattle.watch_word.specs.of_access_types_declared.kind.Kind.{Kind}
-use Rattle.watch_word.specs.of_access_types_declared.kind.Kind.TheVariants as kinds
+use Rattle.access_types.specs.Access as access
+use Rattle.access_types.specs.History.{History, beginning}
+use Rattle.access_types.specs.Kind.{is_assertion, is_marked}
+use Rattle.access_types.specs.Marked as marked
+use Rattle.access_types.specs.Marked.{BeginsAfter, CountedAsMarked, CountsAfter}
+use Rattle.access_types.specs.Stamped.{Stamped}
+use Rattle.access_types.specs.Ticket.{ticket_number}
+use Rattle.access_types.specs.declared.history.Happening.{Happening}
+use Rattle.access_types.specs.declared.history.Happening.TheVariants as happenings
+use Rattle.access_types.specs.declared.kind.Kind.{Kind}
+use Rattle.access_types.specs.declared.kind.Kind.TheVariants as kinds
 use Rattle.litmus_meaning.specs.RunOfProgram.{setting_of}
 use Rattle.litmus_meaning.specs.TextSites.{FitsTickets, block_sites}
 use Rattle.litmus_meaning.proofs.TicketLemmas.{own_tickets}
-use Rattle.trace_replay.specs.of_report_text_Standing.{LettersAgree}
-use Rattle.run_kept.specs.of_run_lists_Run.{Run, task_of, task_setting}
-use Rattle.run_kept.specs.of_run_lists_RunList.{RunList}
-use Rattle.run_kept.specs.of_run_lists_Told.{history_by, history_of, made_by, moments_of}
-use Rattle.run_kept.proofs.of_run_lists_Histories.{did_more, did_of_all, did_then}
-use Rattle.run_kept.proofs.of_run_lists_Intervals.{Has, has_last}
-use Rattle.run_kept.proofs.of_run_lists_OwnLasts.{own_latest, own_split}
+use Rattle.report_text.specs.Standing.{LettersAgree}
+use Rattle.run_lists.specs.Run.{Run, task_of, task_setting}
+use Rattle.run_lists.specs.RunList.{RunList}
+use Rattle.run_lists.specs.Told.{history_by, history_of, made_by, moments_of}
+use Rattle.run_lists.proofs.Histories.{did_more, did_of_all, did_then}
+use Rattle.run_lists.proofs.Intervals.{Has, has_last}
+use Rattle.run_lists.proofs.OwnLasts.{own_latest, own_split}
 use Rattle.run_kept.specs.Decided.{IsStampedSo}
 use Rattle.run_kept.specs.Spans.{HappensAt, IsSpan}
 use Rattle.run_kept.specs.Lists.{AreAccesses, AreAccessesOf, ByTask}
-use Rattle.run_kept.specs.of_run_headline_Events.{DoesEvent, EachDoesItsEvent}
-use Rattle.run_kept.proofs.of_run_headline_Opens.{has_split}
+use Rattle.run_headline.specs.Events.{DoesEvent, EachDoesItsEvent}
+use Rattle.run_headline.proofs.Opens.{has_split}
 use Rattle.slot_table.specs.Records.{records_of}
 use Rattle.slot_table.specs.declared.records.Record.{Record}
 use Rattle.slot_table.specs.declared.step.Answer.TheVariants as answers
@@ -37,10 +37,10 @@ use Rattle.slot_table.specs.declared.step.Step.TheVariants as steps
 use Rattle.run_kept.specs.Stamps.{is_clock, stamps_in}
 use Rattle.run_kept.proofs.Checked.{all_fit, all_later}
 use Rattle.run_kept.proofs.Clock.{event_turns, one_more, turns, turns_both, turns_of_marks}
-use Rattle.run_kept.proofs.of_run_lists_Begun.{once}
-use Rattle.run_kept.specs.of_written_order_Told.{did_by, did_next}
-use Rattle.run_kept.proofs.of_written_order_MeaningLemmas.{whole_means}
-use Rattle.run_kept.proofs.of_written_order_WayLemmas.{Begins}
+use Rattle.run_lists.proofs.Begun.{once}
+use Rattle.written_order.specs.Told.{did_by, did_next}
+use Rattle.written_order.proofs.MeaningLemmas.{whole_means}
+use Rattle.written_order.proofs.WayLemmas.{Begins}
 use Rattle.accepted_traces.specs.Parts.{AccessFits, AreOther, HasLowMask}
 
 -- ---- lists

@@ -1,21 +1,21 @@
 -- Where a watch ends, and where a find looked.
 use Rattle.std.proofs.Common.{◌≡◌, ◌⊎◌, ◌∷◌, [], inl, inr, ℕ, Bool, true, false, List, MatchBool, None, Option, Some, ap, arith, refl, subst, sym}
 use Rattle.std.proofs.lemmas.Bool.{eq-eqb}
-use Rattle.watch_word.specs.of_access_types_Access.{Access}
-use Rattle.watch_word.specs.of_access_types_Ticket.{ticket_number}
-use Rattle.trace_replay.specs.of_report_text_Truth.{IsIndexOf}
-use Rattle.run_kept.proofs.of_run_lists_CheckFacts.{back}
-use Rattle.run_kept.specs.of_setup_access_Find.{LooksUp}
-use Rattle.run_kept.specs.of_setup_access_Found.{Hears, finder_half}
-use Rattle.run_kept.specs.of_setup_access_Parts.{made}
-use Rattle.run_kept.specs.of_setup_access_Setting.{Setting, look_order, slot_of, try_order}
-use Rattle.run_kept.specs.of_setup_access_Setup.{Arms, Judged, Judges, SetsUp, TriesInsert, WatchesAt}
-use Rattle.run_kept.specs.of_setup_access_Values.{LoadsFrom, both_values, source_of}
-use Rattle.run_kept.specs.of_setup_access_declared.outcome.Outcome.{Outcome}
-use Rattle.run_kept.specs.of_setup_access_declared.outcome.Watchpoint.{Watchpoint}
-use Rattle.run_kept.specs.of_setup_access_declared.source.Source.{Source}
-use Rattle.run_kept.proofs.of_setup_access_DisciplineLemmas.{on_flag, on_halves, on_word, record_is}
-use Rattle.slot_table.specs.of_slot_Pair.{Halves}
+use Rattle.access_types.specs.Access.{Access}
+use Rattle.access_types.specs.Ticket.{ticket_number}
+use Rattle.report_text.specs.Truth.{IsIndexOf}
+use Rattle.run_lists.proofs.CheckFacts.{back}
+use Rattle.setup_access.specs.Find.{LooksUp}
+use Rattle.setup_access.specs.Found.{Hears, finder_half}
+use Rattle.setup_access.specs.Parts.{made}
+use Rattle.setup_access.specs.Setting.{Setting, look_order, slot_of, try_order}
+use Rattle.setup_access.specs.Setup.{Arms, Judged, Judges, SetsUp, TriesInsert, WatchesAt}
+use Rattle.setup_access.specs.Values.{LoadsFrom, both_values, source_of}
+use Rattle.setup_access.specs.declared.outcome.Outcome.{Outcome}
+use Rattle.setup_access.specs.declared.outcome.Watchpoint.{Watchpoint}
+use Rattle.setup_access.specs.declared.source.Source.{Source}
+use Rattle.setup_access.proofs.DisciplineLemmas.{on_flag, on_halves, on_word, record_is}
+use Rattle.slot.specs.Pair.{Halves}
 use Rattle.slot_table.specs.Armings.{last_arming}
 use Rattle.slot_table.specs.Discipline.{in_hand}
 use Rattle.slot_table.specs.declared.discipline.Part.{Part}

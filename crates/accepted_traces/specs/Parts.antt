@@ -1,17 +1,17 @@
 -- When accesses, armings, takings and reports are the parts of one true trace.
 use Rattle.std.specs.Prelude.{◌≡◌, ◌≢◌, ◌<◌, ◌≤◌, ◌*◌, ◌+◌, ◌^◌, ◌==◌, ◌++◌, ℕ, List, ◌∷◌, All, Contains, count_by, length, unwrap_or}
 use Rattle.std.specs.List.{flat_map}
-use Rattle.watch_word.specs.of_access_types_Access.{IsInLimits}
-use Rattle.watch_word.specs.of_access_types_Arms.{Arm}
-use Rattle.watch_word.specs.of_access_types_Stamped.{Stamped}
-use Rattle.watch_word.specs.of_access_types_Takes.{Take}
-use Rattle.watch_word.specs.of_access_types_Ticket.{ticket_number}
-use Rattle.watch_word.specs.of_access_types_declared.arms.ArmOutcome.{ArmOutcome}
-use Rattle.watch_word.specs.of_access_types_declared.arms.ArmOutcome.TheVariants.{Quiet, Origin, Hit}
-use Rattle.watch_word.specs.of_access_types_declared.report.Report.{Report}
-use Rattle.watch_word.specs.of_access_types_declared.report.Report.TheVariants.{Two, Unknown}
-use Rattle.trace_replay.specs.of_report_text_Standing.{HaveOtherStamps, LettersAgree}
-use Rattle.trace_replay.specs.of_report_text_Truth.{AreOneBag, MayHit, MaySee, MayWatch, RaceByStamps, hits_in, is_pair, is_take, origins_in, pairs_in, race_in, unknown_in}
+use Rattle.access_types.specs.Access.{IsInLimits}
+use Rattle.access_types.specs.Arms.{Arm}
+use Rattle.access_types.specs.Stamped.{Stamped}
+use Rattle.access_types.specs.Takes.{Take}
+use Rattle.access_types.specs.Ticket.{ticket_number}
+use Rattle.access_types.specs.declared.arms.ArmOutcome.{ArmOutcome}
+use Rattle.access_types.specs.declared.arms.ArmOutcome.TheVariants.{Quiet, Origin, Hit}
+use Rattle.access_types.specs.declared.report.Report.{Report}
+use Rattle.access_types.specs.declared.report.Report.TheVariants.{Two, Unknown}
+use Rattle.report_text.specs.Standing.{HaveOtherStamps, LettersAgree}
+use Rattle.report_text.specs.Truth.{AreOneBag, MayHit, MaySee, MayWatch, RaceByStamps, hits_in, is_pair, is_take, origins_in, pairs_in, race_in, unknown_in}
 use Rattle.watch_word.specs.Word.{watch_in}
 use Rattle.watch_word.specs.declared.layout.Layout.{Layout}
 

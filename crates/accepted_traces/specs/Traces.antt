@@ -1,11 +1,11 @@
 -- What a trace of a run list says.
 use Rattle.std.specs.Prelude.{All, List}
-use Rattle.watch_word.specs.of_access_types_Arms.{Arm}
-use Rattle.watch_word.specs.of_access_types_Stamped.{Stamped}
-use Rattle.watch_word.specs.of_access_types_Takes.{Take}
+use Rattle.access_types.specs.Arms.{Arm}
+use Rattle.access_types.specs.Stamped.{Stamped}
+use Rattle.access_types.specs.Takes.{Take}
 use Rattle.accepted_traces.specs.Parts.{HasLowMask}
-use Rattle.run_kept.specs.of_run_lists_Run.{Run}
-use Rattle.run_kept.specs.of_run_lists_RunList.{RunList}
+use Rattle.run_lists.specs.Run.{Run}
+use Rattle.run_lists.specs.RunList.{RunList}
 use Rattle.run_kept.specs.Lists.{AreAccesses, AreArms, AreTakes}
 use Rattle.slot_table.specs.declared.records.Record.{Record}
 

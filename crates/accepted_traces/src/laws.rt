@@ -1,18 +1,18 @@
 //! What is true of the trace of a run.
 
 ghost use Rattle.std.specs.Prelude.{◌≤◌, ◌≡◌, ◌++◌, ◌∷◌, ℕ, All, List, length};
-ghost use Rattle.watch_word.specs.of_access_types_Arms.{Arm};
-ghost use Rattle.watch_word.specs.of_access_types_Stamped.{Stamped};
-ghost use Rattle.watch_word.specs.of_access_types_Takes.{Take};
-ghost use Rattle.watch_word.specs.of_access_types_declared.report.Report.{Report};
+ghost use Rattle.access_types.specs.Arms.{Arm};
+ghost use Rattle.access_types.specs.Stamped.{Stamped};
+ghost use Rattle.access_types.specs.Takes.{Take};
+ghost use Rattle.access_types.specs.declared.report.Report.{Report};
 ghost use Rattle.accepted_traces.specs.Parts.{AccessFits, AreOther, AreParts, HasLowMask};
 ghost use Rattle.accepted_traces.specs.Traces.{AreOf};
-ghost use Rattle.litmus_meaning.specs.of_litmus_syntax_Limits.{KeepsLimits};
-ghost use Rattle.trace_replay.specs.of_report_text_Faults.{IsTrueTrace};
-ghost use Rattle.trace_replay.specs.of_report_text_TraceText.{second, written_lines, written_trace};
-ghost use Rattle.run_kept.specs.of_run_lists_Run.{Run};
-ghost use Rattle.run_kept.specs.of_run_lists_Reports.{reports_of};
-ghost use Rattle.run_kept.specs.of_run_lists_RunList.{AllHaveEnded, RunList};
+ghost use Rattle.litmus_syntax.specs.Limits.{KeepsLimits};
+ghost use Rattle.report_text.specs.Faults.{IsTrueTrace};
+ghost use Rattle.report_text.specs.TraceText.{second, written_lines, written_trace};
+ghost use Rattle.run_lists.specs.Run.{Run};
+ghost use Rattle.run_lists.specs.Reports.{reports_of};
+ghost use Rattle.run_lists.specs.RunList.{AllHaveEnded, RunList};
 ghost use Rattle.run_kept.specs.Lists.{AreAccesses};
 ghost use Rattle.run_kept.specs.Setters.{AreReportsOf};
 ghost use Rattle.slot_table.specs.declared.records.Record.{Record};
@@ -21,19 +21,19 @@ ghost use Rattle.trace_replay.specs.declared.accepted.Accepted.TheVariants as ac
 ghost use Rattle.watch_word.specs.declared.layout.Layout.{Layout};
 
 use litmus_meaning::laws::tickets_have_room;
+use run_headline::histories::{reports_are_true, unknown_origins_changed};
+use run_headline::verdicts::{
+    answers_are_on_a_watch_and_a_find, records_tell_their_events, verdicts_are_on_watches,
+};
 use run_kept::bags::{armings_have_their_own_verdicts, the_bags_are_equal};
 use run_kept::bounds::few_are_reported;
 use run_kept::lengths::few_are_kept;
 use run_kept::reports::a_task_reports_its_own;
-use run_kept::run_headline::histories::{reports_are_true, unknown_origins_changed};
-use run_kept::run_headline::verdicts::{
-    answers_are_on_a_watch_and_a_find, records_tell_their_events, verdicts_are_on_watches,
-};
-use run_kept::run_lists::laws::{reports_name_two_sides, run_lists_keep_the_discipline};
 use run_kept::watched::{
     accesses_of_ended_tasks_have_ended, accesses_that_begin_fit, stamps_tell_the_order,
     watched_accesses_are_unmarked_and_heard,
 };
+use run_lists::laws::{reports_name_two_sides, run_lists_keep_the_discipline};
 use slot_table::laws::heard_is_told;
 use watch_word::words_read_back;
 

@@ -29,11 +29,11 @@ use Rattle.setup_access.specs.declared.stage.Role.{Role}
 use Rattle.setup_access.specs.declared.stage.Role.TheVariants as roles
 use Rattle.setup_access.specs.declared.stage.Stage.{Stage}
 use Rattle.setup_access.specs.declared.stage.Stage.TheVariants as stages
-use Rattle.slot_table.specs.of_slot_Pair.{Halves}
+use Rattle.slot.specs.Pair.{Halves}
 use Rattle.slot_table.specs.declared.records.Record.{Record}
 use Rattle.slot_table.specs.declared.step.Answer.TheVariants as answers
 use Rattle.slot_table.specs.declared.step.Step.TheVariants as steps
-use Rattle.setup_access.specs.of_watch_word_Word.{word_of}
+use Rattle.watch_word.specs.Word.{word_of}
 use Rattle.access_run.proofs.Decisions.{encodable_or_not, some_hit, some_untouched, watched_or_not, zero_misses}
 
 -- a look-up that finds nothing

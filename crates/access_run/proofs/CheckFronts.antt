@@ -23,7 +23,7 @@ use Rattle.slot_table.specs.declared.records.Record.{Record}
 use Rattle.slot_table.specs.declared.step.Answer.{Answer}
 use Rattle.slot_table.specs.declared.step.Answer.TheVariants as answers
 use Rattle.slot_table.specs.declared.step.Step.TheVariants.{Clock}
-use Rattle.setup_access.specs.of_watch_word_Word.{word_of}
+use Rattle.watch_word.specs.Word.{word_of}
 use Rattle.access_run.proofs.PartFronts.{found_watchpoint, frees, looks_up, sets_up}
 
 -- a part of the records with what it comes to alone, which stands for itself before anything

@@ -11,18 +11,18 @@ use Rattle.setup_access.specs.Verdicts as verdicts
 use Rattle.setup_access.specs.Verdicts.{ChangeOf, HitOutcome, SharesByte, UntouchedOutcome}
 use Rattle.setup_access.specs.declared.outcome.Outcome.{Outcome}
 use Rattle.setup_access.specs.declared.outcome.Outcome.TheVariants as outcomes
-use Rattle.setup_access.specs.of_skip_sampler_Sampler.{LeadsTo, Sampler, SamplerPositions, position}
-use Rattle.setup_access.proofs.of_skip_sampler_Positions.{not_yet, some_sampler}
-use Rattle.slot_table.specs.of_slot_Pair.{Halves}
-use Rattle.setup_access.specs.of_value_filter_Change.{BitDiffers, IsSeen, seen_values}
-use Rattle.setup_access.specs.of_value_filter_Verdict as table
-use Rattle.setup_access.specs.of_value_filter_Verdict.{MattersUnchanged}
-use Rattle.setup_access.specs.of_value_filter_declared.verdict.Change.{Change}
-use Rattle.setup_access.specs.of_value_filter_declared.verdict.Change.TheVariants.{Maybe, Ruled, Seen}
-use Rattle.setup_access.specs.of_value_filter_declared.verdict.Reason.TheVariants.{Encoding, MaskedBits, SameValue}
-use Rattle.setup_access.proofs.of_value_filter_ChangedBits.{bit_differs, changed_bits, some_changed}
-use Rattle.setup_access.specs.of_watch_word_Word.{Encodable}
-use Rattle.setup_access.specs.of_watch_word_declared.layout.Layout.{Layout}
+use Rattle.skip_sampler.specs.Sampler.{LeadsTo, Sampler, SamplerPositions, position}
+use Rattle.skip_sampler.proofs.Positions.{not_yet, some_sampler}
+use Rattle.slot.specs.Pair.{Halves}
+use Rattle.value_filter.specs.Change.{BitDiffers, IsSeen, seen_values}
+use Rattle.value_filter.specs.Verdict as table
+use Rattle.value_filter.specs.Verdict.{MattersUnchanged}
+use Rattle.value_filter.specs.declared.verdict.Change.{Change}
+use Rattle.value_filter.specs.declared.verdict.Change.TheVariants.{Maybe, Ruled, Seen}
+use Rattle.value_filter.specs.declared.verdict.Reason.TheVariants.{Encoding, MaskedBits, SameValue}
+use Rattle.value_filter.proofs.ChangedBits.{bit_differs, changed_bits, some_changed}
+use Rattle.watch_word.specs.Word.{Encodable}
+use Rattle.watch_word.specs.declared.layout.Layout.{Layout}
 
 -- 0 is no watch word
 pub zero_misses : (layout : Layout) (a : Access) → ¬ Hits layout a 0

@@ -15,7 +15,7 @@ use Rattle.setup_access.specs.declared.outcome.Outcome.{Outcome}
 use Rattle.setup_access.specs.declared.outcome.Outcome.TheVariants.{Lost, Nothing, Told}
 use Rattle.setup_access.specs.declared.outcome.Watchpoint.{Watchpoint}
 use Rattle.setup_access.specs.declared.source.Source.{Source}
-use Rattle.slot_table.specs.of_slot_Pair.{Halves}
+use Rattle.slot.specs.Pair.{Halves}
 use Rattle.slot_table.specs.declared.records.Record.{Record}
 use Rattle.slot_table.specs.declared.step.Step.TheVariants.{CellLoad, Clear, Consume, Insert, Load, Name, Remove, Tell, TryConsume}
 use Rattle.access_run.proofs.Steps.{front_done, front_flag, halves_answer}

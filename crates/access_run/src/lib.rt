@@ -8,6 +8,4 @@ pub mod stage;
 pub mod stamps;
 
 pub use access::AccessRun;
-pub use memory_operation;
-pub use setup_access;
 pub use stamps::Stamps;

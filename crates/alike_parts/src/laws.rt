@@ -2,7 +2,7 @@
 
 ghost use Rattle.task_run.specs.Part.{Part, PartLeft};
 ghost use Rattle.text_walk.specs.declared.walk.Walk.{Walk};
-ghost use Rattle.written_tellings.specs.of_written_order_Standing.{Setting};
+ghost use Rattle.written_order.specs.Standing.{Setting};
 ghost use Rattle.alike_standings.specs.Alike.{GoesAlike};
 
 /// Law: where two tasks stand alike before the same part of a text, in one place of it, the part goes on alike, and

@@ -3,7 +3,7 @@
 ghost use Rattle.text_walk.specs.Left.{BodyLeft, DueLeft, WalkLeft};
 ghost use Rattle.text_walk.specs.declared.due.Due.{Due};
 ghost use Rattle.text_walk.specs.declared.walk.Walk.{Walk};
-ghost use Rattle.written_tellings.specs.of_written_order_Standing.{Setting};
+ghost use Rattle.written_order.specs.Standing.{Setting};
 ghost use Rattle.alike_standings.specs.Alike.{GoesAlike};
 
 /// Law: where two tasks stand alike in one place of a text, what is left of it there goes on alike: the rest, the rest

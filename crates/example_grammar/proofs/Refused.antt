@@ -3,22 +3,22 @@
 use Rattle.std.proofs.Common.{◌≡◌, ◌+◌, ◌≤◌, ◌==◌, ◌∙◌, ℕ, zero, suc, List, [], ◌∷◌, ◌++◌, Option, Some, None, ⊎_elim, refl, sym, ap, subst, length, drop, arith, lit<, if◌then◌else◌}
 use Rattle.std.specs.Prelude.{Contains, codes, slice_get}
 use Rattle.std.proofs.lemmas.Bool.Decides.{eqb_tells}
-use Rattle.litmus_parse.specs.of_litmus_lex_declared.sign.Sign.TheVariants.{CloseParen, Semicolon, Star, OpenParen}
-use Rattle.litmus_parse.specs.of_litmus_syntax_declared.expression.UnaryOperator.{UnaryOperator}
-use Rattle.litmus_parse.specs.of_litmus_syntax_declared.expression.BinaryOperator.{BinaryOperator}
-use Rattle.litmus_parse.specs.of_litmus_syntax_declared.expression.BinaryOperator.TheVariants as binaries
-use Rattle.litmus_parse.specs.of_litmus_syntax_declared.statement.Call.{Call}
-use Rattle.litmus_parse.specs.of_litmus_syntax_Tree as tree
-use Rattle.litmus_parse.specs.of_litmus_cursor_declared.words.VariableType.{VariableType}
-use Rattle.litmus_parse.specs.of_litmus_cursor_declared.words.VariableType.TheVariants.{Int, Atomic}
-use Rattle.litmus_parse.specs.of_litmus_cursor_declared.words.Word.TheVariants as words
-use Rattle.litmus_parse.specs.of_litmus_cursor_Words.{Symbol, word, identifier, number, sign, fault}
-use Rattle.litmus_parse.specs.of_litmus_expression_Names.{Names, Numbered, known, new, Parameter, IsFree, IsVariable, IsInteger}
-use Rattle.litmus_parse.specs.of_litmus_expression_Expressions.{Applied, to_pure, to_loading, Combined, none, left, right, Level, operand, prefixed, stronger, infixed, sign_of_binary, sign_of_unary}
-use Rattle.litmus_parse.specs.of_litmus_expression_Expressions.{Operand, a_number, a_register, parenthesized, Load, plain, once, acquire, atomic, exchange, compare_exchange, enclosed, Pure, whole}
-use Rattle.litmus_parse.specs.of_litmus_expression_Expressions as expressions
-use Rattle.litmus_parse.specs.of_litmus_body_Statements.{Enclosable, Simple, Calls, Statement, Body, Declared, kept, alone, raced, IsNoElse}
-use Rattle.litmus_parse.specs.of_litmus_body_Statements as rules
+use Rattle.litmus_lex.specs.declared.sign.Sign.TheVariants.{CloseParen, Semicolon, Star, OpenParen}
+use Rattle.litmus_syntax.specs.declared.expression.UnaryOperator.{UnaryOperator}
+use Rattle.litmus_syntax.specs.declared.expression.BinaryOperator.{BinaryOperator}
+use Rattle.litmus_syntax.specs.declared.expression.BinaryOperator.TheVariants as binaries
+use Rattle.litmus_syntax.specs.declared.statement.Call.{Call}
+use Rattle.litmus_syntax.specs.Tree as tree
+use Rattle.litmus_cursor.specs.declared.words.VariableType.{VariableType}
+use Rattle.litmus_cursor.specs.declared.words.VariableType.TheVariants.{Int, Atomic}
+use Rattle.litmus_cursor.specs.declared.words.Word.TheVariants as words
+use Rattle.litmus_cursor.specs.Words.{Symbol, word, identifier, number, sign, fault}
+use Rattle.litmus_expression.specs.Names.{Names, Numbered, known, new, Parameter, IsFree, IsVariable, IsInteger}
+use Rattle.litmus_expression.specs.Expressions.{Applied, to_pure, to_loading, Combined, none, left, right, Level, operand, prefixed, stronger, infixed, sign_of_binary, sign_of_unary}
+use Rattle.litmus_expression.specs.Expressions.{Operand, a_number, a_register, parenthesized, Load, plain, once, acquire, atomic, exchange, compare_exchange, enclosed, Pure, whole}
+use Rattle.litmus_expression.specs.Expressions as expressions
+use Rattle.litmus_body.specs.Statements.{Enclosable, Simple, Calls, Statement, Body, Declared, kept, alone, raced, IsNoElse}
+use Rattle.litmus_body.specs.Statements as rules
 use Rattle.example_grammar.specs.Examples.{x, a_counted, two_loads, atomic_read, own_counter, dangling, outer_else}
 
 -- symbols that can begin a load, a simple statement, a call

@@ -1,12 +1,12 @@
 -- What small lists of symbols outside process bodies don't spell: each relation is taken apart by its rules.
 use Rattle.std.proofs.Common.{◌≡◌, ◌⊎◌, inl, inr, ⊎_elim, ◌∙◌, ℕ, zero, suc, List, [], ◌∷◌, Some, None, refl, sym, ap, subst, drop, arith, lit<}
 use Rattle.std.specs.Prelude.{Contains, codes, map}
-use Rattle.litmus_parse.specs.of_litmus_lex_declared.sign.Sign.TheVariants.{CloseBrace, OpenParen}
-use Rattle.litmus_parse.specs.of_litmus_syntax_Tree.{Proposition}
-use Rattle.litmus_parse.specs.of_litmus_cursor_declared.words.VariableType.{VariableType}
-use Rattle.litmus_parse.specs.of_litmus_cursor_declared.words.VariableType.TheVariants.{Char, Lock}
-use Rattle.litmus_parse.specs.of_litmus_cursor_Words.{Symbol, identifier, sign}
-use Rattle.litmus_parse.specs.of_litmus_expression_Names.{Names, Parameter}
+use Rattle.litmus_lex.specs.declared.sign.Sign.TheVariants.{CloseBrace, OpenParen}
+use Rattle.litmus_syntax.specs.Tree.{Proposition}
+use Rattle.litmus_cursor.specs.declared.words.VariableType.{VariableType}
+use Rattle.litmus_cursor.specs.declared.words.VariableType.TheVariants.{Char, Lock}
+use Rattle.litmus_cursor.specs.Words.{Symbol, identifier, sign}
+use Rattle.litmus_expression.specs.Names.{Names, Parameter}
 use Rattle.litmus_parse.specs.Conditions.{IsKnown, Atom, Disjoined, Conjoined, Negation}
 use Rattle.litmus_parse.specs.Conditions as conditions
 use Rattle.litmus_parse.specs.Headers.{Listed, Parameters, Item, Items, Process, Value, name_of}

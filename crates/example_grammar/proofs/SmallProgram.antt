@@ -2,12 +2,12 @@
 use Rattle.std.proofs.Common.{◌≡◌, ◌<◌, ℕ, zero, suc, List, [], ◌∷◌, Option, refl, sym, ap, length, drop, arith, lit<, lit≤}
 use Rattle.std.specs.Prelude.{Contains, codes}
 use Rattle.std.specs.Fmt.{digits}
-use Rattle.litmus_parse.specs.of_litmus_cursor_declared.words.VariableType.{VariableType}
-use Rattle.litmus_parse.specs.of_litmus_cursor_declared.words.VariableType.TheVariants.{Int}
-use Rattle.litmus_parse.specs.of_litmus_syntax_Limits.{BodyKeepsLimits}
-use Rattle.litmus_parse.specs.of_litmus_expression_Names.{Parameter, IsChanged, IsFree, IsRegister, IsVariable, IsInteger, known, new}
-use Rattle.litmus_parse.specs.of_litmus_expression_Expressions.{operand, a_load, plain, stronger}
-use Rattle.litmus_parse.specs.of_litmus_body_Statements.{to_register, simple, Statements, end, next}
+use Rattle.litmus_cursor.specs.declared.words.VariableType.{VariableType}
+use Rattle.litmus_cursor.specs.declared.words.VariableType.TheVariants.{Int}
+use Rattle.litmus_syntax.specs.Limits.{BodyKeepsLimits}
+use Rattle.litmus_expression.specs.Names.{Parameter, IsChanged, IsFree, IsRegister, IsVariable, IsInteger, known, new}
+use Rattle.litmus_expression.specs.Expressions.{operand, a_load, plain, stronger}
+use Rattle.litmus_body.specs.Statements.{to_register, simple, Statements, end, next}
 use Rattle.litmus_parse.specs.Conditions as conditions
 use Rattle.litmus_parse.specs.Grammar.{Grammar}
 use Rattle.litmus_parse.specs.Headers as headers

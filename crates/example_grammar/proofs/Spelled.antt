@@ -1,17 +1,17 @@
 -- Each example is put together by the rules, from its parts up. What begins with `+` fits no rule.
 use Rattle.std.proofs.Common.{◌≡◌, ◌<◌, ℕ, zero, suc, List, [], ◌∷◌, refl, ap, get_or, arith, lit<, lit≤}
 use Rattle.std.specs.Prelude.{Contains, codes}
-use Rattle.litmus_parse.specs.of_litmus_lex_declared.sign.Sign.TheVariants.{Plus, Semicolon}
-use Rattle.litmus_parse.specs.of_litmus_syntax_declared.expression.UnaryOperator.{UnaryOperator}
-use Rattle.litmus_parse.specs.of_litmus_syntax_declared.expression.UnaryOperator.TheVariants as unaries
-use Rattle.litmus_parse.specs.of_litmus_syntax_declared.expression.BinaryOperator.TheVariants as binaries
-use Rattle.litmus_parse.specs.of_litmus_syntax_declared.expression.ReadForm.TheVariants.{Plain}
-use Rattle.litmus_parse.specs.of_litmus_syntax_Tree as tree
-use Rattle.litmus_parse.specs.of_litmus_cursor_declared.words.VariableType.TheVariants.{Int}
-use Rattle.litmus_parse.specs.of_litmus_cursor_Words.{Symbol, number, sign}
-use Rattle.litmus_parse.specs.of_litmus_expression_Names.{Names, Parameter, IsFree, IsRegister, IsVariable, IsInteger, new}
-use Rattle.litmus_parse.specs.of_litmus_expression_Expressions.{Level, operand, prefixed, stronger, infixed, Operand, a_number, a_register, a_load, parenthesized, Load}
-use Rattle.litmus_parse.specs.of_litmus_expression_Expressions.{plain, once, acquire, atomic, exchange, compare_exchange, enclosed, to_loading, none, bare, Expression, sign_of_unary}
+use Rattle.litmus_lex.specs.declared.sign.Sign.TheVariants.{Plus, Semicolon}
+use Rattle.litmus_syntax.specs.declared.expression.UnaryOperator.{UnaryOperator}
+use Rattle.litmus_syntax.specs.declared.expression.UnaryOperator.TheVariants as unaries
+use Rattle.litmus_syntax.specs.declared.expression.BinaryOperator.TheVariants as binaries
+use Rattle.litmus_syntax.specs.declared.expression.ReadForm.TheVariants.{Plain}
+use Rattle.litmus_syntax.specs.Tree as tree
+use Rattle.litmus_cursor.specs.declared.words.VariableType.TheVariants.{Int}
+use Rattle.litmus_cursor.specs.Words.{Symbol, number, sign}
+use Rattle.litmus_expression.specs.Names.{Names, Parameter, IsFree, IsRegister, IsVariable, IsInteger, new}
+use Rattle.litmus_expression.specs.Expressions.{Level, operand, prefixed, stronger, infixed, Operand, a_number, a_register, a_load, parenthesized, Load}
+use Rattle.litmus_expression.specs.Expressions.{plain, once, acquire, atomic, exchange, compare_exchange, enclosed, to_loading, none, bare, Expression, sign_of_unary}
 use Rattle.example_grammar.specs.Examples.{differences, differences_tree, factors, factors_tree, masks, masks_tree, loads, loads_tree, r0_r1, x}
 
 -- from the level of sums to that of all

@@ -1,18 +1,18 @@
 -- Small lists of symbols, and the trees that they spell.
 use Rattle.std.specs.Prelude.{List, [], ◌∷◌, codes, false, pos}
-use Rattle.litmus_parse.specs.of_litmus_lex_declared.sign.Sign.TheVariants.{OpenBrace, CloseBrace, OpenParen, CloseParen, Semicolon, Colon, Comma, Assign, Increment, Plus, Minus, Star, Ampersand, Less}
-use Rattle.litmus_parse.specs.of_litmus_lex_declared.sign.Sign.TheVariants as signs
-use Rattle.litmus_parse.specs.of_litmus_syntax_declared.expression.UnaryOperator.TheVariants.{Negate}
-use Rattle.litmus_parse.specs.of_litmus_syntax_declared.expression.BinaryOperator.TheVariants.{Multiply, Add, Subtract, BitAnd}
-use Rattle.litmus_parse.specs.of_litmus_syntax_declared.expression.BinaryOperator.TheVariants as binaries
-use Rattle.litmus_parse.specs.of_litmus_syntax_declared.expression.ReadForm.TheVariants.{Plain}
-use Rattle.litmus_parse.specs.of_litmus_syntax_declared.program.Contents.TheVariants as contents
-use Rattle.litmus_parse.specs.of_litmus_syntax_declared.proposition.Quantifier.TheVariants.{Exists}
-use Rattle.litmus_parse.specs.of_litmus_syntax_Tree as tree
-use Rattle.litmus_parse.specs.of_litmus_cursor_declared.words.VariableType.TheVariants.{Char, Int, Atomic, Lock}
-use Rattle.litmus_parse.specs.of_litmus_cursor_declared.words.Word.TheVariants as words
-use Rattle.litmus_parse.specs.of_litmus_cursor_Words.{Symbol, word, identifier, number, sign}
-use Rattle.litmus_parse.specs.of_litmus_expression_Names.{Names, Parameter}
+use Rattle.litmus_lex.specs.declared.sign.Sign.TheVariants.{OpenBrace, CloseBrace, OpenParen, CloseParen, Semicolon, Colon, Comma, Assign, Increment, Plus, Minus, Star, Ampersand, Less}
+use Rattle.litmus_lex.specs.declared.sign.Sign.TheVariants as signs
+use Rattle.litmus_syntax.specs.declared.expression.UnaryOperator.TheVariants.{Negate}
+use Rattle.litmus_syntax.specs.declared.expression.BinaryOperator.TheVariants.{Multiply, Add, Subtract, BitAnd}
+use Rattle.litmus_syntax.specs.declared.expression.BinaryOperator.TheVariants as binaries
+use Rattle.litmus_syntax.specs.declared.expression.ReadForm.TheVariants.{Plain}
+use Rattle.litmus_syntax.specs.declared.program.Contents.TheVariants as contents
+use Rattle.litmus_syntax.specs.declared.proposition.Quantifier.TheVariants.{Exists}
+use Rattle.litmus_syntax.specs.Tree as tree
+use Rattle.litmus_cursor.specs.declared.words.VariableType.TheVariants.{Char, Int, Atomic, Lock}
+use Rattle.litmus_cursor.specs.declared.words.Word.TheVariants as words
+use Rattle.litmus_cursor.specs.Words.{Symbol, word, identifier, number, sign}
+use Rattle.litmus_expression.specs.Names.{Names, Parameter}
 use Rattle.litmus_parse.specs.Mentions.{Mention, parameter}
 
 -- 1 - 2 - 3 ;

@@ -1,13 +1,13 @@
 //! The grammar, tried on small lists of symbols whose programs were worked out by hand.
 
 ghost use Rattle.std.specs.Prelude.{◌≡◌, ℕ, List, [], ◌∷◌, Option, Some, codes};
-ghost use Rattle.litmus_parse.specs.of_litmus_lex_declared.sign.Sign.TheVariants.{Plus, Semicolon};
-ghost use Rattle.litmus_parse.specs.of_litmus_syntax_Tree as tree;
-ghost use Rattle.litmus_parse.specs.of_litmus_cursor_declared.words.VariableType.{VariableType};
-ghost use Rattle.litmus_parse.specs.of_litmus_cursor_Words.{Symbol, sign};
-ghost use Rattle.litmus_parse.specs.of_litmus_expression_Expressions.{Expression};
-ghost use Rattle.litmus_parse.specs.of_litmus_expression_Names.{Names, Parameter};
-ghost use Rattle.litmus_parse.specs.of_litmus_body_Statements.{Statement};
+ghost use Rattle.litmus_lex.specs.declared.sign.Sign.TheVariants.{Plus, Semicolon};
+ghost use Rattle.litmus_syntax.specs.Tree as tree;
+ghost use Rattle.litmus_cursor.specs.declared.words.VariableType.{VariableType};
+ghost use Rattle.litmus_cursor.specs.Words.{Symbol, sign};
+ghost use Rattle.litmus_expression.specs.Expressions.{Expression};
+ghost use Rattle.litmus_expression.specs.Names.{Names, Parameter};
+ghost use Rattle.litmus_body.specs.Statements.{Statement};
 ghost use Rattle.litmus_parse.specs.Conditions.{Disjoined};
 ghost use Rattle.litmus_parse.specs.Grammar.{Grammar};
 ghost use Rattle.litmus_parse.specs.Headers.{Items, Parameters, Process};

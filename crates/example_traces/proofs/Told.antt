@@ -4,15 +4,15 @@ use Rattle.std.specs.Prelude.{All, Contains, IsTrue, None}
 use Rattle.std.specs.Fmt.{char_count, digits, padded_integral}
 use Rattle.std.proofs.lemmas.List.Elements.{All-cons, All-from_recursion, All-nil}
 use Rattle.std.specs.List.{AllByRecursion}
-use Rattle.report_text.specs.of_access_types_Access.{Overlap}
-use Rattle.report_text.specs.of_access_types_ReportText.{hex}
-use Rattle.report_text.specs.of_access_types_Stamped.{Stamped}
-use Rattle.report_text.specs.of_access_types_Ticket.{ticket_number}
-use Rattle.report_text.specs.of_access_types_declared.kind.Operation.TheVariants.{Read, Write}
-use Rattle.report_text.specs.of_access_types_declared.arms.HitResult.TheVariants as results
-use Rattle.report_text.specs.of_watch_word_Layout.{masked}
-use Rattle.report_text.specs.of_watch_word_Word.{WordOf, watch_in, word_of}
-use Rattle.report_text.specs.of_watch_word_declared.layout.Layout.TheVariants.{W64}
+use Rattle.access_types.specs.Access.{Overlap}
+use Rattle.access_types.specs.ReportText.{hex}
+use Rattle.access_types.specs.Stamped.{Stamped}
+use Rattle.access_types.specs.Ticket.{ticket_number}
+use Rattle.access_types.specs.declared.kind.Operation.TheVariants.{Read, Write}
+use Rattle.access_types.specs.declared.arms.HitResult.TheVariants as results
+use Rattle.watch_word.specs.Layout.{masked}
+use Rattle.watch_word.specs.Word.{WordOf, watch_in, word_of}
+use Rattle.watch_word.specs.declared.layout.Layout.TheVariants.{W64}
 use Rattle.report_text.specs.Faults.{AreTrue, BeginsTruly, FalseReportAt, IsTrueTrace, false_end, false_line}
 use Rattle.report_text.specs.Line.{spell_access, spell_arm, spell_origin, spell_race, spell_take}
 use Rattle.report_text.specs.Standing.{Names, Stands, kind_place}

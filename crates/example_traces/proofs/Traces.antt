@@ -4,14 +4,14 @@ use Rattle.std.specs.Prelude.{All, Contains, IsTrue, None}
 use Rattle.std.specs.List.{flat_map}
 use Rattle.std.specs.Fmt.{char_count, digits, padded_integral}
 use Rattle.std.proofs.lemmas.List.Elements.{All-cons, All-nil}
-use Rattle.report_text.specs.of_access_types_ReportText.{hex}
+use Rattle.access_types.specs.ReportText.{hex}
 use Rattle.report_text.specs.Faults.{AreTrue, BeginsTruly, FalseReportAt, IsTrueTrace, false_line}
 use Rattle.report_text.specs.Line.{line_text, spell_access, spell_arm, spell_origin, spell_race, spell_take}
 use Rattle.report_text.specs.Standing.{Names, Stands, kind_place}
 use Rattle.report_text.specs.TraceText.{Head, end_line, first, first_version, head_text, second, second_version, shape_line, trace_text}
 use Rattle.report_text.specs.declared.line.Line.{Line}
 use Rattle.report_text.specs.declared.line.Line.TheVariants as lines
-use Rattle.report_text.specs.of_access_types_declared.report.Report.TheVariants.{Two}
+use Rattle.access_types.specs.declared.report.Report.TheVariants.{Two}
 use Rattle.example_traces.specs.Examples.{apart, hit_at, race_of, racing, read_from, taken_at, told, turns, write_from}
 use Rattle.example_traces.proofs.Worked.{first_of_all, first_read, reads_name, second_of_all, then_write, they_race, writes_name}
 

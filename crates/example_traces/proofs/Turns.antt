@@ -3,10 +3,10 @@ use Rattle.std.proofs.Common.{◌≡◌, ◌≢◌, ◌+◌, ◌^◌, ◌<◌, �
 use Rattle.std.specs.Fmt.{char_count, digits, padded_integral}
 use Rattle.std.specs.List.{AllByRecursion}
 use Rattle.std.proofs.lemmas.List.Elements.{All-from_recursion}
-use Rattle.report_text.specs.of_access_types_ReportText.{hex}
-use Rattle.report_text.specs.of_access_types_Stamped.{Stamped}
-use Rattle.report_text.specs.of_access_types_Ticket.{ticket_number}
-use Rattle.report_text.specs.of_access_types_declared.kind.Operation.TheVariants.{Read, Write}
+use Rattle.access_types.specs.ReportText.{hex}
+use Rattle.access_types.specs.Stamped.{Stamped}
+use Rattle.access_types.specs.Ticket.{ticket_number}
+use Rattle.access_types.specs.declared.kind.Operation.TheVariants.{Read, Write}
 use Rattle.report_text.specs.Faults.{IsTrueTrace}
 use Rattle.report_text.specs.Line.{spell_access, spell_arm, spell_origin, spell_race, spell_take}
 use Rattle.report_text.specs.Standing.{AccessStands, HaveOtherStamps, Names, Stands, accesses_of, kind_place}

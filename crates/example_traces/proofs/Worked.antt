@@ -2,11 +2,11 @@
 use Rattle.std.proofs.Common.{◌≡◌, ◌≢◌, ◌+◌, ◌^◌, ◌<◌, ◌≤◌, ◌++◌, ◌∷◌, ◌∙◌, ℕ, List, [], Bool, false, true, arith, inl, inr, refl}
 use Rattle.std.specs.Prelude.{All, Contains, IsTrue}
 use Rattle.std.proofs.lemmas.List.Elements.{All-cons, All-nil}
-use Rattle.report_text.specs.of_access_types_Access.{Breaks, IsInLimits, Overlap}
-use Rattle.report_text.specs.of_access_types_Stamped.{Stamped}
-use Rattle.report_text.specs.of_access_types_Ticket.{ticket_number}
-use Rattle.report_text.specs.of_access_types_declared.kind.Operation.{Operation}
-use Rattle.report_text.specs.of_access_types_declared.kind.Operation.TheVariants.{Read, Write}
+use Rattle.access_types.specs.Access.{Breaks, IsInLimits, Overlap}
+use Rattle.access_types.specs.Stamped.{Stamped}
+use Rattle.access_types.specs.Ticket.{ticket_number}
+use Rattle.access_types.specs.declared.kind.Operation.{Operation}
+use Rattle.access_types.specs.declared.kind.Operation.TheVariants.{Read, Write}
 use Rattle.report_text.specs.Standing.{AccessStands, HaveOtherStamps, LettersAgree, Names, Stands, accesses_of, kind_place}
 use Rattle.report_text.specs.TraceText.{Head, first, second}
 use Rattle.report_text.specs.Truth.{RaceByStamps}

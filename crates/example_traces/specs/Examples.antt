@@ -1,15 +1,15 @@
 -- Worked traces: a plain read and a marked write of the same four bytes, with and without what makes a race of them.
 use Rattle.std.specs.Prelude.{◌++◌, ℕ, List, [], ◌∷◌, Bool, true, false, None, codes}
-use Rattle.report_text.specs.of_access_types_Access.{Access}
-use Rattle.report_text.specs.of_access_types_Arms.{Arm}
-use Rattle.report_text.specs.of_access_types_Stamped.{Stamped}
-use Rattle.report_text.specs.of_access_types_Takes.{Take}
-use Rattle.report_text.specs.of_access_types_declared.arms.ArmOutcome.TheVariants.{Quiet, Hit}
-use Rattle.report_text.specs.of_access_types_declared.arms.HitResult.TheVariants as results
-use Rattle.report_text.specs.of_access_types_declared.kind.Kind.TheVariants.{Plain}
-use Rattle.report_text.specs.of_access_types_declared.kind.Operation.{Operation}
-use Rattle.report_text.specs.of_access_types_declared.kind.Operation.TheVariants.{Read, Write}
-use Rattle.report_text.specs.of_access_types_declared.report.Report.TheVariants.{Two}
+use Rattle.access_types.specs.Access.{Access}
+use Rattle.access_types.specs.Arms.{Arm}
+use Rattle.access_types.specs.Stamped.{Stamped}
+use Rattle.access_types.specs.Takes.{Take}
+use Rattle.access_types.specs.declared.arms.ArmOutcome.TheVariants.{Quiet, Hit}
+use Rattle.access_types.specs.declared.arms.HitResult.TheVariants as results
+use Rattle.access_types.specs.declared.kind.Kind.TheVariants.{Plain}
+use Rattle.access_types.specs.declared.kind.Operation.{Operation}
+use Rattle.access_types.specs.declared.kind.Operation.TheVariants.{Read, Write}
+use Rattle.access_types.specs.declared.report.Report.TheVariants.{Two}
 use Rattle.report_text.specs.declared.line.Line.{Line}
 use Rattle.report_text.specs.declared.line.Line.TheVariants as lines
 

@@ -1,7 +1,7 @@
 //! The texts of the examples, and what is true of them.
 
 ghost use Rattle.std.specs.Prelude.{◌≡◌, ◌++◌, ◌∷◌, [], codes};
-ghost use Rattle.report_text.specs.of_watch_word_declared.layout.Layout.TheVariants.{W64};
+ghost use Rattle.watch_word.specs.declared.layout.Layout.TheVariants.{W64};
 ghost use Rattle.report_text.specs.Faults.{FalseReportAt, IsTrueTrace};
 ghost use Rattle.report_text.specs.TraceText.{first, second, trace_text};
 ghost use Rattle.example_traces.specs.Examples.{apart, hit_at, race_of, racing, taken_at, told, turns};

@@ -1,8 +1,8 @@
 -- What is read as a call is spelled so, and what is spelled so is read.
 use Rattle.std.proofs.Common.{◌≡◌, ◌∙◌, ℕ, zero, suc, ◌+◌, ◌<◌, ◌≤◌, ◌==◌, nat_lt, List, [], ◌∷◌, Bool, true, false, cond, not, Option, Some, None, map, refl, sym, ap, subst, arith, if◌then◌else◌}
 use Rattle.std.proofs.lemmas.Bool.{eq-eqb, eqb-true, le-ltb, lt-ltb, ltb-false}
-use Rattle.litmus_syntax.specs.of_access_types_declared.history.Mark.{Mark}
-use Rattle.litmus_syntax.specs.of_access_types_declared.history.Mark.TheVariants as marks
+use Rattle.access_types.specs.declared.history.Mark.{Mark}
+use Rattle.access_types.specs.declared.history.Mark.TheVariants as marks
 use Rattle.litmus_lex.specs.declared.sign.Sign.TheVariants.{OpenParen, CloseParen, Comma, Star}
 use Rattle.litmus_syntax.specs.Limits.{call_scopes}
 use Rattle.litmus_syntax.specs.declared.statement.Call.{Call}

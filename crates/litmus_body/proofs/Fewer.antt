@@ -1,8 +1,8 @@
 -- What is read of a simple statement, of a declaration or of a call takes symbols.
 use Rattle.std.proofs.Common.{◌≡◌, ◌∙◌, ℕ, zero, suc, ◌+◌, ◌<◌, ◌≤◌, ◌==◌, nat_lt, List, [], ◌∷◌, Bool, true, false, cond, Option, Some, None, length}
 use Rattle.std.proofs.Common.{refl, sym, ap, subst, arith, if◌then◌else◌}
-use Rattle.litmus_syntax.specs.of_access_types_declared.history.Mark.{Mark}
-use Rattle.litmus_syntax.specs.of_access_types_declared.history.Mark.TheVariants as marks
+use Rattle.access_types.specs.declared.history.Mark.{Mark}
+use Rattle.access_types.specs.declared.history.Mark.TheVariants as marks
 use Rattle.litmus_lex.specs.declared.sign.Sign.TheVariants.{OpenParen, CloseParen, Comma, Semicolon, Assign, AddAssign, Increment}
 use Rattle.litmus_lex.specs.declared.sign.Sign.TheVariants as signs
 use Rattle.litmus_syntax.specs.Tree as tree

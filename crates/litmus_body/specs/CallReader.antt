@@ -1,7 +1,7 @@
 -- Reading calls that give no value: what the parser's functions answer, apart from which refusal it is.
 use Rattle.std.specs.Prelude.{ℕ, ◌≡◌, ◌≤◌, ◌+◌, ◌==◌, nat_lt, Option, Some, None, Bool, true, false, if◌then◌else◌}
-use Rattle.litmus_syntax.specs.of_access_types_declared.history.Mark.{Mark}
-use Rattle.litmus_syntax.specs.of_access_types_declared.history.Mark.TheVariants as marks
+use Rattle.access_types.specs.declared.history.Mark.{Mark}
+use Rattle.access_types.specs.declared.history.Mark.TheVariants as marks
 use Rattle.litmus_lex.specs.declared.sign.Sign.TheVariants.{OpenParen, CloseParen, Comma}
 use Rattle.litmus_syntax.specs.Limits.{call_scopes, check_limit, scoped_limit}
 use Rattle.litmus_syntax.specs.Sites.{call_has_access}

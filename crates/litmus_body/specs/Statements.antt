@@ -1,8 +1,8 @@
 -- The grammar of statements and blocks. Each relation is between the registers known before, the symbols,
 -- what they spell at their front, the symbols left behind it, and the registers known after.
 use Rattle.std.specs.Prelude.{◌≡◌, ◌≤◌, ◌<◌, ℕ, suc, List, ◌∷◌, Bool, true, false, Option, Some, None}
-use Rattle.litmus_syntax.specs.of_access_types_declared.history.Mark.{Mark}
-use Rattle.litmus_syntax.specs.of_access_types_declared.history.Mark.TheVariants.{Next}
+use Rattle.access_types.specs.declared.history.Mark.{Mark}
+use Rattle.access_types.specs.declared.history.Mark.TheVariants.{Next}
 use Rattle.litmus_lex.specs.declared.sign.Sign.TheVariants.{OpenBrace, CloseBrace, OpenParen, CloseParen, Semicolon, Comma, Assign, AddAssign, Increment, Star, Less}
 use Rattle.litmus_syntax.specs.declared.statement.Barrier.{Barrier}
 use Rattle.litmus_syntax.specs.declared.statement.Call.{Call}

@@ -7,7 +7,7 @@ use Rattle.std.proofs.Math.Seq.{take-suc}
 use Rattle.std.proofs.lemmas.List.{get_or-map, length-map, map-append}
 use Rattle.std.proofs.lemmas.List.Elements.{All-append}
 use Rattle.std.proofs.lemmas.List.Sums.{fold-append, sum_by-append}
-use Rattle.run_tally.specs.of_program_sites_declared.settings.Settings.{Settings}
+use Rattle.program_sites.specs.declared.settings.Settings.{Settings}
 use Rattle.std.specs.Global.{Global}
 use Rattle.check_output.specs.Found.{Found, Gave, IsFound, Lost, greatest_status, has_tables, name_of, output_of, status_of_one, text_of}
 use Rattle.check_output.specs.declared.file.Files.{Files}
@@ -20,10 +20,10 @@ use Rattle.litmus_command.specs.Told.{heard}
 use Rattle.litmus_command.specs.declared.command.Failure.TheVariants as failure
 use Rattle.litmus_command.specs.declared.complaint.Complaint.TheVariants as complaint
 use Rattle.litmus_syntax.specs.declared.error.ParseError.{ParseError}
-use Rattle.run_tally.specs.of_run_output_declared.error.EngineError.TheVariants as engine
+use Rattle.run_output.specs.declared.error.EngineError.TheVariants as engine
 use Rattle.text_check.specs.declared.checked.Check.{Check}
 use Rattle.litmus_command.specs.Files.{FileEvent, noted}
-use Rattle.run_tally.specs.of_litmus_parse_Text.{file_bytes}
+use Rattle.litmus_parse.specs.Text.{file_bytes}
 use Rattle.text_check.specs.declared.checked.Check.TheVariants.{Misplaced, Reads, Refused}
 use Rattle.litmus_command.specs.declared.command.Failure.{Failure}
 use Rattle.litmus_command.specs.declared.complaint.Complaint.{Complaint}

@@ -2,8 +2,8 @@
 use Rattle.std.proofs.Common.{◌≡◌, ◌∙◌, ◌<◌, ◌≤◌, ◌⊎◌, ◌∷◌, [], ℕ, All, Bool, List, None, Option, Some, ap, append-nil, arith, false, fold, inl, inr, length, map, max}
 use Rattle.std.proofs.Common.{if◌then◌else◌, nat_lt, refl, subst, sym, true}
 use Rattle.std.proofs.lemmas.Bool.{cases_lt}
-use Rattle.run_tally.specs.of_litmus_parse_Text.{file_bytes}
-use Rattle.run_tally.specs.of_run_output_declared.error.EngineError.TheVariants as engine
+use Rattle.litmus_parse.specs.Text.{file_bytes}
+use Rattle.run_output.specs.declared.error.EngineError.TheVariants as engine
 use Rattle.check_output.specs.Found.{Found, Gave, IsFound, Lost, greatest_status, output_of, status_of_one}
 use Rattle.check_output.specs.declared.file.Files.{Files}
 use Rattle.command_words.specs.Bounds.{KeepsCheckBounds}
@@ -20,7 +20,7 @@ use Rattle.litmus_command.specs.declared.complaint.Complaint.TheVariants as comp
 use Rattle.litmus_syntax.specs.declared.error.ParseError.{ParseError}
 use Rattle.litmus_syntax.specs.declared.error.ParseError.TheVariants as parse
 use Rattle.report_text.specs.Sink.{CountsFailure, appended}
-use Rattle.run_tally.specs.of_program_sites_declared.settings.Settings.{Settings}
+use Rattle.program_sites.specs.declared.settings.Settings.{Settings}
 use Rattle.text_check.specs.declared.checked.Check.TheVariants as checks
 
 -- what can be said of the end of a check of one file

@@ -8,18 +8,18 @@ use Rattle.litmus_command.specs.declared.command.Failure.{Failure}
 use Rattle.litmus_command.specs.declared.command.Failure.TheVariants as failure
 use Rattle.litmus_command.specs.declared.desk.ReadFault.{ReadFault}
 use Rattle.litmus_command.specs.declared.desk.ReadFault.TheVariants as fault
-use Rattle.run_tally.specs.of_run_output_declared.error.EngineError.{EngineError}
-use Rattle.run_tally.specs.of_run_output_declared.error.EngineError.TheVariants as engine
+use Rattle.run_output.specs.declared.error.EngineError.{EngineError}
+use Rattle.run_output.specs.declared.error.EngineError.TheVariants as engine
 use Rattle.std.specs.Option.{option_map}
-use Rattle.run_tally.specs.of_program_sites_declared.error.RunError.{RunError}
+use Rattle.program_sites.specs.declared.error.RunError.{RunError}
 use Rattle.litmus_syntax.specs.declared.error.ParseError.{ParseError}
 use Rattle.litmus_syntax.specs.declared.error.ParseError.TheVariants as parse
 use Rattle.report_text.specs.Sink.{CountsFailure}
-use Rattle.run_tally.specs.of_program_sites_declared.error.RunError.TheVariants as run
-use Rattle.run_tally.specs.of_trace_replay_declared.accepted.TraceError.{TraceError}
-use Rattle.run_tally.specs.of_trace_replay_declared.accepted.TraceError.TheVariants as trace
-use Rattle.picture_text.specs.of_picture_declared.error.PictureError.{PictureError}
-use Rattle.picture_text.specs.of_picture_declared.error.PictureError.TheVariants as picture
+use Rattle.program_sites.specs.declared.error.RunError.TheVariants as run
+use Rattle.trace_replay.specs.declared.accepted.TraceError.{TraceError}
+use Rattle.trace_replay.specs.declared.accepted.TraceError.TheVariants as trace
+use Rattle.picture.specs.declared.error.PictureError.{PictureError}
+use Rattle.picture.specs.declared.error.PictureError.TheVariants as picture
 use Rattle.litmus_command.specs.Command.{picture_status_of}
 use Rattle.litmus_command.specs.Command.{FileIsRun, FileIsRunInPart, IsGiven, IsGivenInPart, once_read, trace_path}
 use Rattle.litmus_command.specs.Engine.{IsRefused, Stops, StopsReady, StopsRun}
@@ -32,12 +32,12 @@ use Rattle.litmus_command.specs.declared.complaint.Complaint.{Complaint}
 use Rattle.litmus_command.specs.declared.complaint.Complaint.TheVariants as complaint
 use Rattle.run_tally.specs.Errors.{IsNotRead}
 use Rattle.litmus_command.specs.Files.{FileEvent, Gave, noted}
-use Rattle.run_tally.specs.of_litmus_parse_Read.{IsReadAs}
-use Rattle.run_tally.specs.of_litmus_parse_Text.{file_bytes}
+use Rattle.litmus_parse.specs.Read.{IsReadAs}
+use Rattle.litmus_parse.specs.Text.{file_bytes}
 use Rattle.litmus_syntax.specs.declared.program.Program.{Program}
-use Rattle.place_list.specs.of_program_layout_Places.{AreFit}
-use Rattle.run_tally.specs.of_program_sites_Errors.{IsOfPreparing}
-use Rattle.run_tally.specs.of_program_sites_declared.settings.Settings.{Settings}
+use Rattle.program_layout.specs.Places.{AreFit}
+use Rattle.program_sites.specs.Errors.{IsOfPreparing}
+use Rattle.program_sites.specs.declared.settings.Settings.{Settings}
 use Rattle.step_schedule.specs.declared.schedule.Entry.{Entry}
 
 -- a status that a failure can end with

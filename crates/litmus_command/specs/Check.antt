@@ -21,9 +21,9 @@ use Rattle.litmus_command.specs.declared.command.Failure.TheVariants as failure
 use Rattle.litmus_command.specs.declared.complaint.Complaint.{Complaint}
 use Rattle.litmus_command.specs.declared.complaint.Complaint.TheVariants as complaint
 use Rattle.report_text.specs.Sink.{CountsFailure, HoldsBeginning, appended}
-use Rattle.run_tally.specs.of_litmus_parse_Text.{file_bytes}
-use Rattle.run_tally.specs.of_program_sites_declared.settings.Settings.{Settings}
-use Rattle.run_tally.specs.of_run_output_declared.error.EngineError.TheVariants as engine
+use Rattle.litmus_parse.specs.Text.{file_bytes}
+use Rattle.program_sites.specs.declared.settings.Settings.{Settings}
+use Rattle.run_output.specs.declared.error.EngineError.TheVariants as engine
 use Rattle.step_schedule.specs.Spelling as schedules
 use Rattle.step_schedule.specs.declared.schedule.Entry.{Entry}
 use Rattle.text_check.specs.declared.checked.Check.TheVariants.{Misplaced, Reads, Refused}

@@ -19,11 +19,11 @@ use Rattle.command_words.specs.declared.request.ShowRequest.{ShowRequest}
 use Rattle.command_words.specs.declared.request.StepRequest.{StepRequest}
 use Rattle.command_words.specs.declared.request.Switches.{Switches}
 use Rattle.command_words.specs.declared.request.Switches.TheVariants as switches
-use Rattle.run_tally.specs.of_litmus_parse_Grammar.{SpellsProgram}
-use Rattle.run_tally.specs.of_litmus_parse_Text.{file_bytes}
+use Rattle.litmus_parse.specs.Grammar.{SpellsProgram}
+use Rattle.litmus_parse.specs.Text.{file_bytes}
 use Rattle.litmus_syntax.specs.Tree as tree
 use Rattle.place_list.specs.Spelling as places
-use Rattle.place_list.specs.of_program_layout_declared.place.Place.{Place}
+use Rattle.program_layout.specs.declared.place.Place.{Place}
 use Rattle.report_text.specs.Faults.{size_limit}
 use Rattle.report_text.specs.Sink.{CountsFailure, HoldsBeginning, appended}
 use Rattle.litmus_syntax.specs.declared.error.ParseError.{ParseError}
@@ -31,18 +31,18 @@ use Rattle.litmus_syntax.specs.declared.error.ParseError.TheVariants as parse
 use Rattle.run_tally.specs.Errors as tally
 use Rattle.run_tally.specs.Output as tally_output
 use Rattle.run_tally.specs.declared.times.Times.{Times}
-use Rattle.run_tally.specs.of_program_sites_declared.error.RunError.{RunError}
-use Rattle.run_tally.specs.of_program_sites_declared.error.RunError.TheVariants as run
+use Rattle.program_sites.specs.declared.error.RunError.{RunError}
+use Rattle.program_sites.specs.declared.error.RunError.TheVariants as run
 use Rattle.step_schedule.specs.Spelling as schedules
 use Rattle.step_schedule.specs.declared.schedule.Entry.{Entry}
-use Rattle.run_tally.specs.of_program_sites_declared.settings.Settings.{Settings}
+use Rattle.program_sites.specs.declared.settings.Settings.{Settings}
 use Rattle.search_all.specs.Texts.{AllIsSearched}
 use Rattle.search_all.specs.declared.wanted.AllWanted.{AllWanted}
 use Rattle.search_run.specs.Texts as search
 use Rattle.search_run.specs.declared.wanted.Wanted.{Wanted}
-use Rattle.run_tally.specs.of_trace_replay_Answer as answers
-use Rattle.run_tally.specs.of_trace_replay_declared.accepted.TraceError.{TraceError}
-use Rattle.run_tally.specs.of_trace_replay_declared.accepted.TraceError.TheVariants as trace
+use Rattle.trace_replay.specs.Answer as answers
+use Rattle.trace_replay.specs.declared.accepted.TraceError.{TraceError}
+use Rattle.trace_replay.specs.declared.accepted.TraceError.TheVariants as trace
 use Rattle.text_check.specs.Calls.{calls_text}
 use Rattle.litmus_command.specs.Check.{CheckAsksFor, CheckEnds, IsOutOfMemory, IsSeveral, Whole}
 use Rattle.litmus_command.specs.Engine.{IsRefused, TextLeaves}
@@ -54,9 +54,9 @@ pub use Rattle.litmus_command.specs.Settings.{AskSettings, settings_of}
 use Rattle.litmus_command.specs.Show.{IsDrawn}
 use Rattle.picture_text.specs.declared.cells.Style.{Style}
 use Rattle.picture_text.specs.declared.cells.Style.TheVariants.{Ascii}
-use Rattle.picture_text.specs.of_picture_Drawn.{IsUndrawn}
-use Rattle.picture_text.specs.of_picture_declared.error.PictureError.{PictureError}
-use Rattle.picture_text.specs.of_picture_declared.error.PictureError.TheVariants as picture
+use Rattle.picture.specs.Drawn.{IsUndrawn}
+use Rattle.picture.specs.declared.error.PictureError.{PictureError}
+use Rattle.picture.specs.declared.error.PictureError.TheVariants as picture
 use Rattle.litmus_command.specs.Told.{heard}
 use Rattle.litmus_command.specs.declared.command.Failure.{Failure}
 use Rattle.litmus_command.specs.declared.command.Failure.TheVariants as failure
@@ -64,8 +64,8 @@ use Rattle.litmus_command.specs.declared.complaint.Complaint.{Complaint}
 use Rattle.litmus_command.specs.declared.complaint.Complaint.TheVariants as complaint
 use Rattle.litmus_command.specs.declared.desk.ReadFault.{ReadFault}
 use Rattle.litmus_command.specs.declared.desk.ReadFault.TheVariants as fault
-use Rattle.run_tally.specs.of_run_output_declared.error.EngineError.{EngineError}
-use Rattle.run_tally.specs.of_run_output_declared.error.EngineError.TheVariants as engine
+use Rattle.run_output.specs.declared.error.EngineError.{EngineError}
+use Rattle.run_output.specs.declared.error.EngineError.TheVariants as engine
 
 -- the status for a litmus text that is refused
 abbrev pub text_status_of : ParseError → ℕ

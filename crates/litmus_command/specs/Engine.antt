@@ -1,27 +1,27 @@
 -- What is left of the run of a litmus text, and why there is none.
 use Rattle.std.specs.Prelude.{◌≡◌, ◌<◌, ◌==◌, ◌↔◌, ◌⊎◌, ◌∷◌, ℕ, List, [], Option, Bool, IfSome, IsTrue, false, length, not}
-use Rattle.litmus_syntax.specs.of_access_types_Sites.{AccessMap}
-use Rattle.run_tally.specs.of_litmus_parse_Read.{IsReadAs}
-use Rattle.run_tally.specs.of_program_sites_declared.error.RunError.{RunError}
-use Rattle.run_tally.specs.of_program_sites_declared.error.RunError.TheVariants.{BadPlace, BadSchedule, BadSlots, NoThread, OutOfMemory, Stuck}
-use Rattle.run_tally.specs.of_run_output_Output.{IsOutput}
-use Rattle.run_tally.specs.of_run_output_Traces.{IsToBeAccepted, IsTraceOf}
+use Rattle.access_types.specs.Sites.{AccessMap}
+use Rattle.litmus_parse.specs.Read.{IsReadAs}
+use Rattle.program_sites.specs.declared.error.RunError.{RunError}
+use Rattle.program_sites.specs.declared.error.RunError.TheVariants.{BadPlace, BadSchedule, BadSlots, NoThread, OutOfMemory, Stuck}
+use Rattle.run_output.specs.Output.{IsOutput}
+use Rattle.run_output.specs.Traces.{IsToBeAccepted, IsTraceOf}
 use Rattle.run_tally.specs.Errors.{IsNotRead}
-use Rattle.run_tally.specs.of_run_output_declared.error.EngineError.{EngineError}
-use Rattle.run_tally.specs.of_run_output_declared.error.EngineError.TheVariants.{Run, SinkFailed, Text}
-use Rattle.run_tally.specs.of_litmus_step_Runs.{HasEnded, IsStuck, run_of, tasks_of}
-use Rattle.run_tally.specs.of_program_sites_declared.settings.Settings.{Settings}
+use Rattle.run_output.specs.declared.error.EngineError.{EngineError}
+use Rattle.run_output.specs.declared.error.EngineError.TheVariants.{Run, SinkFailed, Text}
+use Rattle.litmus_step.specs.Runs.{HasEnded, IsStuck, run_of, tasks_of}
+use Rattle.program_sites.specs.declared.settings.Settings.{Settings}
 use Rattle.litmus_syntax.specs.declared.program.Program.{Program}
-use Rattle.place_list.specs.of_program_layout_Places.{AreFit}
-use Rattle.run_tally.specs.of_run_headline_Headline.{Headline}
-use Rattle.run_tally.specs.of_run_lists_Reports.{reports_of}
-use Rattle.run_tally.specs.of_run_lists_Run as lists
-use Rattle.run_tally.specs.of_run_lists_RunList.{AllHaveEnded, RunList}
-use Rattle.run_tally.specs.of_slot_table_declared.records.Record.{Record}
+use Rattle.program_layout.specs.Places.{AreFit}
+use Rattle.run_headline.specs.Headline.{Headline}
+use Rattle.run_lists.specs.Reports.{reports_of}
+use Rattle.run_lists.specs.Run as lists
+use Rattle.run_lists.specs.RunList.{AllHaveEnded, RunList}
+use Rattle.slot_table.specs.declared.records.Record.{Record}
 use Rattle.step_schedule.specs.Order.{AreAsked, IsOrder, Tasks}
 use Rattle.step_schedule.specs.Schedule.{names_stranger}
 use Rattle.step_schedule.specs.declared.schedule.Entry.{Entry}
-use Rattle.run_tally.specs.of_task_log_declared.counters.Counters.{Counters}
+use Rattle.task_log.specs.declared.counters.Counters.{Counters}
 
 -- a task of the run that moves makes one step more; which tasks have ended, and which are stuck, is so by their steps. The latest step
 -- stands first.

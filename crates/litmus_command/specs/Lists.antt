@@ -1,7 +1,7 @@
 -- Which lists on the command line read.
 use Rattle.std.specs.Prelude.{ℕ, List}
 use Rattle.place_list.specs.Spelling as places
-use Rattle.place_list.specs.of_program_layout_declared.place.Place.{Place}
+use Rattle.program_layout.specs.declared.place.Place.{Place}
 use Rattle.step_schedule.specs.Spelling as schedules
 use Rattle.step_schedule.specs.declared.schedule.Entry.{Entry}
 

@@ -1,10 +1,10 @@
 -- What is written of a trace that is accepted.
 use Rattle.std.specs.Prelude.{◌≡◌, ◌++◌, ℕ, List, codes}
 use Rattle.std.specs.Fmt.{decimal}
-use Rattle.litmus_syntax.specs.of_access_types_ReportText.{line}
-use Rattle.run_tally.specs.of_trace_replay_Answer.{IsAccepted}
-use Rattle.run_tally.specs.of_trace_replay_declared.accepted.Accepted.{Accepted}
-use Rattle.run_tally.specs.of_trace_replay_declared.accepted.Accepted.TheVariants as accepted
+use Rattle.access_types.specs.ReportText.{line}
+use Rattle.trace_replay.specs.Answer.{IsAccepted}
+use Rattle.trace_replay.specs.declared.accepted.Accepted.{Accepted}
+use Rattle.trace_replay.specs.declared.accepted.Accepted.TheVariants as accepted
 
 -- the line on a trace of version 1 with so many accesses and reports
 unfoldable pub first_line : (accesses reports : ℕ) → List ℕ

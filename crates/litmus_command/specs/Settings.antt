@@ -4,8 +4,8 @@ use Rattle.std.specs.Prelude.{◌≡◌, Vec, not}
 use Rattle.command_words.specs.Bounds.{KeepsBounds}
 use Rattle.command_words.specs.declared.request.RunOptions.{RunOptions}
 use Rattle.place_list.specs.Spelling as places
-use Rattle.place_list.specs.of_program_layout_declared.place.Place.{Place}
-use Rattle.run_tally.specs.of_program_sites_declared.settings.Settings.{Settings}
+use Rattle.program_layout.specs.declared.place.Place.{Place}
+use Rattle.program_sites.specs.declared.settings.Settings.{Settings}
 
 -- what a run goes by, as it is asked for, with these places
 abbrev pub settings_of : RunOptions → Vec Place Global → Settings

@@ -2,8 +2,8 @@
 use Rattle.std.specs.Prelude.{◌≡◌, ℕ, Bool, List, None, Option, Some, false, true}
 use Rattle.picture_text.specs.Text.{picture_text}
 use Rattle.picture_text.specs.declared.cells.Style.{Style}
-use Rattle.picture_text.specs.of_picture_Drawn.{IsPictureOf}
-use Rattle.picture_text.specs.of_picture_declared.draw.Picture.{Picture}
+use Rattle.picture.specs.Drawn.{IsPictureOf}
+use Rattle.picture.specs.declared.draw.Picture.{Picture}
 use Rattle.picture_svg.specs.Svg.{picture_svg}
 
 -- the picture as SVG, where that is wanted

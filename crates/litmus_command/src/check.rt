@@ -12,7 +12,7 @@ ghost use Rattle.litmus_command.specs.Command.{CallsAreCut, CallsAreGiven, compl
 ghost use Rattle.litmus_command.specs.Told.{heard};
 ghost use Rattle.litmus_command.specs.declared.complaint.Complaint.{Complaint};
 ghost use Rattle.report_text.specs.Sink.{CountsFailure};
-ghost use Rattle.run_tally.specs.of_program_sites_declared.settings.Settings.{Settings};
+ghost use Rattle.program_sites.specs.declared.settings.Settings.{Settings};
 ghost use Rattle.text_check.specs.Check.{IsCheckOf};
 ghost use Rattle.text_check.specs.declared.checked.Check.{Check};
 
@@ -22,10 +22,10 @@ use crate::desk::{Desk, ReadFault};
 use check_output::{Comes, Files, Lines, file_comes, last_line, unread_line};
 use command_words::{CheckRequest, RunOptions};
 use list_faults::{place_fault, schedule_fault};
+use litmus_parse::FILE_BYTES;
+use litmus_step::Settings;
 use place_list::parse_places;
-use run_tally::litmus_parse::FILE_BYTES;
-use run_tally::litmus_step::Settings;
-use run_tally::run_output::EngineError;
+use run_output::EngineError;
 use std::alloc::{AllocError, Global};
 use step_schedule::Schedule;
 use text_check::calls;

@@ -16,7 +16,7 @@ ghost use Rattle.litmus_command.specs.Overwrite.{IsKept, Overwrites};
 ghost use Rattle.litmus_command.specs.Told.{heard};
 ghost use Rattle.litmus_command.specs.declared.command.Failure.TheVariants.{Engine, OutOfMemory, Picture, Trace};
 ghost use Rattle.picture_text.specs.declared.cells.Style.TheVariants.{Ascii};
-ghost use Rattle.run_tally.specs.of_litmus_parse_Text.{file_bytes};
+ghost use Rattle.litmus_parse.specs.Text.{file_bytes};
 ghost use Rattle.report_text.specs.Sink.{CountsFailure};
 ghost use Rattle.std.specs.Option.{option_map};
 ghost use Rattle.step_schedule.specs.Schedule.{entries_of};
@@ -33,14 +33,13 @@ use clap::error::ErrorKind;
 use command_words::{
     ReplayRequest, Request, RunOptions, RunRequest, SearchRequest, ShowRequest, StepRequest, asked,
 };
+use litmus_parse::{FILE_BYTES, ParseError};
+use litmus_step::{RunError, Settings};
+use picture::PictureError;
 use picture_text::Style;
-use picture_text::picture::PictureError;
 use place_list::parse_places;
-use place_list::program_layout::Place;
-use run_tally::litmus_parse::{FILE_BYTES, ParseError};
-use run_tally::litmus_step::{RunError, Settings};
-use run_tally::run_output::{EngineError, Written};
-use run_tally::trace_replay::{SIZE_LIMIT, TraceError};
+use program_layout::Place;
+use run_output::{EngineError, Written};
 use run_tally::{Times, run_text_often};
 use search_run::SearchText;
 use std::alloc::{AllocError, Global};
@@ -49,6 +48,7 @@ use std::sync::Wait;
 use std::thread::Threads;
 use step_schedule::Schedule;
 use thiserror::Error;
+use trace_replay::{SIZE_LIMIT, TraceError};
 
 /// The program ran, and there was no report; or nothing was to be run.
 pub(crate) const NO_REPORT: u8 = 0;

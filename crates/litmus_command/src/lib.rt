@@ -12,6 +12,6 @@ pub mod replay;
 mod search;
 pub mod show;
 
-pub use run_tally::run_output::EngineError;
-pub use run_tally::{Progress, litmus_step};
+pub use run_output::EngineError;
+pub use run_tally::Progress;
 pub use search_run::SearchProgress;

@@ -3,12 +3,12 @@
 ghost use Rattle.std.specs.Prelude.{IfErr, IfOk};
 ghost use Rattle.litmus_command.specs.Replay.{IsLineOf, accepted_line, first_line, second_line};
 ghost use Rattle.report_text.specs.Sink.{Writes};
-ghost use Rattle.run_tally.specs.of_trace_replay_Answer.{IsRefused};
+ghost use Rattle.trace_replay.specs.Answer.{IsRefused};
 
 use report_text::pieces::{Piece, write_pieces};
 use report_text::{MemorySink, Sink, WriteError};
-use run_tally::trace_replay::{Accepted, TraceError, replay};
 use std::alloc::Global;
+use trace_replay::{Accepted, TraceError, replay};
 
 /// Writes the line on a trace of version 1.
 ///

@@ -6,8 +6,8 @@ ghost use Rattle.litmus_command.specs.Command.{IsSearchedFor, all_wanted_of, wan
 ghost use Rattle.search_run.specs.Texts.{IsRefused};
 
 use command_words::{SearchRequest, Switches};
-use run_tally::litmus_step::Settings;
-use run_tally::run_output::EngineError;
+use litmus_step::Settings;
+use run_output::EngineError;
 use search_all::{AllWanted, search_all};
 use search_run::{SearchProgress, SearchText, Wanted, search_text};
 use std::alloc::Global;

@@ -4,15 +4,15 @@ ghost use Rattle.std.specs.Prelude.{◌≡◌, IfErr, IfOk, false};
 ghost use Rattle.std.specs.Option.{option_map};
 ghost use Rattle.litmus_command.specs.Show.{IsDrawn};
 ghost use Rattle.picture_text.specs.Text.{picture_text};
-ghost use Rattle.picture_text.specs.of_picture_Drawn.{IsUndrawn};
-ghost use Rattle.picture_text.specs.of_picture_Ordered.{IsOrdered};
+ghost use Rattle.picture.specs.Drawn.{IsUndrawn};
+ghost use Rattle.picture.specs.Ordered.{IsOrdered};
 ghost use Rattle.picture_svg.specs.Svg.{picture_svg};
 
+use picture::{Picture, PictureError, picture_of};
 use picture_svg::write_svg;
-use picture_text::picture::{Picture, PictureError, picture_of};
 use picture_text::{Style, write_picture};
 use report_text::MemorySink;
-use run_tally::run_output::Written;
+use run_output::Written;
 use std::alloc::{AllocError, Global};
 
 /// The picture as text.

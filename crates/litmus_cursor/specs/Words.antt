@@ -7,7 +7,7 @@ use Rattle.litmus_lex.specs.Token as terminals
 use Rattle.litmus_syntax.specs.declared.expression.ReadForm.TheVariants as reads
 use Rattle.litmus_syntax.specs.declared.statement.WriteForm.TheVariants as writes
 use Rattle.litmus_syntax.specs.declared.statement.Barrier.TheVariants as barriers
-use Rattle.litmus_syntax.specs.of_access_types_declared.history.Mark.TheVariants as marks
+use Rattle.access_types.specs.declared.history.Mark.TheVariants as marks
 use Rattle.litmus_cursor.specs.declared.words.Word.{Word}
 use Rattle.litmus_cursor.specs.declared.words.Word.TheVariants as words
 use Rattle.litmus_cursor.specs.declared.words.VariableType.TheVariants as types

@@ -2,8 +2,8 @@
 -- the program's.
 use Rattle.std.proofs.Common.{◌≡◌, ◌^◌, ◌-◌, ◌%◌, ℕ, zero, suc, List, [], ◌∷◌, ◌++◌, Option, Some, None, map, refl, sym, subst, arith}
 use Rattle.std.specs.Prelude.{All, Contains, set, slice_get}
-use Rattle.litmus_syntax.specs.of_access_types_declared.history.Mark.{Mark}
-use Rattle.litmus_syntax.specs.of_access_types_declared.history.Mark.TheVariants as marks
+use Rattle.access_types.specs.declared.history.Mark.{Mark}
+use Rattle.access_types.specs.declared.history.Mark.TheVariants as marks
 use Rattle.litmus_syntax.specs.declared.expression.BinaryOperator.{BinaryOperator}
 use Rattle.litmus_syntax.specs.declared.expression.UnaryOperator.{UnaryOperator}
 use Rattle.litmus_syntax.specs.declared.statement.Call.{Call}

@@ -2,8 +2,8 @@
 use Rattle.std.proofs.Common.{◌≡◌, ◌+◌, ◌*◌, ◌≤◌, ℕ, List, [], ◌∷◌, Option, Some, None, length, refl, sym, subst, arith}
 use Rattle.std.proofs.Math.Nat.{mul_assoc, mul-le-mul_left, mul-le-mul_right}
 use native.Mathlib.Nat.{mul-add}
-use Rattle.litmus_syntax.specs.of_access_types_declared.history.Mark.{Mark}
-use Rattle.litmus_syntax.specs.of_access_types_declared.history.Mark.TheVariants as marks
+use Rattle.access_types.specs.declared.history.Mark.{Mark}
+use Rattle.access_types.specs.declared.history.Mark.TheVariants as marks
 use Rattle.litmus_syntax.specs.declared.expression.BinaryOperator.{BinaryOperator}
 use Rattle.litmus_syntax.specs.declared.expression.UnaryOperator.{UnaryOperator}
 use Rattle.litmus_syntax.specs.declared.statement.Call.{Call}

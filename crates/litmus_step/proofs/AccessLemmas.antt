@@ -6,12 +6,12 @@ use Rattle.std.proofs.lemmas.List.Elements.{All-from_get_or, All-get_or, All-map
 use Rattle.std.proofs.lemmas.List.Sums.{sum-map}
 use Rattle.litmus_syntax.specs.Limits.{KeepsLimits, TaskKeepsLimits}
 use Rattle.litmus_syntax.specs.Tree.{Program, Task}
-use Rattle.run_kept.specs.of_program_sites_Accesses.{begun_by}
-use Rattle.step_bounds.specs.of_run_lists_Run.{Run, idle}
+use Rattle.program_sites.specs.Accesses.{begun_by}
+use Rattle.run_lists.specs.Run.{Run, idle}
 use Rattle.litmus_step.specs.Kept.{accesses_kept, reports_kept, watches_kept}
 use Rattle.litmus_step.specs.Runs.{tasks_of}
-use Rattle.run_kept.specs.of_task_log_Keeps.{Keeps}
-use Rattle.run_kept.specs.of_task_log_declared.log.TaskLog.{TaskLog}
+use Rattle.task_log.specs.Keeps.{Keeps}
+use Rattle.task_log.specs.declared.log.TaskLog.{TaskLog}
 
 -- the list has the number of each task
 abbrev pub AreBegun : Program → List ℕ → Type 0

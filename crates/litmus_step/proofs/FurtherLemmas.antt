@@ -5,7 +5,7 @@ use Rattle.litmus_step.specs.Steps.{LeadsTo, StepsOn}
 use Rattle.litmus_step.specs.Turns.{LeadsFurther}
 use Rattle.litmus_step.specs.declared.world.Stepped.TheVariants.{Ended, Moved, Stuck}
 use Rattle.litmus_step.specs.declared.world.World.{World}
-use Rattle.step_bounds.specs.of_run_lists_Run.{Run}
+use Rattle.run_lists.specs.Run.{Run}
 use Rattle.slot_table.specs.declared.records.Record.{Record}
 
 pub further_none : (world : World) → LeadsFurther 0 world world

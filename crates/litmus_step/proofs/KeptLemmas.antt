@@ -5,17 +5,17 @@ use Rattle.std.proofs.lemmas.List.{append-nil, length-append, length-set}
 use Rattle.std.proofs.Math.ListN.{get_or-append}
 use Rattle.std.specs.Option.{option_to_list}
 use Rattle.access_types.specs.declared.report.Report.{Report}
-use Rattle.step_bounds.specs.of_run_lists_Reports.{reports_of}
-use Rattle.step_bounds.specs.of_run_lists_Run.{Run}
-use Rattle.step_bounds.specs.of_run_lists_RunList.{RunList}
-use Rattle.step_bounds.specs.of_run_lists_Told.{made_by}
+use Rattle.run_lists.specs.Reports.{reports_of}
+use Rattle.run_lists.specs.Run.{Run}
+use Rattle.run_lists.specs.RunList.{RunList}
+use Rattle.run_lists.specs.Told.{made_by}
 use Rattle.run_kept.specs.Noted.{IsNoted, Notes}
 use Rattle.slot_table.specs.declared.records.Record.{Record}
 use Rattle.litmus_step.proofs.StepLemmas.{by_task, same_some, set_here, set_other}
 use Rattle.litmus_step.specs.Kept.{Added, AreFirst, AreKept, IsKept, IsNotedIn, accesses_kept, watches_kept}
-use Rattle.run_kept.specs.of_task_log_Reports.{reported}
-use Rattle.run_kept.specs.of_task_log_declared.log.TaskLog.{TaskLog}
-use Rattle.run_kept.specs.of_task_log_declared.noted.Noted.{Noted}
+use Rattle.task_log.specs.Reports.{reported}
+use Rattle.task_log.specs.declared.log.TaskLog.{TaskLog}
+use Rattle.task_log.specs.declared.noted.Noted.{Noted}
 
 abbrev pub OneMoreIsNoted : Type 0
 OneMoreIsNoted = (run : Run) (latest : Record) (earlier : List Record) (before : List Noted) (noted : Noted)

@@ -14,5 +14,3 @@ pub mod AccessLemmas
 pub mod NextLemmas
 pub mod CopyLemmas
 pub mod Sent
-pub use Rattle.run_kept.proofs.of_program_sites_prepared as of_program_sites_prepared
-pub use Rattle.run_kept.proofs.of_program_sites_settings as of_program_sites_settings

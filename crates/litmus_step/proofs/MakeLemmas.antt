@@ -1,9 +1,9 @@
 -- A world after one step more, by what is changed in it.
 use Rattle.std.proofs.Common.{Option, ap, inl, inr, ◌∙◌, ◌≡◌, ◌<◌, ◌≤◌, ◌+◌, ◌∷◌, [], ℕ, List, Some, length, vec_capacity, arith}
 use Rattle.std.proofs.Common.{get_or, refl, set, slice_get, subst, sym}
-use Rattle.step_bounds.specs.of_run_lists_Run.{Run, first_words, task_setting}
-use Rattle.step_bounds.specs.of_run_lists_RunList.{RunList}
-use Rattle.step_bounds.specs.of_setup_access_Parts.{made}
+use Rattle.run_lists.specs.Run.{Run, first_words, task_setting}
+use Rattle.run_lists.specs.RunList.{RunList}
+use Rattle.setup_access.specs.Parts.{made}
 use Rattle.slot_table.specs.Answer.{Answers}
 use Rattle.slot_table.specs.StepLine.{step_line}
 use Rattle.slot_table.specs.Words.{Words}
@@ -16,23 +16,23 @@ use Rattle.run_kept.specs.Noted.{Notes}
 use Rattle.litmus_step.specs.Kept.{Added, AreKept, IsNotedIn, accesses_kept, reports_kept, watches_kept}
 use Rattle.litmus_step.specs.Leads.{AreAtPoints, LeadsTask, LeadsTasks, LeadsToAll, MakesNextIn}
 use Rattle.litmus_step.specs.Runs.{CanBeMade, tasks_of}
-use Rattle.run_kept.specs.of_task_log_Keeps.{Keeps}
-use Rattle.run_kept.specs.of_task_log_declared.log.TaskLog.{TaskLog}
+use Rattle.task_log.specs.Keeps.{Keeps}
+use Rattle.task_log.specs.declared.log.TaskLog.{TaskLog}
 use Rattle.litmus_step.specs.Steps.{IsMachine, LeadsTo, tasks_in}
 use Rattle.litmus_step.specs.declared.world.World.{World}
-use Rattle.task_laws.specs.of_task_plan_Counts.{up_to_last}
-use Rattle.run_kept.specs.of_task_log_declared.noted.Noted.{Noted}
+use Rattle.task_plan.specs.Counts.{up_to_last}
+use Rattle.task_log.specs.declared.noted.Noted.{Noted}
 use Rattle.litmus_syntax.specs.Tree.{Block}
-use Rattle.step_bounds.specs.of_setup_access_declared.begun.Begun.{Begun}
-use Rattle.step_bounds.specs.of_setup_access_declared.outcome.Outcome.{Outcome}
-use Rattle.run_kept.specs.of_task_run_Fell.{FellAt, fell_of}
-use Rattle.run_kept.specs.of_task_run_Leads.{BeginsNext, Leads, LeadsOn, stands_at}
-use Rattle.run_kept.specs.of_task_run_Points.{HasMade}
-use Rattle.run_kept.specs.of_task_run_Says.{Says}
-use Rattle.step_bounds.specs.of_written_order_Standing.{Setting}
+use Rattle.setup_access.specs.declared.begun.Begun.{Begun}
+use Rattle.setup_access.specs.declared.outcome.Outcome.{Outcome}
+use Rattle.task_run.specs.Fell.{FellAt, fell_of}
+use Rattle.task_run.specs.Leads.{BeginsNext, Leads, LeadsOn, stands_at}
+use Rattle.task_run.specs.Points.{HasMade}
+use Rattle.task_run.specs.Says.{Says}
+use Rattle.written_order.specs.Standing.{Setting}
 use Rattle.std.proofs.lemmas.List.{append-nil, get_or-set_same}
 use Rattle.std.proofs.lemmas.Option.{slice_get_cases}
-use Rattle.run_kept.specs.of_task_run_declared.run.TaskRun.{TaskRun}
+use Rattle.task_run.specs.declared.run.TaskRun.{TaskRun}
 
 -- followed by the record of a step and its answer a list leads on
 abbrev pub StepsLead : Type 0

@@ -4,16 +4,16 @@ use Rattle.litmus_step.specs.Leads.{GoesOnWith, LeadsToAll, MakesNextIn}
 use Rattle.litmus_step.specs.Steps.{IsMachine, LeadsTo}
 use Rattle.litmus_step.specs.declared.world.World.{World}
 use Rattle.litmus_syntax.specs.Tree.{Block}
-use Rattle.step_bounds.specs.of_setup_access_Parts.{made}
+use Rattle.setup_access.specs.Parts.{made}
 use Rattle.slot_table.specs.declared.records.Record.{Record}
 use Rattle.slot_table.specs.declared.step.Answer.{Answer}
 use Rattle.slot_table.specs.declared.step.Step.{Step}
-use Rattle.step_bounds.specs.of_run_lists_Run.{Run}
-use Rattle.run_kept.specs.of_task_run_Leads.{Leads}
-use Rattle.run_kept.specs.of_task_run_Says.{Says}
-use Rattle.run_kept.specs.of_task_run_declared.run.TaskRun.{TaskRun}
-use Rattle.step_bounds.specs.of_written_order_Standing.{Setting}
-use Rattle.step_bounds.specs.of_written_order_Waits.{OnlyStep, WithinTurns}
+use Rattle.run_lists.specs.Run.{Run}
+use Rattle.task_run.specs.Leads.{Leads}
+use Rattle.task_run.specs.Says.{Says}
+use Rattle.task_run.specs.declared.run.TaskRun.{TaskRun}
+use Rattle.written_order.specs.Standing.{Setting}
+use Rattle.written_order.specs.Waits.{OnlyStep, WithinTurns}
 
 pub makes_next : (world : World) (task : ℕ) (machine : TaskRun) (next : Option Step) → IsMachine world task machine
     → IfSome next (Says machine)

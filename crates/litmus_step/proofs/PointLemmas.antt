@@ -4,14 +4,14 @@ use Rattle.std.proofs.Common.{set, slice_get, subst, sym}
 use Rattle.std.proofs.lemmas.Option.{slice_get_within}
 use Rattle.access_types.specs.declared.history.Happening.{Happening}
 use Rattle.litmus_syntax.specs.Tree.{Block}
-use Rattle.step_bounds.specs.of_memory_operation_Leads.{GoesOn}
-use Rattle.step_bounds.specs.of_run_lists_Run.{Run, task_of, task_setting}
-use Rattle.step_bounds.specs.of_run_lists_RunList.{RunList}
-use Rattle.step_bounds.specs.of_run_lists_Told.{made_by}
+use Rattle.memory_operation.specs.Leads.{GoesOn}
+use Rattle.run_lists.specs.Run.{Run, task_of, task_setting}
+use Rattle.run_lists.specs.RunList.{RunList}
+use Rattle.run_lists.specs.Told.{made_by}
 use Rattle.run_kept.specs.Noted.{AreNoted, IsBegun, IsNoted}
-use Rattle.step_bounds.specs.of_setup_access_Parts.{made}
-use Rattle.step_bounds.specs.of_setup_access_declared.begun.Begun.{Begun}
-use Rattle.step_bounds.specs.of_setup_access_declared.outcome.Outcome.{Outcome}
+use Rattle.setup_access.specs.Parts.{made}
+use Rattle.setup_access.specs.declared.begun.Begun.{Begun}
+use Rattle.setup_access.specs.declared.outcome.Outcome.{Outcome}
 use Rattle.slot_table.specs.Records.{records_of}
 use Rattle.slot_table.specs.declared.records.Record.{Record}
 use Rattle.slot_table.specs.declared.step.Answer.{Answer}
@@ -23,22 +23,22 @@ use Rattle.litmus_step.specs.Leads.{AreAtPoints, IsAtPoint, LeadsTask, steps_not
 use Rattle.litmus_step.specs.Readers.{IsNext, some_access, some_begins, steps_by, steps_told}
 use Rattle.litmus_step.specs.Steps.{IsMachine, LeadsTo}
 use Rattle.litmus_step.specs.declared.world.World.{World}
-use Rattle.run_kept.specs.of_task_log_declared.noted.Noted.{Noted}
-use Rattle.run_kept.proofs.of_task_run_TellLemmas.{making_begins, opening_begins}
-use Rattle.run_kept.specs.of_task_run_Agrees.{IsIn}
-use Rattle.run_kept.specs.of_task_run_Fell.{FellAt}
-use Rattle.run_kept.specs.of_task_run_Leads.{BeginsNext, Leads, stands_at}
-use Rattle.run_kept.specs.of_task_run_Part.{Part, closes, locks, makes, opens, over, stops, unlocks}
-use Rattle.run_kept.specs.of_task_run_Points.{HasMade, Stepped, next_is}
-use Rattle.run_kept.specs.of_task_run_Says.{Says}
-use Rattle.run_kept.specs.of_task_run_declared.machine.Machine.{Machine}
-use Rattle.run_kept.specs.of_task_points_declared.points.Before.{Before}
-use Rattle.run_kept.specs.of_task_run_declared.run.TaskRun.{TaskRun}
-use Rattle.run_kept.specs.of_task_run_declared.stage.Stage.{Stage}
-use Rattle.step_bounds.specs.of_written_order_Standing.{Setting, Standing}
-use Rattle.step_bounds.specs.of_written_order_Told.{did_by, did_next}
-use Rattle.step_bounds.specs.of_written_order_Waits.{OnlyStep}
-use Rattle.step_bounds.specs.of_written_order_WrittenOrder.{SpellsAll, WrittenOrder}
+use Rattle.task_log.specs.declared.noted.Noted.{Noted}
+use Rattle.task_run.proofs.TellLemmas.{making_begins, opening_begins}
+use Rattle.task_run.specs.Agrees.{IsIn}
+use Rattle.task_run.specs.Fell.{FellAt}
+use Rattle.task_run.specs.Leads.{BeginsNext, Leads, stands_at}
+use Rattle.task_run.specs.Part.{Part, closes, locks, makes, opens, over, stops, unlocks}
+use Rattle.task_run.specs.Points.{HasMade, Stepped, next_is}
+use Rattle.task_run.specs.Says.{Says}
+use Rattle.task_run.specs.declared.machine.Machine.{Machine}
+use Rattle.task_points.specs.declared.points.Before.{Before}
+use Rattle.task_run.specs.declared.run.TaskRun.{TaskRun}
+use Rattle.task_run.specs.declared.stage.Stage.{Stage}
+use Rattle.written_order.specs.Standing.{Setting, Standing}
+use Rattle.written_order.specs.Told.{did_by, did_next}
+use Rattle.written_order.specs.Waits.{OnlyStep}
+use Rattle.written_order.specs.WrittenOrder.{SpellsAll, WrittenOrder}
 
 -- an access begins where one is noted
 pub begun_so : (plain_writes_atomic : Bool) (task : ℕ) (before next : List Happening) (begins : Option Begun)

@@ -10,12 +10,12 @@ use Rattle.litmus_step.proofs.OrderLemmas.{one_more, some_more}
 use Rattle.litmus_step.proofs.TurnLemmas.{asked_both, asked_nothing, each_machine}
 use Rattle.litmus_step.specs.Steps.{IsFree, IsMachine, Tells, tasks_in}
 use Rattle.litmus_step.specs.Turns.{Asked, IsStuckAt, NobodyIsStuck, RunsOn, StopsAt}
-use Rattle.run_kept.specs.of_program_sites_declared.error.RunError.{RunError}
-use Rattle.run_kept.specs.of_program_sites_declared.error.RunError.TheVariants as errors
+use Rattle.program_sites.specs.declared.error.RunError.{RunError}
+use Rattle.program_sites.specs.declared.error.RunError.TheVariants as errors
 use Rattle.litmus_step.specs.declared.world.Stepped.{Stepped}
 use Rattle.litmus_step.specs.declared.world.Stepped.TheVariants.{Ended, Moved, Stuck}
 use Rattle.litmus_step.specs.declared.world.World.{World}
-use Rattle.run_kept.specs.of_task_run_declared.run.TaskRun.{TaskRun}
+use Rattle.task_run.specs.declared.run.TaskRun.{TaskRun}
 
 -- a task that isn't told to be stuck is free, and so are all, if they were
 free_of : (told : Stepped) (machine : TaskRun) → told ≢ Stuck → Tells told machine → IsFree machine

@@ -7,10 +7,10 @@ use Rattle.std.proofs.lemmas.List.{length-set, reverse-append, reverse-reverse}
 use Rattle.std.proofs.lemmas.Option.{slice_get_within}
 use Rattle.litmus_syntax.specs.Limits.{TaskKeepsLimits}
 use Rattle.litmus_syntax.specs.Tree.{Task}
-use Rattle.step_bounds.specs.of_memory_operation_Leads.{GoesOn}
-use Rattle.step_bounds.specs.of_run_lists_Run.{Run, first_words, idle, task_of, task_setting}
-use Rattle.step_bounds.specs.of_run_lists_RunList.{InWrittenOrder, RunList}
-use Rattle.step_bounds.specs.of_setup_access_Parts.{made}
+use Rattle.memory_operation.specs.Leads.{GoesOn}
+use Rattle.run_lists.specs.Run.{Run, first_words, idle, task_of, task_setting}
+use Rattle.run_lists.specs.RunList.{InWrittenOrder, RunList}
+use Rattle.setup_access.specs.Parts.{made}
 use Rattle.slot_table.specs.Answer.{Answers}
 use Rattle.slot_table.specs.Records.{records_of, words_after}
 use Rattle.slot_table.specs.StepLine.{Names, step_line}
@@ -23,15 +23,15 @@ use Rattle.litmus_step.proofs.NameLemmas.{after_as_many, answered, last_of_all, 
 use Rattle.access_types.specs.declared.report.Report.{Report}
 use Rattle.litmus_step.specs.Kept.{AreKept}
 use Rattle.litmus_step.specs.Leads.{AreAtPoints, GoesOnWith, LeadsTask, LeadsToAll, MakesNextIn}
-use Rattle.run_kept.specs.of_task_log_declared.log.TaskLog.{TaskLog}
+use Rattle.task_log.specs.declared.log.TaskLog.{TaskLog}
 use Rattle.litmus_step.specs.Runs.{CanBeMade, tasks_of}
-use Rattle.task_laws.specs.of_task_plan_Counts.{up_to_last}
-use Rattle.run_kept.specs.of_task_run_Leads as task_run
-use Rattle.run_kept.specs.of_task_run_Leads.{LeadsOn}
-use Rattle.run_kept.specs.of_task_run_declared.run.TaskRun.{TaskRun}
-use Rattle.step_bounds.specs.of_written_order_Standing.{Setting}
-use Rattle.step_bounds.specs.of_written_order_Waits.{OnlyStep, WithinTurns}
-use Rattle.step_bounds.specs.of_written_order_WrittenOrder.{SpellsAll, WrittenOrder}
+use Rattle.task_plan.specs.Counts.{up_to_last}
+use Rattle.task_run.specs.Leads as task_run
+use Rattle.task_run.specs.Leads.{LeadsOn}
+use Rattle.task_run.specs.declared.run.TaskRun.{TaskRun}
+use Rattle.written_order.specs.Standing.{Setting}
+use Rattle.written_order.specs.Waits.{OnlyStep, WithinTurns}
+use Rattle.written_order.specs.WrittenOrder.{SpellsAll, WrittenOrder}
 
 -- what is answered leads on
 abbrev pub AnAnswerLeadsOn : Type 0

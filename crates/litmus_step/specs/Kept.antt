@@ -2,17 +2,17 @@
 use Rattle.std.specs.Prelude.{◌≡◌, ◌⊎◌, ◌*◌, ◌≤◌, ◌++◌, ◌<◌, ◌∷◌, [], ℕ, List, Option, None, Some, length, map, slice_get}
 use Rattle.std.specs.List.{sum_by}
 use Rattle.access_types.specs.declared.report.Report.{Report}
-use Rattle.step_bounds.specs.of_run_lists_Reports.{reports_of}
+use Rattle.run_lists.specs.Reports.{reports_of}
 use Rattle.litmus_syntax.specs.Limits.{block_repeats}
-use Rattle.step_bounds.specs.of_run_lists_Run.{Run, task_of}
-use Rattle.step_bounds.specs.of_run_lists_RunList.{RunList}
+use Rattle.run_lists.specs.Run.{Run, task_of}
+use Rattle.run_lists.specs.RunList.{RunList}
 use Rattle.run_kept.specs.Noted.{Notes}
 use Rattle.slot_table.specs.declared.records.Record.{Record}
 use Rattle.litmus_step.specs.Runs.{tasks_of}
-use Rattle.run_kept.specs.of_task_log_Keeps.{Keeps, Room, room_in}
-use Rattle.run_kept.specs.of_task_log_Reports as logs
-use Rattle.run_kept.specs.of_task_log_declared.log.TaskLog.{TaskLog}
-use Rattle.run_kept.specs.of_task_log_declared.noted.Noted.{Noted}
+use Rattle.task_log.specs.Keeps.{Keeps, Room, room_in}
+use Rattle.task_log.specs.Reports as logs
+use Rattle.task_log.specs.declared.log.TaskLog.{TaskLog}
+use Rattle.task_log.specs.declared.noted.Noted.{Noted}
 
 -- There is room for as many accesses of a task as its text can begin: as often as its loops repeat them. At each of
 -- these there is room for nine watchpoints that are set up or taken: its check's own and those of eight assertions.

@@ -2,10 +2,10 @@
 use Rattle.std.specs.Prelude.{◌≡◌, ◌++◌, ◌∷◌, [], ℕ, List, Some, is_some, length, map, reverse, slice_get}
 use Rattle.access_types.specs.declared.report.Report.{Report}
 use Rattle.litmus_syntax.specs.Tree.{Block}
-use Rattle.step_bounds.specs.of_run_lists_Run.{Run, first_words, task_of, task_setting}
-use Rattle.step_bounds.specs.of_run_lists_RunList.{RunList}
+use Rattle.run_lists.specs.Run.{Run, first_words, task_of, task_setting}
+use Rattle.run_lists.specs.RunList.{RunList}
 use Rattle.run_kept.specs.Noted.{Notes}
-use Rattle.step_bounds.specs.of_setup_access_Parts.{made}
+use Rattle.setup_access.specs.Parts.{made}
 use Rattle.slot_table.specs.Records.{records_of, words_after}
 use Rattle.slot_table.specs.Words.{Words}
 use Rattle.slot_table.specs.declared.records.Record.{Record}
@@ -13,15 +13,15 @@ use Rattle.slot_table.specs.declared.step.Answer.{Answer}
 use Rattle.slot_table.specs.declared.step.Step.{Step}
 use Rattle.litmus_step.specs.Kept.{AreKept}
 use Rattle.litmus_step.specs.Runs.{CanBeMade, tasks_of}
-use Rattle.run_kept.specs.of_task_log_declared.log.TaskLog.{TaskLog}
-use Rattle.run_kept.specs.of_task_log_declared.noted.Noted.{Noted}
-use Rattle.task_laws.specs.of_task_plan_Counts.{up_to_last}
-use Rattle.run_kept.specs.of_task_run_Leads as task_run
-use Rattle.run_kept.specs.of_task_run_Points.{HasMade, Stepped}
-use Rattle.run_kept.specs.of_task_run_Says.{Says}
-use Rattle.run_kept.specs.of_task_run_declared.run.TaskRun.{TaskRun}
-use Rattle.step_bounds.specs.of_written_order_Standing.{Setting}
-use Rattle.step_bounds.specs.of_written_order_Waits.{OnlyStep, WithinTurns}
+use Rattle.task_log.specs.declared.log.TaskLog.{TaskLog}
+use Rattle.task_log.specs.declared.noted.Noted.{Noted}
+use Rattle.task_plan.specs.Counts.{up_to_last}
+use Rattle.task_run.specs.Leads as task_run
+use Rattle.task_run.specs.Points.{HasMade, Stepped}
+use Rattle.task_run.specs.Says.{Says}
+use Rattle.task_run.specs.declared.run.TaskRun.{TaskRun}
+use Rattle.written_order.specs.Standing.{Setting}
+use Rattle.written_order.specs.Waits.{OnlyStep, WithinTurns}
 
 -- a task's records in the list lead to its machine
 abbrev pub LeadsTask : Run → ℕ → List Record → TaskRun → Type 0

@@ -2,24 +2,24 @@
 use Rattle.std.specs.Prelude.{◌≡◌, ◌⊎◌, ◌∷◌, ℕ, Bool, List, [], false, length, true}
 use Rattle.access_types.specs.Access.{Access}
 use Rattle.access_types.specs.declared.history.Happening.{Happening}
-use Rattle.step_bounds.specs.of_litmus_meaning_Meaning.{MeansBlock}
+use Rattle.litmus_meaning.specs.Meaning.{MeansBlock}
 use Rattle.litmus_syntax.specs.Tree.{Block}
-use Rattle.step_bounds.specs.of_run_lists_Run.{Run, task_of, task_setting}
-use Rattle.step_bounds.specs.of_run_lists_RunList.{RunList}
-use Rattle.step_bounds.specs.of_run_lists_Told.{made_by}
+use Rattle.run_lists.specs.Run.{Run, task_of, task_setting}
+use Rattle.run_lists.specs.RunList.{RunList}
+use Rattle.run_lists.specs.Told.{made_by}
 use Rattle.run_kept.specs.Noted.{begun_in}
 use Rattle.litmus_step.specs.Steps.{MakesNoStep}
-use Rattle.step_bounds.specs.of_setup_access_Parts.{made}
+use Rattle.setup_access.specs.Parts.{made}
 use Rattle.slot_table.specs.Records.{records_of}
 use Rattle.slot_table.specs.declared.records.Record.{Record}
 use Rattle.slot_table.specs.declared.step.Answer.{Answer}
 use Rattle.slot_table.specs.declared.step.Step.{Step}
-use Rattle.run_kept.specs.of_task_run_Points.{Stepped, next_is}
-use Rattle.run_kept.specs.of_task_points_declared.points.Before.{Before}
-use Rattle.run_kept.specs.of_task_points_declared.points.Before.TheVariants.{Other}
-use Rattle.step_bounds.specs.of_written_order_Standing.{Setting}
-use Rattle.step_bounds.specs.of_written_order_Told.{did_next}
-use Rattle.step_bounds.specs.of_written_order_WrittenOrder.{WrittenOrder, at_first, stands_after}
+use Rattle.task_run.specs.Points.{Stepped, next_is}
+use Rattle.task_points.specs.declared.points.Before.{Before}
+use Rattle.task_points.specs.declared.points.Before.TheVariants.{Other}
+use Rattle.written_order.specs.Standing.{Setting}
+use Rattle.written_order.specs.Told.{did_next}
+use Rattle.written_order.specs.WrittenOrder.{WrittenOrder, at_first, stands_after}
 
 -- the values of the task's registers after its records in the list
 abbrev pub AreRegisters : {run : Run} {records : List Record} → RunList run records → ℕ → List ℕ → Type 0

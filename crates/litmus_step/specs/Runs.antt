@@ -4,12 +4,12 @@ use Rattle.access_types.specs.Sites.{AccessMap}
 use Rattle.litmus_syntax.specs.Limits.{KeepsLimits}
 use Rattle.litmus_syntax.specs.Views.{program_of}
 use Rattle.litmus_syntax.specs.declared.program.Program.{Program}
-use Rattle.task_laws.specs.of_program_layout_Places.{places_of}
-pub use Rattle.step_bounds.specs.of_run_lists_Ended.{HasEnded, IsStuck, tasks_of}
-use Rattle.step_bounds.specs.of_run_lists_Run.{Run, task_setting}
+use Rattle.program_layout.specs.Places.{places_of}
+pub use Rattle.run_lists.specs.Ended.{HasEnded, IsStuck, tasks_of}
+use Rattle.run_lists.specs.Run.{Run, task_setting}
 use Rattle.task_laws.specs.Fits.{ArePlaced}
-use Rattle.run_kept.specs.of_program_sites_Settings.{rules_of}
-use Rattle.run_kept.specs.of_program_sites_declared.settings.Settings.{Settings}
+use Rattle.program_sites.specs.Settings.{rules_of}
+use Rattle.program_sites.specs.declared.settings.Settings.{Settings}
 
 -- the run of a program under these settings, where tickets name these accesses
 abbrev pub run_of : Program → Settings → AccessMap → Run

@@ -8,15 +8,15 @@ use Rattle.litmus_step.specs.declared.world.Stepped.TheVariants.{Ended, Moved, S
 use Rattle.litmus_step.specs.declared.world.World.{World}
 use Rattle.litmus_syntax.specs.Limits.{BlockScopes, block_rises}
 use Rattle.litmus_syntax.specs.Tree.{Block}
-use Rattle.step_bounds.specs.of_run_lists_Run.{Run}
+use Rattle.run_lists.specs.Run.{Run}
 use Rattle.slot_table.specs.declared.records.Record.{Record}
-use Rattle.run_kept.specs.of_task_log_Keeps as task_log
-use Rattle.run_kept.specs.of_task_run_Leads.{Leads}
-use Rattle.run_kept.specs.of_task_run_Room.{task_room}
-use Rattle.run_kept.specs.of_task_run_declared.run.TaskRun.{TaskRun}
-use Rattle.step_bounds.specs.of_written_order_Standing.{Setting}
-use Rattle.step_bounds.specs.of_written_order_Waits as waits
-use Rattle.step_bounds.specs.of_written_order_WrittenOrder.{SpellsAll, WrittenOrder}
+use Rattle.task_log.specs.Keeps as task_log
+use Rattle.task_run.specs.Leads.{Leads}
+use Rattle.task_run.specs.Room.{task_room}
+use Rattle.task_run.specs.declared.run.TaskRun.{TaskRun}
+use Rattle.written_order.specs.Standing.{Setting}
+use Rattle.written_order.specs.Waits as waits
+use Rattle.written_order.specs.WrittenOrder.{SpellsAll, WrittenOrder}
 
 -- the list, the latest record first, is a run list and leads to the world
 abbrev pub LeadsTo : Run → List Record → World → Type 0

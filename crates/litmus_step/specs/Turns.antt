@@ -1,16 +1,16 @@
 -- What is known of the tasks of a world that a list leads to, and worlds to which tasks that are asked lead.
 use Rattle.std.specs.Prelude.{◌≡◌, ◌++◌, ◌<◌, ◌≤◌, ◌+◌, ◌∷◌, ℕ, List, length}
-use Rattle.step_bounds.specs.of_run_lists_Run.{Run}
-use Rattle.step_bounds.specs.of_run_lists_RunList as run_lists
+use Rattle.run_lists.specs.Run.{Run}
+use Rattle.run_lists.specs.RunList as run_lists
 use Rattle.slot_table.specs.declared.records.Record.{Record}
 use Rattle.step_schedule.specs.Order.{AreAsked, IsOrder, Tasks}
 use Rattle.step_schedule.specs.declared.schedule.Entry.{Entry}
 use Rattle.litmus_step.specs.Runs.{HasEnded, IsStuck, tasks_of}
 use Rattle.litmus_step.specs.Steps.{IsFree, IsMachine, LeadsTo, tasks_in}
-use Rattle.run_kept.specs.of_program_sites_declared.error.RunError.{RunError}
-use Rattle.run_kept.specs.of_program_sites_declared.error.RunError.TheVariants as errors
+use Rattle.program_sites.specs.declared.error.RunError.{RunError}
+use Rattle.program_sites.specs.declared.error.RunError.TheVariants as errors
 use Rattle.litmus_step.specs.declared.world.World.{World}
-use Rattle.run_kept.specs.of_task_run_declared.run.TaskRun.{TaskRun}
+use Rattle.task_run.specs.declared.run.TaskRun.{TaskRun}
 
 -- a list of steps, the latest record first, and the world that it leads to
 pub record Point : Type 0 where

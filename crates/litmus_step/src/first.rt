@@ -4,23 +4,23 @@ ghost use Rattle.std.specs.Prelude.{◌≡◌, ◌<◌, ◌≤◌, ◌*◌, [], 
 ghost use Rattle.access_types.specs.Sites.{AccessMap};
 ghost use Rattle.litmus_syntax.specs.Limits.{KeepsLimits};
 ghost use Rattle.litmus_syntax.specs.Views.{program_of};
-ghost use Rattle.step_bounds.specs.of_run_lists_Run.{first_words};
+ghost use Rattle.run_lists.specs.Run.{first_words};
 ghost use Rattle.litmus_step.specs.Leads.{LeadsTask, LeadsTasks};
-ghost use Rattle.run_kept.specs.of_program_sites_Prepared.{IsPrepared, IsReady, sites_in};
+ghost use Rattle.program_sites.specs.Prepared.{IsPrepared, IsReady, sites_in};
 ghost use Rattle.litmus_step.specs.Runs.{run_of};
-ghost use Rattle.run_kept.specs.of_program_sites_declared.settings.Settings.{Settings};
-ghost use Rattle.run_kept.specs.of_task_log_Keeps.{Keeps};
-ghost use Rattle.run_kept.specs.of_task_log_declared.log.TaskLog.{TaskLog};
-ghost use Rattle.run_kept.specs.of_task_run_Points.{HasMade};
-ghost use Rattle.run_kept.specs.of_task_run_declared.run.TaskRun.{TaskRun};
+ghost use Rattle.program_sites.specs.declared.settings.Settings.{Settings};
+ghost use Rattle.task_log.specs.Keeps.{Keeps};
+ghost use Rattle.task_log.specs.declared.log.TaskLog.{TaskLog};
+ghost use Rattle.task_run.specs.Points.{HasMade};
+ghost use Rattle.task_run.specs.declared.run.TaskRun.{TaskRun};
 
 use access_types::Report;
 use litmus_syntax::Program;
-use run_kept::program_sites::Prepared;
-use run_kept::task_log::TaskLog;
-use run_kept::task_run::TaskRun;
+use program_sites::Prepared;
 use slot_table::{BoardError, PlainBoard, Shape};
 use std::alloc::{AllocError, Global};
+use task_log::TaskLog;
+use task_run::TaskRun;
 
 /// At an access at most so many watchpoints are set up, and as many taken, and so much is reported: by its own check,
 /// and by those of the scoped assertions in force, of which there are 8 at most.

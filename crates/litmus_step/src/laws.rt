@@ -5,21 +5,21 @@ ghost use Rattle.access_types.specs.Arms.{Arm};
 ghost use Rattle.access_types.specs.Stamped.{Stamped};
 ghost use Rattle.access_types.specs.Takes.{Take};
 ghost use Rattle.access_types.specs.declared.report.Report.{Report};
-ghost use Rattle.step_bounds.specs.of_litmus_meaning_RunOfProgram.{RunOfProgram};
+ghost use Rattle.litmus_meaning.specs.RunOfProgram.{RunOfProgram};
 ghost use Rattle.litmus_syntax.specs.Limits.{KeepsLimits};
-ghost use Rattle.task_laws.specs.of_program_layout_Places.{AreFit, places_of};
-ghost use Rattle.task_laws.specs.of_program_layout_declared.place.Place.{Place};
-ghost use Rattle.run_kept.specs.of_program_sites_Sites.{AreSitesOf};
-ghost use Rattle.step_bounds.specs.of_run_lists_Run.{Run, task_setting};
-ghost use Rattle.step_bounds.specs.of_run_lists_RunList.{RunList};
-ghost use Rattle.step_bounds.specs.of_run_lists_Told.{history_of};
-ghost use Rattle.step_bounds.specs.of_run_lists_Reports.{reports_of};
+ghost use Rattle.program_layout.specs.Places.{AreFit, places_of};
+ghost use Rattle.program_layout.specs.declared.place.Place.{Place};
+ghost use Rattle.program_sites.specs.Sites.{AreSitesOf};
+ghost use Rattle.run_lists.specs.Run.{Run, task_setting};
+ghost use Rattle.run_lists.specs.RunList.{RunList};
+ghost use Rattle.run_lists.specs.Told.{history_of};
+ghost use Rattle.run_lists.specs.Reports.{reports_of};
 ghost use Rattle.run_kept.specs.Lists.{AreAccessesOf, AreArmsOf, AreTakesOf};
 ghost use Rattle.run_kept.specs.Noted.{Notes};
 ghost use Rattle.run_kept.specs.Totals.{AddUp, CountsList, CountsTasks};
-ghost use Rattle.step_bounds.specs.of_setup_access_Parts.{made};
-ghost use Rattle.step_bounds.specs.of_setup_access_declared.begun.Begun.{Begun};
-ghost use Rattle.step_bounds.specs.of_setup_access_declared.outcome.Outcome.{Outcome};
+ghost use Rattle.setup_access.specs.Parts.{made};
+ghost use Rattle.setup_access.specs.declared.begun.Begun.{Begun};
+ghost use Rattle.setup_access.specs.declared.outcome.Outcome.{Outcome};
 ghost use Rattle.slot_table.specs.Answer.{Answers};
 ghost use Rattle.slot_table.specs.StepLine.{Names, step_line};
 ghost use Rattle.slot_table.specs.Words.{Words};
@@ -32,21 +32,22 @@ ghost use Rattle.litmus_step.specs.Readers.{IsMeant};
 ghost use Rattle.litmus_step.specs.Runs.{CanBeMade, HasEnded, tasks_of};
 ghost use Rattle.litmus_step.specs.Steps.{LeadsTo, tasks_in};
 ghost use Rattle.litmus_step.specs.declared.world.World.{World};
-ghost use Rattle.run_kept.specs.of_task_log_Arms.{arms_of, takes_of};
-ghost use Rattle.run_kept.specs.of_task_log_Counters.{Count};
-ghost use Rattle.run_kept.specs.of_task_log_Keeps.{Keeps};
-ghost use Rattle.run_kept.specs.of_task_log_Touches.{accesses_of, touches_of};
-ghost use Rattle.run_kept.specs.of_task_log_declared.counters.Counters.{Counters};
-ghost use Rattle.run_kept.specs.of_task_log_declared.log.TaskLog.{TaskLog};
-ghost use Rattle.run_kept.specs.of_task_log_declared.noted.Noted.{Noted};
-ghost use Rattle.task_laws.specs.of_task_plan_Counts.{up_to_last};
-ghost use Rattle.run_kept.specs.of_task_run_Fell.{FellAt};
-ghost use Rattle.run_kept.specs.of_task_run_Leads.{BeginsNext, LeadsOn, stands_at};
-ghost use Rattle.run_kept.specs.of_task_run_Points.{HasMade, Stepped};
-ghost use Rattle.run_kept.specs.of_task_run_Says.{Says};
-ghost use Rattle.run_kept.specs.of_task_run_declared.run.TaskRun.{TaskRun};
-ghost use Rattle.step_bounds.specs.of_written_order_WrittenOrder.{stands_after};
+ghost use Rattle.task_log.specs.Arms.{arms_of, takes_of};
+ghost use Rattle.task_log.specs.Counters.{Count};
+ghost use Rattle.task_log.specs.Keeps.{Keeps};
+ghost use Rattle.task_log.specs.Touches.{accesses_of, touches_of};
+ghost use Rattle.task_log.specs.declared.counters.Counters.{Counters};
+ghost use Rattle.task_log.specs.declared.log.TaskLog.{TaskLog};
+ghost use Rattle.task_log.specs.declared.noted.Noted.{Noted};
+ghost use Rattle.task_plan.specs.Counts.{up_to_last};
+ghost use Rattle.task_run.specs.Fell.{FellAt};
+ghost use Rattle.task_run.specs.Leads.{BeginsNext, LeadsOn, stands_at};
+ghost use Rattle.task_run.specs.Points.{HasMade, Stepped};
+ghost use Rattle.task_run.specs.Says.{Says};
+ghost use Rattle.task_run.specs.declared.run.TaskRun.{TaskRun};
+ghost use Rattle.written_order.specs.WrittenOrder.{stands_after};
 
+use run_headline::histories::run_lists_tell_runs_of_the_program;
 use run_kept::accesses::a_log_keeps_just_the_accesses;
 use run_kept::bounds::{few_are_reported, few_watches_are_over};
 use run_kept::logs::{
@@ -54,12 +55,11 @@ use run_kept::logs::{
     a_machine_says_what_is_noted, counters_of_tasks_add_up, few_accesses_are_noted,
     one_more_is_noted,
 };
-use run_kept::run_headline::histories::run_lists_tell_runs_of_the_program;
 use run_kept::standing::{ended_tasks_stand_at_the_end, machines_stand_where_the_records_tell};
-use run_kept::task_run::laws::no_task_stops;
-use run_kept::written_tellings::steps_name_words_of_the_run;
 use task_laws::laws::an_answer_leads_on;
 use task_laws::spelled::{texts_within_limits_are_spelled, variables_of_programs_are_placed};
+use task_run::laws::no_task_stops;
+use written_tellings::steps_name_words_of_the_run;
 
 /// Law: a program within the limits, with places that fit its variables, at least three page slots, and waits of less
 /// than 2^64 tries, can be made steps of. The list without a step is a run list of it.

@@ -10,9 +10,8 @@ mod readers;
 mod schedules;
 pub mod world;
 
+pub use program_sites::{Prepared, RunError, Settings, sites_of};
 pub use ran::Ran;
-pub use run_kept::program_sites::{Prepared, RunError, Settings, sites_of};
-pub use run_kept::task_run::TaskRun;
 pub use step_schedule::Schedule;
-pub use task_laws;
+pub use task_run::TaskRun;
 pub use world::{Stepped, World};

@@ -3,17 +3,17 @@
 ghost use Rattle.std.specs.Prelude.{◌≡◌, IfOk, List, Option, vec_capacity};
 ghost use Rattle.litmus_step.specs.Kept.{Added, AreLogs, IsNotedIn};
 ghost use Rattle.litmus_syntax.specs.Limits.{KeepsLimits};
-ghost use Rattle.step_bounds.specs.of_run_lists_Run.{Run};
-ghost use Rattle.step_bounds.specs.of_run_lists_RunList.{RunList};
+ghost use Rattle.run_lists.specs.Run.{Run};
+ghost use Rattle.run_lists.specs.RunList.{RunList};
 ghost use Rattle.run_kept.specs.Lists.{AreAccesses, AreArms, AreTakes};
 ghost use Rattle.run_kept.specs.Totals.{CountsList};
 ghost use Rattle.slot_table.specs.declared.records.Record.{Record};
-ghost use Rattle.run_kept.specs.of_task_log_Keeps.{room_in};
+ghost use Rattle.task_log.specs.Keeps.{room_in};
 
 use crate::laws::{logs_count_the_list, logs_give_what_the_list_has};
 use access_types::{Arm, Report, Stamped, Take};
-use run_kept::task_log::{Counters, Noted, TaskLog};
 use std::alloc::{AllocError, Global};
+use task_log::{Counters, Noted, TaskLog};
 
 /// A report, if there is one, is kept where there is room for it.
 fn add(reports: &mut Vec<Report>, report: Option<Report>)

@@ -9,12 +9,12 @@ ghost use Rattle.run_kept.specs.Lists.{AreAccesses, AreArms, AreTakes};
 ghost use Rattle.run_kept.specs.Totals.{CountsList, IsUnbalanced};
 ghost use Rattle.slot_table.specs.Records.{words_after};
 ghost use Rattle.slot_table.specs.declared.records.Record.{Record};
-ghost use Rattle.step_bounds.specs.of_run_lists_Run.{Run, first_words};
-ghost use Rattle.step_bounds.specs.of_run_lists_RunList.{RunList};
+ghost use Rattle.run_lists.specs.Run.{Run, first_words};
+ghost use Rattle.run_lists.specs.RunList.{RunList};
 
 use access_types::{Arm, Report, Stamped, Take};
-use run_kept::task_log::Counters;
 use std::alloc::{AllocError, Global};
+use task_log::Counters;
 
 /// What came of the steps of a run: a world, or what threads leave. What is read of it is what the list of these steps
 /// gives. The latest record of a list stands first.

@@ -2,15 +2,15 @@
 
 ghost use Rattle.std.specs.Prelude.{◌≡◌, ◌≢◌, ◌<◌, ◌↔◌, ◌⊎◌, ℕ, IfErr, IsErrOf, IsTrue, List, OnOk, false, replicate, true};
 ghost use Rattle.std.specs.List.{range_with_len};
-ghost use Rattle.run_kept.specs.of_run_headline_Headline.{Headline};
-ghost use Rattle.step_bounds.specs.of_run_lists_Run.{Run};
+ghost use Rattle.run_headline.specs.Headline.{Headline};
+ghost use Rattle.run_lists.specs.Run.{Run};
 ghost use Rattle.slot_table.specs.declared.records.Record.{Record};
 ghost use Rattle.step_schedule.specs.Order.{asked_by, in_rounds};
 ghost use Rattle.step_schedule.specs.Schedule.{entries_of, names_stranger};
 
 use crate::world::{Stepped, World};
-use run_kept::program_sites::RunError;
-use run_kept::run_headline::laws::the_headline_holds;
+use program_sites::RunError;
+use run_headline::laws::the_headline_holds;
 use step_bounds::laws::few_steps_are_made;
 use step_schedule::Schedule;
 

@@ -5,32 +5,32 @@ ghost use Rattle.std.specs.Prelude.{vec_capacity, vec_len};
 ghost use Rattle.std.specs.Arc.{arc_value};
 ghost use Rattle.litmus_syntax.specs.Limits.{KeepsLimits};
 ghost use Rattle.litmus_syntax.specs.Views.{program_of};
-ghost use Rattle.task_laws.specs.of_program_layout_Places.{AreFit};
-ghost use Rattle.run_kept.specs.of_run_headline_Headline.{Headline};
-ghost use Rattle.step_bounds.specs.of_run_lists_Run.{Run};
-ghost use Rattle.step_bounds.specs.of_setup_access_Parts.{made};
+ghost use Rattle.program_layout.specs.Places.{AreFit};
+ghost use Rattle.run_headline.specs.Headline.{Headline};
+ghost use Rattle.run_lists.specs.Run.{Run};
+ghost use Rattle.setup_access.specs.Parts.{made};
 ghost use Rattle.slot_table.specs.declared.records.Record.{Record};
 ghost use Rattle.litmus_step.specs.Leads.{IsLedTo, MakesNextIn};
 ghost use Rattle.litmus_step.specs.Kept.{Added, IsNotedIn, rooms_of};
-ghost use Rattle.run_kept.specs.of_program_sites_Prepared.{IsPrepared, IsReady, sites_in};
+ghost use Rattle.program_sites.specs.Prepared.{IsPrepared, IsReady, sites_in};
 ghost use Rattle.litmus_step.specs.Runs.{HasEnded, IsStuck, run_of};
-ghost use Rattle.run_kept.specs.of_program_sites_declared.error.RunError.TheVariants.{BadPlace, BadSlots};
-ghost use Rattle.run_kept.specs.of_program_sites_Errors.{IsOfPreparing};
-ghost use Rattle.run_kept.specs.of_program_sites_declared.settings.Settings.{Settings};
-ghost use Rattle.run_kept.specs.of_task_run_declared.run.TaskRun.{TaskRun};
+ghost use Rattle.program_sites.specs.declared.error.RunError.TheVariants.{BadPlace, BadSlots};
+ghost use Rattle.program_sites.specs.Errors.{IsOfPreparing};
+ghost use Rattle.program_sites.specs.declared.settings.Settings.{Settings};
+ghost use Rattle.task_run.specs.declared.run.TaskRun.{TaskRun};
 
 use crate::first::{all_accesses, first_board, first_logs, first_reports, first_tasks};
 use crate::laws::{runs_begin, steps_are_kept, steps_lead_on};
 use crate::logs::note;
 use access_types::{Report, Sites};
 use litmus_syntax::Program;
-use run_kept::program_sites::{Prepared, RunError, Settings};
-use run_kept::run_headline::laws::the_headline_holds;
-use run_kept::task_log::{Noted, TaskLog};
-use run_kept::task_run::TaskRun;
+use program_sites::{Prepared, RunError, Settings};
+use run_headline::laws::the_headline_holds;
 use slot_table::{Answer, Board, PlainBoard, Step};
 use std::alloc::{AllocError, Global};
 use std::sync::Arc;
+use task_log::{Noted, TaskLog};
+use task_run::TaskRun;
 
 /// What a task is after it was asked for a step.
 #[derive(Clone, Copy, PartialEq, Eq)]

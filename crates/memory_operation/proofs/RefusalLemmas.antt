@@ -3,7 +3,7 @@ use Rattle.std.proofs.Common.{◌≡◌, ◌≢◌, ◌+◌, ◌∙◌, ℕ, Boo
 use Rattle.memory_operation.specs.Waits.{LoadNoPair, is_refused, vain_from, vain_tries}
 use Rattle.setup_access.specs.Waits as checks
 use Rattle.setup_access.specs.Waits.{awaited, is_vain}
-use Rattle.slot_table.specs.of_slot_Pair.{Halves}
+use Rattle.slot.specs.Pair.{Halves}
 use Rattle.slot_table.specs.declared.records.Record.{Record}
 use Rattle.slot_table.specs.declared.step.Answer.{Answer}
 use Rattle.slot_table.specs.declared.step.Step.{Step}

@@ -5,7 +5,7 @@ use Rattle.std.proofs.Math.Seq.{drop-cons, take-length, take-suc}
 use Rattle.std.proofs.lemmas.List.{append_assoc, append-nil, take-append-drop}
 use Rattle.litmus_syntax.specs.Limits.{TaskKeepsLimits}
 use Rattle.litmus_syntax.specs.Tree.{Block, Task}
-use Rattle.written_tellings.specs.of_setup_access_Parts.{made}
+use Rattle.setup_access.specs.Parts.{made}
 use Rattle.slot_table.specs.Answer.{Answers}
 use Rattle.slot_table.specs.declared.records.Record.{Record}
 use Rattle.slot_table.specs.declared.step.Answer.{Answer}
@@ -13,9 +13,9 @@ use Rattle.slot_table.specs.declared.step.Step.{Step}
 use Rattle.task_laws.specs.Fits.{ArePlaced}
 use Rattle.task_run.specs.Leads.{Leads}
 use Rattle.task_run.specs.declared.run.TaskRun.{TaskRun}
-use Rattle.written_tellings.specs.of_written_order_Standing.{Setting}
-use Rattle.written_tellings.specs.of_written_order_Waits.{IsStuck, OnlyStep}
-use Rattle.written_tellings.specs.of_written_order_WrittenOrder.{SpellsAll, WrittenOrder}
+use Rattle.written_order.specs.Standing.{Setting}
+use Rattle.written_order.specs.Waits.{IsStuck, OnlyStep}
+use Rattle.written_order.specs.WrittenOrder.{SpellsAll, WrittenOrder}
 use Rattle.oracle_accesses.specs.Reading.{IsMade}
 
 -- nothing follows on records that spell a whole text

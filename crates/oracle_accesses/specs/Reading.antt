@@ -6,9 +6,9 @@ use Rattle.litmus_syntax.specs.Tree.{Block}
 use Rattle.slot_table.specs.Answer.{Answers}
 use Rattle.slot_table.specs.declared.records.Record.{Record}
 use Rattle.slot_table.specs.declared.step.Step.{Step}
-use Rattle.written_tellings.specs.of_written_order_Standing.{Setting}
-use Rattle.written_tellings.specs.of_written_order_Waits.{IsStuck}
-use Rattle.written_tellings.specs.of_written_order_WrittenOrder.{SpellsAll, WrittenOrder}
+use Rattle.written_order.specs.Standing.{Setting}
+use Rattle.written_order.specs.Waits.{IsStuck}
+use Rattle.written_order.specs.WrittenOrder.{SpellsAll, WrittenOrder}
 
 -- the record is this step of the task, with an answer of its kind
 abbrev pub IsMade : Record → ℕ → Step → Type 0

@@ -5,5 +5,3 @@
 pub mod reading;
 
 pub use reading::{Reading, read_on, read_text};
-pub use task_laws::program_layout;
-pub use task_run::program_sites;

@@ -6,7 +6,7 @@ ghost use Rattle.access_types.specs.Sites.{AccessMap};
 ghost use Rattle.slot_table.specs.Answer.{Answers, IsFlag, IsHalves, IsWord};
 ghost use Rattle.slot_table.specs.declared.records.Record.{Record};
 ghost use Rattle.slot_table.specs.declared.step.Step.{Step};
-ghost use Rattle.setup_access.specs.of_task_context_Context.{idle};
+ghost use Rattle.task_context.specs.Context.{idle};
 ghost use Rattle.setup_access.specs.Checker.{Checks, Doing};
 ghost use Rattle.setup_access.specs.Leads.{Leads};
 ghost use Rattle.setup_access.specs.OwnAccesses.{IsOwn};

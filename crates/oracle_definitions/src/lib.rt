@@ -9,7 +9,6 @@ pub mod marked;
 mod moments;
 pub mod race;
 
-pub use access_types;
 pub use content::content_after;
 pub use marked::{counted_as_marked, silenced};
 pub use race::{in_progress, true_race};

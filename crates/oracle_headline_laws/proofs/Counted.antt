@@ -3,23 +3,23 @@ use Rattle.std.proofs.Common.{◌≡◌, ◌<◌, ◌+◌, ◌∷◌, ◌∙◌,
 use mathlib.Core.Path.{fun_ext}
 use Rattle.std.specs.Option.{option_map}
 use Rattle.std.proofs.lemmas.List.Sums.{length-filter, sum_by-cons}
-use Rattle.oracle_headline.specs.of_access_types_Access.{Access}
+use Rattle.access_types.specs.Access.{Access}
 use Rattle.oracle_headline_laws.specs.Accounts.{account_of, armed_as, came_as}
 use Rattle.oracle_headline.specs.Tried as given
 use Rattle.run_headline.specs.Totals as totals
-use Rattle.run_headline.specs.of_run_lists_Answers as answers
-use Rattle.run_headline.specs.of_run_lists_Run.{Run}
-use Rattle.run_headline.specs.of_run_lists_RunList.{RunList}
-use Rattle.run_headline.specs.of_run_lists_Told.{Armed, OutcomeAt, outcomes_of}
+use Rattle.run_lists.specs.Answers as answers
+use Rattle.run_lists.specs.Run.{Run}
+use Rattle.run_lists.specs.RunList.{RunList}
+use Rattle.run_lists.specs.Told.{Armed, OutcomeAt, outcomes_of}
 use Rattle.run_headline.specs.Takings as takings
 use Rattle.run_headline.specs.Takings.{HasOneAnswer}
-use Rattle.oracle_headline.specs.of_setup_access_declared.outcome.Outcome.{Outcome}
-use Rattle.oracle_headline.specs.of_setup_access_declared.outcome.Outcome.TheVariants as outcomes
-use Rattle.oracle_headline.specs.of_slot_table_declared.records.Record.{Record}
-use Rattle.oracle_headline.specs.of_slot_table_declared.step.Answer.{Answer}
-use Rattle.oracle_headline.specs.of_slot_table_declared.step.Step.{Step}
-use Rattle.oracle_headline.specs.of_slot_table_declared.step.Step.TheVariants.{TryConsume}
-use Rattle.oracle_headline.specs.of_task_log_Counters.{is_encoding, is_masked, is_same, is_two_sided, is_unknown}
+use Rattle.setup_access.specs.declared.outcome.Outcome.{Outcome}
+use Rattle.setup_access.specs.declared.outcome.Outcome.TheVariants as outcomes
+use Rattle.slot_table.specs.declared.records.Record.{Record}
+use Rattle.slot_table.specs.declared.step.Answer.{Answer}
+use Rattle.slot_table.specs.declared.step.Step.{Step}
+use Rattle.slot_table.specs.declared.step.Step.TheVariants.{TryConsume}
+use Rattle.task_log.specs.Counters.{is_encoding, is_masked, is_same, is_two_sided, is_unknown}
 
 -- what is true of all that stand for the items of a list
 pub of_map : {X Y : Type 0} (P : Y → Type 0) (f : X → Y) (xs : List X) → All P (map f xs) → (k : ℕ) (d : X) → k < length xs

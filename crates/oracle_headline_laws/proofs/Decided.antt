@@ -2,7 +2,7 @@
 use Rattle.std.proofs.Common.{◌∷◌, ◌++◌, ◌∙◌, [], ℕ, Bool, All, Contains, IsTrue, List, Option, ap, map, slice_index_or, subst, sym}
 use Rattle.std.specs.Option.{option_map}
 use Rattle.std.proofs.lemmas.List.Elements.{All-map}
-use Rattle.oracle_headline.specs.of_access_types_Access.{Access}
+use Rattle.access_types.specs.Access.{Access}
 use Rattle.oracle_headline_laws.specs.Accounts.{HoldsAccesses, IfRaces, SaysAlike, account_of, armed_as, came_as}
 use Rattle.oracle_headline_laws.proofs.Counted.{answered, of_map, one_answer, totals_of_list, totals_told}
 use Rattle.oracle_headline_laws.proofs.Endings.{ended_in_list, ended_in_told}
@@ -12,15 +12,15 @@ use Rattle.run_headline.specs.Headline.{Headline}
 use Rattle.run_headline.specs.Origins.{IfUnknown}
 use Rattle.run_headline.specs.Races.{IfTwoSided, NamesTheRace}
 use Rattle.run_headline.specs.Watched.{IfUnknownInWatch}
-use Rattle.run_headline.specs.of_run_lists_Run.{Run}
-use Rattle.run_headline.specs.of_run_lists_RunList.{AllHaveEnded, RunList}
-use Rattle.run_headline.specs.of_run_lists_Told.{Armed, OutcomeAt, outcomes_of}
-use Rattle.oracle_headline.specs.of_setup_access_declared.outcome.Outcome.{Outcome}
-use Rattle.oracle_headline.specs.of_setup_access_declared.outcome.Outcome.TheVariants as outcomes
-use Rattle.oracle_headline.specs.of_slot_Pair.{Halves}
-use Rattle.oracle_headline.specs.of_slot_table_Hearings.{IsArming, IsTaking}
-use Rattle.oracle_headline.specs.of_slot_table_Meetings.{Meeting, finders_told}
-use Rattle.oracle_headline.specs.of_slot_table_declared.records.Record.{Record}
+use Rattle.run_lists.specs.Run.{Run}
+use Rattle.run_lists.specs.RunList.{AllHaveEnded, RunList}
+use Rattle.run_lists.specs.Told.{Armed, OutcomeAt, outcomes_of}
+use Rattle.setup_access.specs.declared.outcome.Outcome.{Outcome}
+use Rattle.setup_access.specs.declared.outcome.Outcome.TheVariants as outcomes
+use Rattle.slot.specs.Pair.{Halves}
+use Rattle.slot_table.specs.Hearings.{IsArming, IsTaking}
+use Rattle.slot_table.specs.Meetings.{Meeting, finders_told}
+use Rattle.slot_table.specs.declared.records.Record.{Record}
 
 -- what a finder told it has told later on
 told_later : (later earlier : List Record) (met : Meeting) → Contains (finders_told earlier) met

@@ -2,17 +2,17 @@
 use Rattle.std.proofs.Common.{◌≡◌, ◌+◌, ◌-◌, ◌∷◌, ◌++◌, ◌∙◌, [], inl, inr, suc, Bool, List, ap, append_assoc, arith, drop, length, refl, subst, sym, ℕ}
 use Rattle.std.proofs.Math.Seq.{drop-append_seam}
 use Rattle.std.proofs.lemmas.List.{length-append}
-use Rattle.oracle_headline.specs.of_access_types_Access.{Access}
-use Rattle.oracle_headline.specs.of_access_types_History.{InProgress}
+use Rattle.access_types.specs.Access.{Access}
+use Rattle.access_types.specs.History.{InProgress}
 use Rattle.oracle_headline_laws.specs.Accounts.{account_of, first_records}
 use Rattle.oracle_headline.specs.Tried as given
 use Rattle.oracle_headline.specs.Tried.{Account, HasEnded}
 use Rattle.run_headline.specs.Ended.{HasEndedSince}
-use Rattle.run_headline.specs.of_run_lists_Run.{Run}
-use Rattle.run_headline.specs.of_run_lists_RunList.{RunList}
-use Rattle.run_headline.specs.of_run_lists_Told.{history_by, history_of}
-use Rattle.oracle_headline.specs.of_slot_table_Hearings.{SomeRecord}
-use Rattle.oracle_headline.specs.of_slot_table_declared.records.Record.{Record}
+use Rattle.run_lists.specs.Run.{Run}
+use Rattle.run_lists.specs.RunList.{RunList}
+use Rattle.run_lists.specs.Told.{history_by, history_of}
+use Rattle.slot_table.specs.Hearings.{SomeRecord}
+use Rattle.slot_table.specs.declared.records.Record.{Record}
 
 -- the records before one of a list are the first so many
 earlier_first : (records later : List Record) (made : Record) (earlier : List Record) → records ≡ later ++ made ∷ earlier

@@ -1,25 +1,25 @@
 -- What a run list tells, as what is told of a list that is given.
 use Rattle.std.specs.Prelude.{◌≡◌, ◌≢◌, ◌-◌, ℕ, Bool, List, All, AllPairs, Contains, IsTrue, drop, length, map}
 use Rattle.std.specs.Option.{option_map}
-use Rattle.oracle_headline.specs.of_access_types_Access.{Access}
-use Rattle.oracle_headline.specs.of_access_types_Race.{TrueRace}
-use Rattle.oracle_headline.specs.of_access_types_Ticket.{ticket_number}
+use Rattle.access_types.specs.Access.{Access}
+use Rattle.access_types.specs.Race.{TrueRace}
+use Rattle.access_types.specs.Ticket.{ticket_number}
 use Rattle.oracle_headline.specs.Tried.{Account}
 use Rattle.oracle_headline.specs.declared.told.Armed as given
 use Rattle.oracle_headline.specs.declared.told.Came.{Came}
-use Rattle.run_headline.specs.of_litmus_meaning_Layout.{memory_at_first}
+use Rattle.litmus_meaning.specs.Layout.{memory_at_first}
 use Rattle.run_headline.specs.Headline.{BothHaveEnded}
 use Rattle.run_headline.specs.Origins.{NamesChange}
 use Rattle.run_headline.specs.Totals.{Totals}
-use Rattle.run_headline.specs.of_run_lists_Run.{IsOfProgram, Run}
-use Rattle.run_headline.specs.of_run_lists_RunList.{RunList}
-use Rattle.run_headline.specs.of_run_lists_Told.{Armed, OutcomeAt, history_by, history_of, outcomes_of}
+use Rattle.run_lists.specs.Run.{IsOfProgram, Run}
+use Rattle.run_lists.specs.RunList.{RunList}
+use Rattle.run_lists.specs.Told.{Armed, OutcomeAt, history_by, history_of, outcomes_of}
 use Rattle.run_headline.specs.Takings.{HasOneAnswer}
-use Rattle.oracle_headline.specs.of_setup_access_declared.outcome.Outcome.{Outcome}
-use Rattle.oracle_headline.specs.of_setup_access_declared.outcome.Outcome.TheVariants as outcomes
-use Rattle.oracle_headline.specs.of_slot_Pair.{Halves}
-use Rattle.oracle_headline.specs.of_slot_table_Armings.{armings_taken}
-use Rattle.oracle_headline.specs.of_slot_table_declared.records.Record.{Record}
+use Rattle.setup_access.specs.declared.outcome.Outcome.{Outcome}
+use Rattle.setup_access.specs.declared.outcome.Outcome.TheVariants as outcomes
+use Rattle.slot.specs.Pair.{Halves}
+use Rattle.slot_table.specs.Armings.{armings_taken}
+use Rattle.slot_table.specs.declared.records.Record.{Record}
 
 -- an arming, and an outcome
 abbrev pub armed_as : Armed → given.Armed

@@ -3,13 +3,13 @@
 #![tactic(auto)]
 
 ghost use Rattle.std.specs.Prelude.{Bool, Contains, IsTrue, List};
-ghost use Rattle.oracle_headline.specs.of_access_types_Access.{Access};
+ghost use Rattle.access_types.specs.Access.{Access};
 ghost use Rattle.oracle_headline_laws.specs.Accounts.{HoldsAccesses, SaysAlike, account_of};
 ghost use Rattle.oracle_headline.specs.Tried.{HasHeadline};
 ghost use Rattle.run_headline.specs.Headline.{Headline};
-ghost use Rattle.run_headline.specs.of_run_lists_Run.{Run};
-ghost use Rattle.run_headline.specs.of_run_lists_RunList.{AllHaveEnded, RunList};
-ghost use Rattle.oracle_headline.specs.of_slot_table_declared.records.Record.{Record};
+ghost use Rattle.run_lists.specs.Run.{Run};
+ghost use Rattle.run_lists.specs.RunList.{AllHaveEnded, RunList};
+ghost use Rattle.slot_table.specs.declared.records.Record.{Record};
 
 /// Law: of each run list of which the headline holds, the headline that is decided of given lists holds, for the
 /// moments and the outcomes that the list tells.

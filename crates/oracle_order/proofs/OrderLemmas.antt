@@ -14,7 +14,7 @@ use Rattle.litmus_syntax.specs.Tree as tree
 use Rattle.litmus_syntax.specs.declared.statement.Call.TheVariants as calls
 use Rattle.oracle_order.specs.Walks.{Goes, stands}
 use Rattle.oracle_order.specs.declared.walk.Walk.{Walk}
-use Rattle.written_order.specs.of_setup_access_Records.{MakesDone}
+use Rattle.setup_access.specs.Records.{MakesDone}
 use Rattle.slot_table.specs.declared.records.Record.{Record}
 use Rattle.slot_table.specs.declared.step.Step.TheVariants.{LockStore}
 use Rattle.written_order.specs.Standing.{Setting, Standing, coming, counting, doing, lock_number, registered}

@@ -7,6 +7,5 @@ pub mod locks;
 pub mod text;
 pub mod walk;
 
-pub use oracle_meaning;
 pub use text::spells;
 pub use walk::{Given, NotSpelled, Walk};

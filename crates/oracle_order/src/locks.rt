@@ -1,9 +1,9 @@
 //! The records of locks.
 
 ghost use Rattle.std.specs.Prelude.{◌≡◌, ◌↔◌, IfOk, IsTrue, count_by, take};
-ghost use Rattle.written_order.specs.of_memory_operation_Locks.{TakesLock};
+ghost use Rattle.memory_operation.specs.Locks.{TakesLock};
 ghost use Rattle.oracle_order.specs.Walks.{IsOf, stands};
-ghost use Rattle.written_order.specs.of_setup_access_Records.{MakesDone};
+ghost use Rattle.setup_access.specs.Records.{MakesDone};
 ghost use Rattle.slot_table.specs.declared.step.Step.TheVariants as steps;
 ghost use Rattle.written_order.specs.Standing as spec;
 

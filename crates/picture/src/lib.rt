@@ -10,12 +10,9 @@ mod rows;
 mod watches;
 pub mod words;
 
-pub use access_types;
 pub use columns::Column;
 pub use draw::{ACCESS_LIMIT, Picture, picture_of};
 pub use error::PictureError;
-pub use report_text;
 pub use rows::{Mark, Row, rows_before};
-pub use trace_replay;
 pub use trace_replay::TraceError;
 pub use watches::{Taking, Watch};

@@ -2,8 +2,8 @@
 use Rattle.std.proofs.Common.{◌≡◌, ◌+◌, ◌<◌, ◌++◌, ◌∷◌, ◌∙◌, ℕ, List, [], Option, ap, append_assoc, append-nil, arith, drop, get_or, length, subst, sym, take}
 use Rattle.std.proofs.lemmas.List.{at_drop_more, length-take-le, take-append-drop, take_more}
 use Rattle.picture.specs.declared.rows.Row.{Row}
-use Rattle.picture.specs.of_report_text_Sink.{FailsWithin, Takes}
-use Rattle.picture.proofs.of_report_text_SinkSteps.{fails_first, fails_second, takes_both}
+use Rattle.report_text.specs.Sink.{FailsWithin, Takes}
+use Rattle.report_text.proofs.SinkSteps.{fails_first, fails_second, takes_both}
 use Rattle.picture_svg.specs.Marks.{row_marks, rows_marks}
 
 -- those behind stand as many places further down

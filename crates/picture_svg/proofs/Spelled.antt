@@ -4,9 +4,9 @@ use Rattle.std.specs.Prelude.{max, vec_len}
 use Rattle.std.specs.Fmt.{decimal}
 use Rattle.picture.specs.Ordered.{rows_before}
 use Rattle.picture.specs.Words.{deed, outcome_words, place_of, site_words, size_words}
-use Rattle.picture.specs.of_access_types_Kind.{is_assertion}
-use Rattle.picture.specs.of_access_types_ReportText.{hex}
-use Rattle.picture.specs.of_access_types_Stamped.{Stamped}
+use Rattle.access_types.specs.Kind.{is_assertion}
+use Rattle.access_types.specs.ReportText.{hex}
+use Rattle.access_types.specs.Stamped.{Stamped}
 use Rattle.picture.specs.declared.columns.Column.{Column}
 use Rattle.picture.specs.declared.rows.Row.{Row}
 use Rattle.picture.specs.declared.watches.Taking.{Taking}

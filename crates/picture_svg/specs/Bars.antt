@@ -1,8 +1,8 @@
 -- Bars of accesses.
 use Rattle.std.specs.Prelude.{◌+◌, ◌-◌, ◌*◌, ◌++◌, ℕ, List, codes, if◌then◌else◌}
 use Rattle.std.specs.Fmt.{decimal}
-use Rattle.picture.specs.of_access_types_Kind.{is_assertion}
-use Rattle.picture.specs.of_access_types_Stamped.{Stamped}
+use Rattle.access_types.specs.Kind.{is_assertion}
+use Rattle.access_types.specs.Stamped.{Stamped}
 use Rattle.picture.specs.Words.{deed, site_words, size_words}
 
 -- where the lane of a task begins

@@ -1,10 +1,10 @@
 -- Reports, in red.
 use Rattle.std.specs.Prelude.{◌+◌, ◌/◌, ◌||◌, ◌++◌, ℕ, Bool, List, codes, max, min}
 use Rattle.std.specs.Fmt.{decimal}
-use Rattle.picture.specs.of_access_types_Kind.{is_assertion}
-use Rattle.picture.specs.of_access_types_ReportText as report
-use Rattle.picture.specs.of_access_types_ReportText.{hex}
-use Rattle.picture.specs.of_access_types_Stamped.{Stamped}
+use Rattle.access_types.specs.Kind.{is_assertion}
+use Rattle.access_types.specs.ReportText as report
+use Rattle.access_types.specs.ReportText.{hex}
+use Rattle.access_types.specs.Stamped.{Stamped}
 use Rattle.picture_svg.specs.Bars.{lane}
 
 abbrev pub race_name : Bool → List ℕ

@@ -1,13 +1,13 @@
 //! Bars of accesses. Lengths are in em: a row is one em high, and a lane twenty wide.
 
 ghost use Rattle.std.specs.Prelude.{◌≡◌};
-ghost use Rattle.picture.specs.of_report_text_Sink.{Writes};
+ghost use Rattle.report_text.specs.Sink.{Writes};
 ghost use Rattle.picture_svg.specs.Bars as spec;
 
-use picture::access_types::Stamped;
-use picture::report_text::pieces::{Piece, write_parts};
-use picture::report_text::{Sink, WriteError};
+use access_types::Stamped;
 use picture::words::{deed, site_words, size_words};
+use report_text::pieces::{Piece, write_parts};
+use report_text::{Sink, WriteError};
 
 /// Where the lane of a task begins.
 pub(crate) fn lane(task: u32) -> u64

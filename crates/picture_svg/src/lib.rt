@@ -9,6 +9,4 @@ mod tests;
 mod watches;
 mod write;
 
-pub use picture;
-pub use picture::report_text;
 pub use write::write_svg;

@@ -2,13 +2,13 @@
 
 ghost use Rattle.std.specs.Prelude.{◌≡◌};
 ghost use Rattle.std.specs.List.Sorted.{IsNonDecreasingBy};
-ghost use Rattle.picture.specs.of_report_text_Sink.{Writes};
+ghost use Rattle.report_text.specs.Sink.{Writes};
 ghost use Rattle.picture_svg.specs.Marks.{row_marks, rows_marks};
 
 use crate::bars::write_bar;
 use crate::reports::{write_origin, write_race};
-use picture::report_text::{Sink, WriteError};
 use picture::{Mark, Row, rows_before};
+use report_text::{Sink, WriteError};
 
 /// Writes what is drawn of the row at this place among the rows: nothing of an end.
 fn write_row<K: Sink>(sink: &mut K, rows: &[Row], place: usize, row: &Row) -> Result<(), WriteError>

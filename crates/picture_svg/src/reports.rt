@@ -1,14 +1,14 @@
 //! Reports, in red.
 
 ghost use Rattle.std.specs.Prelude.{◌≡◌};
-ghost use Rattle.picture.specs.of_report_text_Pieces.{text_of};
-ghost use Rattle.picture.specs.of_report_text_Sink.{Writes};
+ghost use Rattle.report_text.specs.Pieces.{text_of};
+ghost use Rattle.report_text.specs.Sink.{Writes};
 ghost use Rattle.picture_svg.specs.Reports as spec;
 
 use crate::bars::lane;
-use picture::access_types::Stamped;
-use picture::report_text::pieces::{Piece, write_parts};
-use picture::report_text::{Sink, WriteError};
+use access_types::Stamped;
+use report_text::pieces::{Piece, write_parts};
+use report_text::{Sink, WriteError};
 
 /// What a race is called: one with an assertion has a name of its own.
 fn race_name(asserted: bool) -> &'static str

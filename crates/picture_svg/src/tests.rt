@@ -2,7 +2,7 @@
 
 use crate::write_svg;
 use picture::picture_of;
-use picture::report_text::MemorySink;
+use report_text::MemorySink;
 use std::alloc::Global;
 use std::test::Fail;
 

@@ -3,14 +3,14 @@
 ghost use Rattle.std.specs.Prelude.{◌≡◌};
 ghost use Rattle.std.specs.List.{flat_map};
 ghost use Rattle.std.specs.List.Sorted.{IsNonDecreasingBy};
-ghost use Rattle.picture.specs.of_report_text_Sink.{Writes};
+ghost use Rattle.report_text.specs.Sink.{Writes};
 ghost use Rattle.picture_svg.specs.Watches.{taking_text, watch_text};
 
 use crate::bars::lane;
-use picture::report_text::pieces::{Piece, write_parts};
-use picture::report_text::{Sink, WriteError};
 use picture::words::{outcome_words, place_of};
 use picture::{Row, Taking, Watch, rows_before};
+use report_text::pieces::{Piece, write_parts};
+use report_text::{Sink, WriteError};
 
 /// Writes a watchpoint.
 fn write_watch<K: Sink>(sink: &mut K, rows: &[Row], watch: &Watch) -> Result<(), WriteError>

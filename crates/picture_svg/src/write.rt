@@ -3,16 +3,16 @@
 ghost use Rattle.std.specs.Prelude.{◌≡◌};
 ghost use Rattle.std.specs.List.{flat_map};
 ghost use Rattle.picture.specs.Ordered.{IsOrdered};
-ghost use Rattle.picture.specs.of_report_text_Sink.{Writes};
+ghost use Rattle.report_text.specs.Sink.{Writes};
 ghost use Rattle.picture_svg.specs.Svg as spec;
 ghost use Rattle.picture_svg.specs.Svg.{heading, picture_svg};
 
 use crate::bars::lane;
 use crate::marks::write_rows;
 use crate::watches::{write_takings, write_watches};
-use picture::report_text::pieces::{Piece, write_pieces};
-use picture::report_text::{Sink, WriteError, write_all};
 use picture::{Column, Picture};
+use report_text::pieces::{Piece, write_pieces};
+use report_text::{Sink, WriteError, write_all};
 
 /// How everything looks, in light and in dark; the tip of an arrow; and the page behind all.
 const LOOKS: &str = "<style>\

@@ -3,7 +3,7 @@ use Rattle.std.proofs.Common.{◌≡◌, ◌++◌, ◌∙◌, ℕ, List, [], app
 use Rattle.std.specs.Prelude.{max, min}
 use Rattle.std.specs.Fmt.{decimal}
 use Rattle.picture.specs.Words.{deed, outcome_words, place_of, site_words, size_words}
-use Rattle.picture.specs.of_access_types_Stamped.{Stamped}
+use Rattle.access_types.specs.Stamped.{Stamped}
 use Rattle.picture.specs.declared.columns.Column.{Column}
 use Rattle.picture.specs.declared.watches.Taking.{Taking}
 use Rattle.picture.specs.declared.watches.Watch.{Watch}

@@ -1,8 +1,8 @@
 -- The rows of a picture, as lines.
 use Rattle.std.specs.Prelude.{◌^◌, ◌&&◌, ◌++◌, ℕ, Bool, List, codes, if◌then◌else◌, max, min, nat_lt, not}
 use Rattle.std.specs.List.{flat_map}
-use Rattle.picture.specs.of_access_types_ReportText.{hex}
-use Rattle.picture.specs.of_access_types_Stamped.{Stamped}
+use Rattle.access_types.specs.ReportText.{hex}
+use Rattle.access_types.specs.Stamped.{Stamped}
 use Rattle.picture.specs.declared.columns.Column.{Column}
 use Rattle.picture.specs.declared.rows.Mark.{Mark}
 use Rattle.picture.specs.declared.rows.Mark.TheVariants as marks

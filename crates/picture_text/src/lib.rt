@@ -10,6 +10,4 @@ mod watches;
 mod write;
 
 pub use cells::Style;
-pub use picture;
-pub use picture::report_text;
 pub use write::write_picture;

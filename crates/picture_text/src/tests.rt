@@ -2,7 +2,7 @@
 
 use crate::{Style, write_picture};
 use picture::picture_of;
-use picture::report_text::MemorySink;
+use report_text::MemorySink;
 use std::alloc::Global;
 use std::test::Fail;
 

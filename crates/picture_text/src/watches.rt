@@ -2,13 +2,13 @@
 
 ghost use Rattle.std.specs.Prelude.{◌≡◌};
 ghost use Rattle.std.specs.List.{flat_map};
-ghost use Rattle.picture.specs.of_report_text_Sink.{Writes};
+ghost use Rattle.report_text.specs.Sink.{Writes};
 ghost use Rattle.picture_text.specs.Watches.{gap_text, taking_text, watch_text};
 
-use picture::report_text::pieces::{Piece, write_parts};
-use picture::report_text::{Sink, WriteError, write_all};
 use picture::words::{outcome_words, place_of};
 use picture::{Taking, Watch};
+use report_text::pieces::{Piece, write_parts};
+use report_text::{Sink, WriteError, write_all};
 
 /// Writes an empty line, where there are watchpoints.
 pub(crate) fn write_gap<K: Sink>(sink: &mut K, watches: &[Watch]) -> Result<(), WriteError>

@@ -4,7 +4,6 @@
 pub mod places;
 
 pub use places::parse_places;
-pub use program_layout;
 
 #[cfg(test)]
 mod tests;

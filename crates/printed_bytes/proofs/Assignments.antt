@@ -1,18 +1,18 @@
 -- Assignments and calls, whatever follows.
 use Rattle.std.proofs.Common.{ℕ, List, [], ◌∷◌, ◌++◌, refl}
 use Rattle.std.specs.Prelude.{codes}
-use Rattle.litmus_parse.specs.of_litmus_lex_declared.sign.Sign.TheVariants.{CloseParen, Comma}
-use Rattle.litmus_parse.specs.of_litmus_lex_declared.token.Part.TheVariants.{Body}
-use Rattle.litmus_parse.specs.of_litmus_syntax_declared.program.Variable.{Variable}
-use Rattle.litmus_parse.specs.of_litmus_syntax_declared.statement.WriteForm.{WriteForm}
-use Rattle.litmus_parse.specs.of_litmus_syntax_declared.statement.WriteForm.TheVariants as writes
-use Rattle.litmus_parse.specs.of_litmus_syntax_PrintedForm.{assignment_text, name_at, pure_text, variable_name, write_text}
-use Rattle.litmus_parse.specs.of_litmus_syntax_Tree.{Assignment, Pure}
-use Rattle.litmus_parse.specs.of_litmus_syntax_Tree as tree
-use Rattle.litmus_parse.specs.of_litmus_cursor_declared.words.Word.TheVariants as words
-use Rattle.litmus_parse.specs.of_litmus_cursor_declared.words.StoreWord.TheVariants as stores
-use Rattle.litmus_parse.specs.of_litmus_cursor_Words.{Symbol, identifier, sign, word_of}
-use Rattle.litmus_parse.specs.of_litmus_expression_Names.{Names}
+use Rattle.litmus_lex.specs.declared.sign.Sign.TheVariants.{CloseParen, Comma}
+use Rattle.litmus_lex.specs.declared.token.Part.TheVariants.{Body}
+use Rattle.litmus_syntax.specs.declared.program.Variable.{Variable}
+use Rattle.litmus_syntax.specs.declared.statement.WriteForm.{WriteForm}
+use Rattle.litmus_syntax.specs.declared.statement.WriteForm.TheVariants as writes
+use Rattle.litmus_syntax.specs.PrintedForm.{assignment_text, name_at, pure_text, variable_name, write_text}
+use Rattle.litmus_syntax.specs.Tree.{Assignment, Pure}
+use Rattle.litmus_syntax.specs.Tree as tree
+use Rattle.litmus_cursor.specs.declared.words.Word.TheVariants as words
+use Rattle.litmus_cursor.specs.declared.words.StoreWord.TheVariants as stores
+use Rattle.litmus_cursor.specs.Words.{Symbol, identifier, sign, word_of}
+use Rattle.litmus_expression.specs.Names.{Names}
 use Rattle.printed_texts.specs.PrintedSymbols.{assignment_symbols, pure_symbols, write_symbols}
 use Rattle.printed_bytes.specs.Reads.{Ends, Reads}
 use Rattle.printed_bytes.specs.Expressions.{IsNamed, PureIsSpelled}

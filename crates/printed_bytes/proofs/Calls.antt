@@ -2,21 +2,21 @@
 use Rattle.std.proofs.Common.{◌≡◌, ℕ, List, [], ◌∷◌, ◌++◌, Some, true, false, refl}
 use Rattle.std.specs.Prelude.{codes}
 use Rattle.std.specs.Fmt.{decimal}
-use Rattle.litmus_parse.specs.of_access_types_declared.history.Mark.{Mark}
-use Rattle.litmus_parse.specs.of_access_types_declared.history.Mark.TheVariants as marks
-use Rattle.litmus_parse.specs.of_litmus_lex_declared.sign.Sign.TheVariants.{OpenParen, CloseParen, Comma}
-use Rattle.litmus_parse.specs.of_litmus_lex_declared.token.Part.TheVariants.{Body}
-use Rattle.litmus_parse.specs.of_litmus_syntax_declared.program.Variable.{Variable}
-use Rattle.litmus_parse.specs.of_litmus_syntax_declared.statement.Barrier.{Barrier}
-use Rattle.litmus_parse.specs.of_litmus_syntax_declared.statement.Barrier.TheVariants as barriers
-use Rattle.litmus_parse.specs.of_litmus_syntax_declared.statement.Call.{Call}
-use Rattle.litmus_parse.specs.of_litmus_syntax_declared.statement.Call.TheVariants as calls
-use Rattle.litmus_parse.specs.of_litmus_syntax_PrintedForm.{barrier_name, call_text, mark_text, variable_name}
-use Rattle.litmus_parse.specs.of_litmus_cursor_declared.words.Word.TheVariants as words
-use Rattle.litmus_parse.specs.of_litmus_cursor_declared.words.CallWord.{CallWord}
-use Rattle.litmus_parse.specs.of_litmus_cursor_declared.words.CallWord.TheVariants as asks
-use Rattle.litmus_parse.specs.of_litmus_cursor_Words.{Symbol, identifier, number, sign, word, word_of}
-use Rattle.litmus_parse.specs.of_litmus_expression_Names.{Names}
+use Rattle.access_types.specs.declared.history.Mark.{Mark}
+use Rattle.access_types.specs.declared.history.Mark.TheVariants as marks
+use Rattle.litmus_lex.specs.declared.sign.Sign.TheVariants.{OpenParen, CloseParen, Comma}
+use Rattle.litmus_lex.specs.declared.token.Part.TheVariants.{Body}
+use Rattle.litmus_syntax.specs.declared.program.Variable.{Variable}
+use Rattle.litmus_syntax.specs.declared.statement.Barrier.{Barrier}
+use Rattle.litmus_syntax.specs.declared.statement.Barrier.TheVariants as barriers
+use Rattle.litmus_syntax.specs.declared.statement.Call.{Call}
+use Rattle.litmus_syntax.specs.declared.statement.Call.TheVariants as calls
+use Rattle.litmus_syntax.specs.PrintedForm.{barrier_name, call_text, mark_text, variable_name}
+use Rattle.litmus_cursor.specs.declared.words.Word.TheVariants as words
+use Rattle.litmus_cursor.specs.declared.words.CallWord.{CallWord}
+use Rattle.litmus_cursor.specs.declared.words.CallWord.TheVariants as asks
+use Rattle.litmus_cursor.specs.Words.{Symbol, identifier, number, sign, word, word_of}
+use Rattle.litmus_expression.specs.Names.{Names}
 use Rattle.printed_texts.specs.PrintedSymbols.{call_symbols, mark_symbols}
 use Rattle.printed_bytes.specs.Reads.{Reads}
 use Rattle.printed_bytes.specs.Expressions.{IsNamed, IsShort}

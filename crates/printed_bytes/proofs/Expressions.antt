@@ -6,27 +6,27 @@ use Rattle.std.specs.Fmt.{decimal}
 use Rattle.std.specs.Str.Parse.{AllDigits}
 use Rattle.std.proofs.lemmas.Bool.Decides.{nat_tests}
 use Rattle.std.proofs.lemmas.Fmt.{decimal_is_IsNumeral}
-use Rattle.litmus_parse.specs.of_litmus_lex_declared.bytes.Class.TheVariants.{NameStart}
-use Rattle.litmus_parse.specs.of_litmus_lex_declared.sign.Sign.TheVariants as signs
-use Rattle.litmus_parse.specs.of_litmus_lex_declared.sign.Sign.TheVariants.{OpenParen, CloseParen, Comma}
-use Rattle.litmus_parse.specs.of_litmus_lex_declared.token.Part.TheVariants.{Body}
-use Rattle.litmus_parse.specs.of_litmus_lex_Bytes.{belongs}
-use Rattle.litmus_parse.specs.of_litmus_lex_Token.{IsName}
-use Rattle.litmus_parse.specs.of_litmus_syntax_declared.expression.BinaryOperator.{BinaryOperator}
-use Rattle.litmus_parse.specs.of_litmus_syntax_declared.expression.BinaryOperator.TheVariants as binaries
-use Rattle.litmus_parse.specs.of_litmus_syntax_declared.expression.ReadForm.{ReadForm}
-use Rattle.litmus_parse.specs.of_litmus_syntax_declared.expression.ReadForm.TheVariants as forms
-use Rattle.litmus_parse.specs.of_litmus_syntax_declared.expression.UnaryOperator.{UnaryOperator}
-use Rattle.litmus_parse.specs.of_litmus_syntax_declared.expression.UnaryOperator.TheVariants as unaries
-use Rattle.litmus_parse.specs.of_litmus_syntax_declared.program.Variable.{Variable}
-use Rattle.litmus_parse.specs.of_litmus_syntax_PrintedForm.{binary_sign, expression_text, fetch_text, joined, load_text, loading_text, name_at, parenthesized, pure_text, read_text, repeated, unary_sign, variable_name}
-use Rattle.litmus_parse.specs.of_litmus_syntax_Tree.{Expression, Fetch, Load, Loading, Pure}
-use Rattle.litmus_parse.specs.of_litmus_syntax_Tree as tree
-use Rattle.litmus_parse.specs.of_litmus_cursor_declared.words.LoadWord.TheVariants as loads
-use Rattle.litmus_parse.specs.of_litmus_cursor_declared.words.Word.TheVariants as words
-use Rattle.litmus_parse.specs.of_litmus_cursor_Words.{Symbol, identifier, sign, word, word_of}
-use Rattle.litmus_parse.specs.of_litmus_expression_Expressions.{sign_of_binary, sign_of_unary}
-use Rattle.litmus_parse.specs.of_litmus_expression_Names.{Names}
+use Rattle.litmus_lex.specs.declared.bytes.Class.TheVariants.{NameStart}
+use Rattle.litmus_lex.specs.declared.sign.Sign.TheVariants as signs
+use Rattle.litmus_lex.specs.declared.sign.Sign.TheVariants.{OpenParen, CloseParen, Comma}
+use Rattle.litmus_lex.specs.declared.token.Part.TheVariants.{Body}
+use Rattle.litmus_lex.specs.Bytes.{belongs}
+use Rattle.litmus_lex.specs.Token.{IsName}
+use Rattle.litmus_syntax.specs.declared.expression.BinaryOperator.{BinaryOperator}
+use Rattle.litmus_syntax.specs.declared.expression.BinaryOperator.TheVariants as binaries
+use Rattle.litmus_syntax.specs.declared.expression.ReadForm.{ReadForm}
+use Rattle.litmus_syntax.specs.declared.expression.ReadForm.TheVariants as forms
+use Rattle.litmus_syntax.specs.declared.expression.UnaryOperator.{UnaryOperator}
+use Rattle.litmus_syntax.specs.declared.expression.UnaryOperator.TheVariants as unaries
+use Rattle.litmus_syntax.specs.declared.program.Variable.{Variable}
+use Rattle.litmus_syntax.specs.PrintedForm.{binary_sign, expression_text, fetch_text, joined, load_text, loading_text, name_at, parenthesized, pure_text, read_text, repeated, unary_sign, variable_name}
+use Rattle.litmus_syntax.specs.Tree.{Expression, Fetch, Load, Loading, Pure}
+use Rattle.litmus_syntax.specs.Tree as tree
+use Rattle.litmus_cursor.specs.declared.words.LoadWord.TheVariants as loads
+use Rattle.litmus_cursor.specs.declared.words.Word.TheVariants as words
+use Rattle.litmus_cursor.specs.Words.{Symbol, identifier, sign, word, word_of}
+use Rattle.litmus_expression.specs.Expressions.{sign_of_binary, sign_of_unary}
+use Rattle.litmus_expression.specs.Names.{Names}
 use Rattle.printed_texts.specs.PrintedSymbols.{closes, expression_symbols, fetch_symbols, load_symbols, loading_symbols, opens, pure_symbols, read_symbols}
 use Rattle.printed_bytes.specs.Reads.{Ends, IsIdentifier, Reads}
 use Rattle.printed_bytes.specs.Expressions.{ExpressionIsSpelled, FetchIsSpelled, LoadIsSpelled, LoadingIsSpelled, PureIsSpelled}

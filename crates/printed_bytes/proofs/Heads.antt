@@ -3,13 +3,13 @@ use Rattle.std.proofs.Common.{◌≡◌, inr, ℕ, List, [], ◌∷◌, ◌++◌
 use Rattle.std.specs.Prelude.{All}
 use Rattle.std.proofs.lemmas.Bool.Decides.{nat_tests}
 use Rattle.std.proofs.lemmas.List.{drop_at}
-use Rattle.litmus_parse.specs.of_litmus_lex_declared.bytes.Class.TheVariants.{Blank, Graphic}
-use Rattle.litmus_parse.specs.of_litmus_lex_declared.token.Part.TheVariants.{Init}
-use Rattle.litmus_parse.specs.of_litmus_lex_Bytes.{belongs, IsRun}
-use Rattle.litmus_parse.specs.of_litmus_lex_Head.{HasTitle, IsAtBrace, IsHead, IsText}
-use Rattle.litmus_parse.specs.of_litmus_lex_Tokens.{AreTokens, Placed}
-use Rattle.litmus_parse.specs.of_litmus_syntax_PrintedForm.{name_line}
-use Rattle.litmus_parse.specs.of_litmus_cursor_Words.{Symbol}
+use Rattle.litmus_lex.specs.declared.bytes.Class.TheVariants.{Blank, Graphic}
+use Rattle.litmus_lex.specs.declared.token.Part.TheVariants.{Init}
+use Rattle.litmus_lex.specs.Bytes.{belongs, IsRun}
+use Rattle.litmus_lex.specs.Head.{HasTitle, IsAtBrace, IsHead, IsText}
+use Rattle.litmus_lex.specs.Tokens.{AreTokens, Placed}
+use Rattle.litmus_syntax.specs.PrintedForm.{name_line}
+use Rattle.litmus_cursor.specs.Words.{Symbol}
 use Rattle.litmus_parse.specs.Grammar.{symbol_at}
 use Rattle.litmus_parse.specs.Text.{IsTextByte}
 use Rattle.printed_bytes.specs.Reads.{AreText, Reads}

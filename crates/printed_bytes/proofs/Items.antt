@@ -2,16 +2,16 @@
 use Rattle.std.proofs.Common.{ℕ, suc, List, [], ◌∷◌, ◌++◌, refl, sym, subst, append_assoc, arith}
 use Rattle.std.specs.Prelude.{ℤ, pos, negsuc, codes}
 use Rattle.std.specs.Fmt.{signed_decimal}
-use Rattle.litmus_parse.specs.of_litmus_lex_declared.sign.Sign.TheVariants.{OpenBrace, CloseBrace, Semicolon, Assign, Minus}
-use Rattle.litmus_parse.specs.of_litmus_lex_declared.token.Part.{Part}
-use Rattle.litmus_parse.specs.of_litmus_lex_declared.token.Part.TheVariants.{Init, Between}
-use Rattle.litmus_parse.specs.of_litmus_syntax_declared.program.Contents.{Contents}
-use Rattle.litmus_parse.specs.of_litmus_syntax_declared.program.Contents.TheVariants as contents
-use Rattle.litmus_parse.specs.of_litmus_syntax_declared.program.Variable.{Variable}
-use Rattle.litmus_parse.specs.of_litmus_syntax_PrintedForm.{initial_text, initialization_line, item_text, items_text, type_name}
-use Rattle.litmus_parse.specs.of_litmus_cursor_declared.words.VariableType.TheVariants as types
-use Rattle.litmus_parse.specs.of_litmus_cursor_declared.words.Word.TheVariants as words
-use Rattle.litmus_parse.specs.of_litmus_cursor_Words.{Symbol, identifier, sign, word, word_of}
+use Rattle.litmus_lex.specs.declared.sign.Sign.TheVariants.{OpenBrace, CloseBrace, Semicolon, Assign, Minus}
+use Rattle.litmus_lex.specs.declared.token.Part.{Part}
+use Rattle.litmus_lex.specs.declared.token.Part.TheVariants.{Init, Between}
+use Rattle.litmus_syntax.specs.declared.program.Contents.{Contents}
+use Rattle.litmus_syntax.specs.declared.program.Contents.TheVariants as contents
+use Rattle.litmus_syntax.specs.declared.program.Variable.{Variable}
+use Rattle.litmus_syntax.specs.PrintedForm.{initial_text, initialization_line, item_text, items_text, type_name}
+use Rattle.litmus_cursor.specs.declared.words.VariableType.TheVariants as types
+use Rattle.litmus_cursor.specs.declared.words.Word.TheVariants as words
+use Rattle.litmus_cursor.specs.Words.{Symbol, identifier, sign, word, word_of}
 use Rattle.printed_texts.specs.PrintedProcess.{type_of}
 use Rattle.printed_texts.specs.PrintedProgram.{initial_symbols, items_symbols, signed_symbols}
 use Rattle.printed_bytes.specs.Reads.{Ends, IsIdentifier, Reads}

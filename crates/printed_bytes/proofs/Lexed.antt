@@ -5,20 +5,20 @@ use Rattle.std.specs.Char.{digit_value}
 use Rattle.std.specs.Str.Parse.{AllDigits}
 use Rattle.std.proofs.lemmas.Bool.Decides.{nat_tests}
 use Rattle.std.proofs.lemmas.Fmt.{decimal_is_IsNumeral}
-use Rattle.litmus_parse.specs.of_litmus_lex_declared.bytes.Class.{Class}
-use Rattle.litmus_parse.specs.of_litmus_lex_declared.bytes.Class.TheVariants.{Blank, NameStart, NamePart, Digit}
-use Rattle.litmus_parse.specs.of_litmus_lex_declared.gap.Comment.{Comment}
-use Rattle.litmus_parse.specs.of_litmus_lex_declared.gap.Comment.TheVariants.{Parens, Slashes, Line}
-use Rattle.litmus_parse.specs.of_litmus_lex_declared.sign.Sign.{Sign}
-use Rattle.litmus_parse.specs.of_litmus_lex_declared.token.Part.{Part}
-use Rattle.litmus_parse.specs.of_litmus_lex_Bytes.{belongs, IsRun}
-use Rattle.litmus_parse.specs.of_litmus_lex_Gap.{IsAtToken, IsGap, Opens}
-use Rattle.litmus_parse.specs.of_litmus_lex_Sign.{sign_bytes, IsLongestSign}
-use Rattle.litmus_parse.specs.of_litmus_lex_Token as terminals
-use Rattle.litmus_parse.specs.of_litmus_lex_Token.{BeginsHexadecimal, IsName, IsNumber, Spells, Terminal}
-use Rattle.litmus_parse.specs.of_litmus_lex_Tokens.{AreTokens, First, Placed, StartsAt, part_after, place_of}
-use Rattle.litmus_parse.specs.of_litmus_cursor_declared.words.Word.{Word}
-use Rattle.litmus_parse.specs.of_litmus_cursor_Words.{Symbol, identifier, number, sign, symbol_of, symbol_of_name, word, word_of}
+use Rattle.litmus_lex.specs.declared.bytes.Class.{Class}
+use Rattle.litmus_lex.specs.declared.bytes.Class.TheVariants.{Blank, NameStart, NamePart, Digit}
+use Rattle.litmus_lex.specs.declared.gap.Comment.{Comment}
+use Rattle.litmus_lex.specs.declared.gap.Comment.TheVariants.{Parens, Slashes, Line}
+use Rattle.litmus_lex.specs.declared.sign.Sign.{Sign}
+use Rattle.litmus_lex.specs.declared.token.Part.{Part}
+use Rattle.litmus_lex.specs.Bytes.{belongs, IsRun}
+use Rattle.litmus_lex.specs.Gap.{IsAtToken, IsGap, Opens}
+use Rattle.litmus_lex.specs.Sign.{sign_bytes, IsLongestSign}
+use Rattle.litmus_lex.specs.Token as terminals
+use Rattle.litmus_lex.specs.Token.{BeginsHexadecimal, IsName, IsNumber, Spells, Terminal}
+use Rattle.litmus_lex.specs.Tokens.{AreTokens, First, Placed, StartsAt, part_after, place_of}
+use Rattle.litmus_cursor.specs.declared.words.Word.{Word}
+use Rattle.litmus_cursor.specs.Words.{Symbol, identifier, number, sign, symbol_of, symbol_of_name, word, word_of}
 use Rattle.litmus_parse.specs.Grammar.{symbol_at}
 use Rattle.printed_bytes.specs.Reads.{AreText, Ends, IsIdentifier, Reads}
 use Rattle.printed_bytes.proofs.TextBytes.{blank_text, both_text, digits_text, name_text, sign_text}

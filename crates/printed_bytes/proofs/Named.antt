@@ -1,15 +1,15 @@
 -- Bodies whose numbers are those of tokens have names and numbers that a text can have, where their variables and registers do.
 use Rattle.std.proofs.Common.{◌<◌, ℕ, List, length}
-use Rattle.litmus_parse.specs.of_access_types_declared.history.Mark.{Mark}
-use Rattle.litmus_parse.specs.of_access_types_declared.history.Mark.TheVariants as marks
-use Rattle.litmus_parse.specs.of_litmus_syntax_declared.program.Variable.{Variable}
-use Rattle.litmus_parse.specs.of_litmus_syntax_declared.statement.Call.{Call}
-use Rattle.litmus_parse.specs.of_litmus_syntax_declared.statement.Call.TheVariants as calls
-use Rattle.litmus_parse.specs.of_litmus_syntax_Limits.{AssignmentTyped, BlockTyped, CallTyped, ExpressionTyped, FetchTyped, IsVariable, LoadingTyped, PureTyped, Sort}
-use Rattle.litmus_parse.specs.of_litmus_syntax_Limits.{StatementTyped, atomics, integers, locks, memory, read_takes, write_takes}
-use Rattle.litmus_parse.specs.of_litmus_syntax_PrintedForm.{name_at}
-use Rattle.litmus_parse.specs.of_litmus_syntax_Tree as tree
-use Rattle.litmus_parse.specs.of_litmus_expression_Names.{Names}
+use Rattle.access_types.specs.declared.history.Mark.{Mark}
+use Rattle.access_types.specs.declared.history.Mark.TheVariants as marks
+use Rattle.litmus_syntax.specs.declared.program.Variable.{Variable}
+use Rattle.litmus_syntax.specs.declared.statement.Call.{Call}
+use Rattle.litmus_syntax.specs.declared.statement.Call.TheVariants as calls
+use Rattle.litmus_syntax.specs.Limits.{AssignmentTyped, BlockTyped, CallTyped, ExpressionTyped, FetchTyped, IsVariable, LoadingTyped, PureTyped, Sort}
+use Rattle.litmus_syntax.specs.Limits.{StatementTyped, atomics, integers, locks, memory, read_takes, write_takes}
+use Rattle.litmus_syntax.specs.PrintedForm.{name_at}
+use Rattle.litmus_syntax.specs.Tree as tree
+use Rattle.litmus_expression.specs.Names.{Names}
 use Rattle.litmus_parse.proofs.NamesSpelled.{AssignmentHas, BlockHas, CallHas, ExpressionHas, FetchHas, LoadingHas, MarkHas, PureHas, StatementHas}
 use Rattle.printed_bytes.specs.Expressions.{ExpressionIsSpelled, FetchIsSpelled, IsNamed, IsShort, LoadingIsSpelled, PureIsSpelled}
 use Rattle.printed_bytes.specs.Reads.{IsIdentifier}

@@ -1,18 +1,18 @@
 -- Signs, blanks and words, whatever follows.
 use Rattle.std.proofs.Common.{inl, inr, ◌≡◌, ◌≢◌, ◌∙◌, ◌⊎◌, ◌≤◌, ℕ, List, [], ◌∷◌, ◌++◌, Bool, true, false, length, get_or, refl, sym, ap, subst, append_assoc, arith, ◌==◌, ◌||◌, ◌&&◌, lit≤}
-use Rattle.litmus_parse.specs.of_litmus_lex_declared.bytes.Class.TheVariants.{Blank, NamePart, NameStart}
-use Rattle.litmus_parse.specs.of_litmus_lex_declared.gap.Comment.{Comment}
-use Rattle.litmus_parse.specs.of_litmus_lex_declared.gap.Comment.TheVariants.{Parens, Slashes, Line}
-use Rattle.litmus_parse.specs.of_litmus_lex_declared.sign.Sign.{Sign}
-use Rattle.litmus_parse.specs.of_litmus_lex_declared.sign.Sign.TheVariants.{AddAssign, Increment}
-use Rattle.litmus_parse.specs.of_litmus_lex_declared.sign.Sign.TheVariants.{LessEqual, GreaterEqual, Equal, NotEqual, Conjunction, Disjunction, ShiftLeft, ShiftRight, LogicalAnd, LogicalOr}
-use Rattle.litmus_parse.specs.of_litmus_lex_declared.token.Part.{Part}
-use Rattle.litmus_parse.specs.of_litmus_lex_declared.token.Part.TheVariants.{Body}
-use Rattle.litmus_parse.specs.of_litmus_lex_Bytes.{belongs, IsRun}
-use Rattle.litmus_parse.specs.of_litmus_lex_Gap.{IsAtToken, Opens}
-use Rattle.litmus_parse.specs.of_litmus_lex_Sign.{sign_bytes, Begins, IsLongestSign}
-use Rattle.litmus_parse.specs.of_litmus_lex_Token.{IsName}
-use Rattle.litmus_parse.specs.of_litmus_cursor_Words.{Symbol}
+use Rattle.litmus_lex.specs.declared.bytes.Class.TheVariants.{Blank, NamePart, NameStart}
+use Rattle.litmus_lex.specs.declared.gap.Comment.{Comment}
+use Rattle.litmus_lex.specs.declared.gap.Comment.TheVariants.{Parens, Slashes, Line}
+use Rattle.litmus_lex.specs.declared.sign.Sign.{Sign}
+use Rattle.litmus_lex.specs.declared.sign.Sign.TheVariants.{AddAssign, Increment}
+use Rattle.litmus_lex.specs.declared.sign.Sign.TheVariants.{LessEqual, GreaterEqual, Equal, NotEqual, Conjunction, Disjunction, ShiftLeft, ShiftRight, LogicalAnd, LogicalOr}
+use Rattle.litmus_lex.specs.declared.token.Part.{Part}
+use Rattle.litmus_lex.specs.declared.token.Part.TheVariants.{Body}
+use Rattle.litmus_lex.specs.Bytes.{belongs, IsRun}
+use Rattle.litmus_lex.specs.Gap.{IsAtToken, Opens}
+use Rattle.litmus_lex.specs.Sign.{sign_bytes, Begins, IsLongestSign}
+use Rattle.litmus_lex.specs.Token.{IsName}
+use Rattle.litmus_cursor.specs.Words.{Symbol}
 use Rattle.printed_bytes.specs.Reads.{Reads}
 
 and_first : (a b : Bool) → (a && b) ≡ true → a ≡ true

@@ -6,23 +6,23 @@ use Rattle.std.specs.Char.{digit_value}
 use Rattle.std.specs.Str.Parse.{AllDigits}
 use Rattle.std.proofs.lemmas.Bool.Decides.{nat_tests}
 use Rattle.std.proofs.lemmas.Fmt.{decimal_is_IsNumeral}
-use Rattle.litmus_parse.specs.of_litmus_lex_declared.bytes.Class.TheVariants.{NameStart}
-use Rattle.litmus_parse.specs.of_litmus_lex_declared.gap.Comment.{Comment}
-use Rattle.litmus_parse.specs.of_litmus_lex_declared.gap.Comment.TheVariants.{Parens, Slashes, Line}
-use Rattle.litmus_parse.specs.of_litmus_lex_Bytes.{belongs}
-use Rattle.litmus_parse.specs.of_litmus_lex_Gap.{IsAtToken, Opens}
-use Rattle.litmus_parse.specs.of_litmus_lex_Sign.{IsLongestSign}
-use Rattle.litmus_parse.specs.of_litmus_lex_Token.{IsName}
-use Rattle.litmus_parse.specs.of_litmus_lex_declared.sign.Sign.TheVariants.{OpenParen, Colon, Assign, Tilde, Conjunction, Disjunction}
-use Rattle.litmus_parse.specs.of_litmus_lex_declared.token.Part.TheVariants.{Between}
-use Rattle.litmus_parse.specs.of_litmus_syntax_declared.program.Variable.{Variable}
-use Rattle.litmus_parse.specs.of_litmus_syntax_declared.proposition.Quantifier.{Quantifier}
-use Rattle.litmus_parse.specs.of_litmus_syntax_declared.proposition.Quantifier.TheVariants.{Exists, NotExists, Forall}
-use Rattle.litmus_parse.specs.of_litmus_syntax_PrintedForm.{name_at, proposition_text, quantifier_text, registers_of, variable_name}
-use Rattle.litmus_parse.specs.of_litmus_syntax_Tree.{Proposition, Task}
-use Rattle.litmus_parse.specs.of_litmus_syntax_Tree as tree
-use Rattle.litmus_parse.specs.of_litmus_cursor_declared.words.Word.TheVariants as words
-use Rattle.litmus_parse.specs.of_litmus_cursor_Words.{Symbol, number, sign, word_of}
+use Rattle.litmus_lex.specs.declared.bytes.Class.TheVariants.{NameStart}
+use Rattle.litmus_lex.specs.declared.gap.Comment.{Comment}
+use Rattle.litmus_lex.specs.declared.gap.Comment.TheVariants.{Parens, Slashes, Line}
+use Rattle.litmus_lex.specs.Bytes.{belongs}
+use Rattle.litmus_lex.specs.Gap.{IsAtToken, Opens}
+use Rattle.litmus_lex.specs.Sign.{IsLongestSign}
+use Rattle.litmus_lex.specs.Token.{IsName}
+use Rattle.litmus_lex.specs.declared.sign.Sign.TheVariants.{OpenParen, Colon, Assign, Tilde, Conjunction, Disjunction}
+use Rattle.litmus_lex.specs.declared.token.Part.TheVariants.{Between}
+use Rattle.litmus_syntax.specs.declared.program.Variable.{Variable}
+use Rattle.litmus_syntax.specs.declared.proposition.Quantifier.{Quantifier}
+use Rattle.litmus_syntax.specs.declared.proposition.Quantifier.TheVariants.{Exists, NotExists, Forall}
+use Rattle.litmus_syntax.specs.PrintedForm.{name_at, proposition_text, quantifier_text, registers_of, variable_name}
+use Rattle.litmus_syntax.specs.Tree.{Proposition, Task}
+use Rattle.litmus_syntax.specs.Tree as tree
+use Rattle.litmus_cursor.specs.declared.words.Word.TheVariants as words
+use Rattle.litmus_cursor.specs.Words.{Symbol, number, sign, word_of}
 use Rattle.printed_texts.specs.PrintedCondition.{proposition_symbols, quantifier_symbols}
 use Rattle.printed_bytes.specs.Reads.{Ends, Reads}
 use Rattle.printed_bytes.specs.Expressions.{IsShort}

@@ -1,19 +1,19 @@
 -- The signs of a body, whatever follows.
 use Rattle.std.proofs.Common.{◌≡◌, ◌≢◌, ◌+◌, ◌<◌, ℕ, List, [], ◌∷◌, ◌++◌, Some, true, false, refl, sym, ap, subst, arith}
 use Rattle.std.proofs.lemmas.Bool.Decides.{nat_tests}
-use Rattle.litmus_parse.specs.of_litmus_lex_declared.bytes.Class.TheVariants.{Blank}
-use Rattle.litmus_parse.specs.of_litmus_lex_declared.sign.Sign.{Sign}
-use Rattle.litmus_parse.specs.of_litmus_lex_declared.sign.Sign.TheVariants.{OpenBrace, CloseBrace, OpenParen, CloseParen, Semicolon, Comma, Assign, AddAssign, Increment, Star, Less}
-use Rattle.litmus_parse.specs.of_litmus_lex_declared.token.Part.{Part}
-use Rattle.litmus_parse.specs.of_litmus_lex_declared.token.Part.TheVariants.{Body}
-use Rattle.litmus_parse.specs.of_litmus_lex_Bytes.{belongs}
-use Rattle.litmus_parse.specs.of_litmus_lex_Gap.{IsAtToken}
-use Rattle.litmus_parse.specs.of_litmus_lex_Part.{closed}
-use Rattle.litmus_parse.specs.of_litmus_lex_Sign.{sign_bytes}
-use Rattle.litmus_parse.specs.of_litmus_lex_Token as terminals
-use Rattle.litmus_parse.specs.of_litmus_lex_Tokens.{part_after}
-use Rattle.litmus_parse.specs.of_litmus_cursor_declared.words.Word.{Word}
-use Rattle.litmus_parse.specs.of_litmus_cursor_Words.{Symbol, sign, word, word_of}
+use Rattle.litmus_lex.specs.declared.bytes.Class.TheVariants.{Blank}
+use Rattle.litmus_lex.specs.declared.sign.Sign.{Sign}
+use Rattle.litmus_lex.specs.declared.sign.Sign.TheVariants.{OpenBrace, CloseBrace, OpenParen, CloseParen, Semicolon, Comma, Assign, AddAssign, Increment, Star, Less}
+use Rattle.litmus_lex.specs.declared.token.Part.{Part}
+use Rattle.litmus_lex.specs.declared.token.Part.TheVariants.{Body}
+use Rattle.litmus_lex.specs.Bytes.{belongs}
+use Rattle.litmus_lex.specs.Gap.{IsAtToken}
+use Rattle.litmus_lex.specs.Part.{closed}
+use Rattle.litmus_lex.specs.Sign.{sign_bytes}
+use Rattle.litmus_lex.specs.Token as terminals
+use Rattle.litmus_lex.specs.Tokens.{part_after}
+use Rattle.litmus_cursor.specs.declared.words.Word.{Word}
+use Rattle.litmus_cursor.specs.Words.{Symbol, sign, word, word_of}
 use Rattle.printed_bytes.specs.Reads.{Ends, Reads}
 use Rattle.printed_bytes.proofs.Lexed.{blank_reads, sign_reads, word_reads}
 use Rattle.printed_bytes.proofs.Pieces.{alone, begins_longer, double, ended, is_word, paren_token, plain_token, word_is}

@@ -7,18 +7,18 @@ use Rattle.std.proofs.Math.Nat.{mod-lt}
 use Rattle.std.proofs.lemmas.List.{length-map}
 use Rattle.std.proofs.lemmas.List.Elements.{All-get_or}
 use Rattle.std.proofs.lemmas.Option.{get_or_from_slice_get, slice_get-map, slice_get_within, unwrap_or-slice_get}
-use Rattle.litmus_parse.specs.of_litmus_lex_declared.bytes.Class.TheVariants.{Graphic}
-use Rattle.litmus_parse.specs.of_litmus_lex_declared.token.Part.TheVariants.{Init}
-use Rattle.litmus_parse.specs.of_litmus_syntax_declared.program.Contents.{Contents}
-use Rattle.litmus_parse.specs.of_litmus_syntax_declared.program.Variable.{Variable}
-use Rattle.litmus_parse.specs.of_litmus_syntax_Limits.{IsVariable, Sort, TaskKeepsLimits}
-use Rattle.litmus_parse.specs.of_litmus_syntax_PrintedForm.{name_at, registers_of}
-use Rattle.litmus_parse.specs.of_litmus_syntax_Tree as tree
-use Rattle.litmus_parse.specs.of_litmus_cursor_declared.words.VariableType.{VariableType}
-use Rattle.litmus_parse.specs.of_litmus_cursor_declared.words.VariableType.TheVariants.{Char, Short, Int, Long, Atomic, Lock}
-use Rattle.litmus_parse.specs.of_litmus_cursor_Words.{Symbol}
-use Rattle.litmus_parse.specs.of_litmus_expression_Names.{Names, Parameter}
-use Rattle.litmus_parse.proofs.of_litmus_expression_Named.{in_front, in_rest}
+use Rattle.litmus_lex.specs.declared.bytes.Class.TheVariants.{Graphic}
+use Rattle.litmus_lex.specs.declared.token.Part.TheVariants.{Init}
+use Rattle.litmus_syntax.specs.declared.program.Contents.{Contents}
+use Rattle.litmus_syntax.specs.declared.program.Variable.{Variable}
+use Rattle.litmus_syntax.specs.Limits.{IsVariable, Sort, TaskKeepsLimits}
+use Rattle.litmus_syntax.specs.PrintedForm.{name_at, registers_of}
+use Rattle.litmus_syntax.specs.Tree as tree
+use Rattle.litmus_cursor.specs.declared.words.VariableType.{VariableType}
+use Rattle.litmus_cursor.specs.declared.words.VariableType.TheVariants.{Char, Short, Int, Long, Atomic, Lock}
+use Rattle.litmus_cursor.specs.Words.{Symbol}
+use Rattle.litmus_expression.specs.Names.{Names, Parameter}
+use Rattle.litmus_expression.proofs.Named.{in_front, in_rest}
 use Rattle.litmus_parse.specs.Conditions as conditions
 use Rattle.litmus_parse.specs.Conditions.{Atom, Conjoined, Disjoined, IsKnown, Negation}
 use Rattle.litmus_parse.specs.Grammar.{SpellsProgram, said_by, symbol_at, task_of, variable_of}

@@ -3,16 +3,16 @@ use Rattle.std.proofs.Common.{◌+◌, ◌<◌, ℕ, List, [], ◌∷◌, ◌++�
 use Rattle.std.specs.Prelude.{codes}
 use Rattle.std.specs.Fmt.{decimal}
 use Rattle.std.proofs.lemmas.Fmt.{decimal_digit}
-use Rattle.litmus_parse.specs.of_litmus_lex_declared.sign.Sign.TheVariants.{CloseBrace, CloseParen, OpenBrace, OpenParen, Semicolon}
-use Rattle.litmus_parse.specs.of_litmus_lex_declared.token.Part.{Part}
-use Rattle.litmus_parse.specs.of_litmus_lex_declared.token.Part.TheVariants.{Body}
-use Rattle.litmus_parse.specs.of_litmus_syntax_declared.program.Variable.{Variable}
-use Rattle.litmus_parse.specs.of_litmus_syntax_PrintedForm.{assign_text, assignment_text, block_text, call_text, expression_text, for_head, if_head, line, load_text, name_at, statement_text}
-use Rattle.litmus_parse.specs.of_litmus_syntax_Tree.{Assignment, Block, Expression, Statement}
-use Rattle.litmus_parse.specs.of_litmus_syntax_Tree as tree
-use Rattle.litmus_parse.specs.of_litmus_cursor_declared.words.Word.TheVariants as words
-use Rattle.litmus_parse.specs.of_litmus_cursor_Words.{Symbol, number, sign, word, word_of}
-use Rattle.litmus_parse.specs.of_litmus_expression_Names.{Names}
+use Rattle.litmus_lex.specs.declared.sign.Sign.TheVariants.{CloseBrace, CloseParen, OpenBrace, OpenParen, Semicolon}
+use Rattle.litmus_lex.specs.declared.token.Part.{Part}
+use Rattle.litmus_lex.specs.declared.token.Part.TheVariants.{Body}
+use Rattle.litmus_syntax.specs.declared.program.Variable.{Variable}
+use Rattle.litmus_syntax.specs.PrintedForm.{assign_text, assignment_text, block_text, call_text, expression_text, for_head, if_head, line, load_text, name_at, statement_text}
+use Rattle.litmus_syntax.specs.Tree.{Assignment, Block, Expression, Statement}
+use Rattle.litmus_syntax.specs.Tree as tree
+use Rattle.litmus_cursor.specs.declared.words.Word.TheVariants as words
+use Rattle.litmus_cursor.specs.Words.{Symbol, number, sign, word, word_of}
+use Rattle.litmus_expression.specs.Names.{Names}
 use Rattle.printed_texts.specs.PrintedSymbols.{assign_symbols, assignment_symbols, block_symbols, expression_symbols, for_symbols, statement_symbols}
 use Rattle.printed_bytes.specs.Reads.{Ends, IsIdentifier, Reads}
 use Rattle.printed_bytes.specs.Expressions.{ExpressionIsSpelled, IsShort}

@@ -1,14 +1,14 @@
 -- What the tokens of bytes name and count: names that are no words, and numbers of a token.
 use Rattle.std.proofs.Common.{◌≡◌, ℕ, List, [], ◌∷◌, Option, Some, None, map, refl, sym, subst}
-use Rattle.litmus_parse.specs.of_litmus_lex_declared.bytes.Class.{Class}
-use Rattle.litmus_parse.specs.of_litmus_lex_declared.bytes.Class.TheVariants.{NamePart}
-use Rattle.litmus_parse.specs.of_litmus_lex_declared.token.Part.{Part}
-use Rattle.litmus_parse.specs.of_litmus_lex_Bytes.{IsRun}
-use Rattle.litmus_parse.specs.of_litmus_lex_Token as terminals
-use Rattle.litmus_parse.specs.of_litmus_lex_Token.{IsName, Spells, Terminal}
-use Rattle.litmus_parse.specs.of_litmus_lex_Tokens.{AreTokens, Placed, part_after}
-use Rattle.litmus_parse.specs.of_litmus_cursor_declared.words.Word.{Word}
-use Rattle.litmus_parse.specs.of_litmus_cursor_Words.{symbol_of, symbol_of_name, word_of}
+use Rattle.litmus_lex.specs.declared.bytes.Class.{Class}
+use Rattle.litmus_lex.specs.declared.bytes.Class.TheVariants.{NamePart}
+use Rattle.litmus_lex.specs.declared.token.Part.{Part}
+use Rattle.litmus_lex.specs.Bytes.{IsRun}
+use Rattle.litmus_lex.specs.Token as terminals
+use Rattle.litmus_lex.specs.Token.{IsName, Spells, Terminal}
+use Rattle.litmus_lex.specs.Tokens.{AreTokens, Placed, part_after}
+use Rattle.litmus_cursor.specs.declared.words.Word.{Word}
+use Rattle.litmus_cursor.specs.Words.{symbol_of, symbol_of_name, word_of}
 use Rattle.litmus_parse.specs.Grammar.{symbol_at}
 use Rattle.litmus_parse.proofs.NamesSpelled.{OfSymbol, Spell}
 use Rattle.printed_bytes.specs.Expressions.{IsShort}

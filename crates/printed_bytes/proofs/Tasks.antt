@@ -6,19 +6,19 @@ use Rattle.std.specs.Fmt.{decimal}
 use Rattle.std.specs.Str.Parse.{AllDigits}
 use Rattle.std.proofs.lemmas.Bool.Decides.{nat_tests}
 use Rattle.std.proofs.lemmas.Fmt.{decimal_is_IsNumeral}
-use Rattle.litmus_parse.specs.of_litmus_lex_declared.bytes.Class.TheVariants.{NamePart}
-use Rattle.litmus_parse.specs.of_litmus_lex_declared.sign.Sign.TheVariants.{OpenBrace, CloseBrace}
-use Rattle.litmus_parse.specs.of_litmus_lex_declared.token.Part.TheVariants.{Between, Body}
-use Rattle.litmus_parse.specs.of_litmus_lex_Bytes.{belongs, IsRun}
-use Rattle.litmus_parse.specs.of_litmus_syntax_declared.program.Contents.{Contents}
-use Rattle.litmus_parse.specs.of_litmus_syntax_declared.program.Contents.TheVariants as contents
-use Rattle.litmus_parse.specs.of_litmus_syntax_declared.program.Variable.{Variable}
-use Rattle.litmus_parse.specs.of_litmus_syntax_PrintedForm.{block_text, continued, declaration, declarations, listed, parameter_of, parameter_texts, task_text, tasks_text, type_name}
-use Rattle.litmus_parse.specs.of_litmus_syntax_Tree.{Task}
-use Rattle.litmus_parse.specs.of_litmus_cursor_declared.words.VariableType.TheVariants.{Int}
-use Rattle.litmus_parse.specs.of_litmus_cursor_declared.words.Word.TheVariants as words
-use Rattle.litmus_parse.specs.of_litmus_cursor_Words.{Symbol, sign, word_of}
-use Rattle.litmus_parse.specs.of_litmus_expression_Names.{Names}
+use Rattle.litmus_lex.specs.declared.bytes.Class.TheVariants.{NamePart}
+use Rattle.litmus_lex.specs.declared.sign.Sign.TheVariants.{OpenBrace, CloseBrace}
+use Rattle.litmus_lex.specs.declared.token.Part.TheVariants.{Between, Body}
+use Rattle.litmus_lex.specs.Bytes.{belongs, IsRun}
+use Rattle.litmus_syntax.specs.declared.program.Contents.{Contents}
+use Rattle.litmus_syntax.specs.declared.program.Contents.TheVariants as contents
+use Rattle.litmus_syntax.specs.declared.program.Variable.{Variable}
+use Rattle.litmus_syntax.specs.PrintedForm.{block_text, continued, declaration, declarations, listed, parameter_of, parameter_texts, task_text, tasks_text, type_name}
+use Rattle.litmus_syntax.specs.Tree.{Task}
+use Rattle.litmus_cursor.specs.declared.words.VariableType.TheVariants.{Int}
+use Rattle.litmus_cursor.specs.declared.words.Word.TheVariants as words
+use Rattle.litmus_cursor.specs.Words.{Symbol, sign, word_of}
+use Rattle.litmus_expression.specs.Names.{Names}
 use Rattle.litmus_parse.specs.Headers.{process_name}
 use Rattle.printed_texts.specs.PrintedProcess.{continued_symbols, declarations_symbols, listed_symbols, parameter_symbols, task_symbols}
 use Rattle.printed_texts.specs.PrintedProgram.{tasks_symbols}

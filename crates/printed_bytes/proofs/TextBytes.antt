@@ -5,12 +5,12 @@ use Rattle.std.specs.Char.{digit_value}
 use Rattle.std.specs.Str.Parse.{AllDigits}
 use Rattle.std.proofs.lemmas.Bool.{or_cases}
 use Rattle.std.proofs.lemmas.Bool.Decides.{nat_tests}
-use Rattle.litmus_parse.specs.of_litmus_lex_declared.bytes.Class.TheVariants.{Blank, Graphic, NameStart, NamePart}
-use Rattle.litmus_parse.specs.of_litmus_lex_declared.sign.Sign.{Sign}
-use Rattle.litmus_parse.specs.of_litmus_lex_declared.sign.Sign.TheVariants.{OpenBrace}
-use Rattle.litmus_parse.specs.of_litmus_lex_Bytes.{belongs, IsRun}
-use Rattle.litmus_parse.specs.of_litmus_lex_Sign.{sign_bytes}
-use Rattle.litmus_parse.specs.of_litmus_lex_Token.{IsName}
+use Rattle.litmus_lex.specs.declared.bytes.Class.TheVariants.{Blank, Graphic, NameStart, NamePart}
+use Rattle.litmus_lex.specs.declared.sign.Sign.{Sign}
+use Rattle.litmus_lex.specs.declared.sign.Sign.TheVariants.{OpenBrace}
+use Rattle.litmus_lex.specs.Bytes.{belongs, IsRun}
+use Rattle.litmus_lex.specs.Sign.{sign_bytes}
+use Rattle.litmus_lex.specs.Token.{IsName}
 use Rattle.litmus_parse.specs.Text.{IsTextByte}
 use Rattle.printed_bytes.specs.Reads.{AreText}
 

@@ -1,18 +1,18 @@
 -- The whole text of a program: its name, its initialization block, its tasks and its condition.
 use Rattle.std.proofs.Common.{◌≡◌, ◌≤◌, ℕ, List, [], ◌∷◌, length, map, refl, subst, sym}
 use Rattle.std.specs.Prelude.{All}
-use Rattle.litmus_parse.specs.of_litmus_lex_declared.token.Part.TheVariants.{Between}
-use Rattle.litmus_parse.specs.of_litmus_lex_Head.{IsText}
-use Rattle.litmus_parse.specs.of_litmus_lex_Tokens.{Placed}
-use Rattle.litmus_parse.specs.of_litmus_syntax_PrintedForm.{condition_line, printed, proposition_text}
-use Rattle.litmus_parse.specs.of_litmus_syntax_Tree.{Program}
-use Rattle.litmus_parse.specs.of_litmus_syntax_Limits.{file_bytes}
-use Rattle.litmus_parse.specs.of_litmus_cursor_Words.{Symbol}
+use Rattle.litmus_lex.specs.declared.token.Part.TheVariants.{Between}
+use Rattle.litmus_lex.specs.Head.{IsText}
+use Rattle.litmus_lex.specs.Tokens.{Placed}
+use Rattle.litmus_syntax.specs.PrintedForm.{condition_line, printed, proposition_text}
+use Rattle.litmus_syntax.specs.Tree.{Program}
+use Rattle.litmus_syntax.specs.Limits.{file_bytes}
+use Rattle.litmus_cursor.specs.Words.{Symbol}
 use Rattle.litmus_parse.specs.Grammar.{Grammar, SpellsProgram, symbol_at}
 use Rattle.litmus_parse.specs.Text.{IsTextByte}
 use Rattle.printed_texts.specs.PrintedCondition.{proposition_symbols, quantifier_symbols}
-use Rattle.litmus_parse.specs.of_litmus_expression_Followed.{Differ}
-use Rattle.litmus_parse.specs.of_litmus_expression_Names.{Names}
+use Rattle.litmus_expression.specs.Followed.{Differ}
+use Rattle.litmus_expression.specs.Names.{Names}
 use Rattle.printed_texts.specs.PrintedProgram.{Nests, program_symbols}
 use Rattle.printed_texts.proofs.Programs.{program_printed}
 use Rattle.printed_texts.proofs.Wholes.{names_are, own_names}

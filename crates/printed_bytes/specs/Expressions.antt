@@ -1,10 +1,10 @@
 -- Expressions whose names and numbers a text can have.
 use Rattle.std.specs.Prelude.{◌^◌, ◌<◌, ℕ, List}
-use Rattle.litmus_parse.specs.of_litmus_syntax_declared.program.Variable.{Variable}
-use Rattle.litmus_parse.specs.of_litmus_syntax_PrintedForm.{name_at, variable_name}
-use Rattle.litmus_parse.specs.of_litmus_syntax_Tree.{Pure, Fetch, Loading, Load, Expression}
-use Rattle.litmus_parse.specs.of_litmus_syntax_Tree as tree
-use Rattle.litmus_parse.specs.of_litmus_expression_Names.{Names}
+use Rattle.litmus_syntax.specs.declared.program.Variable.{Variable}
+use Rattle.litmus_syntax.specs.PrintedForm.{name_at, variable_name}
+use Rattle.litmus_syntax.specs.Tree.{Pure, Fetch, Loading, Load, Expression}
+use Rattle.litmus_syntax.specs.Tree as tree
+use Rattle.litmus_expression.specs.Names.{Names}
 use Rattle.printed_bytes.specs.Reads.{IsIdentifier}
 
 -- the number of a token

@@ -1,14 +1,14 @@
 -- Programs whose names and numbers a text can have.
 use Rattle.std.specs.Prelude.{◌<◌, ℕ, suc, ℤ, pos, negsuc, Option, Some, None, List, [], ◌∷◌, length, slice_get}
-use Rattle.litmus_parse.specs.of_litmus_lex_declared.bytes.Class.TheVariants.{Graphic}
-use Rattle.litmus_parse.specs.of_litmus_lex_Bytes.{IsRun}
-use Rattle.litmus_parse.specs.of_litmus_syntax_declared.program.Contents.{Contents}
-use Rattle.litmus_parse.specs.of_litmus_syntax_declared.program.Contents.TheVariants as contents
-use Rattle.litmus_parse.specs.of_litmus_syntax_declared.program.Variable.{Variable}
-use Rattle.litmus_parse.specs.of_litmus_syntax_PrintedForm.{name_at, registers_of}
-use Rattle.litmus_parse.specs.of_litmus_syntax_Tree.{Program, Proposition, Task}
-use Rattle.litmus_parse.specs.of_litmus_syntax_Tree as tree
-use Rattle.litmus_parse.specs.of_litmus_expression_Names.{Names}
+use Rattle.litmus_lex.specs.declared.bytes.Class.TheVariants.{Graphic}
+use Rattle.litmus_lex.specs.Bytes.{IsRun}
+use Rattle.litmus_syntax.specs.declared.program.Contents.{Contents}
+use Rattle.litmus_syntax.specs.declared.program.Contents.TheVariants as contents
+use Rattle.litmus_syntax.specs.declared.program.Variable.{Variable}
+use Rattle.litmus_syntax.specs.PrintedForm.{name_at, registers_of}
+use Rattle.litmus_syntax.specs.Tree.{Program, Proposition, Task}
+use Rattle.litmus_syntax.specs.Tree as tree
+use Rattle.litmus_expression.specs.Names.{Names}
 use Rattle.printed_bytes.specs.Reads.{IsIdentifier}
 use Rattle.printed_bytes.specs.Expressions.{IsNamed, IsShort}
 use Rattle.printed_bytes.specs.Statements.{BlockIsSpelled}

@@ -1,11 +1,11 @@
 -- Which symbols the tokens of bytes have.
 use Rattle.std.specs.Prelude.{◌≡◌, ℕ, List, [], ◌∷◌, None, map}
-use Rattle.litmus_parse.specs.of_litmus_lex_declared.bytes.Class.TheVariants.{NamePart}
-use Rattle.litmus_parse.specs.of_litmus_lex_declared.token.Part.{Part}
-use Rattle.litmus_parse.specs.of_litmus_lex_Bytes.{IsRun}
-use Rattle.litmus_parse.specs.of_litmus_lex_Token.{IsName}
-use Rattle.litmus_parse.specs.of_litmus_lex_Tokens.{AreTokens, Placed}
-use Rattle.litmus_parse.specs.of_litmus_cursor_Words.{Symbol, word_of}
+use Rattle.litmus_lex.specs.declared.bytes.Class.TheVariants.{NamePart}
+use Rattle.litmus_lex.specs.declared.token.Part.{Part}
+use Rattle.litmus_lex.specs.Bytes.{IsRun}
+use Rattle.litmus_lex.specs.Token.{IsName}
+use Rattle.litmus_lex.specs.Tokens.{AreTokens, Placed}
+use Rattle.litmus_cursor.specs.Words.{Symbol, word_of}
 use Rattle.litmus_parse.specs.Grammar.{symbol_at}
 use Rattle.litmus_parse.specs.Text.{IsTextByte}
 

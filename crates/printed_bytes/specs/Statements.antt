@@ -1,14 +1,14 @@
 -- Statements whose names and numbers a text can have.
 use Rattle.std.specs.Prelude.{List}
-use Rattle.litmus_parse.specs.of_access_types_declared.history.Mark.{Mark}
-use Rattle.litmus_parse.specs.of_access_types_declared.history.Mark.TheVariants.{Disable, Enable, NestOpen, NestClose, FlatBegin, FlatEnd, Next}
-use Rattle.litmus_parse.specs.of_litmus_syntax_declared.program.Variable.{Variable}
-use Rattle.litmus_parse.specs.of_litmus_syntax_declared.statement.Call.{Call}
-use Rattle.litmus_parse.specs.of_litmus_syntax_declared.statement.Call.TheVariants as calls
-use Rattle.litmus_parse.specs.of_litmus_syntax_PrintedForm.{name_at}
-use Rattle.litmus_parse.specs.of_litmus_syntax_Tree.{Assignment, Statement, Block}
-use Rattle.litmus_parse.specs.of_litmus_syntax_Tree as tree
-use Rattle.litmus_parse.specs.of_litmus_expression_Names.{Names}
+use Rattle.access_types.specs.declared.history.Mark.{Mark}
+use Rattle.access_types.specs.declared.history.Mark.TheVariants.{Disable, Enable, NestOpen, NestClose, FlatBegin, FlatEnd, Next}
+use Rattle.litmus_syntax.specs.declared.program.Variable.{Variable}
+use Rattle.litmus_syntax.specs.declared.statement.Call.{Call}
+use Rattle.litmus_syntax.specs.declared.statement.Call.TheVariants as calls
+use Rattle.litmus_syntax.specs.PrintedForm.{name_at}
+use Rattle.litmus_syntax.specs.Tree.{Assignment, Statement, Block}
+use Rattle.litmus_syntax.specs.Tree as tree
+use Rattle.litmus_expression.specs.Names.{Names}
 use Rattle.printed_bytes.specs.Reads.{IsIdentifier}
 use Rattle.printed_bytes.specs.Expressions.{ExpressionIsSpelled, IsNamed, IsShort, LoadIsSpelled, PureIsSpelled}
 

@@ -1,10 +1,10 @@
 //! Programs read back from their printed form.
 
 ghost use Rattle.std.specs.Prelude.{◌≡◌, ◌≤◌, ℕ, IfErr, IfOk, List, length};
-ghost use Rattle.litmus_parse.specs.of_litmus_syntax_Limits.{file_bytes};
-ghost use Rattle.litmus_parse.specs.of_litmus_syntax_PrintedForm.{printed};
-ghost use Rattle.litmus_parse.specs.of_litmus_syntax_Tree as tree;
-ghost use Rattle.litmus_parse.specs.of_litmus_syntax_Views.{program_of};
+ghost use Rattle.litmus_syntax.specs.Limits.{file_bytes};
+ghost use Rattle.litmus_syntax.specs.PrintedForm.{printed};
+ghost use Rattle.litmus_syntax.specs.Tree as tree;
+ghost use Rattle.litmus_syntax.specs.Views.{program_of};
 ghost use Rattle.litmus_parse.specs.Grammar.{SpellsProgram};
 ghost use Rattle.printed_texts.specs.PrintedProgram.{Nests};
 

@@ -1,11 +1,11 @@
 //! What is true of the bytes of the printed form of litmus programs.
 
 ghost use Rattle.std.specs.Prelude.{◌≡◌, ◌≤◌, ℕ, All, List, length, map};
-ghost use Rattle.litmus_parse.specs.of_litmus_lex_Head.{IsText};
-ghost use Rattle.litmus_parse.specs.of_litmus_lex_Tokens.{Placed};
-ghost use Rattle.litmus_parse.specs.of_litmus_syntax_Limits.{file_bytes};
-ghost use Rattle.litmus_parse.specs.of_litmus_syntax_PrintedForm.{printed};
-ghost use Rattle.litmus_parse.specs.of_litmus_syntax_Tree.{Program};
+ghost use Rattle.litmus_lex.specs.Head.{IsText};
+ghost use Rattle.litmus_lex.specs.Tokens.{Placed};
+ghost use Rattle.litmus_syntax.specs.Limits.{file_bytes};
+ghost use Rattle.litmus_syntax.specs.PrintedForm.{printed};
+ghost use Rattle.litmus_syntax.specs.Tree.{Program};
 ghost use Rattle.litmus_parse.specs.Grammar.{SpellsProgram, symbol_at};
 ghost use Rattle.litmus_parse.specs.Text.{IsTextByte};
 ghost use Rattle.printed_texts.specs.PrintedProgram.{Nests, program_symbols};

@@ -5,4 +5,3 @@ mod back;
 pub mod laws;
 
 pub use back::read_back;
-pub use litmus_parse;

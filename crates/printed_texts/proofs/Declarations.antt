@@ -1,15 +1,15 @@
 -- The printed initialization block and the parameters of printed processes declare the variables that are printed.
 use Rattle.std.proofs.Common.{◌≡◌, ◌≢◌, ◌∙◌, ℕ, List, [], ◌∷◌, ◌++◌, Bool, true, false, cond, Option, Some, None, map, refl, sym, ap, subst, zero, suc}
 use Rattle.std.specs.Prelude.{Contains, flat_map, slice_get}
-use Rattle.litmus_parse.specs.of_litmus_syntax_declared.program.Contents.{Contents}
-use Rattle.litmus_parse.specs.of_litmus_syntax_declared.program.Contents.TheVariants as contents
-use Rattle.litmus_parse.specs.of_litmus_syntax_declared.program.Variable.{Variable}
-use Rattle.litmus_parse.specs.of_litmus_cursor_declared.words.VariableType.{VariableType}
-use Rattle.litmus_parse.specs.of_litmus_cursor_declared.words.VariableType.TheVariants.{Int, Lock}
-use Rattle.litmus_parse.specs.of_litmus_cursor_Words.{is_same}
-use Rattle.litmus_parse.specs.of_litmus_expression_Followed.{Differ}
-use Rattle.litmus_parse.specs.of_litmus_expression_Names.{Names, Parameter}
-use Rattle.litmus_parse.proofs.of_litmus_expression_Named.{among, in_front, in_none, in_rest, is_itself, is_other}
+use Rattle.litmus_syntax.specs.declared.program.Contents.{Contents}
+use Rattle.litmus_syntax.specs.declared.program.Contents.TheVariants as contents
+use Rattle.litmus_syntax.specs.declared.program.Variable.{Variable}
+use Rattle.litmus_cursor.specs.declared.words.VariableType.{VariableType}
+use Rattle.litmus_cursor.specs.declared.words.VariableType.TheVariants.{Int, Lock}
+use Rattle.litmus_cursor.specs.Words.{is_same}
+use Rattle.litmus_expression.specs.Followed.{Differ}
+use Rattle.litmus_expression.specs.Names.{Names, Parameter}
+use Rattle.litmus_expression.proofs.Named.{among, in_front, in_none, in_rest, is_itself, is_other}
 use Rattle.litmus_parse.specs.Grammar.{mentions_of, said_by}
 use Rattle.litmus_parse.specs.Headers as headers
 use Rattle.litmus_parse.specs.Headers.{Process}

@@ -1,19 +1,19 @@
 -- The symbols of an expression's printed form spell it, where some symbols do and the form keeps the limit of nesting.
 use Rattle.std.proofs.Common.{◌≡◌, ◌+◌, ◌<◌, ◌≤◌, ℕ, zero, suc, List, [], ◌∷◌, Option, Some, refl, sym, ap, subst, arith}
 use Rattle.std.specs.Prelude.{Contains, slice_get, unwrap_or}
-use Rattle.litmus_parse.specs.of_litmus_lex_declared.sign.Sign.TheVariants.{OpenParen, CloseParen, Comma}
-use Rattle.litmus_parse.specs.of_litmus_syntax_declared.expression.BinaryOperator.{BinaryOperator}
-use Rattle.litmus_parse.specs.of_litmus_syntax_declared.expression.BinaryOperator.TheVariants as binaries
-use Rattle.litmus_parse.specs.of_litmus_syntax_declared.expression.UnaryOperator.{UnaryOperator}
-use Rattle.litmus_parse.specs.of_litmus_syntax_declared.program.Variable.{Variable}
-use Rattle.litmus_parse.specs.of_litmus_syntax_PrintedForm.{name_at, variable_name}
-use Rattle.litmus_parse.specs.of_litmus_syntax_Limits.{operators, pure_operators}
-use Rattle.litmus_parse.specs.of_litmus_syntax_Tree as tree
-use Rattle.litmus_parse.specs.of_litmus_cursor_declared.words.VariableType.{VariableType}
-use Rattle.litmus_parse.specs.of_litmus_cursor_Words.{Symbol, sign}
-use Rattle.litmus_parse.specs.of_litmus_expression_Expressions as grammar
-use Rattle.litmus_parse.specs.of_litmus_expression_Expressions.{Applied, Combined, Expression, Level, Load, Operand, Pure, bare, level_of, sign_of_binary, sign_of_unary}
-use Rattle.litmus_parse.specs.of_litmus_expression_Names.{IsChanged, IsRegister, IsVariable, Names, Parameter, known}
+use Rattle.litmus_lex.specs.declared.sign.Sign.TheVariants.{OpenParen, CloseParen, Comma}
+use Rattle.litmus_syntax.specs.declared.expression.BinaryOperator.{BinaryOperator}
+use Rattle.litmus_syntax.specs.declared.expression.BinaryOperator.TheVariants as binaries
+use Rattle.litmus_syntax.specs.declared.expression.UnaryOperator.{UnaryOperator}
+use Rattle.litmus_syntax.specs.declared.program.Variable.{Variable}
+use Rattle.litmus_syntax.specs.PrintedForm.{name_at, variable_name}
+use Rattle.litmus_syntax.specs.Limits.{operators, pure_operators}
+use Rattle.litmus_syntax.specs.Tree as tree
+use Rattle.litmus_cursor.specs.declared.words.VariableType.{VariableType}
+use Rattle.litmus_cursor.specs.Words.{Symbol, sign}
+use Rattle.litmus_expression.specs.Expressions as grammar
+use Rattle.litmus_expression.specs.Expressions.{Applied, Combined, Expression, Level, Load, Operand, Pure, bare, level_of, sign_of_binary, sign_of_unary}
+use Rattle.litmus_expression.specs.Names.{IsChanged, IsRegister, IsVariable, Names, Parameter, known}
 use Rattle.litmus_parse.proofs.Becomes.{numbered_at}
 use Rattle.printed_texts.specs.PrintedNesting.{ExpressionNests, FetchNests, PureNests}
 use Rattle.printed_texts.specs.PrintedSymbols.{expression_symbols, fetch_symbols, load_symbols, pure_symbols}

@@ -1,14 +1,14 @@
 -- Names of registers are no parameters' behind what is spelled.
 use Rattle.std.proofs.Common.{ℕ, List, [], ◌∷◌, Option, subst}
 use Rattle.std.specs.Prelude.{Contains}
-use Rattle.litmus_parse.specs.of_litmus_syntax_Tree as tree
-use Rattle.litmus_parse.specs.of_litmus_cursor_Words.{Symbol}
-use Rattle.litmus_parse.specs.of_litmus_expression_Expressions as grammar
-use Rattle.litmus_parse.specs.of_litmus_expression_Expressions.{Level, Load, Operand, Pure}
-use Rattle.litmus_parse.specs.of_litmus_expression_Names.{IsFree, IsRegister, Names, Numbered, Parameter, known, new}
-use Rattle.litmus_parse.proofs.of_litmus_expression_Named.{among, in_none}
-use Rattle.litmus_parse.specs.of_litmus_body_Statements as statements
-use Rattle.litmus_parse.specs.of_litmus_body_Statements.{Body, Declared, Enclosable, Simple, Statement, Statements}
+use Rattle.litmus_syntax.specs.Tree as tree
+use Rattle.litmus_cursor.specs.Words.{Symbol}
+use Rattle.litmus_expression.specs.Expressions as grammar
+use Rattle.litmus_expression.specs.Expressions.{Level, Load, Operand, Pure}
+use Rattle.litmus_expression.specs.Names.{IsFree, IsRegister, Names, Numbered, Parameter, known, new}
+use Rattle.litmus_expression.proofs.Named.{among, in_none}
+use Rattle.litmus_body.specs.Statements as statements
+use Rattle.litmus_body.specs.Statements.{Body, Declared, Enclosable, Simple, Statement, Statements}
 use Rattle.printed_texts.proofs.Declarations.{split}
 
 -- names that are no parameters' are joined by none that is one's

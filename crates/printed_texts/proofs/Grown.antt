@@ -1,13 +1,13 @@
 -- Names of registers keep their numbers behind what is spelled.
 use Rattle.std.proofs.Common.{◌≡◌, ℕ, List, Option, Some}
 use Rattle.std.specs.Prelude.{slice_get}
-use Rattle.litmus_parse.specs.of_litmus_syntax_Tree as tree
-use Rattle.litmus_parse.specs.of_litmus_cursor_Words.{Symbol}
-use Rattle.litmus_parse.specs.of_litmus_expression_Expressions as grammar
-use Rattle.litmus_parse.specs.of_litmus_expression_Expressions.{Level, Load, Operand, Pure}
-use Rattle.litmus_parse.specs.of_litmus_expression_Names.{Names, Numbered, Parameter}
-use Rattle.litmus_parse.specs.of_litmus_body_Statements as statements
-use Rattle.litmus_parse.specs.of_litmus_body_Statements.{Body, Declared, Enclosable, Simple, Statement, Statements}
+use Rattle.litmus_syntax.specs.Tree as tree
+use Rattle.litmus_cursor.specs.Words.{Symbol}
+use Rattle.litmus_expression.specs.Expressions as grammar
+use Rattle.litmus_expression.specs.Expressions.{Level, Load, Operand, Pure}
+use Rattle.litmus_expression.specs.Names.{Names, Numbered, Parameter}
+use Rattle.litmus_body.specs.Statements as statements
+use Rattle.litmus_body.specs.Statements.{Body, Declared, Enclosable, Simple, Statement, Statements}
 use Rattle.litmus_parse.proofs.Becomes.{numbered_grown}
 
 -- each number has the name that it had

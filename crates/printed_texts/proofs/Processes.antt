@@ -2,19 +2,19 @@
 use Rattle.std.proofs.Common.{◌≡◌, ◌∙◌, ◌<◌, ◌≤◌, ℕ, List, [], ◌∷◌, ◌++◌, Option, None, length, map, refl, sym, ap, subst, append_assoc, arith}
 use Rattle.std.specs.Prelude.{Contains, option_map, slice_get, unwrap_or}
 use Rattle.std.proofs.lemmas.List.{length-append}
-use Rattle.litmus_parse.specs.of_litmus_lex_declared.sign.Sign.TheVariants.{CloseBrace, CloseParen, OpenBrace, Star}
-use Rattle.litmus_parse.specs.of_litmus_syntax_declared.program.Variable.{Variable}
-use Rattle.litmus_parse.specs.of_litmus_syntax_Limits.{BodyKeepsLimits}
-use Rattle.litmus_parse.specs.of_litmus_syntax_PrintedForm.{variable_name}
-use Rattle.litmus_parse.specs.of_litmus_syntax_Tree as tree
-use Rattle.litmus_parse.specs.of_litmus_cursor_declared.words.VariableType.{VariableType}
-use Rattle.litmus_parse.specs.of_litmus_cursor_declared.words.Word.TheVariants as words
-use Rattle.litmus_parse.specs.of_litmus_cursor_Words.{Symbol, identifier, sign, word}
-use Rattle.litmus_parse.specs.of_litmus_expression_Followed.{Differ, name_of}
-use Rattle.litmus_parse.specs.of_litmus_expression_Names.{IsFree, Names, Parameter, known, new}
-use Rattle.litmus_parse.proofs.of_litmus_expression_Named.{among, in_front, in_none, in_rest}
-use Rattle.litmus_parse.specs.of_litmus_body_Statements as statements
-use Rattle.litmus_parse.specs.of_litmus_body_Statements.{Statement, Statements}
+use Rattle.litmus_lex.specs.declared.sign.Sign.TheVariants.{CloseBrace, CloseParen, OpenBrace, Star}
+use Rattle.litmus_syntax.specs.declared.program.Variable.{Variable}
+use Rattle.litmus_syntax.specs.Limits.{BodyKeepsLimits}
+use Rattle.litmus_syntax.specs.PrintedForm.{variable_name}
+use Rattle.litmus_syntax.specs.Tree as tree
+use Rattle.litmus_cursor.specs.declared.words.VariableType.{VariableType}
+use Rattle.litmus_cursor.specs.declared.words.Word.TheVariants as words
+use Rattle.litmus_cursor.specs.Words.{Symbol, identifier, sign, word}
+use Rattle.litmus_expression.specs.Followed.{Differ, name_of}
+use Rattle.litmus_expression.specs.Names.{IsFree, Names, Parameter, known, new}
+use Rattle.litmus_expression.proofs.Named.{among, in_front, in_none, in_rest}
+use Rattle.litmus_body.specs.Statements as statements
+use Rattle.litmus_body.specs.Statements.{Statement, Statements}
 use Rattle.litmus_parse.specs.Grammar.{task_of, variable_of}
 use Rattle.litmus_parse.specs.Headers as headers
 use Rattle.litmus_parse.specs.Headers.{IsProcess, Listed, Parameters, Process, process_name}

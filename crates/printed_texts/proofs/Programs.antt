@@ -2,14 +2,14 @@
 use Rattle.std.proofs.Common.{◌≡◌, ◌∙◌, ◌+◌, ◌<◌, ◌≤◌, ℕ, zero, suc, List, [], ◌∷◌, Some, length, map, refl, sym, subst, arith}
 use Rattle.std.specs.Prelude.{Contains, set, slice_get}
 use Rattle.std.proofs.lemmas.List.{length-append, length-set}
-use Rattle.litmus_parse.specs.of_litmus_lex_declared.sign.Sign.TheVariants.{CloseBrace}
-use Rattle.litmus_parse.specs.of_litmus_syntax_declared.program.Variable.{Variable}
-use Rattle.litmus_parse.specs.of_litmus_syntax_Tree as tree
-use Rattle.litmus_parse.specs.of_litmus_cursor_Words.{Symbol, sign}
-use Rattle.litmus_parse.specs.of_litmus_expression_Followed.{Differ}
-use Rattle.litmus_parse.specs.of_litmus_expression_Names.{IsFree, IsRegister, Names, Numbered, Parameter, known, new}
-use Rattle.litmus_parse.proofs.of_litmus_expression_Complete.{numbered_differ}
-use Rattle.litmus_parse.proofs.of_litmus_expression_Named.{among, in_none}
+use Rattle.litmus_lex.specs.declared.sign.Sign.TheVariants.{CloseBrace}
+use Rattle.litmus_syntax.specs.declared.program.Variable.{Variable}
+use Rattle.litmus_syntax.specs.Tree as tree
+use Rattle.litmus_cursor.specs.Words.{Symbol, sign}
+use Rattle.litmus_expression.specs.Followed.{Differ}
+use Rattle.litmus_expression.specs.Names.{IsFree, IsRegister, Names, Numbered, Parameter, known, new}
+use Rattle.litmus_expression.proofs.Complete.{numbered_differ}
+use Rattle.litmus_expression.proofs.Named.{among, in_none}
 use Rattle.litmus_parse.specs.Conditions as conditions
 use Rattle.litmus_parse.specs.Conditions.{Atom, Conjoined, Disjoined, IsKnown, Negation, with_registers}
 use Rattle.litmus_parse.specs.Grammar.{Grammar, said_by, task_of}

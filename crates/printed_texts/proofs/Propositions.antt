@@ -1,13 +1,13 @@
 -- The symbols of a proposition's printed form spell it, where some symbols do and the form keeps the limit of nesting.
 use Rattle.std.proofs.Common.{◌≡◌, ◌∙◌, ℕ, zero, suc, List, [], ◌∷◌, Option, Some, map, refl, sym, ap, subst}
 use Rattle.std.specs.Prelude.{set, slice_get, unwrap_or}
-use Rattle.litmus_parse.specs.of_litmus_lex_declared.sign.Sign.TheVariants.{CloseParen, Conjunction, Disjunction}
-use Rattle.litmus_parse.specs.of_litmus_syntax_declared.program.Variable.{Variable}
-use Rattle.litmus_parse.specs.of_litmus_syntax_declared.proposition.Quantifier.{Quantifier}
-use Rattle.litmus_parse.specs.of_litmus_syntax_PrintedForm.{name_at, registers_of, variable_name}
-use Rattle.litmus_parse.specs.of_litmus_syntax_Tree as tree
-use Rattle.litmus_parse.specs.of_litmus_cursor_Words.{Symbol, sign}
-use Rattle.litmus_parse.specs.of_litmus_expression_Names.{IsFree, IsRegister, Names, Parameter, known}
+use Rattle.litmus_lex.specs.declared.sign.Sign.TheVariants.{CloseParen, Conjunction, Disjunction}
+use Rattle.litmus_syntax.specs.declared.program.Variable.{Variable}
+use Rattle.litmus_syntax.specs.declared.proposition.Quantifier.{Quantifier}
+use Rattle.litmus_syntax.specs.PrintedForm.{name_at, registers_of, variable_name}
+use Rattle.litmus_syntax.specs.Tree as tree
+use Rattle.litmus_cursor.specs.Words.{Symbol, sign}
+use Rattle.litmus_expression.specs.Names.{IsFree, IsRegister, Names, Parameter, known}
 use Rattle.litmus_parse.specs.Conditions as conditions
 use Rattle.litmus_parse.specs.Conditions.{Atom, Conjoined, Disjoined, IsKnown, Negation, Quantifies, with_registers}
 use Rattle.litmus_parse.specs.Grammar.{task_of}

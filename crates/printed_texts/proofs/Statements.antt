@@ -1,26 +1,26 @@
 -- The symbols of a body's printed form spell it, where some symbols do and the form keeps the limit of nesting.
 use Rattle.std.proofs.Common.{◌≡◌, ◌+◌, ℕ, zero, suc, List, ◌∷◌, Bool, true, false, Option, Some, None, refl, ap, subst, arith}
 use Rattle.std.specs.Prelude.{Contains}
-use Rattle.litmus_parse.specs.of_access_types_declared.history.Mark.{Mark}
-use Rattle.litmus_parse.specs.of_access_types_declared.history.Mark.TheVariants as marks
-use Rattle.litmus_parse.specs.of_litmus_lex_declared.sign.Sign.TheVariants.{CloseBrace, CloseParen, Comma, OpenBrace, Semicolon}
-use Rattle.litmus_parse.specs.of_litmus_syntax_declared.expression.ReadForm.{ReadForm}
-use Rattle.litmus_parse.specs.of_litmus_syntax_declared.expression.ReadForm.TheVariants as reads
-use Rattle.litmus_parse.specs.of_litmus_syntax_declared.program.Variable.{Variable}
-use Rattle.litmus_parse.specs.of_litmus_syntax_declared.statement.Call.{Call}
-use Rattle.litmus_parse.specs.of_litmus_syntax_declared.statement.Call.TheVariants as call_variants
-use Rattle.litmus_parse.specs.of_litmus_syntax_declared.statement.WriteForm.{WriteForm}
-use Rattle.litmus_parse.specs.of_litmus_syntax_declared.statement.WriteForm.TheVariants as writes
-use Rattle.litmus_parse.specs.of_litmus_syntax_PrintedForm.{variable_name}
-use Rattle.litmus_parse.specs.of_litmus_syntax_Tree as tree
-use Rattle.litmus_parse.specs.of_litmus_cursor_declared.words.VariableType.{VariableType}
-use Rattle.litmus_parse.specs.of_litmus_cursor_declared.words.Word.{Word}
-use Rattle.litmus_parse.specs.of_litmus_cursor_declared.words.Word.TheVariants as words
-use Rattle.litmus_parse.specs.of_litmus_cursor_Front.{first}
-use Rattle.litmus_parse.specs.of_litmus_cursor_Words.{Symbol, word, identifier, number, sign, fault}
-use Rattle.litmus_parse.specs.of_litmus_expression_Names.{Names, Parameter}
-use Rattle.litmus_parse.specs.of_litmus_body_Statements as statements
-use Rattle.litmus_parse.specs.of_litmus_body_Statements.{Body, Calls, Enclosable, IsNoDataRace, IsNoElse, Simple, Statement, Statements, alone, kept, raced}
+use Rattle.access_types.specs.declared.history.Mark.{Mark}
+use Rattle.access_types.specs.declared.history.Mark.TheVariants as marks
+use Rattle.litmus_lex.specs.declared.sign.Sign.TheVariants.{CloseBrace, CloseParen, Comma, OpenBrace, Semicolon}
+use Rattle.litmus_syntax.specs.declared.expression.ReadForm.{ReadForm}
+use Rattle.litmus_syntax.specs.declared.expression.ReadForm.TheVariants as reads
+use Rattle.litmus_syntax.specs.declared.program.Variable.{Variable}
+use Rattle.litmus_syntax.specs.declared.statement.Call.{Call}
+use Rattle.litmus_syntax.specs.declared.statement.Call.TheVariants as call_variants
+use Rattle.litmus_syntax.specs.declared.statement.WriteForm.{WriteForm}
+use Rattle.litmus_syntax.specs.declared.statement.WriteForm.TheVariants as writes
+use Rattle.litmus_syntax.specs.PrintedForm.{variable_name}
+use Rattle.litmus_syntax.specs.Tree as tree
+use Rattle.litmus_cursor.specs.declared.words.VariableType.{VariableType}
+use Rattle.litmus_cursor.specs.declared.words.Word.{Word}
+use Rattle.litmus_cursor.specs.declared.words.Word.TheVariants as words
+use Rattle.litmus_cursor.specs.Front.{first}
+use Rattle.litmus_cursor.specs.Words.{Symbol, word, identifier, number, sign, fault}
+use Rattle.litmus_expression.specs.Names.{Names, Parameter}
+use Rattle.litmus_body.specs.Statements as statements
+use Rattle.litmus_body.specs.Statements.{Body, Calls, Enclosable, IsNoDataRace, IsNoElse, Simple, Statement, Statements, alone, kept, raced}
 use Rattle.printed_texts.specs.PrintedNesting.{AssignmentNests, BlockNests, StatementNests}
 use Rattle.printed_texts.specs.PrintedSymbols.{assignment_symbols, block_symbols, call_symbols, closes, fetch_symbols, mark_symbols, opens, read_symbols, statement_symbols, write_symbols}
 use Rattle.printed_texts.proofs.Expressions.{PrintedFetch, expression_printed, load_printed, printed_changed, printed_variable, pure_printed, whole_load}

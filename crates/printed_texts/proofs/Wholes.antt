@@ -2,17 +2,17 @@
 use Rattle.std.proofs.Common.{◌≡◌, ◌∙◌, ◌≤◌, ℕ, zero, suc, List, [], ◌∷◌, Some, length, map, refl, ap, subst, arith}
 use Rattle.std.proofs.lemmas.List.Elements.{Contains-append_left, Contains-append_right}
 use Rattle.std.specs.Prelude.{Contains, flat_map, slice_get}
-use Rattle.litmus_parse.specs.of_litmus_syntax_declared.program.Contents.{Contents}
-use Rattle.litmus_parse.specs.of_litmus_syntax_declared.program.Variable.{Variable}
-use Rattle.litmus_parse.specs.of_litmus_syntax_Tree as tree
-use Rattle.litmus_parse.specs.of_litmus_cursor_declared.words.VariableType.{VariableType}
-use Rattle.litmus_parse.specs.of_litmus_cursor_declared.words.VariableType.TheVariants.{Char, Short, Int, Long, Atomic, Lock}
-use Rattle.litmus_parse.specs.of_litmus_cursor_Words.{Symbol}
-use Rattle.litmus_parse.specs.of_litmus_expression_Followed.{Differ, name_of}
-use Rattle.litmus_parse.specs.of_litmus_expression_Names.{Names, Parameter}
-use Rattle.litmus_parse.proofs.of_litmus_expression_Named.{in_none}
-use Rattle.litmus_parse.proofs.of_litmus_expression_Taken.{same_given}
-use Rattle.litmus_parse.proofs.of_statement_laws_Named.{Named, statements_named}
+use Rattle.litmus_syntax.specs.declared.program.Contents.{Contents}
+use Rattle.litmus_syntax.specs.declared.program.Variable.{Variable}
+use Rattle.litmus_syntax.specs.Tree as tree
+use Rattle.litmus_cursor.specs.declared.words.VariableType.{VariableType}
+use Rattle.litmus_cursor.specs.declared.words.VariableType.TheVariants.{Char, Short, Int, Long, Atomic, Lock}
+use Rattle.litmus_cursor.specs.Words.{Symbol}
+use Rattle.litmus_expression.specs.Followed.{Differ, name_of}
+use Rattle.litmus_expression.specs.Names.{Names, Parameter}
+use Rattle.litmus_expression.proofs.Named.{in_none}
+use Rattle.litmus_expression.proofs.Taken.{same_given}
+use Rattle.statement_laws.proofs.Named.{Named, statements_named}
 use Rattle.litmus_parse.specs.Grammar.{Grammar, mentions_of, said_by}
 use Rattle.litmus_parse.specs.Headers as headers
 use Rattle.litmus_parse.specs.Headers.{IsProcess, Listed, Parameters, Process, Processes, mention_of}

@@ -1,15 +1,15 @@
 -- The symbols of the printed form of a condition, before what follows it, and its nesting.
 use Rattle.std.specs.Prelude.{◌<◌, ℕ, suc, List, ◌∷◌}
-use Rattle.litmus_parse.specs.of_litmus_lex_declared.sign.Sign.TheVariants.{OpenParen, CloseParen, Colon, Assign, Tilde, Conjunction, Disjunction}
-use Rattle.litmus_parse.specs.of_litmus_syntax_declared.program.Variable.{Variable}
-use Rattle.litmus_parse.specs.of_litmus_syntax_declared.proposition.Quantifier.{Quantifier}
-use Rattle.litmus_parse.specs.of_litmus_syntax_declared.proposition.Quantifier.TheVariants.{Exists, NotExists, Forall}
-use Rattle.litmus_parse.specs.of_litmus_syntax_Limits.{nesting_limit}
-use Rattle.litmus_parse.specs.of_litmus_syntax_PrintedForm.{name_at, registers_of, variable_name}
-use Rattle.litmus_parse.specs.of_litmus_syntax_Tree.{Proposition, Task}
-use Rattle.litmus_parse.specs.of_litmus_syntax_Tree as tree
-use Rattle.litmus_parse.specs.of_litmus_cursor_declared.words.Word.TheVariants as words
-use Rattle.litmus_parse.specs.of_litmus_cursor_Words.{Symbol, word, identifier, number, sign}
+use Rattle.litmus_lex.specs.declared.sign.Sign.TheVariants.{OpenParen, CloseParen, Colon, Assign, Tilde, Conjunction, Disjunction}
+use Rattle.litmus_syntax.specs.declared.program.Variable.{Variable}
+use Rattle.litmus_syntax.specs.declared.proposition.Quantifier.{Quantifier}
+use Rattle.litmus_syntax.specs.declared.proposition.Quantifier.TheVariants.{Exists, NotExists, Forall}
+use Rattle.litmus_syntax.specs.Limits.{nesting_limit}
+use Rattle.litmus_syntax.specs.PrintedForm.{name_at, registers_of, variable_name}
+use Rattle.litmus_syntax.specs.Tree.{Proposition, Task}
+use Rattle.litmus_syntax.specs.Tree as tree
+use Rattle.litmus_cursor.specs.declared.words.Word.TheVariants as words
+use Rattle.litmus_cursor.specs.Words.{Symbol, word, identifier, number, sign}
 
 abbrev pub proposition_symbols : List Variable → List Task → Proposition → List Symbol → List Symbol
 proposition_symbols variables tasks tree.always rest = word words.True ∷ rest

@@ -1,9 +1,9 @@
 -- What is asked of the names of a process that is printed.
 use Rattle.std.specs.Prelude.{◌≡◌, ◌≤◌, ℕ, List, Contains, Some, length, map, slice_get}
-use Rattle.litmus_parse.specs.of_litmus_syntax_declared.program.Variable.{Variable}
-use Rattle.litmus_parse.specs.of_litmus_syntax_Limits.{registers_limit}
-use Rattle.litmus_parse.specs.of_litmus_expression_Followed.{Differ, name_of}
-use Rattle.litmus_parse.specs.of_litmus_expression_Names.{IsFree, Names, Parameter}
+use Rattle.litmus_syntax.specs.declared.program.Variable.{Variable}
+use Rattle.litmus_syntax.specs.Limits.{registers_limit}
+use Rattle.litmus_expression.specs.Followed.{Differ, name_of}
+use Rattle.litmus_expression.specs.Names.{IsFree, Names, Parameter}
 use Rattle.printed_texts.specs.PrintedProcess.{type_of}
 
 -- the variable that a parameter names is there, with its name and its type

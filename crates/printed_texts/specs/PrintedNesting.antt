@@ -1,8 +1,8 @@
 -- The nesting of the printed form: each compound expression stands in parentheses, and each body in braces.
 use Rattle.std.specs.Prelude.{◌<◌, ℕ, suc}
-use Rattle.litmus_parse.specs.of_litmus_syntax_Limits.{nesting_limit}
-use Rattle.litmus_parse.specs.of_litmus_syntax_Tree.{Pure, Fetch, Loading, Expression, Assignment, Statement, Block}
-use Rattle.litmus_parse.specs.of_litmus_syntax_Tree as tree
+use Rattle.litmus_syntax.specs.Limits.{nesting_limit}
+use Rattle.litmus_syntax.specs.Tree.{Pure, Fetch, Loading, Expression, Assignment, Statement, Block}
+use Rattle.litmus_syntax.specs.Tree as tree
 
 -- an expression keeps the limit, where so many blocks and parentheses are open round it
 abbrev pub PureNests : ℕ → Pure → Type 0

@@ -1,13 +1,13 @@
 -- The symbols of the printed form of a program behind its name, and its nesting.
 use Rattle.std.specs.Prelude.{◌-◌, ◌%◌, ◌^◌, ℕ, suc, ℤ, pos, negsuc, List, [], ◌∷◌, Some, None}
-use Rattle.litmus_parse.specs.of_litmus_lex_declared.sign.Sign.TheVariants.{OpenBrace, CloseBrace, Semicolon, Assign, Minus}
-use Rattle.litmus_parse.specs.of_litmus_syntax_declared.program.Contents.{Contents}
-use Rattle.litmus_parse.specs.of_litmus_syntax_declared.program.Contents.TheVariants as contents
-use Rattle.litmus_parse.specs.of_litmus_syntax_declared.program.Variable.{Variable}
-use Rattle.litmus_parse.specs.of_litmus_syntax_Tree.{Program, Task}
-use Rattle.litmus_parse.specs.of_litmus_cursor_declared.words.VariableType.TheVariants.{Char, Short, Int, Long, Atomic, Lock}
-use Rattle.litmus_parse.specs.of_litmus_cursor_declared.words.Word.TheVariants as words
-use Rattle.litmus_parse.specs.of_litmus_cursor_Words.{Symbol, word, identifier, number, sign}
+use Rattle.litmus_lex.specs.declared.sign.Sign.TheVariants.{OpenBrace, CloseBrace, Semicolon, Assign, Minus}
+use Rattle.litmus_syntax.specs.declared.program.Contents.{Contents}
+use Rattle.litmus_syntax.specs.declared.program.Contents.TheVariants as contents
+use Rattle.litmus_syntax.specs.declared.program.Variable.{Variable}
+use Rattle.litmus_syntax.specs.Tree.{Program, Task}
+use Rattle.litmus_cursor.specs.declared.words.VariableType.TheVariants.{Char, Short, Int, Long, Atomic, Lock}
+use Rattle.litmus_cursor.specs.declared.words.Word.TheVariants as words
+use Rattle.litmus_cursor.specs.Words.{Symbol, word, identifier, number, sign}
 use Rattle.litmus_parse.specs.Mentions.{Mention, Said, item}
 use Rattle.printed_texts.specs.PrintedCondition.{PropositionNests, proposition_symbols, quantifier_symbols}
 use Rattle.printed_texts.specs.PrintedNesting.{BlockNests}

@@ -1,25 +1,25 @@
 -- The symbols of the printed form: those of each part, before what follows it.
 use Rattle.std.specs.Prelude.{ℕ, zero, suc, Bool, true, false, List, ◌∷◌}
-use Rattle.litmus_parse.specs.of_access_types_declared.history.Mark.{Mark}
-use Rattle.litmus_parse.specs.of_access_types_declared.history.Mark.TheVariants.{Disable, Enable, NestOpen, NestClose, FlatBegin, FlatEnd, Next}
-use Rattle.litmus_parse.specs.of_litmus_lex_declared.sign.Sign.TheVariants.{OpenBrace, CloseBrace, OpenParen, CloseParen, Semicolon, Comma, Assign, AddAssign, Increment, Star, Less}
-use Rattle.litmus_parse.specs.of_litmus_syntax_Tree.{Pure, Fetch, Load, Loading, Expression, Assignment, Statement, Block}
-use Rattle.litmus_parse.specs.of_litmus_syntax_Tree as tree
-use Rattle.litmus_parse.specs.of_litmus_syntax_PrintedForm.{name_at, variable_name}
-use Rattle.litmus_parse.specs.of_litmus_syntax_declared.expression.ReadForm.{ReadForm}
-use Rattle.litmus_parse.specs.of_litmus_syntax_declared.expression.ReadForm.TheVariants as reads
-use Rattle.litmus_parse.specs.of_litmus_syntax_declared.program.Variable.{Variable}
-use Rattle.litmus_parse.specs.of_litmus_syntax_declared.statement.WriteForm.{WriteForm}
-use Rattle.litmus_parse.specs.of_litmus_syntax_declared.statement.WriteForm.TheVariants as writes
-use Rattle.litmus_parse.specs.of_litmus_syntax_declared.statement.Call.{Call}
-use Rattle.litmus_parse.specs.of_litmus_syntax_declared.statement.Call.TheVariants as calls
-use Rattle.litmus_parse.specs.of_litmus_cursor_declared.words.Word.TheVariants as words
-use Rattle.litmus_parse.specs.of_litmus_cursor_declared.words.LoadWord.TheVariants as loads
-use Rattle.litmus_parse.specs.of_litmus_cursor_declared.words.StoreWord.TheVariants as stores
-use Rattle.litmus_parse.specs.of_litmus_cursor_declared.words.CallWord.TheVariants as asks
-use Rattle.litmus_parse.specs.of_litmus_cursor_Words.{Symbol, word, identifier, number, sign}
-use Rattle.litmus_parse.specs.of_litmus_expression_Expressions.{sign_of_binary, sign_of_unary}
-use Rattle.litmus_parse.specs.of_litmus_expression_Names.{Names}
+use Rattle.access_types.specs.declared.history.Mark.{Mark}
+use Rattle.access_types.specs.declared.history.Mark.TheVariants.{Disable, Enable, NestOpen, NestClose, FlatBegin, FlatEnd, Next}
+use Rattle.litmus_lex.specs.declared.sign.Sign.TheVariants.{OpenBrace, CloseBrace, OpenParen, CloseParen, Semicolon, Comma, Assign, AddAssign, Increment, Star, Less}
+use Rattle.litmus_syntax.specs.Tree.{Pure, Fetch, Load, Loading, Expression, Assignment, Statement, Block}
+use Rattle.litmus_syntax.specs.Tree as tree
+use Rattle.litmus_syntax.specs.PrintedForm.{name_at, variable_name}
+use Rattle.litmus_syntax.specs.declared.expression.ReadForm.{ReadForm}
+use Rattle.litmus_syntax.specs.declared.expression.ReadForm.TheVariants as reads
+use Rattle.litmus_syntax.specs.declared.program.Variable.{Variable}
+use Rattle.litmus_syntax.specs.declared.statement.WriteForm.{WriteForm}
+use Rattle.litmus_syntax.specs.declared.statement.WriteForm.TheVariants as writes
+use Rattle.litmus_syntax.specs.declared.statement.Call.{Call}
+use Rattle.litmus_syntax.specs.declared.statement.Call.TheVariants as calls
+use Rattle.litmus_cursor.specs.declared.words.Word.TheVariants as words
+use Rattle.litmus_cursor.specs.declared.words.LoadWord.TheVariants as loads
+use Rattle.litmus_cursor.specs.declared.words.StoreWord.TheVariants as stores
+use Rattle.litmus_cursor.specs.declared.words.CallWord.TheVariants as asks
+use Rattle.litmus_cursor.specs.Words.{Symbol, word, identifier, number, sign}
+use Rattle.litmus_expression.specs.Expressions.{sign_of_binary, sign_of_unary}
+use Rattle.litmus_expression.specs.Names.{Names}
 
 -- `data_race(` so many times, and so many `)`
 abbrev pub opens : ℕ → List Symbol → List Symbol

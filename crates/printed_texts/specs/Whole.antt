@@ -1,10 +1,10 @@
 -- Processes with all their registers.
 use Rattle.std.specs.Prelude.{◌≡◌, ℕ, List, [], ◌∷◌, Some, slice_get}
-use Rattle.litmus_parse.specs.of_litmus_syntax_declared.program.Variable.{Variable}
-use Rattle.litmus_parse.specs.of_litmus_syntax_Limits.{BodyKeepsLimits}
-use Rattle.litmus_parse.specs.of_litmus_cursor_Words.{Symbol}
-use Rattle.litmus_parse.specs.of_litmus_expression_Names.{Names}
-use Rattle.litmus_parse.specs.of_litmus_body_Statements.{Statements}
+use Rattle.litmus_syntax.specs.declared.program.Variable.{Variable}
+use Rattle.litmus_syntax.specs.Limits.{BodyKeepsLimits}
+use Rattle.litmus_cursor.specs.Words.{Symbol}
+use Rattle.litmus_expression.specs.Names.{Names}
+use Rattle.litmus_body.specs.Statements.{Statements}
 use Rattle.litmus_parse.specs.Headers.{Process}
 use Rattle.printed_texts.specs.PrintedNames.{AreNames}
 

@@ -1,17 +1,17 @@
 //! What is true of the printed form of litmus programs and of their grammar.
 
 ghost use Rattle.std.specs.Prelude.{◌≡◌, ◌≤◌, ℕ, Contains, List, [], ◌∷◌, Some, length, map, slice_get};
-ghost use Rattle.litmus_parse.specs.of_litmus_lex_declared.sign.Sign.TheVariants.{CloseBrace};
-ghost use Rattle.litmus_parse.specs.of_litmus_syntax_Limits.{BodyKeepsLimits, variables_limit};
-ghost use Rattle.litmus_parse.specs.of_litmus_syntax_PrintedForm.{variable_name};
-ghost use Rattle.litmus_parse.specs.of_litmus_syntax_Tree as tree;
-ghost use Rattle.litmus_parse.specs.of_litmus_syntax_declared.program.Variable.{Variable};
-ghost use Rattle.litmus_parse.specs.of_litmus_cursor_Words.{Symbol, sign};
-ghost use Rattle.litmus_parse.specs.of_litmus_cursor_declared.words.VariableType.{VariableType};
-ghost use Rattle.litmus_parse.specs.of_litmus_expression_Expressions.{Expression};
-ghost use Rattle.litmus_parse.specs.of_litmus_expression_Followed.{Differ};
-ghost use Rattle.litmus_parse.specs.of_litmus_expression_Names.{Names, Parameter};
-ghost use Rattle.litmus_parse.specs.of_litmus_body_Statements.{Statements};
+ghost use Rattle.litmus_lex.specs.declared.sign.Sign.TheVariants.{CloseBrace};
+ghost use Rattle.litmus_syntax.specs.Limits.{BodyKeepsLimits, variables_limit};
+ghost use Rattle.litmus_syntax.specs.PrintedForm.{variable_name};
+ghost use Rattle.litmus_syntax.specs.Tree as tree;
+ghost use Rattle.litmus_syntax.specs.declared.program.Variable.{Variable};
+ghost use Rattle.litmus_cursor.specs.Words.{Symbol, sign};
+ghost use Rattle.litmus_cursor.specs.declared.words.VariableType.{VariableType};
+ghost use Rattle.litmus_expression.specs.Expressions.{Expression};
+ghost use Rattle.litmus_expression.specs.Followed.{Differ};
+ghost use Rattle.litmus_expression.specs.Names.{Names, Parameter};
+ghost use Rattle.litmus_body.specs.Statements.{Statements};
 ghost use Rattle.litmus_parse.specs.Conditions.{Disjoined, IsKnown};
 ghost use Rattle.litmus_parse.specs.Grammar.{Grammar, said_by, task_of};
 ghost use Rattle.litmus_parse.specs.Headers.{IsProcess, Items, Process};

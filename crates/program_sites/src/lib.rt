@@ -12,6 +12,5 @@ pub mod sites;
 pub use error::RunError;
 pub use laws::accesses_are_in_limits;
 pub use prepared::Prepared;
-pub use program_layout;
 pub use settings::Settings;
 pub use sites::sites_of;

@@ -5,7 +5,7 @@ ghost use Rattle.std.specs.Arc.{arc_value};
 ghost use Rattle.access_types.specs.Sites.{AccessMap};
 ghost use Rattle.setup_access.specs.Leads.{Rests};
 ghost use Rattle.setup_access.specs.Shown.{context_of};
-ghost use Rattle.setup_access.specs.of_task_context_Context.{idle};
+ghost use Rattle.task_context.specs.Context.{idle};
 ghost use Rattle.program_sites.specs.Errors.{IsOfPreparing};
 ghost use Rattle.program_sites.specs.Prepared.{IsPrepared, sites_in};
 ghost use Rattle.program_sites.specs.declared.error.RunError.TheVariants.{BadPlace, BadSlots};

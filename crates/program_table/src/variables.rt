@@ -9,7 +9,7 @@ use crate::hex::hexed;
 use access_types::Bytes;
 use itoa::Buffer;
 use litmus_syntax::{Contents, Variable};
-use program_sites::program_layout::Layout;
+use program_layout::Layout;
 use std::alloc::{AllocError, Global};
 use text_pieces::{cut, joined, padded};
 

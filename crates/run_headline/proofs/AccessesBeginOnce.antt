@@ -1,15 +1,15 @@
 -- In all that a text does each access begins once: two begins of one access are the same begin.
 use Rattle.std.proofs.Common.{◌≡◌, ◌∙◌, ◌++◌, ℕ, List, [], ◌∷◌, Some, ap, length, refl, slice_get, subst, sym, take}
-use Rattle.slot_table.specs.of_access_types_Access as access
-use Rattle.slot_table.specs.of_access_types_declared.history.Happening.{Happening}
-use Rattle.slot_table.specs.of_access_types_declared.history.Happening.TheVariants as happenings
-use Rattle.access_run.proofs.of_litmus_meaning_TextSitesLemmas.{begun_at}
-use Rattle.access_run.proofs.of_litmus_meaning_TicketLemmas.{numbered}
-use Rattle.access_run.specs.of_litmus_syntax_Tree.{Block}
+use Rattle.access_types.specs.Access as access
+use Rattle.access_types.specs.declared.history.Happening.{Happening}
+use Rattle.access_types.specs.declared.history.Happening.TheVariants as happenings
+use Rattle.litmus_meaning.proofs.TextSitesLemmas.{begun_at}
+use Rattle.litmus_meaning.proofs.TicketLemmas.{numbered}
+use Rattle.litmus_syntax.specs.Tree.{Block}
 use Rattle.slot_table.specs.declared.records.Record.{Record}
-use Rattle.run_lists.specs.of_written_order_Standing.{Setting}
-use Rattle.run_lists.specs.of_written_order_WrittenOrder.{SpellsAll}
-use Rattle.run_lists.proofs.of_written_order_MeaningLemmas.{whole_means}
+use Rattle.written_order.specs.Standing.{Setting}
+use Rattle.written_order.specs.WrittenOrder.{SpellsAll}
+use Rattle.written_order.proofs.MeaningLemmas.{whole_means}
 use Rattle.run_lists.proofs.OwnMarks.{begins_once}
 
 pub there : (before later : List Happening) (x : Happening) → slice_get (before ++ x ∷ later) (length before) ≡ Some x

@@ -4,31 +4,31 @@ use Rattle.std.proofs.Common.{None, Some, MatchOption, ap, append_assoc, drop, l
 use Rattle.std.proofs.lemmas.Bool.{eq-eqb}
 use Rattle.std.proofs.lemmas.List.{append-nil}
 use Rattle.std.proofs.lemmas.Option.{get_or_from_slice_get, slice_get_within}
-use Rattle.slot_table.specs.of_access_types_Access.{Access}
-use Rattle.slot_table.specs.of_access_types_History.{History, InProgress, beginning, ending, happenings_of}
-use Rattle.slot_table.specs.of_access_types_Kind.{is_scoped}
-use Rattle.slot_table.specs.of_access_types_Race.{bytes_of}
-use Rattle.slot_table.specs.of_access_types_declared.history.Happening.{Happening}
-use Rattle.slot_table.specs.of_access_types_declared.history.Happening.TheVariants as happenings
-use Rattle.slot_table.specs.of_access_types_declared.history.Mark.{Mark}
-use Rattle.slot_table.specs.of_access_types_declared.history.Mark.TheVariants as marks
-use Rattle.slot_table.specs.of_access_types_declared.kind.Claim.TheVariants.{NoAccesses, NoWrites}
-use Rattle.slot_table.specs.of_access_types_declared.kind.Kind.TheVariants as kinds
-use Rattle.slot_table.specs.of_access_types_declared.history.Moment.{Moment}
-use Rattle.access_run.specs.of_litmus_meaning_Assignments.{Assigns, AssignsIn, writing}
-use Rattle.access_run.specs.of_litmus_meaning_Calls.{Scoped, call_does, check_kind, checked_bytes, scoped_access, scoped_assertion}
-use Rattle.access_run.specs.of_litmus_meaning_Loads as loads
-use Rattle.access_run.specs.of_litmus_meaning_Loads.{ComparesAndWrites, Evaluates, Fetches, Loads, load_in}
-use Rattle.access_run.specs.of_litmus_meaning_Meaning.{Chooses, InBlock, Means, MeansBlock, Turns, after_condition}
-use Rattle.access_run.specs.of_litmus_meaning_RunOfProgram.{DoesNothingElse, IsOwn}
-use Rattle.access_run.specs.of_litmus_meaning_Task.{Progress, Setting, access_now, assigning, bytes_in, doing, has_lock}
-use Rattle.access_run.specs.of_litmus_syntax_Sites.{accesses_of, sites_of}
-use Rattle.access_run.specs.of_litmus_syntax_Tree.{Assignment, Block, Expression, Fetch, Load, Statement}
-use Rattle.access_run.specs.of_litmus_syntax_Tree as tree
-use Rattle.access_run.specs.of_litmus_syntax_declared.statement.Call.{Call}
-use Rattle.access_run.specs.of_litmus_syntax_declared.statement.Call.TheVariants as calls
+use Rattle.access_types.specs.Access.{Access}
+use Rattle.access_types.specs.History.{History, InProgress, beginning, ending, happenings_of}
+use Rattle.access_types.specs.Kind.{is_scoped}
+use Rattle.access_types.specs.Race.{bytes_of}
+use Rattle.access_types.specs.declared.history.Happening.{Happening}
+use Rattle.access_types.specs.declared.history.Happening.TheVariants as happenings
+use Rattle.access_types.specs.declared.history.Mark.{Mark}
+use Rattle.access_types.specs.declared.history.Mark.TheVariants as marks
+use Rattle.access_types.specs.declared.kind.Claim.TheVariants.{NoAccesses, NoWrites}
+use Rattle.access_types.specs.declared.kind.Kind.TheVariants as kinds
+use Rattle.access_types.specs.declared.history.Moment.{Moment}
+use Rattle.litmus_meaning.specs.Assignments.{Assigns, AssignsIn, writing}
+use Rattle.litmus_meaning.specs.Calls.{Scoped, call_does, check_kind, checked_bytes, scoped_access, scoped_assertion}
+use Rattle.litmus_meaning.specs.Loads as loads
+use Rattle.litmus_meaning.specs.Loads.{ComparesAndWrites, Evaluates, Fetches, Loads, load_in}
+use Rattle.litmus_meaning.specs.Meaning.{Chooses, InBlock, Means, MeansBlock, Turns, after_condition}
+use Rattle.litmus_meaning.specs.RunOfProgram.{DoesNothingElse, IsOwn}
+use Rattle.litmus_meaning.specs.Task.{Progress, Setting, access_now, assigning, bytes_in, doing, has_lock}
+use Rattle.litmus_syntax.specs.Sites.{accesses_of, sites_of}
+use Rattle.litmus_syntax.specs.Tree.{Assignment, Block, Expression, Fetch, Load, Statement}
+use Rattle.litmus_syntax.specs.Tree as tree
+use Rattle.litmus_syntax.specs.declared.statement.Call.{Call}
+use Rattle.litmus_syntax.specs.declared.statement.Call.TheVariants as calls
 use Rattle.slot_table.specs.declared.records.Record.{Record}
-use Rattle.run_lists.proofs.of_written_order_MeaningLemmas.{whole_means}
+use Rattle.written_order.proofs.MeaningLemmas.{whole_means}
 use Rattle.run_lists.specs.Run.{Run, task_of, task_setting}
 use Rattle.run_lists.specs.RunList.{RunList}
 use Rattle.run_lists.specs.Told.{history_of, made_by}

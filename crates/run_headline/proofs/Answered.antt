@@ -1,8 +1,8 @@
 -- Each hearing has one answer, and a report of unknown origin comes of a quiet end.
 use Rattle.std.proofs.Common.{◌≡◌, ◌≤◌, ◌+◌, ◌++◌, ◌∷◌, ◌∙◌, [], inl, inr, ℕ, Bool, true, false, List, Option, Some, MatchBool, ap, arith, cond, count_by, map, refl, subst, sym}
-use Rattle.task_log.specs.of_setup_access_declared.outcome.Outcome.{Outcome}
-use Rattle.task_log.specs.of_setup_access_declared.outcome.Outcome.TheVariants as outcomes
-use Rattle.slot_table.specs.of_slot_Pair.{Halves}
+use Rattle.setup_access.specs.declared.outcome.Outcome.{Outcome}
+use Rattle.setup_access.specs.declared.outcome.Outcome.TheVariants as outcomes
+use Rattle.slot.specs.Pair.{Halves}
 use Rattle.slot_table.specs.Discipline.{in_hand}
 use Rattle.slot_table.specs.Records.{records_of}
 use Rattle.slot_table.specs.declared.discipline.InHand.{InHand}
@@ -12,7 +12,7 @@ use Rattle.slot_table.specs.declared.step.Answer.TheVariants as answers
 use Rattle.slot_table.specs.declared.step.Step.{Step}
 use Rattle.slot_table.specs.declared.step.Step.TheVariants.{Consume, Insert, Load, PairLoad, Tell, TryConsume}
 use Rattle.task_log.specs.Counters.{is_encoding, is_masked, is_quiet, is_same, is_two_sided, is_unknown}
-use Rattle.task_log.specs.of_value_filter_declared.verdict.Reason.TheVariants.{Encoding, MaskedBits, SameValue}
+use Rattle.value_filter.specs.declared.verdict.Reason.TheVariants.{Encoding, MaskedBits, SameValue}
 use Rattle.run_lists.specs.Answers.{is_answer}
 use Rattle.run_lists.specs.Run.{Run}
 use Rattle.run_lists.specs.RunList.{RunList}

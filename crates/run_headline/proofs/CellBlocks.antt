@@ -6,9 +6,9 @@ use Rattle.std.proofs.lemmas.Bool.{cases_lt, cases_order, eq-eqb}
 use Rattle.std.proofs.lemmas.List.{get_or_append_left, length-append}
 use Rattle.std.proofs.Math.Seq.{get_or-append_seam}
 use Rattle.std.specs.List.{list_any}
-use Rattle.slot_table.specs.of_access_types_declared.history.Bytes.{Bytes}
-use Rattle.access_run.specs.of_litmus_meaning_Layout.{Place, block_of, cells_of, initial_values, with_cell}
-use Rattle.access_run.specs.of_litmus_syntax_declared.program.Variable.{Variable}
+use Rattle.access_types.specs.declared.history.Bytes.{Bytes}
+use Rattle.litmus_meaning.specs.Layout.{Place, block_of, cells_of, initial_values, with_cell}
+use Rattle.litmus_syntax.specs.declared.program.Variable.{Variable}
 
 -- each stands at a multiple of 8, and none twice
 pub record AreBlocks (cells : List ℕ) : Type 0 where

@@ -7,17 +7,17 @@ use Rattle.std.proofs.lemmas.Bool.Decides.{eqb_tells, leb_tells}
 use Rattle.std.proofs.lemmas.List.{get_or-map, get_or-set_other, get_or-set_same, set-get_or}
 use Rattle.std.proofs.lemmas.List.Quantifiers.{position-Some}
 use Rattle.std.proofs.lemmas.Option.{same_Some}
-use Rattle.slot_table.specs.of_access_types_Access.{Access}
-use Rattle.slot_table.specs.of_access_types_History.{History, Memory, after_moments, byte_of, content, laid, value_from}
-use Rattle.slot_table.specs.of_access_types_Race.{bytes_of}
-use Rattle.slot_table.specs.of_access_types_declared.history.Happening.{Happening}
-use Rattle.slot_table.specs.of_access_types_declared.history.Happening.TheVariants as happenings
-use Rattle.access_run.specs.of_litmus_meaning_Layout.{initial_values, memory_at_first}
-use Rattle.access_run.specs.of_memory_operation_Values.{with_value}
-use Rattle.access_run.proofs.of_memory_operation_WordLemmas.{range_is}
-use Rattle.task_log.specs.of_setup_access_Setting as checks
-use Rattle.task_log.specs.of_setup_access_Values.{has_value, lies_in, source_in, source_of, value_in}
-use Rattle.task_log.specs.of_setup_access_declared.source.Source.{Source}
+use Rattle.access_types.specs.Access.{Access}
+use Rattle.access_types.specs.History.{History, Memory, after_moments, byte_of, content, laid, value_from}
+use Rattle.access_types.specs.Race.{bytes_of}
+use Rattle.access_types.specs.declared.history.Happening.{Happening}
+use Rattle.access_types.specs.declared.history.Happening.TheVariants as happenings
+use Rattle.litmus_meaning.specs.Layout.{initial_values, memory_at_first}
+use Rattle.memory_operation.specs.Values.{with_value}
+use Rattle.memory_operation.proofs.WordLemmas.{range_is}
+use Rattle.setup_access.specs.Setting as checks
+use Rattle.setup_access.specs.Values.{has_value, lies_in, source_in, source_of, value_in}
+use Rattle.setup_access.specs.declared.source.Source.{Source}
 use Rattle.slot_table.specs.Records.{Follows, Legal, words_after}
 use Rattle.slot_table.specs.StepLine.{Names, step_line}
 use Rattle.slot_table.specs.Words.{Words}
@@ -26,8 +26,8 @@ use Rattle.slot_table.specs.declared.step.Answer.{Answer}
 use Rattle.slot_table.specs.declared.step.Answer.TheVariants as answers
 use Rattle.slot_table.specs.declared.step.Step.{Step}
 use Rattle.slot_table.specs.declared.step.Step.TheVariants.{CellExchange, CellLoad, Clear, Clock, Consume, Insert, Load, LockStore, LockTry, Name, PairLoad, Remove, Tell, TryConsume}
-use Rattle.run_lists.specs.of_written_order_Standing.{Setting, checks_of}
-use Rattle.run_lists.specs.of_written_order_Told.{did_by, did_next}
+use Rattle.written_order.specs.Standing.{Setting, checks_of}
+use Rattle.written_order.specs.Told.{did_by, did_next}
 use Rattle.run_lists.specs.Run.{Run, first_words, task_setting}
 use Rattle.run_lists.specs.RunList.{RunList}
 use Rattle.run_lists.specs.Told.{first_moments, history_by, history_of, made_by, moments_of}

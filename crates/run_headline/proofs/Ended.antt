@@ -5,11 +5,11 @@ use Rattle.std.specs.Option.{option_map}
 use Rattle.std.proofs.lemmas.Bool.{eq-eqb}
 use Rattle.std.proofs.lemmas.Bool.Decides.{eqb_tells}
 use Rattle.std.proofs.lemmas.List.{length-append}
-use Rattle.slot_table.specs.of_access_types_Access.{Access}
-use Rattle.slot_table.specs.of_access_types_History.{History, ending}
-use Rattle.slot_table.specs.of_access_types_declared.history.Happening.{Happening}
-use Rattle.slot_table.specs.of_access_types_declared.history.Happening.TheVariants as happenings
-use Rattle.slot_table.specs.of_access_types_declared.history.Moment.{Moment}
+use Rattle.access_types.specs.Access.{Access}
+use Rattle.access_types.specs.History.{History, ending}
+use Rattle.access_types.specs.declared.history.Happening.{Happening}
+use Rattle.access_types.specs.declared.history.Happening.TheVariants as happenings
+use Rattle.access_types.specs.declared.history.Moment.{Moment}
 use Rattle.slot_table.specs.Armings.{Arming, MeetOnce, MeetsAnew, armed_after, finder_at, last_arming, last_arming_number, number_after, taken_after}
 use Rattle.slot_table.specs.Discipline.{AllKeepDiscipline, Allows, HasPart, hand_after, in_hand}
 use Rattle.slot_table.specs.Hearings.{IsArming, IsTaking, SomeRecord}
@@ -28,8 +28,8 @@ use Rattle.slot_table.specs.declared.step.Step.TheVariants.{CellExchange, CellLo
 use Rattle.slot_table.proofs.Lists.{allowed_at, kept_before}
 use Rattle.slot_table.proofs.Moves.{some_same}
 use Rattle.slot_table.proofs.Steps.{here_part}
-use Rattle.run_lists.specs.of_written_order_Standing.{Setting}
-use Rattle.run_lists.specs.of_written_order_Told.{did_by, did_next}
+use Rattle.written_order.specs.Standing.{Setting}
+use Rattle.written_order.specs.Told.{did_by, did_next}
 use Rattle.run_lists.specs.Run.{Run, task_setting}
 use Rattle.run_lists.specs.RunList.{RunList}
 use Rattle.run_lists.specs.Told.{Armed, armed_in, history_by, history_of, made_by, moments_of}

@@ -3,7 +3,7 @@ use Rattle.std.proofs.Common.{◌≡◌, ◌≢◌, ◌≤◌, ◌==◌, ◌⊎�
 use Rattle.std.specs.Option.{option_map}
 use Rattle.std.proofs.lemmas.Bool.{eq-eqb}
 use Rattle.std.proofs.lemmas.Bool.Decides.{eqb_tells}
-use Rattle.slot_table.specs.of_slot_Pair.{Halves}
+use Rattle.slot.specs.Pair.{Halves}
 use Rattle.slot_table.specs.Armings.{finder_at, last_arming_number, number_after, taken_after}
 use Rattle.slot_table.specs.Discipline.{Allows, HasHeardSetter, HasPart, hand_after, heard, in_hand, part_at}
 use Rattle.slot_table.specs.Hearings.{IsTaking, SomeRecord}

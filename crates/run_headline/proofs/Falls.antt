@@ -1,9 +1,9 @@
 -- At which of a check's own records its outcomes fall. Each lemma is told how to go on.
 use Rattle.std.proofs.Common.{◌≡◌, ◌<◌, ◌+◌, ◌∙◌, ◌∷◌, ◌++◌, ◌||◌, [], ℕ, zero, suc, Bool, true, false, List, Option, None, Some, MatchBool, MatchOption, ap, arith, inl, inr, map, refl, subst, sym}
 use Rattle.std.proofs.lemmas.Bool.{eq-eqb}
-use Rattle.slot_table.specs.of_access_types_Access.{Access}
-use Rattle.slot_table.specs.of_access_types_Ticket.{ticket_number}
-use Rattle.slot_table.specs.of_slot_Pair.{Halves}
+use Rattle.access_types.specs.Access.{Access}
+use Rattle.access_types.specs.Ticket.{ticket_number}
+use Rattle.slot.specs.Pair.{Halves}
 use Rattle.slot_table.specs.Discipline.{HasHeardFinder, HasPart, heard, in_hand}
 use Rattle.slot_table.specs.declared.discipline.InHand.{InHand}
 use Rattle.slot_table.specs.declared.discipline.Part.{Part}
@@ -13,24 +13,24 @@ use Rattle.slot_table.specs.declared.step.Answer.TheVariants as answers
 use Rattle.slot_table.specs.declared.step.Step.{Step}
 use Rattle.slot_table.specs.declared.step.Step.TheVariants.{CellLoad, Clear, Clock, Consume, Insert, Load, Name, PairLoad, Remove, Tell, TryConsume}
 use Rattle.slot_table.proofs.Moves.{some_same}
-use Rattle.task_log.specs.of_watch_word_Word.{word_of}
-use Rattle.task_log.specs.of_setup_access_Check as cases
-use Rattle.task_log.specs.of_setup_access_Check.{Check, ChecksOnce, Close, Ends, Fallen, GoesOn, NoneFound, Pass, Passes, Rechecks, fallen_of, left_to_check}
-use Rattle.task_log.specs.of_setup_access_Find.{LooksUp}
-use Rattle.task_log.specs.of_setup_access_Found.{Hears, Takes, Tells, finder_half, setter_half}
-use Rattle.task_log.specs.of_setup_access_Parts.{made}
-use Rattle.task_log.specs.of_setup_access_Records.{MakesDone, MakesFlag, MakesWord}
-use Rattle.task_log.specs.of_setup_access_Setting.{Setting, slot_of}
-use Rattle.task_log.specs.of_setup_access_Setup.{Arms, Frees, Judged, TriesInsert, WatchesAt}
-use Rattle.task_log.specs.of_setup_access_Values.{LoadsFrom, both_values, source_of}
-use Rattle.task_log.specs.of_setup_access_Verdicts as verdicts
-use Rattle.task_log.specs.of_setup_access_Verdicts.{HitOutcome, UntouchedOutcome}
-use Rattle.task_log.specs.of_setup_access_declared.begun.Begun.{Begun}
-use Rattle.task_log.specs.of_setup_access_declared.outcome.Outcome.{Outcome}
-use Rattle.task_log.specs.of_setup_access_declared.outcome.Outcome.TheVariants as outcomes
-use Rattle.task_log.specs.of_setup_access_declared.outcome.Watchpoint.{Watchpoint}
-use Rattle.task_log.specs.of_setup_access_declared.source.Source.{Source}
-use Rattle.task_log.proofs.of_setup_access_DisciplineLemmas.{on_flag, on_halves, on_word, record_is}
+use Rattle.watch_word.specs.Word.{word_of}
+use Rattle.setup_access.specs.Check as cases
+use Rattle.setup_access.specs.Check.{Check, ChecksOnce, Close, Ends, Fallen, GoesOn, NoneFound, Pass, Passes, Rechecks, fallen_of, left_to_check}
+use Rattle.setup_access.specs.Find.{LooksUp}
+use Rattle.setup_access.specs.Found.{Hears, Takes, Tells, finder_half, setter_half}
+use Rattle.setup_access.specs.Parts.{made}
+use Rattle.setup_access.specs.Records.{MakesDone, MakesFlag, MakesWord}
+use Rattle.setup_access.specs.Setting.{Setting, slot_of}
+use Rattle.setup_access.specs.Setup.{Arms, Frees, Judged, TriesInsert, WatchesAt}
+use Rattle.setup_access.specs.Values.{LoadsFrom, both_values, source_of}
+use Rattle.setup_access.specs.Verdicts as verdicts
+use Rattle.setup_access.specs.Verdicts.{HitOutcome, UntouchedOutcome}
+use Rattle.setup_access.specs.declared.begun.Begun.{Begun}
+use Rattle.setup_access.specs.declared.outcome.Outcome.{Outcome}
+use Rattle.setup_access.specs.declared.outcome.Outcome.TheVariants as outcomes
+use Rattle.setup_access.specs.declared.outcome.Watchpoint.{Watchpoint}
+use Rattle.setup_access.specs.declared.source.Source.{Source}
+use Rattle.setup_access.proofs.DisciplineLemmas.{on_flag, on_halves, on_word, record_is}
 use Rattle.run_headline.specs.Settles.{AnswersTo, IsUntouched, IsUnwatched, Settles, TellsOf, hears_finder, is_hit}
 
 -- these outcomes fell at the record before these

@@ -2,17 +2,17 @@
 use Rattle.std.proofs.Common.{◌≡◌, ◌∙◌, ◌<◌, ◌++◌, [], ◌∷◌, inl, inr, ℕ, suc, true, All, List, Option, Some, ap, append_assoc, refl, reverse, subst, sym}
 use Rattle.std.proofs.lemmas.Bool.{eq-eqb}
 use Rattle.std.proofs.lemmas.List.{reverse-append}
-use Rattle.slot_table.specs.of_access_types_Access.{Access}
-use Rattle.slot_table.specs.of_access_types_Ticket.{ticket_number}
+use Rattle.access_types.specs.Access.{Access}
+use Rattle.access_types.specs.Ticket.{ticket_number}
 use Rattle.access_run.proofs.PartFronts.{looks_up}
-use Rattle.task_log.proofs.of_setup_access_DisciplineLemmas.{on_flag, on_halves}
-use Rattle.task_log.specs.of_setup_access_Found.{Hears, TellsTo, setter_half}
-use Rattle.task_log.specs.of_setup_access_Records.{MakesFlag}
-use Rattle.task_log.specs.of_setup_access_Setting as checks
-use Rattle.task_log.specs.of_setup_access_Setting.{look_order, slot_of}
-use Rattle.task_log.specs.of_setup_access_declared.outcome.Outcome.{Outcome}
-use Rattle.task_log.specs.of_setup_access_declared.outcome.Outcome.TheVariants as outcomes
-use Rattle.slot_table.specs.of_slot_Pair.{Halves}
+use Rattle.setup_access.proofs.DisciplineLemmas.{on_flag, on_halves}
+use Rattle.setup_access.specs.Found.{Hears, TellsTo, setter_half}
+use Rattle.setup_access.specs.Records.{MakesFlag}
+use Rattle.setup_access.specs.Setting as checks
+use Rattle.setup_access.specs.Setting.{look_order, slot_of}
+use Rattle.setup_access.specs.declared.outcome.Outcome.{Outcome}
+use Rattle.setup_access.specs.declared.outcome.Outcome.TheVariants as outcomes
+use Rattle.slot.specs.Pair.{Halves}
 use Rattle.slot_table.specs.Armings.{last_arming_number}
 use Rattle.slot_table.specs.Discipline.{heard, in_hand}
 use Rattle.slot_table.specs.Hearings.{EachHearsTheOther, HearsTheOther, IsMet}
@@ -25,7 +25,7 @@ use Rattle.slot_table.specs.declared.step.Answer.TheVariants as answers
 use Rattle.slot_table.specs.declared.step.Step.{Step}
 use Rattle.slot_table.specs.declared.step.Step.TheVariants.{PairLoad, Tell, TryConsume}
 use Rattle.slot_table.proofs.Steps.{here_part}
-use Rattle.run_lists.specs.of_written_order_Standing.{checks_of}
+use Rattle.written_order.specs.Standing.{checks_of}
 use Rattle.run_lists.specs.Run.{Run, task_setting}
 use Rattle.run_lists.specs.RunList.{RunList}
 use Rattle.run_lists.specs.Told.{OutcomeAt, outcomes_of}

@@ -2,7 +2,7 @@
 use Rattle.std.proofs.Common.{◌≡◌, ◌<◌, ◌+◌, ◌==◌, ◌∷◌, ◌++◌, ◌∙◌, [], inl, inr, ℕ, zero, suc, Bool, true, false, List, Option, None, Some, ap, append_assoc, arith, cond, refl, subst, sym}
 use Rattle.std.proofs.lemmas.Bool.{eq-eqb, ne_eqb}
 use Rattle.std.proofs.lemmas.Bool.Decides.{eqb_tells}
-use Rattle.slot_table.specs.of_slot_Pair.{Halves}
+use Rattle.slot.specs.Pair.{Halves}
 use Rattle.slot_table.specs.Discipline.{Allows, Discipline, IsFinished, hand_after, heard, heard_after, in_hand}
 use Rattle.slot_table.specs.Records.{records_of}
 use Rattle.slot_table.specs.declared.discipline.InHand.{InHand}

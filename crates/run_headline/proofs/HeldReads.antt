@@ -2,14 +2,14 @@
 use Rattle.std.proofs.Common.{◌≡◌, ◌∙◌, ◌⊎◌, ◌==◌, ◌∷◌, ◌++◌, [], inl, inr, ℕ, zero, suc, Bool, true, false, IfSome, List, ap, length, refl, slice_get, subst, sym, take, if◌then◌else◌}
 use Rattle.std.specs.Prelude.{slice_index}
 use Rattle.std.proofs.lemmas.Bool.Decides.{eqb_tells}
-use Rattle.slot_table.specs.of_access_types_Access.{Access}
-use Rattle.slot_table.specs.of_access_types_History.{History, Memory, after_happening, after_moments, value_from}
-use Rattle.slot_table.specs.of_access_types_declared.history.Happening.{Happening}
-use Rattle.slot_table.specs.of_access_types_declared.history.Happening.TheVariants as happenings
-use Rattle.slot_table.specs.of_access_types_declared.history.Moment.{Moment}
-use Rattle.access_run.specs.of_litmus_meaning_Layout.{memory_at_first}
-use Rattle.task_log.specs.of_setup_access_Values.{value_in}
-use Rattle.task_log.specs.of_setup_access_declared.source.Source.{Source}
+use Rattle.access_types.specs.Access.{Access}
+use Rattle.access_types.specs.History.{History, Memory, after_happening, after_moments, value_from}
+use Rattle.access_types.specs.declared.history.Happening.{Happening}
+use Rattle.access_types.specs.declared.history.Happening.TheVariants as happenings
+use Rattle.access_types.specs.declared.history.Moment.{Moment}
+use Rattle.litmus_meaning.specs.Layout.{memory_at_first}
+use Rattle.setup_access.specs.Values.{value_in}
+use Rattle.setup_access.specs.declared.source.Source.{Source}
 use Rattle.slot_table.specs.Records.{Legal, words_after}
 use Rattle.slot_table.specs.StepLine.{step_line}
 use Rattle.slot_table.specs.Words.{Words}
@@ -18,8 +18,8 @@ use Rattle.slot_table.specs.declared.step.Answer.{Answer}
 use Rattle.slot_table.specs.declared.step.Answer.TheVariants as answers
 use Rattle.slot_table.specs.declared.step.Step.{Step}
 use Rattle.slot_table.specs.declared.step.Step.TheVariants.{CellExchange, CellLoad, Clear, Clock, Consume, Insert, Load, LockStore, LockTry, Name, PairLoad, Remove, Tell, TryConsume}
-use Rattle.run_lists.specs.of_written_order_Standing.{Setting, checks_of}
-use Rattle.run_lists.specs.of_written_order_Told.{did_by, did_next}
+use Rattle.written_order.specs.Standing.{Setting, checks_of}
+use Rattle.written_order.specs.Told.{did_by, did_next}
 use Rattle.run_lists.specs.Run.{Run, first_words, task_setting}
 use Rattle.run_lists.specs.RunList.{RunList}
 use Rattle.run_lists.specs.Told.{first_moments, history_by, history_of, made_by, moments_of}

@@ -7,23 +7,23 @@ use Rattle.std.proofs.lemmas.Bool.{eq-eqb}
 use Rattle.std.proofs.lemmas.List.{length-append, length-reverse}
 use Rattle.std.proofs.lemmas.List.Elements.{All-append, All-cons, All-nil}
 use Rattle.std.specs.FinMap as fin
-use Rattle.slot_table.specs.of_access_types_Access.{Access}
-use Rattle.slot_table.specs.of_access_types_History.{InProgress}
-use Rattle.slot_table.specs.of_access_types_Ticket.{ticket_number}
-use Rattle.task_log.proofs.of_setup_access_DisciplineLemmas.{on_flag, on_word}
-use Rattle.task_log.specs.of_setup_access_Check.{Fallen}
-use Rattle.task_log.specs.of_setup_access_Found.{finder_half}
-use Rattle.task_log.specs.of_setup_access_Records.{MakesFlag, OnFlag}
-use Rattle.task_log.specs.of_setup_access_Setting as checks
-use Rattle.task_log.specs.of_setup_access_Setting.{slot_of, try_order}
-use Rattle.task_log.specs.of_setup_access_Setup.{Arms, Inserts, Judged, Judges, JudgesHit, TriesInsert, WatchesAt}
-use Rattle.task_log.specs.of_setup_access_Values.{LoadsFrom, both_values, source_of}
-use Rattle.task_log.specs.of_setup_access_Verdicts as verdicts
-use Rattle.task_log.specs.of_setup_access_Verdicts.{HitOutcome, UntouchedOutcome}
-use Rattle.task_log.specs.of_setup_access_declared.outcome.Outcome.{Outcome}
-use Rattle.task_log.specs.of_setup_access_declared.outcome.Outcome.TheVariants as outcomes
-use Rattle.task_log.specs.of_setup_access_declared.source.Source.{Source}
-use Rattle.slot_table.specs.of_slot_Pair.{Halves}
+use Rattle.access_types.specs.Access.{Access}
+use Rattle.access_types.specs.History.{InProgress}
+use Rattle.access_types.specs.Ticket.{ticket_number}
+use Rattle.setup_access.proofs.DisciplineLemmas.{on_flag, on_word}
+use Rattle.setup_access.specs.Check.{Fallen}
+use Rattle.setup_access.specs.Found.{finder_half}
+use Rattle.setup_access.specs.Records.{MakesFlag, OnFlag}
+use Rattle.setup_access.specs.Setting as checks
+use Rattle.setup_access.specs.Setting.{slot_of, try_order}
+use Rattle.setup_access.specs.Setup.{Arms, Inserts, Judged, Judges, JudgesHit, TriesInsert, WatchesAt}
+use Rattle.setup_access.specs.Values.{LoadsFrom, both_values, source_of}
+use Rattle.setup_access.specs.Verdicts as verdicts
+use Rattle.setup_access.specs.Verdicts.{HitOutcome, UntouchedOutcome}
+use Rattle.setup_access.specs.declared.outcome.Outcome.{Outcome}
+use Rattle.setup_access.specs.declared.outcome.Outcome.TheVariants as outcomes
+use Rattle.setup_access.specs.declared.source.Source.{Source}
+use Rattle.slot.specs.Pair.{Halves}
 use Rattle.slot_table.specs.Armings.{last_arming_number, number_made}
 use Rattle.slot_table.specs.Discipline.{heard, in_hand}
 use Rattle.slot_table.specs.Meetings.{Meeting, finders_told, numbers_met, told_by, told_to}
@@ -40,9 +40,9 @@ use Rattle.slot_table.proofs.Meetings.{meetings_differ}
 use Rattle.slot_table.proofs.Moves.{some_same}
 use Rattle.slot_table.proofs.Phases.{meeting}
 use Rattle.slot_table.proofs.Steps.{here_part}
-use Rattle.task_log.specs.of_watch_word_Word.{word_of}
-use Rattle.run_lists.specs.of_written_order_Standing.{checks_of}
-use Rattle.run_lists.specs.of_written_order_Told.{fell_next}
+use Rattle.watch_word.specs.Word.{word_of}
+use Rattle.written_order.specs.Standing.{checks_of}
+use Rattle.written_order.specs.Told.{fell_next}
 use Rattle.run_lists.specs.Answers.{AnswersTaking, IfAnswer, is_answer}
 use Rattle.run_lists.specs.Run.{Run, first_cells, locks_of, task_setting}
 use Rattle.run_lists.specs.RunList.{RunList}

@@ -5,12 +5,12 @@ use Rattle.std.proofs.lemmas.Bool.{eq-eqb, ne_eqb}
 use Rattle.std.proofs.lemmas.Bool.Decides.{eqb_tells}
 use Rattle.std.proofs.lemmas.List.{append-nil, length-append, length-reverse, reverse-append}
 use Rattle.std.proofs.lemmas.List.Elements.{filter-append}
-use Rattle.task_log.specs.of_setup_access_Check.{Fallen}
-use Rattle.task_log.specs.of_setup_access_declared.outcome.Outcome.{Outcome}
+use Rattle.setup_access.specs.Check.{Fallen}
+use Rattle.setup_access.specs.declared.outcome.Outcome.{Outcome}
 use Rattle.slot_table.specs.Discipline.{in_hand}
 use Rattle.slot_table.specs.Records.{records_of}
 use Rattle.slot_table.specs.declared.records.Record.{Record}
-use Rattle.run_lists.specs.of_written_order_Told.{fell_next, to_come}
+use Rattle.written_order.specs.Told.{fell_next, to_come}
 use Rattle.run_lists.specs.Run.{Run, task_of, task_setting}
 use Rattle.run_lists.specs.RunList.{RunList}
 use Rattle.run_lists.specs.Told.{Armed, OutcomeAt, armed_by, made_by, outcome_at}

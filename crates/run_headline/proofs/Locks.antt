@@ -6,12 +6,12 @@ use Rattle.std.proofs.lemmas.Bool.{eq-eqb, ne_eqb}
 use Rattle.std.proofs.lemmas.Bool.Decides.{eqb_tells}
 use Rattle.std.proofs.lemmas.List.{append-nil, get_or-set_other, get_or-set_same, set-get_or}
 use Rattle.std.proofs.lemmas.List.Sums.{fold-append}
-use Rattle.slot_table.specs.of_access_types_Access.{Access}
-use Rattle.slot_table.specs.of_access_types_History.{History, happenings_of}
-use Rattle.slot_table.specs.of_access_types_declared.history.Happening.{Happening}
-use Rattle.slot_table.specs.of_access_types_declared.history.Happening.TheVariants as happenings
-use Rattle.access_run.specs.of_litmus_meaning_RunOfProgram.{holder, holder_after}
-use Rattle.access_run.specs.of_litmus_meaning_Task.{has_after, has_lock}
+use Rattle.access_types.specs.Access.{Access}
+use Rattle.access_types.specs.History.{History, happenings_of}
+use Rattle.access_types.specs.declared.history.Happening.{Happening}
+use Rattle.access_types.specs.declared.history.Happening.TheVariants as happenings
+use Rattle.litmus_meaning.specs.RunOfProgram.{holder, holder_after}
+use Rattle.litmus_meaning.specs.Task.{has_after, has_lock}
 use Rattle.slot_table.specs.Records.{Legal, words_after}
 use Rattle.slot_table.specs.StepLine.{Names, step_line}
 use Rattle.slot_table.specs.Words.{Words}
@@ -21,9 +21,9 @@ use Rattle.slot_table.specs.declared.step.Answer.TheVariants as answers
 use Rattle.slot_table.specs.declared.step.Step.{Step}
 use Rattle.slot_table.specs.declared.step.Step.TheVariants.{CellExchange, CellLoad, Clear, Clock, Consume, Insert, Load, LockStore, LockTry, Name, PairLoad, Remove, Tell, TryConsume}
 use Rattle.slot_table.proofs.Moves.{some_same}
-use Rattle.run_lists.specs.of_written_order_Standing.{IsLockAt, Setting, lock_number}
-use Rattle.run_lists.specs.of_written_order_Told.{did_by, did_next}
-use Rattle.run_lists.proofs.of_written_order_HeldLocks.{AreQuiet, own_number, quiet_leaves}
+use Rattle.written_order.specs.Standing.{IsLockAt, Setting, lock_number}
+use Rattle.written_order.specs.Told.{did_by, did_next}
+use Rattle.written_order.proofs.HeldLocks.{AreQuiet, own_number, quiet_leaves}
 use Rattle.run_lists.specs.Run.{Run, first_words, locks_of, task_setting}
 use Rattle.run_lists.specs.RunList.{RunList}
 use Rattle.run_lists.specs.Told.{first_moments, history_by, history_of, made_by, moments_of}

@@ -1,12 +1,12 @@
 -- Before each insertion and each try its task has an access in progress for which it makes it.
 use Rattle.std.proofs.Common.{◌≡◌, ◌∙◌, ◌<◌, ◌++◌, [], ◌∷◌, ℕ, List, append_assoc, length, refl, subst, sym}
-use Rattle.slot_table.specs.of_access_types_Access.{Access}
-use Rattle.task_log.specs.of_setup_access_OwnAccesses.{IsOwn}
+use Rattle.access_types.specs.Access.{Access}
+use Rattle.setup_access.specs.OwnAccesses.{IsOwn}
 use Rattle.slot_table.specs.declared.records.Record.{Record}
 use Rattle.slot_table.specs.declared.step.Step.{Step}
 use Rattle.slot_table.specs.declared.step.Step.TheVariants.{Insert, TryConsume}
-use Rattle.run_lists.specs.of_written_order_Standing.{checks_of}
-use Rattle.run_lists.specs.of_written_order_Told.{did_by}
+use Rattle.written_order.specs.Standing.{checks_of}
+use Rattle.written_order.specs.Told.{did_by}
 use Rattle.run_lists.specs.Run.{Run, task_setting}
 use Rattle.run_lists.specs.RunList.{RunList}
 use Rattle.run_lists.specs.Told.{made_by}

@@ -1,20 +1,20 @@
 -- What holds of the records after a part of a check, and of a list with one more step of it in front, holds of its
 -- records. A word is inserted and tried for the access that is checked.
 use Rattle.std.proofs.Common.{◌≡◌, [], ◌∷◌, ℕ, Bool, true, false, List, Option, None, Some, MatchBool, MatchOption, inl, inr, subst, sym}
-use Rattle.slot_table.specs.of_access_types_Access.{Access}
-use Rattle.slot_table.specs.of_access_types_Ticket.{ticket_number}
-use Rattle.task_log.proofs.of_setup_access_DisciplineLemmas.{on_flag, on_halves, on_word}
-use Rattle.task_log.specs.of_setup_access_Find.{LooksUp}
-use Rattle.task_log.specs.of_setup_access_Found.{Hears, Takes, finder_half, setter_half}
-use Rattle.task_log.specs.of_setup_access_Hits.{Hits}
-use Rattle.task_log.specs.of_setup_access_Records.{MakesDone, MakesFlag, MakesWord}
-use Rattle.task_log.specs.of_setup_access_Setting.{Setting, slot_of, try_order}
-use Rattle.task_log.specs.of_setup_access_Setup.{Arms, Frees, Judged, Judges, SetsUp, TriesInsert, WatchesAt}
-use Rattle.task_log.specs.of_setup_access_Values.{LoadsFrom, both_values, source_of}
-use Rattle.task_log.specs.of_setup_access_declared.outcome.Outcome.{Outcome}
-use Rattle.task_log.specs.of_setup_access_declared.outcome.Watchpoint.{Watchpoint}
-use Rattle.task_log.specs.of_setup_access_declared.source.Source.{Source}
-use Rattle.slot_table.specs.of_slot_Pair.{Halves}
+use Rattle.access_types.specs.Access.{Access}
+use Rattle.access_types.specs.Ticket.{ticket_number}
+use Rattle.setup_access.proofs.DisciplineLemmas.{on_flag, on_halves, on_word}
+use Rattle.setup_access.specs.Find.{LooksUp}
+use Rattle.setup_access.specs.Found.{Hears, Takes, finder_half, setter_half}
+use Rattle.setup_access.specs.Hits.{Hits}
+use Rattle.setup_access.specs.Records.{MakesDone, MakesFlag, MakesWord}
+use Rattle.setup_access.specs.Setting.{Setting, slot_of, try_order}
+use Rattle.setup_access.specs.Setup.{Arms, Frees, Judged, Judges, SetsUp, TriesInsert, WatchesAt}
+use Rattle.setup_access.specs.Values.{LoadsFrom, both_values, source_of}
+use Rattle.setup_access.specs.declared.outcome.Outcome.{Outcome}
+use Rattle.setup_access.specs.declared.outcome.Watchpoint.{Watchpoint}
+use Rattle.setup_access.specs.declared.source.Source.{Source}
+use Rattle.slot.specs.Pair.{Halves}
 use Rattle.slot_table.specs.declared.records.Record.{Record}
 use Rattle.slot_table.specs.declared.step.Step.{Step}
 use Rattle.slot_table.specs.declared.step.Step.TheVariants.{CellLoad, Clear, Consume, Insert, Load, Name, PairLoad, Remove, Tell, TryConsume}

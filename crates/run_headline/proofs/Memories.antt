@@ -1,10 +1,10 @@
 -- What memory holds after happenings, and after a list of them.
 use Rattle.std.proofs.Common.{◌≡◌, ◌⊎◌, ◌<◌, ◌≤◌, ◌+◌, ◌++◌, ℕ, List, [], ◌∷◌, arith, fold, refl}
 use Rattle.std.proofs.lemmas.List.Sums.{fold-append}
-use Rattle.slot_table.specs.of_access_types_History.{History, Memory, after_happening, after_moments, byte_of, initial_memory, laid}
-use Rattle.slot_table.specs.of_access_types_declared.history.Bytes.{Bytes}
-use Rattle.slot_table.specs.of_access_types_declared.history.Happening.{Happening}
-use Rattle.slot_table.specs.of_access_types_declared.history.Happening.TheVariants as happenings
+use Rattle.access_types.specs.History.{History, Memory, after_happening, after_moments, byte_of, initial_memory, laid}
+use Rattle.access_types.specs.declared.history.Bytes.{Bytes}
+use Rattle.access_types.specs.declared.history.Happening.{Happening}
+use Rattle.access_types.specs.declared.history.Happening.TheVariants as happenings
 use Rattle.run_lists.specs.Told.{moments_of}
 use Rattle.run_headline.specs.Events.{AreMarks}
 

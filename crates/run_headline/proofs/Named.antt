@@ -1,9 +1,9 @@
 -- The finder that a report of two sides names is the access of the find that it answers to.
 use Rattle.std.proofs.Common.{◌≡◌, ◌∙◌, All, IsTrue, List, Some, ap, refl, subst, sym}
 use Rattle.std.specs.FinMap as fin
-use Rattle.slot_table.specs.of_access_types_Access.{Access}
-use Rattle.slot_table.specs.of_access_types_Race.{TrueRace}
-use Rattle.slot_table.specs.of_access_types_Ticket.{ticket_number}
+use Rattle.access_types.specs.Access.{Access}
+use Rattle.access_types.specs.Race.{TrueRace}
+use Rattle.access_types.specs.Ticket.{ticket_number}
 use Rattle.run_headline.specs.Races.{IfTwoSided, NamesRaceOfBoth, NamesTheRace}
 use Rattle.run_lists.specs.Answers.{IsOfPair, is_answer}
 use Rattle.run_lists.specs.Run.{Run}
@@ -11,9 +11,9 @@ use Rattle.run_lists.specs.RunList.{RunList}
 use Rattle.run_lists.specs.Told.{OutcomeAt, history_of, outcomes_of}
 use Rattle.run_lists.specs.TwoSides as sides
 use Rattle.run_headline.specs.Joined.{AnswersBoth, IfAnswersBoth}
-use Rattle.task_log.specs.of_setup_access_declared.outcome.Outcome.{Outcome}
-use Rattle.task_log.specs.of_setup_access_declared.outcome.Outcome.TheVariants as outcomes
-use Rattle.slot_table.specs.of_slot_Pair.{Halves}
+use Rattle.setup_access.specs.declared.outcome.Outcome.{Outcome}
+use Rattle.setup_access.specs.declared.outcome.Outcome.TheVariants as outcomes
+use Rattle.slot.specs.Pair.{Halves}
 use Rattle.slot_table.specs.declared.records.Record.{Record}
 use Rattle.slot_table.proofs.Moves.{some_same}
 

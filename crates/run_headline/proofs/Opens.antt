@@ -1,10 +1,10 @@
 -- Accesses that a task has begun stay in progress through what ends only what it began.
 use Rattle.std.proofs.Common.{◌≡◌, ◌∙◌, ◌+◌, ◌++◌, inl, inr, suc, List, [], ◌∷◌, ap, append_assoc, arith, length, subst, sym}
 use Rattle.std.proofs.lemmas.List.{length-append}
-use Rattle.slot_table.specs.of_access_types_Access.{Access}
-use Rattle.slot_table.specs.of_access_types_declared.history.Happening.{Happening}
-use Rattle.slot_table.specs.of_access_types_declared.history.Happening.TheVariants as happenings
-use Rattle.task_log.specs.of_setup_access_declared.begun.Begun.{Begun}
+use Rattle.access_types.specs.Access.{Access}
+use Rattle.access_types.specs.declared.history.Happening.{Happening}
+use Rattle.access_types.specs.declared.history.Happening.TheVariants as happenings
+use Rattle.setup_access.specs.declared.begun.Begun.{Begun}
 use Rattle.run_lists.proofs.Intervals.{Has, IsNoEnd, IsOpen, IsPaired, has_either, has_first, has_last}
 
 pub has_split : (xs : List Happening) (x : Happening) → Has xs x → (p : List Happening) × (q : List Happening) × (xs ≡ p ++ x ∷ q)

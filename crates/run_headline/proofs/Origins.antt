@@ -8,23 +8,23 @@ use Rattle.std.specs.Int.{bit_at}
 use Rattle.std.proofs.lemmas.List.{append-nil, length-append, length-reverse, reverse-append, set-get_or}
 use Rattle.std.proofs.lemmas.List.Elements.{All-append, All-cons, All-nil}
 use Rattle.std.proofs.lemmas.Option.{same_Some}
-use Rattle.slot_table.specs.of_access_types_Access.{Access}
-use Rattle.slot_table.specs.of_access_types_History.{History, content, value_from}
-use Rattle.slot_table.specs.of_access_types_Race.{bytes_of}
-use Rattle.slot_table.specs.of_access_types_Ticket.{ticket_number}
-use Rattle.slot_table.specs.of_access_types_declared.history.Happening.{Happening}
-use Rattle.slot_table.specs.of_access_types_declared.history.Moment.{Moment}
-use Rattle.access_run.specs.of_litmus_meaning_Layout.{memory_at_first}
-use Rattle.task_log.specs.of_setup_access_Setting as checks
-use Rattle.task_log.specs.of_setup_access_Setup.{Arms, Judged, Judges, JudgesHit, TriesInsert, WatchesAt}
-use Rattle.task_log.specs.of_setup_access_Values.{LoadsFrom, both_values, source_of, value_in}
-use Rattle.task_log.specs.of_setup_access_Verdicts as verdicts
-use Rattle.task_log.specs.of_setup_access_Verdicts.{ChangeOf, HitOutcome, UntouchedOutcome}
-use Rattle.task_log.specs.of_setup_access_declared.outcome.Outcome.{Outcome}
-use Rattle.task_log.specs.of_setup_access_declared.outcome.Outcome.TheVariants as outcomes
-use Rattle.task_log.specs.of_setup_access_declared.source.Source.{Source}
-use Rattle.task_log.proofs.of_setup_access_DisciplineLemmas.{on_flag, on_word}
-use Rattle.slot_table.specs.of_slot_Pair.{Halves}
+use Rattle.access_types.specs.Access.{Access}
+use Rattle.access_types.specs.History.{History, content, value_from}
+use Rattle.access_types.specs.Race.{bytes_of}
+use Rattle.access_types.specs.Ticket.{ticket_number}
+use Rattle.access_types.specs.declared.history.Happening.{Happening}
+use Rattle.access_types.specs.declared.history.Moment.{Moment}
+use Rattle.litmus_meaning.specs.Layout.{memory_at_first}
+use Rattle.setup_access.specs.Setting as checks
+use Rattle.setup_access.specs.Setup.{Arms, Judged, Judges, JudgesHit, TriesInsert, WatchesAt}
+use Rattle.setup_access.specs.Values.{LoadsFrom, both_values, source_of, value_in}
+use Rattle.setup_access.specs.Verdicts as verdicts
+use Rattle.setup_access.specs.Verdicts.{ChangeOf, HitOutcome, UntouchedOutcome}
+use Rattle.setup_access.specs.declared.outcome.Outcome.{Outcome}
+use Rattle.setup_access.specs.declared.outcome.Outcome.TheVariants as outcomes
+use Rattle.setup_access.specs.declared.source.Source.{Source}
+use Rattle.setup_access.proofs.DisciplineLemmas.{on_flag, on_word}
+use Rattle.slot.specs.Pair.{Halves}
 use Rattle.slot_table.specs.Records.{Follows, Legal, records_of, words_after}
 use Rattle.slot_table.specs.StepLine.{step_line}
 use Rattle.slot_table.specs.Words.{Words}
@@ -32,16 +32,16 @@ use Rattle.slot_table.specs.declared.records.Record.{Record}
 use Rattle.slot_table.specs.declared.step.Answer.TheVariants as answers
 use Rattle.slot_table.specs.declared.step.Step.{Step}
 use Rattle.slot_table.specs.declared.step.Step.TheVariants.{CellLoad, Consume, Name}
-use Rattle.task_log.specs.of_value_filter_Change.{BitDiffers, IsSeen}
-use Rattle.task_log.specs.of_value_filter_Verdict as table
-use Rattle.task_log.specs.of_value_filter_Verdict.{VerdictOf}
-use Rattle.task_log.specs.of_value_filter_declared.verdict.Change.{Change}
-use Rattle.task_log.specs.of_value_filter_declared.verdict.Change.TheVariants.{Seen}
-use Rattle.task_log.specs.of_value_filter_declared.verdict.Verdict.TheVariants as verdict
-use Rattle.task_log.proofs.of_value_filter_ChangedBits.{differ_from_bits}
-use Rattle.task_log.specs.of_watch_word_Word.{word_of}
-use Rattle.run_lists.specs.of_written_order_Standing.{checks_of}
-use Rattle.run_lists.specs.of_written_order_Told.{did_next}
+use Rattle.value_filter.specs.Change.{BitDiffers, IsSeen}
+use Rattle.value_filter.specs.Verdict as table
+use Rattle.value_filter.specs.Verdict.{VerdictOf}
+use Rattle.value_filter.specs.declared.verdict.Change.{Change}
+use Rattle.value_filter.specs.declared.verdict.Change.TheVariants.{Seen}
+use Rattle.value_filter.specs.declared.verdict.Verdict.TheVariants as verdict
+use Rattle.value_filter.proofs.ChangedBits.{differ_from_bits}
+use Rattle.watch_word.specs.Word.{word_of}
+use Rattle.written_order.specs.Standing.{checks_of}
+use Rattle.written_order.specs.Told.{did_next}
 use Rattle.run_lists.specs.Run.{Run, first_words, task_setting}
 use Rattle.run_lists.specs.RunList.{RunList}
 use Rattle.run_lists.specs.Told.{OutcomeAt, history_by, history_of, made_by, moments_of}

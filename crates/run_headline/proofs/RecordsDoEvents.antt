@@ -1,12 +1,12 @@
 -- Each record of a run list does the one event of its step, and besides it nothing but marks.
 use Rattle.std.proofs.Common.{◌≡◌, ◌+◌, ◌∙◌, ◌∷◌, ◌++◌, [], ℕ, suc, List, ap, append_assoc, arith, drop, length, refl, reverse, subst, sym}
 use Rattle.std.proofs.lemmas.List.{append-nil, length-append, length-reverse, reverse-append}
-use Rattle.slot_table.specs.of_access_types_declared.history.Happening.{Happening}
+use Rattle.access_types.specs.declared.history.Happening.{Happening}
 use Rattle.slot_table.specs.Records.{records_of}
 use Rattle.slot_table.specs.declared.records.Record.{Record}
-use Rattle.run_lists.specs.of_written_order_Standing.{Point, Setting, point_by}
-use Rattle.run_lists.specs.of_written_order_Told.{did_by, did_next, to_come}
-use Rattle.run_lists.specs.of_written_order_WrittenOrder.{first_point}
+use Rattle.written_order.specs.Standing.{Point, Setting, point_by}
+use Rattle.written_order.specs.Told.{did_by, did_next, to_come}
+use Rattle.written_order.specs.WrittenOrder.{first_point}
 use Rattle.run_lists.specs.Run.{Run, task_of, task_setting}
 use Rattle.run_lists.specs.RunList.{RunList}
 use Rattle.run_lists.specs.Told.{made_by}
@@ -14,7 +14,7 @@ use Rattle.run_lists.proofs.Histories.{front_of}
 use Rattle.run_lists.proofs.OwnLasts.{own_latest}
 use Rattle.run_headline.specs.Events.{AreMarks, DoesEvent, EachDoesItsEvent, IsEvent}
 use Rattle.run_headline.proofs.Tells as tells
-use Rattle.task_log.specs.of_setup_access_Check.{Fallen}
+use Rattle.setup_access.specs.Check.{Fallen}
 use Rattle.run_headline.proofs.AccessesBeginOnce.{begin_once}
 use Rattle.run_headline.proofs.Tells.{MadeFor, Tells, goes_on, made_anyway, stays, stops}
 use Rattle.run_headline.proofs.TextTells.{whole_tells}

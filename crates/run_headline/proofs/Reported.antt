@@ -4,17 +4,17 @@ use Rattle.std.specs.Prelude.{filter_map}
 use Rattle.std.specs.List.{cons_option}
 use Rattle.std.proofs.lemmas.List.Elements.{All-cons, All-head, All-nil, All-tail}
 use Rattle.std.proofs.lemmas.Option.{same_Some}
-use Rattle.slot_table.specs.of_access_types_Ticket.{ticket_number}
-use Rattle.slot_table.specs.of_access_types_declared.report.Report.{Report}
-use Rattle.slot_table.specs.of_access_types_declared.report.Report.TheVariants as reports
+use Rattle.access_types.specs.Ticket.{ticket_number}
+use Rattle.access_types.specs.declared.report.Report.{Report}
+use Rattle.access_types.specs.declared.report.Report.TheVariants as reports
 use Rattle.run_lists.specs.Reports.{reported, reports_of}
 use Rattle.run_lists.specs.Run.{Run}
 use Rattle.run_lists.specs.RunList.{RunList}
 use Rattle.run_lists.specs.Told.{OutcomeAt, outcomes_of}
 use Rattle.run_lists.specs.TwoSides.{IfTwoSided, NamesBoth}
-use Rattle.task_log.specs.of_setup_access_declared.outcome.Outcome.{Outcome}
-use Rattle.task_log.specs.of_setup_access_declared.outcome.Outcome.TheVariants as outcomes
-use Rattle.slot_table.specs.of_slot_Pair.{Halves}
+use Rattle.setup_access.specs.declared.outcome.Outcome.{Outcome}
+use Rattle.setup_access.specs.declared.outcome.Outcome.TheVariants as outcomes
+use Rattle.slot.specs.Pair.{Halves}
 use Rattle.slot_table.specs.declared.records.Record.{Record}
 use Rattle.run_headline.specs.Watches.{IfVerdict, IsOfWatch, is_verdict}
 use Rattle.run_headline.specs.Origins.{IfUnknown, NamesChange}

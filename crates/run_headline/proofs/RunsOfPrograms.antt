@@ -1,14 +1,14 @@
 -- The history that a run list tells is that of a run of the program.
 use Rattle.std.proofs.Common.{◌≡◌, ◌<◌, ◌≤◌, ◌∷◌, ◌++◌, ◌∙◌, [], ℕ, zero, suc, All, IfSome, List, None, Option, Some, append_assoc, arith, length, refl, slice_get, sym, take}
 use Rattle.std.proofs.lemmas.List.Elements.{All-append, All-cons, All-nil}
-use Rattle.slot_table.specs.of_access_types_History.{History, Memory}
-use Rattle.slot_table.specs.of_access_types_declared.history.Happening.{Happening}
-use Rattle.slot_table.specs.of_access_types_declared.history.Happening.TheVariants as happenings
-use Rattle.slot_table.specs.of_access_types_declared.history.Moment.{Moment}
-use Rattle.access_run.specs.of_litmus_meaning_Layout.{memory_at_first}
-use Rattle.access_run.specs.of_litmus_meaning_RunOfProgram.{IsPossible, RunOfProgram}
+use Rattle.access_types.specs.History.{History, Memory}
+use Rattle.access_types.specs.declared.history.Happening.{Happening}
+use Rattle.access_types.specs.declared.history.Happening.TheVariants as happenings
+use Rattle.access_types.specs.declared.history.Moment.{Moment}
+use Rattle.litmus_meaning.specs.Layout.{memory_at_first}
+use Rattle.litmus_meaning.specs.RunOfProgram.{IsPossible, RunOfProgram}
 use Rattle.slot_table.specs.declared.records.Record.{Record}
-use Rattle.run_lists.specs.of_written_order_Told.{did_by, did_next}
+use Rattle.written_order.specs.Told.{did_by, did_next}
 use Rattle.run_lists.specs.Run.{Run}
 use Rattle.run_lists.specs.RunList.{RunList}
 use Rattle.run_lists.specs.Told.{first_moments, history_by, history_of, made_by, moments_of}

@@ -3,41 +3,41 @@ use Rattle.std.proofs.Common.{◌≡◌, ◌<◌, ◌≤◌, ◌⊎◌, ◌%◌,
 use Rattle.std.proofs.Common.{Some, ap, arith, length, refl, replicate, subst, sym}
 use Rattle.std.proofs.lemmas.Bool.{le-leb}
 use Rattle.std.proofs.lemmas.Bool.Decides.{leb_tells}
-use Rattle.slot_table.specs.of_access_types_Access as access
-use Rattle.slot_table.specs.of_access_types_Race.{bytes_of}
-use Rattle.slot_table.specs.of_access_types_declared.history.Happening.{Happening}
-use Rattle.slot_table.specs.of_access_types_declared.history.Happening.TheVariants as happenings
-use Rattle.slot_table.specs.of_access_types_declared.history.Mark.{Mark}
-use Rattle.access_run.specs.of_litmus_meaning_Task as meaning
-use Rattle.access_run.specs.of_litmus_meaning_Values.{cut}
-use Rattle.access_run.proofs.of_memory_operation_WordLemmas.{cut_fits, range_is}
-use Rattle.access_run.specs.of_memory_operation_Effects.{changed, moments_of, only_read, write_moments}
-use Rattle.access_run.specs.of_memory_operation_Operations.{Changes, Exchanges, OnExchange}
-use Rattle.access_run.specs.of_memory_operation_Values.{is_wanted, new_value, sum_of, with_value}
-use Rattle.access_run.specs.of_memory_operation_declared.effect.Effect.{Effect}
-use Rattle.access_run.specs.of_memory_operation_declared.operation.Change.{Change}
-use Rattle.access_run.specs.of_memory_operation_declared.operation.Change.TheVariants as changes
-use Rattle.task_log.specs.of_setup_access_Check.{Fallen}
-use Rattle.task_log.specs.of_setup_access_Hits.{Hits}
-use Rattle.task_log.specs.of_setup_access_OwnAccesses.{IsOwn}
-use Rattle.task_log.specs.of_setup_access_Records.{MakesWord}
-use Rattle.task_log.specs.of_setup_access_Setting as checks
-use Rattle.task_log.specs.of_setup_access_Values.{source_of, value_in}
-use Rattle.task_log.specs.of_setup_access_declared.outcome.Outcome.{Outcome}
-use Rattle.task_log.specs.of_setup_access_declared.source.Source.{Source}
-use Rattle.task_log.proofs.of_setup_access_DisciplineLemmas.{on_word}
+use Rattle.access_types.specs.Access as access
+use Rattle.access_types.specs.Race.{bytes_of}
+use Rattle.access_types.specs.declared.history.Happening.{Happening}
+use Rattle.access_types.specs.declared.history.Happening.TheVariants as happenings
+use Rattle.access_types.specs.declared.history.Mark.{Mark}
+use Rattle.litmus_meaning.specs.Task as meaning
+use Rattle.litmus_meaning.specs.Values.{cut}
+use Rattle.memory_operation.proofs.WordLemmas.{cut_fits, range_is}
+use Rattle.memory_operation.specs.Effects.{changed, moments_of, only_read, write_moments}
+use Rattle.memory_operation.specs.Operations.{Changes, Exchanges, OnExchange}
+use Rattle.memory_operation.specs.Values.{is_wanted, new_value, sum_of, with_value}
+use Rattle.memory_operation.specs.declared.effect.Effect.{Effect}
+use Rattle.memory_operation.specs.declared.operation.Change.{Change}
+use Rattle.memory_operation.specs.declared.operation.Change.TheVariants as changes
+use Rattle.setup_access.specs.Check.{Fallen}
+use Rattle.setup_access.specs.Hits.{Hits}
+use Rattle.setup_access.specs.OwnAccesses.{IsOwn}
+use Rattle.setup_access.specs.Records.{MakesWord}
+use Rattle.setup_access.specs.Setting as checks
+use Rattle.setup_access.specs.Values.{source_of, value_in}
+use Rattle.setup_access.specs.declared.outcome.Outcome.{Outcome}
+use Rattle.setup_access.specs.declared.source.Source.{Source}
+use Rattle.setup_access.proofs.DisciplineLemmas.{on_word}
 use Rattle.slot_table.specs.declared.records.Record.{Record}
 use Rattle.slot_table.specs.declared.step.Answer.{Answer}
 use Rattle.slot_table.specs.declared.step.Answer.TheVariants as answers
 use Rattle.slot_table.specs.declared.step.Step.{Step}
 use Rattle.slot_table.specs.declared.step.Step.TheVariants.{CellExchange, CellLoad, Clear, Clock, Consume, Insert, Load, LockStore, LockTry, Name, PairLoad, Remove, Tell, TryConsume}
-use Rattle.task_log.specs.of_watch_word_Word.{word_of}
-use Rattle.run_lists.specs.of_written_order_Standing.{Point, Setting, Standing, checks_of, counting, point_by}
+use Rattle.watch_word.specs.Word.{word_of}
+use Rattle.written_order.specs.Standing.{Point, Setting, Standing, checks_of, counting, point_by}
 use Rattle.run_headline.specs.Events.{AreMarks, IsEvent, Reads, ReadsAtMost, Writes}
 use Rattle.run_lists.proofs.Intervals.{IsOpen}
 use Rattle.run_headline.specs.Finds.{IsFind, is_telling}
 use Rattle.run_headline.specs.Watches.{IsWatch, is_verdict}
-use Rattle.task_log.proofs.of_setup_access_QuietSteps.{IsOfCheck}
+use Rattle.setup_access.proofs.QuietSteps.{IsOfCheck}
 
 -- what a part of a check is by its records: a watch, or a find at some index under some word
 abbrev pub IsPart : Type 1

@@ -1,37 +1,37 @@
 -- What all records of a text tell.
 use Rattle.std.proofs.Common.{◌≡◌, ◌||◌, ◌∙◌, ◌∷◌, ◌++◌, [], inl, inr, ℕ, Bool, true, false, IsTrue, List, Option, None, Some, MatchBool, ap, append_assoc, drop, length, refl, replicate, subst, sym}
 use Rattle.std.proofs.lemmas.List.{append-nil}
-use Rattle.slot_table.specs.of_access_types_Access as access
-use Rattle.slot_table.specs.of_access_types_declared.history.Happening.{Happening}
-use Rattle.slot_table.specs.of_access_types_declared.history.Happening.TheVariants as happenings
-use Rattle.access_run.specs.of_litmus_meaning_Task as meaning
-use Rattle.access_run.specs.of_litmus_meaning_Task.{has_lock}
-use Rattle.access_run.specs.of_litmus_syntax_Tree.{Block}
-use Rattle.access_run.specs.of_memory_operation_Effects.{moments_of, read_moments, write_moments}
-use Rattle.access_run.specs.of_memory_operation_Locks.{TakesLock}
-use Rattle.access_run.specs.of_memory_operation_Operations.{Operates}
-use Rattle.access_run.specs.of_memory_operation_Values.{sum_of}
-use Rattle.access_run.specs.of_memory_operation_declared.effect.Effect.{Effect}
-use Rattle.access_run.specs.of_memory_operation_declared.operation.Change.TheVariants as changes
-use Rattle.access_run.specs.of_memory_operation_declared.operation.Operation.{Operation}
-use Rattle.access_run.specs.of_memory_operation_declared.operation.Operation.TheVariants as operations
-use Rattle.task_log.specs.of_setup_access_Records.{MakesDone}
-use Rattle.task_log.specs.of_setup_access_Values.{value_in}
-use Rattle.task_log.specs.of_setup_access_Check.{Check, Fallen, Passes}
-use Rattle.task_log.specs.of_setup_access_declared.begun.Begun.{Begun}
-use Rattle.task_log.proofs.of_setup_access_DisciplineLemmas.{on_flag, on_word}
+use Rattle.access_types.specs.Access as access
+use Rattle.access_types.specs.declared.history.Happening.{Happening}
+use Rattle.access_types.specs.declared.history.Happening.TheVariants as happenings
+use Rattle.litmus_meaning.specs.Task as meaning
+use Rattle.litmus_meaning.specs.Task.{has_lock}
+use Rattle.litmus_syntax.specs.Tree.{Block}
+use Rattle.memory_operation.specs.Effects.{moments_of, read_moments, write_moments}
+use Rattle.memory_operation.specs.Locks.{TakesLock}
+use Rattle.memory_operation.specs.Operations.{Operates}
+use Rattle.memory_operation.specs.Values.{sum_of}
+use Rattle.memory_operation.specs.declared.effect.Effect.{Effect}
+use Rattle.memory_operation.specs.declared.operation.Change.TheVariants as changes
+use Rattle.memory_operation.specs.declared.operation.Operation.{Operation}
+use Rattle.memory_operation.specs.declared.operation.Operation.TheVariants as operations
+use Rattle.setup_access.specs.Records.{MakesDone}
+use Rattle.setup_access.specs.Values.{value_in}
+use Rattle.setup_access.specs.Check.{Check, Fallen, Passes}
+use Rattle.setup_access.specs.declared.begun.Begun.{Begun}
+use Rattle.setup_access.proofs.DisciplineLemmas.{on_flag, on_word}
 use Rattle.slot_table.specs.declared.records.Record.{Record}
 use Rattle.slot_table.specs.declared.step.Answer.{Answer}
 use Rattle.slot_table.specs.declared.step.Answer.TheVariants as answers
 use Rattle.slot_table.specs.declared.step.Step.{Step}
 use Rattle.slot_table.specs.declared.step.Step.TheVariants.{CellLoad, LockStore, LockTry}
-use Rattle.run_lists.specs.of_written_order_Access.{Makes, operated}
-use Rattle.run_lists.specs.of_written_order_Standing.{IsLockAt, Point, Setting, Standing, checks_of, coming, counting, doing, lock_number}
-use Rattle.run_lists.specs.of_written_order_WrittenOrder.{ClosesScope, OpensScope, SpellsAll, at_first}
-use Rattle.run_lists.proofs.of_written_order_AccessLemmas.{access_does, counting_progress, makes_did}
-use Rattle.run_lists.proofs.of_written_order_Induction.{Kept, by_block}
-use Rattle.run_lists.proofs.of_written_order_ScopesLemmas.{counting_scopes, operated_scopes}
-use Rattle.run_lists.proofs.of_written_order_WayLemmas.{Begins}
+use Rattle.written_order.specs.Access.{Makes, operated}
+use Rattle.written_order.specs.Standing.{IsLockAt, Point, Setting, Standing, checks_of, coming, counting, doing, lock_number}
+use Rattle.written_order.specs.WrittenOrder.{ClosesScope, OpensScope, SpellsAll, at_first}
+use Rattle.written_order.proofs.AccessLemmas.{access_does, counting_progress, makes_did}
+use Rattle.written_order.proofs.Induction.{Kept, by_block}
+use Rattle.written_order.proofs.ScopesLemmas.{counting_scopes, operated_scopes}
+use Rattle.written_order.proofs.WayLemmas.{Begins}
 use Rattle.run_lists.proofs.Intervals.{IsOpen, IsPaired, NoneEnds, none_of_effect, none_of_marks, paired_access, paired_both, paired_none}
 use Rattle.run_lists.proofs.TaskFacts.{counting_outcomes}
 use Rattle.run_headline.specs.Events.{AreMarks, IsEvent, ReadsAtMost}

@@ -1,21 +1,21 @@
 -- At which records of a text the outcomes of its checks fall.
 use Rattle.std.proofs.Common.{◌≡◌, ◌∙◌, ◌∷◌, ◌++◌, [], ℕ, List, Option, None, Some, ap, append_assoc, refl, subst, sym}
 use Rattle.std.proofs.lemmas.List.{append-nil}
-use Rattle.slot_table.specs.of_access_types_Access as access
-use Rattle.access_run.specs.of_litmus_syntax_Tree.{Block}
-use Rattle.access_run.specs.of_memory_operation_declared.effect.Effect.{Effect}
-use Rattle.access_run.specs.of_memory_operation_declared.operation.Operation.{Operation}
-use Rattle.access_run.specs.of_memory_operation_declared.operation.Operation.TheVariants as operations
-use Rattle.task_log.specs.of_setup_access_Check.{Fallen}
-use Rattle.task_log.specs.of_setup_access_declared.begun.Begun.{Begun}
+use Rattle.access_types.specs.Access as access
+use Rattle.litmus_syntax.specs.Tree.{Block}
+use Rattle.memory_operation.specs.declared.effect.Effect.{Effect}
+use Rattle.memory_operation.specs.declared.operation.Operation.{Operation}
+use Rattle.memory_operation.specs.declared.operation.Operation.TheVariants as operations
+use Rattle.setup_access.specs.Check.{Fallen}
+use Rattle.setup_access.specs.declared.begun.Begun.{Begun}
 use Rattle.slot_table.specs.Discipline.{in_hand}
 use Rattle.slot_table.specs.declared.records.Record.{Record}
 use Rattle.slot_table.specs.declared.step.Step.{Step}
 use Rattle.slot_table.specs.declared.step.Step.TheVariants.{CellExchange, CellLoad, Clear, Clock, Consume, Insert, Load, LockStore, LockTry, Name, PairLoad, Remove, Tell, TryConsume}
-use Rattle.run_lists.specs.of_written_order_Access.{Makes, operated}
-use Rattle.run_lists.specs.of_written_order_Standing.{Setting, Standing, checks_of, lock_number}
-use Rattle.run_lists.specs.of_written_order_WrittenOrder.{ClosesScope, OpensScope, SpellsAll, at_first}
-use Rattle.run_lists.proofs.of_written_order_Induction.{Kept, by_block}
+use Rattle.written_order.specs.Access.{Makes, operated}
+use Rattle.written_order.specs.Standing.{Setting, Standing, checks_of, lock_number}
+use Rattle.written_order.specs.WrittenOrder.{ClosesScope, OpensScope, SpellsAll, at_first}
+use Rattle.written_order.proofs.Induction.{Kept, by_block}
 use Rattle.run_lists.proofs.TaskFacts.{IsPlain, counting_outcomes, done_step, operates, takes_lock, word_step}
 use Rattle.run_headline.specs.Settles.{Settles}
 use Rattle.run_headline.proofs.Falls.{Falls, check, close, nothing_here, unhit}

@@ -2,42 +2,42 @@
 use Rattle.std.proofs.Common.{◌≡◌, ◌∙◌, ◌+◌, ◌∷◌, ◌++◌, [], ℕ, Bool, true, false, IsNone, IsTrue, List, Option, None, Some, MatchBool, MatchOption}
 use Rattle.std.proofs.Common.{ap, append_assoc, refl, subst, sym}
 use Rattle.std.proofs.lemmas.List.{append-nil}
-use Rattle.slot_table.specs.of_access_types_Access.{Access}
-use Rattle.slot_table.specs.of_access_types_Ticket.{ticket_number}
-use Rattle.slot_table.specs.of_access_types_declared.history.Happening.{Happening}
+use Rattle.access_types.specs.Access.{Access}
+use Rattle.access_types.specs.Ticket.{ticket_number}
+use Rattle.access_types.specs.declared.history.Happening.{Happening}
 use Rattle.access_run.proofs.PartFronts.{found_watchpoint, looks_up, sets_up}
-use Rattle.task_log.specs.of_setup_access_Check as cases
-use Rattle.task_log.specs.of_setup_access_Check.{Check, ChecksLast, ChecksOnce, Close, Ends, Fallen, GoesOn, NoneFound, Pass, Passes, Rechecks, fallen_of, left_to_check}
-use Rattle.task_log.specs.of_setup_access_Find.{Finds}
-use Rattle.task_log.specs.of_setup_access_Found.{FoundWatchpoint, Takes, Tells}
-use Rattle.task_log.specs.of_setup_access_Hits.{Hits}
-use Rattle.task_log.specs.of_setup_access_OwnAccesses.{AreOwn, IsOwn}
-use Rattle.task_log.specs.of_setup_access_Records.{MakesDone, MakesFlag, OnFlag}
-use Rattle.task_log.specs.of_setup_access_Setting as checks
-use Rattle.task_log.specs.of_setup_access_Setting.{look_order, slot_of}
-use Rattle.task_log.specs.of_setup_access_Setup.{Arms, Judged, Judges, SetsUp, WatchesAt}
-use Rattle.task_log.specs.of_setup_access_Verdicts as verdicts
-use Rattle.task_log.specs.of_setup_access_Verdicts.{HitOutcome, UntouchedOutcome}
-use Rattle.task_log.specs.of_setup_access_declared.begun.Begun.{Begun}
-use Rattle.task_log.specs.of_setup_access_declared.outcome.Outcome.{Outcome}
-use Rattle.task_log.specs.of_setup_access_declared.outcome.Outcome.TheVariants as outcomes
-use Rattle.task_log.specs.of_setup_access_declared.outcome.Watchpoint.{Watchpoint}
-use Rattle.task_log.proofs.of_setup_access_DisciplineLemmas.{on_flag, on_word}
+use Rattle.setup_access.specs.Check as cases
+use Rattle.setup_access.specs.Check.{Check, ChecksLast, ChecksOnce, Close, Ends, Fallen, GoesOn, NoneFound, Pass, Passes, Rechecks, fallen_of, left_to_check}
+use Rattle.setup_access.specs.Find.{Finds}
+use Rattle.setup_access.specs.Found.{FoundWatchpoint, Takes, Tells}
+use Rattle.setup_access.specs.Hits.{Hits}
+use Rattle.setup_access.specs.OwnAccesses.{AreOwn, IsOwn}
+use Rattle.setup_access.specs.Records.{MakesDone, MakesFlag, OnFlag}
+use Rattle.setup_access.specs.Setting as checks
+use Rattle.setup_access.specs.Setting.{look_order, slot_of}
+use Rattle.setup_access.specs.Setup.{Arms, Judged, Judges, SetsUp, WatchesAt}
+use Rattle.setup_access.specs.Verdicts as verdicts
+use Rattle.setup_access.specs.Verdicts.{HitOutcome, UntouchedOutcome}
+use Rattle.setup_access.specs.declared.begun.Begun.{Begun}
+use Rattle.setup_access.specs.declared.outcome.Outcome.{Outcome}
+use Rattle.setup_access.specs.declared.outcome.Outcome.TheVariants as outcomes
+use Rattle.setup_access.specs.declared.outcome.Watchpoint.{Watchpoint}
+use Rattle.setup_access.proofs.DisciplineLemmas.{on_flag, on_word}
 use Rattle.slot_table.specs.declared.records.Record.{Record}
-use Rattle.slot_table.specs.of_slot_Pair.{Halves}
+use Rattle.slot.specs.Pair.{Halves}
 use Rattle.slot_table.specs.declared.step.Answer.{Answer}
 use Rattle.slot_table.specs.declared.step.Answer.TheVariants as answers
 use Rattle.slot_table.specs.declared.step.Step.{Step}
 use Rattle.slot_table.specs.declared.step.Step.TheVariants.{Tell, TryConsume}
-use Rattle.task_log.specs.of_watch_word_Word.{word_of}
-use Rattle.run_lists.specs.of_written_order_Standing.{Point, Setting, checks_of}
+use Rattle.watch_word.specs.Word.{word_of}
+use Rattle.written_order.specs.Standing.{Point, Setting, checks_of}
 use Rattle.run_lists.proofs.Intervals.{IsOpen}
 use Rattle.run_headline.specs.Finds.{IsFind, is_telling}
 use Rattle.run_headline.specs.Watches.{is_verdict}
 use Rattle.run_headline.proofs.Makers as makers
 use Rattle.run_headline.proofs.Makers.{FitAt, finds_hit}
 use Rattle.run_headline.proofs.Opens.{AllOpen}
-use Rattle.task_log.proofs.of_setup_access_QuietSteps.{IsOfCheck}
+use Rattle.setup_access.proofs.QuietSteps.{IsOfCheck}
 use Rattle.run_headline.proofs.Tells as tells
 use Rattle.run_headline.proofs.Tells.{MadeFor, silent_check, stays}
 

@@ -6,24 +6,24 @@ use Rattle.std.proofs.Math.ListN.{get_or-eq_default}
 use Rattle.std.proofs.lemmas.Bool.Decides.{eqb_tells, leb_tells}
 use Rattle.std.proofs.lemmas.List.{length-append, length-reverse, reverse-append, reverse-reverse}
 use Rattle.std.proofs.lemmas.List.Elements.{All-append, All-cons, All-nil}
-use Rattle.slot_table.specs.of_access_types_Access.{Access}
-use Rattle.slot_table.specs.of_access_types_History.{InProgress}
-use Rattle.slot_table.specs.of_access_types_declared.history.Happening.{Happening}
-use Rattle.slot_table.specs.of_access_types_declared.history.Happening.TheVariants as happenings
-use Rattle.access_run.specs.of_litmus_meaning_RunOfProgram.{setting_of}
-use Rattle.access_run.specs.of_litmus_meaning_TextSites.{IsOfText}
-use Rattle.access_run.proofs.of_litmus_meaning_TicketLemmas.{of_text}
-use Rattle.access_run.specs.of_litmus_syntax_Tree.{Task}
-use Rattle.task_log.specs.of_setup_access_Check.{Fallen}
-use Rattle.task_log.specs.of_setup_access_OwnAccesses.{IsOwn}
-use Rattle.task_log.specs.of_setup_access_Setting as checks
-use Rattle.task_log.specs.of_setup_access_declared.outcome.Outcome.{Outcome}
+use Rattle.access_types.specs.Access.{Access}
+use Rattle.access_types.specs.History.{InProgress}
+use Rattle.access_types.specs.declared.history.Happening.{Happening}
+use Rattle.access_types.specs.declared.history.Happening.TheVariants as happenings
+use Rattle.litmus_meaning.specs.RunOfProgram.{setting_of}
+use Rattle.litmus_meaning.specs.TextSites.{IsOfText}
+use Rattle.litmus_meaning.proofs.TicketLemmas.{of_text}
+use Rattle.litmus_syntax.specs.Tree.{Task}
+use Rattle.setup_access.specs.Check.{Fallen}
+use Rattle.setup_access.specs.OwnAccesses.{IsOwn}
+use Rattle.setup_access.specs.Setting as checks
+use Rattle.setup_access.specs.declared.outcome.Outcome.{Outcome}
 use Rattle.slot_table.specs.Records.{records_of}
 use Rattle.slot_table.specs.declared.records.Record.{Record}
-use Rattle.run_lists.specs.of_written_order_Standing.{Point, Setting, checks_of, point_by}
-use Rattle.run_lists.specs.of_written_order_Told.{did_by, to_come}
-use Rattle.run_lists.specs.of_written_order_WrittenOrder.{StepsOfBlock, at_first, first_point}
-use Rattle.run_lists.proofs.of_written_order_MeaningLemmas.{whole_means}
+use Rattle.written_order.specs.Standing.{Point, Setting, checks_of, point_by}
+use Rattle.written_order.specs.Told.{did_by, to_come}
+use Rattle.written_order.specs.WrittenOrder.{StepsOfBlock, at_first, first_point}
+use Rattle.written_order.proofs.MeaningLemmas.{whole_means}
 use Rattle.run_lists.specs.Run.{IsOfProgram, Run, idle, task_of, task_setting}
 use Rattle.run_lists.specs.RunList.{RunList}
 use Rattle.run_lists.specs.Told.{Armed, OutcomeAt, armed_by, came_next, history_by, history_of, made_by, outcome_at, outcomes_by, outcomes_of}

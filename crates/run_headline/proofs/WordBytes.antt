@@ -3,7 +3,7 @@ use Rattle.std.proofs.Common.{◌≡◌, ◌∙◌, ◌+◌, ◌-◌, ◌*◌, �
 use Rattle.std.proofs.Math.Nat.{div-div-eq-div-mul, mod-lt, mod-one, mul-add-div_right, pow-suc}
 use Rattle.std.proofs.Math.Arith.{mod-mul}
 use Rattle.std.proofs.lemmas.Nat.{div-add-mod', div-mul-add, pow-add}
-use Rattle.slot_table.specs.of_access_types_History.{byte_of, value_from}
+use Rattle.access_types.specs.History.{byte_of, value_from}
 
 pub range_above : (size : ℕ) → 0 < 256 ^ size
 range_above zero = omega arith

@@ -1,7 +1,7 @@
 -- The cells that tasks load and exchange hold the content of memory.
 use Rattle.std.specs.Prelude.{◌≡◌, ◌<◌, ◌+◌, ℕ, List, length, slice_index}
-use Rattle.slot_table.specs.of_access_types_History.{History, Memory, after_moments, byte_of}
-use Rattle.access_run.specs.of_litmus_meaning_Layout.{cells_of, memory_at_first}
+use Rattle.access_types.specs.History.{History, Memory, after_moments, byte_of}
+use Rattle.litmus_meaning.specs.Layout.{cells_of, memory_at_first}
 use Rattle.run_lists.specs.Run.{Run}
 
 -- the words of cells that stand at these addresses are what memory holds there, byte by byte

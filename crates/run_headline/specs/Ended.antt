@@ -1,7 +1,7 @@
 -- Takings whose two accesses have ended.
 use Rattle.std.specs.Prelude.{◌≡◌, ◌++◌, ◌∷◌, List, Contains, length}
-use Rattle.slot_table.specs.of_access_types_Access.{Access}
-use Rattle.slot_table.specs.of_access_types_History.{InProgress, ending}
+use Rattle.access_types.specs.Access.{Access}
+use Rattle.access_types.specs.History.{InProgress, ending}
 use Rattle.run_lists.specs.Run.{Run}
 use Rattle.run_lists.specs.RunList.{RunList}
 use Rattle.run_lists.specs.Told.{history_by, history_of}

@@ -1,23 +1,23 @@
 -- What a task does at its records: the events of history, with their accesses and values.
 use Rattle.std.specs.Prelude.{◌≡◌, ◌<◌, ◌^◌, ◌++◌, ◌⊎◌, ℕ, true, List, [], ◌∷◌, IsTrue, Some}
-use Rattle.slot_table.specs.of_access_types_Access.{Access}
-use Rattle.slot_table.specs.of_access_types_Race.{bytes_of}
-use Rattle.slot_table.specs.of_access_types_declared.history.Happening.{Happening}
-use Rattle.slot_table.specs.of_access_types_declared.history.Happening.TheVariants as happenings
-use Rattle.access_run.specs.of_litmus_meaning_Task.{has_lock}
-use Rattle.access_run.specs.of_memory_operation_Values.{with_value}
+use Rattle.access_types.specs.Access.{Access}
+use Rattle.access_types.specs.Race.{bytes_of}
+use Rattle.access_types.specs.declared.history.Happening.{Happening}
+use Rattle.access_types.specs.declared.history.Happening.TheVariants as happenings
+use Rattle.litmus_meaning.specs.Task.{has_lock}
+use Rattle.memory_operation.specs.Values.{with_value}
 use Rattle.run_lists.specs.Run.{Run, task_setting}
 use Rattle.run_lists.specs.RunList.{RunList}
 use Rattle.run_lists.specs.Told.{made_by}
-use Rattle.task_log.specs.of_setup_access_Values.{source_of, value_in}
-use Rattle.task_log.specs.of_setup_access_declared.source.Source.{Source}
+use Rattle.setup_access.specs.Values.{source_of, value_in}
+use Rattle.setup_access.specs.declared.source.Source.{Source}
 use Rattle.slot_table.specs.declared.records.Record.{Record}
 use Rattle.slot_table.specs.declared.step.Answer.{Answer}
 use Rattle.slot_table.specs.declared.step.Answer.TheVariants as answers
 use Rattle.slot_table.specs.declared.step.Step.{Step}
 use Rattle.slot_table.specs.declared.step.Step.TheVariants.{CellExchange, CellLoad, Clock, LockStore, LockTry}
-use Rattle.run_lists.specs.of_written_order_Standing.{IsLockAt, Setting, checks_of, lock_number}
-use Rattle.run_lists.specs.of_written_order_Told.{did_by, did_next}
+use Rattle.written_order.specs.Standing.{IsLockAt, Setting, checks_of, lock_number}
+use Rattle.written_order.specs.Told.{did_by, did_next}
 
 abbrev pub IsMark : Happening → Type 0
 IsMark (happenings.Mark mark) = Unit {0}

@@ -1,21 +1,21 @@
 -- The finds that tellings are on.
 use Rattle.std.specs.Prelude.{◌≡◌, ◌<◌, ◌≤◌, ◌+◌, ◌++◌, ℕ, suc, Bool, true, false, List, [], ◌∷◌, IsNone, IsTrue, Some, length, reverse}
-use Rattle.slot_table.specs.of_access_types_Access.{Access}
-use Rattle.slot_table.specs.of_access_types_History.{InProgress}
+use Rattle.access_types.specs.Access.{Access}
+use Rattle.access_types.specs.History.{InProgress}
 use Rattle.run_lists.specs.Run.{IsOfProgram, Run, task_setting}
 use Rattle.run_lists.specs.RunList.{RunList}
 use Rattle.run_lists.specs.Told.{OutcomeAt, history_by, history_of, made_by}
-use Rattle.task_log.specs.of_setup_access_Find.{Finds}
-use Rattle.task_log.specs.of_setup_access_Found.{Tells}
-use Rattle.task_log.specs.of_setup_access_Records.{MakesFlag}
-use Rattle.task_log.specs.of_setup_access_Setting as checks
-use Rattle.task_log.specs.of_setup_access_declared.outcome.Outcome.{Outcome}
-use Rattle.task_log.specs.of_setup_access_declared.outcome.Outcome.TheVariants as outcomes
+use Rattle.setup_access.specs.Find.{Finds}
+use Rattle.setup_access.specs.Found.{Tells}
+use Rattle.setup_access.specs.Records.{MakesFlag}
+use Rattle.setup_access.specs.Setting as checks
+use Rattle.setup_access.specs.declared.outcome.Outcome.{Outcome}
+use Rattle.setup_access.specs.declared.outcome.Outcome.TheVariants as outcomes
 use Rattle.slot_table.specs.Hearings.{IsMet}
 use Rattle.slot_table.specs.Records.{records_of}
 use Rattle.slot_table.specs.declared.records.Record.{Record}
 use Rattle.slot_table.specs.declared.step.Step.TheVariants.{TryConsume}
-use Rattle.run_lists.specs.of_written_order_Standing.{checks_of}
+use Rattle.written_order.specs.Standing.{checks_of}
 
 -- the outcome is that of a finder which took a watchpoint and told its setter
 abbrev pub is_telling : Outcome → Bool

@@ -1,6 +1,6 @@
 -- The headline of this project, in one definition.
 use Rattle.std.specs.Prelude.{◌≢◌, ℕ, List, All, AllPairs}
-use Rattle.access_run.specs.of_litmus_meaning_RunOfProgram.{RunOfProgram}
+use Rattle.litmus_meaning.specs.RunOfProgram.{RunOfProgram}
 use Rattle.run_headline.specs.Races.{NamesRaceOfBoth}
 use Rattle.run_headline.specs.Ended.{HasEndedSince}
 use Rattle.run_headline.specs.Reported.{IsTrueReport}

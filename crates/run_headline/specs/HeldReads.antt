@@ -1,8 +1,8 @@
 -- The values of the reads of a history.
 use Rattle.std.specs.Prelude.{◌≡◌, ℕ, IfSome, slice_get}
-use Rattle.slot_table.specs.of_access_types_History.{History, Memory, content}
-use Rattle.slot_table.specs.of_access_types_declared.history.Happening.{Happening}
-use Rattle.slot_table.specs.of_access_types_declared.history.Happening.TheVariants as happenings
+use Rattle.access_types.specs.History.{History, Memory, content}
+use Rattle.access_types.specs.declared.history.Happening.{Happening}
+use Rattle.access_types.specs.declared.history.Happening.TheVariants as happenings
 
 -- a read holds the content of its bytes after so many moments
 abbrev pub HoldsContent : Memory → History → ℕ → Happening → Type 0

@@ -1,27 +1,27 @@
 -- The watch and the find whose accesses an answer is on.
 use Rattle.std.specs.Prelude.{◌≡◌, ◌<◌, ◌≤◌, ◌+◌, ◌++◌, ℕ, false, List, [], Option, Some, Contains, IsTrue, length, reverse}
-use Rattle.slot_table.specs.of_access_types_Access.{Access}
-use Rattle.slot_table.specs.of_access_types_History.{InProgress}
-use Rattle.slot_table.specs.of_access_types_Ticket.{ticket_number}
+use Rattle.access_types.specs.Access.{Access}
+use Rattle.access_types.specs.History.{InProgress}
+use Rattle.access_types.specs.Ticket.{ticket_number}
 use Rattle.run_lists.specs.Answers.{AnswersTaking, is_answer}
 use Rattle.run_lists.specs.Run.{Run, task_setting}
 use Rattle.run_lists.specs.RunList.{RunList}
 use Rattle.run_lists.specs.Told.{OutcomeAt, history_by, history_of, made_by, outcomes_of}
 use Rattle.run_headline.specs.Finds.{IsOfFind}
-use Rattle.task_log.specs.of_setup_access_Found.{Hears, finder_half}
-use Rattle.task_log.specs.of_setup_access_Records.{MakesDone, MakesFlag}
-use Rattle.task_log.specs.of_setup_access_Setting as checks
-use Rattle.task_log.specs.of_setup_access_Setup.{Inserts}
-use Rattle.task_log.specs.of_setup_access_Values.{LoadsValue, both_values}
-use Rattle.task_log.specs.of_setup_access_Verdicts.{HitOutcome}
-use Rattle.task_log.specs.of_setup_access_declared.outcome.Outcome.{Outcome}
-use Rattle.task_log.specs.of_setup_access_declared.outcome.Outcome.TheVariants as outcomes
-use Rattle.slot_table.specs.of_slot_Pair.{Halves}
+use Rattle.setup_access.specs.Found.{Hears, finder_half}
+use Rattle.setup_access.specs.Records.{MakesDone, MakesFlag}
+use Rattle.setup_access.specs.Setting as checks
+use Rattle.setup_access.specs.Setup.{Inserts}
+use Rattle.setup_access.specs.Values.{LoadsValue, both_values}
+use Rattle.setup_access.specs.Verdicts.{HitOutcome}
+use Rattle.setup_access.specs.declared.outcome.Outcome.{Outcome}
+use Rattle.setup_access.specs.declared.outcome.Outcome.TheVariants as outcomes
+use Rattle.slot.specs.Pair.{Halves}
 use Rattle.slot_table.specs.Records.{records_of}
 use Rattle.slot_table.specs.declared.records.Record.{Record}
 use Rattle.slot_table.specs.declared.step.Step.TheVariants.{Consume, Name}
-use Rattle.task_log.specs.of_watch_word_Word.{word_of}
-use Rattle.run_lists.specs.of_written_order_Standing.{checks_of}
+use Rattle.watch_word.specs.Word.{word_of}
+use Rattle.written_order.specs.Standing.{checks_of}
 
 -- These records, the oldest first, are one watch of this access that was hit. Its word was inserted at
 -- this index and named by its ticket; these values are the access's in what its two loads answered, where

@@ -1,15 +1,15 @@
 -- What watchpoints are armed and taken for.
 use Rattle.std.specs.Prelude.{◌≡◌, ℕ, List, [], ◌∷◌, length}
-use Rattle.slot_table.specs.of_access_types_Access.{Access}
-use Rattle.slot_table.specs.of_access_types_History.{InProgress}
+use Rattle.access_types.specs.Access.{Access}
+use Rattle.access_types.specs.History.{InProgress}
 use Rattle.run_lists.specs.Run.{IsOfProgram, Run}
 use Rattle.run_lists.specs.RunList.{RunList}
 use Rattle.run_lists.specs.Told.{history_by, history_of}
-use Rattle.task_log.specs.of_setup_access_Hits.{Hits}
+use Rattle.setup_access.specs.Hits.{Hits}
 use Rattle.slot_table.specs.declared.records.Record.{Record}
 use Rattle.slot_table.specs.declared.step.Step.{Step}
 use Rattle.slot_table.specs.declared.step.Step.TheVariants.{Insert, TryConsume}
-use Rattle.task_log.specs.of_watch_word_Word.{word_of}
+use Rattle.watch_word.specs.Word.{word_of}
 
 -- the access is one of the program and of this task, and in progress after these records
 pub record IsInHand {run : Run} {all : List Record} (list : RunList run all) (task : ℕ)

@@ -1,12 +1,12 @@
 -- What a report of unknown origin says.
 use Rattle.std.specs.Prelude.{List}
-use Rattle.slot_table.specs.of_access_types_Race.{ChangedUnderWatch}
-use Rattle.access_run.specs.of_litmus_meaning_Layout.{memory_at_first}
+use Rattle.access_types.specs.Race.{ChangedUnderWatch}
+use Rattle.litmus_meaning.specs.Layout.{memory_at_first}
 use Rattle.run_lists.specs.Run.{Run}
 use Rattle.run_lists.specs.RunList.{RunList}
 use Rattle.run_lists.specs.Told.{OutcomeAt, history_of}
-use Rattle.task_log.specs.of_setup_access_declared.outcome.Outcome.{Outcome}
-use Rattle.task_log.specs.of_setup_access_declared.outcome.Outcome.TheVariants as outcomes
+use Rattle.setup_access.specs.declared.outcome.Outcome.{Outcome}
+use Rattle.setup_access.specs.declared.outcome.Outcome.TheVariants as outcomes
 use Rattle.slot_table.specs.declared.records.Record.{Record}
 
 -- The bytes of the access that was checked changed from the old value to the new while it was in

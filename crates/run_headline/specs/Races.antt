@@ -1,14 +1,14 @@
 -- The race that a report of two sides names.
 use Rattle.std.specs.Prelude.{◌≡◌, List}
-use Rattle.slot_table.specs.of_access_types_Marked.{CountedAsMarked}
-use Rattle.slot_table.specs.of_access_types_Race.{TrueRace}
+use Rattle.access_types.specs.Marked.{CountedAsMarked}
+use Rattle.access_types.specs.Race.{TrueRace}
 use Rattle.run_lists.specs.Run.{Run}
 use Rattle.run_lists.specs.RunList.{RunList}
 use Rattle.run_lists.specs.Told.{OutcomeAt, history_of}
 use Rattle.run_headline.specs.Joined.{AnswersBoth}
-use Rattle.task_log.specs.of_setup_access_declared.outcome.Outcome.{Outcome}
-use Rattle.task_log.specs.of_setup_access_declared.outcome.Outcome.TheVariants as outcomes
-use Rattle.slot_table.specs.of_slot_Pair.{Halves}
+use Rattle.setup_access.specs.declared.outcome.Outcome.{Outcome}
+use Rattle.setup_access.specs.declared.outcome.Outcome.TheVariants as outcomes
+use Rattle.slot.specs.Pair.{Halves}
 use Rattle.slot_table.specs.declared.records.Record.{Record}
 
 -- The pair of tickets is that of the taking which the report answers: the setter heard it, and the finder

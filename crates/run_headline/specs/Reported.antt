@@ -1,12 +1,12 @@
 -- What the reports of a run list name.
 use Rattle.std.specs.Prelude.{◌≡◌, ℕ, List, Contains, Some}
-use Rattle.slot_table.specs.of_access_types_Access.{Access}
-use Rattle.slot_table.specs.of_access_types_Marked.{CountedAsMarked}
-use Rattle.slot_table.specs.of_access_types_Race.{ChangedUnderWatch, TrueRace}
-use Rattle.slot_table.specs.of_access_types_Ticket.{ticket_number}
-use Rattle.slot_table.specs.of_access_types_declared.report.Report.{Report}
-use Rattle.slot_table.specs.of_access_types_declared.report.Report.TheVariants as reports
-use Rattle.access_run.specs.of_litmus_meaning_Layout.{memory_at_first}
+use Rattle.access_types.specs.Access.{Access}
+use Rattle.access_types.specs.Marked.{CountedAsMarked}
+use Rattle.access_types.specs.Race.{ChangedUnderWatch, TrueRace}
+use Rattle.access_types.specs.Ticket.{ticket_number}
+use Rattle.access_types.specs.declared.report.Report.{Report}
+use Rattle.access_types.specs.declared.report.Report.TheVariants as reports
+use Rattle.litmus_meaning.specs.Layout.{memory_at_first}
 use Rattle.run_lists.specs.Reports.{reported}
 use Rattle.run_lists.specs.Run.{IsOfProgram, Run}
 use Rattle.run_lists.specs.RunList.{RunList}

@@ -1,22 +1,22 @@
 -- What a report of unknown origin says of the watch that it is of.
 use Rattle.std.specs.Prelude.{◌≡◌, ◌++◌, ℕ, true, List, [], ◌∷◌, Some, length}
-use Rattle.slot_table.specs.of_access_types_History.{content}
-use Rattle.slot_table.specs.of_access_types_Race.{ChangedUnderWatch, bytes_of}
-use Rattle.slot_table.specs.of_access_types_Ticket.{ticket_number}
-use Rattle.access_run.specs.of_litmus_meaning_Layout.{memory_at_first}
+use Rattle.access_types.specs.History.{content}
+use Rattle.access_types.specs.Race.{ChangedUnderWatch, bytes_of}
+use Rattle.access_types.specs.Ticket.{ticket_number}
+use Rattle.litmus_meaning.specs.Layout.{memory_at_first}
 use Rattle.run_lists.specs.Run.{Run, task_setting}
 use Rattle.run_lists.specs.RunList.{RunList}
 use Rattle.run_lists.specs.Told.{OutcomeAt, history_by, history_of}
 use Rattle.run_headline.specs.Watches.{IsOfWatch}
-use Rattle.task_log.specs.of_setup_access_Values.{source_of}
-use Rattle.task_log.specs.of_setup_access_declared.outcome.Outcome.{Outcome}
-use Rattle.task_log.specs.of_setup_access_declared.outcome.Outcome.TheVariants as outcomes
-use Rattle.task_log.specs.of_setup_access_declared.source.Source.{Source}
+use Rattle.setup_access.specs.Values.{source_of}
+use Rattle.setup_access.specs.declared.outcome.Outcome.{Outcome}
+use Rattle.setup_access.specs.declared.outcome.Outcome.TheVariants as outcomes
+use Rattle.setup_access.specs.declared.source.Source.{Source}
 use Rattle.slot_table.specs.Records.{records_of}
 use Rattle.slot_table.specs.declared.records.Record.{Record}
 use Rattle.slot_table.specs.declared.step.Answer.TheVariants.{Flag}
 use Rattle.slot_table.specs.declared.step.Step.TheVariants.{CellLoad, Consume, Name}
-use Rattle.run_lists.specs.of_written_order_Standing.{checks_of}
+use Rattle.written_order.specs.Standing.{checks_of}
 
 -- The watch of the access that was checked has two loads of its cell, between the step by which its setter
 -- named itself and the consume that found its word untouched. In the history that the list tells the

@@ -1,12 +1,12 @@
 //! What is true of the history that each run list tells.
 
 ghost use Rattle.std.specs.Prelude.{◌≡◌, ◌++◌, All, Contains, List, Some, length};
-ghost use Rattle.slot_table.specs.of_access_types_Access.{Access};
-ghost use Rattle.slot_table.specs.of_access_types_History.{content};
-ghost use Rattle.slot_table.specs.of_access_types_Race.{bytes_of};
-ghost use Rattle.slot_table.specs.of_access_types_declared.report.Report.{Report};
-ghost use Rattle.access_run.specs.of_litmus_meaning_Layout.{memory_at_first};
-ghost use Rattle.access_run.specs.of_litmus_meaning_RunOfProgram.{RunOfProgram};
+ghost use Rattle.access_types.specs.Access.{Access};
+ghost use Rattle.access_types.specs.History.{content};
+ghost use Rattle.access_types.specs.Race.{bytes_of};
+ghost use Rattle.access_types.specs.declared.report.Report.{Report};
+ghost use Rattle.litmus_meaning.specs.Layout.{memory_at_first};
+ghost use Rattle.litmus_meaning.specs.RunOfProgram.{RunOfProgram};
 ghost use Rattle.run_headline.specs.Cells.{CellsHold, memory_after, run_cells};
 ghost use Rattle.run_headline.specs.Ended.{HasEndedSince};
 ghost use Rattle.run_headline.specs.HeldReads.{ReadsHold};
@@ -17,14 +17,14 @@ ghost use Rattle.run_lists.specs.Reports.{reported, reports_of};
 ghost use Rattle.run_lists.specs.Run.{Run, first_words, task_setting};
 ghost use Rattle.run_lists.specs.RunList.{RunList};
 ghost use Rattle.run_lists.specs.Told.{OutcomeAt, history_by, history_of, outcomes_of};
-ghost use Rattle.task_log.specs.of_setup_access_Values.{source_of, value_in};
-ghost use Rattle.task_log.specs.of_setup_access_declared.source.Source.{Source};
+ghost use Rattle.setup_access.specs.Values.{source_of, value_in};
+ghost use Rattle.setup_access.specs.declared.source.Source.{Source};
 ghost use Rattle.run_headline.specs.Takings.{HasOneAnswer};
 ghost use Rattle.slot_table.specs.Hearings.{IsArming, IsTaking};
 ghost use Rattle.slot_table.specs.Records.{words_after};
 ghost use Rattle.slot_table.specs.declared.records.Record.{Record};
 ghost use Rattle.std.specs.Prelude.{ℕ, slice_index};
-ghost use Rattle.run_lists.specs.of_written_order_Standing.{checks_of};
+ghost use Rattle.written_order.specs.Standing.{checks_of};
 
 use crate::verdicts::{
     each_taking_has_one_answer, records_tell_their_events, verdicts_are_on_watches,

@@ -6,6 +6,3 @@ pub mod histories;
 pub mod laws;
 pub mod totals;
 pub mod verdicts;
-
-pub use run_lists;
-pub use task_log;

@@ -6,7 +6,7 @@ ghost use Rattle.run_lists.specs.RunList.{RunList};
 ghost use Rattle.run_lists.specs.Told.{armed_by, outcomes_of};
 ghost use Rattle.slot_table.specs.Meetings.{Meeting, setters_heard};
 ghost use Rattle.slot_table.specs.declared.records.Record.{Record};
-ghost use Rattle.run_lists.specs.of_written_order_Told.{did_by};
+ghost use Rattle.written_order.specs.Told.{did_by};
 ghost use Rattle.run_headline.specs.Events.{AreMarks, EachDoesItsEvent};
 ghost use Rattle.run_headline.specs.Finds.{IfTelling};
 ghost use Rattle.run_headline.specs.Joined.{IfAnswersBoth};

@@ -2,37 +2,37 @@
 use Rattle.std.proofs.Common.{◌≡◌, ◌∙◌, ◌<◌, ◌≤◌, ◌++◌, ◌∷◌, [], inl, inr, ℕ, zero, suc, Bool, true, false, List, None, MatchOption, Option, Some, ap, append_assoc, arith, drop, length, refl}
 use Rattle.std.proofs.Common.{replicate, subst, sym}
 use Rattle.std.proofs.lemmas.List.{append-nil}
-use Rattle.slot_table.specs.of_access_types_Access as access
-use Rattle.slot_table.specs.of_access_types_declared.history.Happening.{Happening}
-use Rattle.slot_table.specs.of_access_types_declared.history.Happening.TheVariants as happenings
-use Rattle.slot_table.specs.of_access_types_declared.history.Mark.TheVariants as marks
-use Rattle.written_tellings.specs.of_litmus_meaning_Expressions.{loading_value}
-use Rattle.written_tellings.specs.of_litmus_meaning_Meaning.{Chooses}
-use Rattle.written_tellings.specs.of_litmus_meaning_Task as meaning
-use Rattle.written_tellings.specs.of_litmus_syntax_Tree.{Block}
-use Rattle.written_tellings.specs.of_litmus_syntax_Views.{block_of}
-use Rattle.written_tellings.specs.of_memory_operation_Effects.{moments_of, read_moments, write_moments}
-use Rattle.written_tellings.specs.of_memory_operation_Operations.{Operates}
-use Rattle.written_tellings.specs.of_memory_operation_declared.effect.Effect.{Effect}
-use Rattle.written_tellings.specs.of_memory_operation_declared.operation.Operation.{Operation}
-use Rattle.written_tellings.specs.of_memory_operation_declared.operation.Operation.TheVariants as operations
-use Rattle.written_tellings.specs.of_setup_access_Check.{Fallen}
-use Rattle.written_tellings.specs.of_setup_access_declared.begun.Begun.{Begun}
+use Rattle.access_types.specs.Access as access
+use Rattle.access_types.specs.declared.history.Happening.{Happening}
+use Rattle.access_types.specs.declared.history.Happening.TheVariants as happenings
+use Rattle.access_types.specs.declared.history.Mark.TheVariants as marks
+use Rattle.litmus_meaning.specs.Expressions.{loading_value}
+use Rattle.litmus_meaning.specs.Meaning.{Chooses}
+use Rattle.litmus_meaning.specs.Task as meaning
+use Rattle.litmus_syntax.specs.Tree.{Block}
+use Rattle.litmus_syntax.specs.Views.{block_of}
+use Rattle.memory_operation.specs.Effects.{moments_of, read_moments, write_moments}
+use Rattle.memory_operation.specs.Operations.{Operates}
+use Rattle.memory_operation.specs.declared.effect.Effect.{Effect}
+use Rattle.memory_operation.specs.declared.operation.Operation.{Operation}
+use Rattle.memory_operation.specs.declared.operation.Operation.TheVariants as operations
+use Rattle.setup_access.specs.Check.{Fallen}
+use Rattle.setup_access.specs.declared.begun.Begun.{Begun}
 use Rattle.slot_table.specs.declared.records.Record.{Record}
-use Rattle.task_run.specs.of_task_plan_Follow.{Follow, Taker, assigned, condition, goes_on, loaded_by, marks_next, nobody, so_often, to_register}
+use Rattle.task_plan.specs.Follow.{Follow, Taker, assigned, condition, goes_on, loaded_by, marks_next, nobody, so_often, to_register}
 use Rattle.task_run.specs.Part.{FollowLeft, TakerLeft}
 use Rattle.task_run.proofs.FellLemmas.{AllShorter, Descends, check_descends, close_descends}
-use Rattle.task_run.specs.of_text_walk_Left.{BlocksLeft, BodyLeft, Closes, EndLeft, NothingLeft, OpenLeft, OutsideLeft, TurnsLeft, WalkLeft}
-use Rattle.task_run.specs.of_text_walk_declared.block.AtEnd.{AtEnd}
-use Rattle.task_run.specs.of_text_walk_declared.block.AtEnd.TheVariants as ends
-use Rattle.task_run.specs.of_text_walk_declared.block.Loop.{Loop}
-use Rattle.task_run.specs.of_text_walk_declared.block.OpenBlock.{OpenBlock}
-use Rattle.task_run.specs.of_text_walk_declared.block.Choice.{Choice}
-use Rattle.task_run.specs.of_text_walk_declared.walk.Walk.{Walk}
-use Rattle.written_tellings.specs.of_written_order_Access.{Makes, operated}
-use Rattle.written_tellings.specs.of_written_order_Standing.{Point, Setting, Standing, checks_of, coming, counting, doing, lock_number, registered}
-use Rattle.written_tellings.specs.of_written_order_WrittenOrder.{ClosesScope, OpensScope, Steps, StepsOfBlock, StepsOfTurns, marked_so_often}
-use Rattle.written_tellings.proofs.of_written_order_Induction.{Kept, by_block}
+use Rattle.text_walk.specs.Left.{BlocksLeft, BodyLeft, Closes, EndLeft, NothingLeft, OpenLeft, OutsideLeft, TurnsLeft, WalkLeft}
+use Rattle.text_walk.specs.declared.block.AtEnd.{AtEnd}
+use Rattle.text_walk.specs.declared.block.AtEnd.TheVariants as ends
+use Rattle.text_walk.specs.declared.block.Loop.{Loop}
+use Rattle.text_walk.specs.declared.block.OpenBlock.{OpenBlock}
+use Rattle.text_walk.specs.declared.block.Choice.{Choice}
+use Rattle.text_walk.specs.declared.walk.Walk.{Walk}
+use Rattle.written_order.specs.Access.{Makes, operated}
+use Rattle.written_order.specs.Standing.{Point, Setting, Standing, checks_of, coming, counting, doing, lock_number, registered}
+use Rattle.written_order.specs.WrittenOrder.{ClosesScope, OpensScope, Steps, StepsOfBlock, StepsOfTurns, marked_so_often}
+use Rattle.written_order.proofs.Induction.{Kept, by_block}
 use Rattle.written_tellings.proofs.CheckGoes.{check_low}
 use Rattle.written_tellings.proofs.Falling.{AllUpTo}
 use Rattle.written_tellings.proofs.ScopeGoes.{closes_low, opens_low}

@@ -1,16 +1,16 @@
 -- Each arming that a task has removed has a verdict of its own, on the access that set it up, in the same order.
 use Rattle.std.proofs.Common.{◌≡◌, ◌∙◌, ◌++◌, ◌∷◌, [], inl, inr, ℕ, All, List, None, Option, Some, ap, map, refl, sym}
 use Rattle.std.proofs.lemmas.List.{append-nil, map-append}
-use Rattle.slot_table.specs.of_access_types_Arms.{Arm}
-use Rattle.slot_table.specs.of_access_types_Ticket.{ticket_number}
-use Rattle.run_headline.specs.of_run_lists_Run.{Run, first_cells, locks_of}
-use Rattle.run_headline.specs.of_run_lists_RunList.{RunList}
-use Rattle.run_headline.specs.of_run_lists_Told.{OutcomeAt, outcomes_of}
+use Rattle.access_types.specs.Arms.{Arm}
+use Rattle.access_types.specs.Ticket.{ticket_number}
+use Rattle.run_lists.specs.Run.{Run, first_cells, locks_of}
+use Rattle.run_lists.specs.RunList.{RunList}
+use Rattle.run_lists.specs.Told.{OutcomeAt, outcomes_of}
 use Rattle.run_kept.specs.Lists.{AreArmsBy, verdicts_by}
 use Rattle.run_kept.proofs.Settling.{HandSays, HitSays, Known, Match, PartSays, Pending, Settled}
 use Rattle.run_kept.proofs.Pairing.{all_paired}
 use Rattle.run_headline.specs.Watches.{IfVerdict}
-use Rattle.slot_table.specs.of_slot_Pair.{Halves}
+use Rattle.slot.specs.Pair.{Halves}
 use Rattle.slot_table.specs.Discipline.{heard, in_hand}
 use Rattle.slot_table.specs.Records.{records_of}
 use Rattle.slot_table.specs.declared.discipline.InHand.{InHand}

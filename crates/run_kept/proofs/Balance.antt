@@ -1,22 +1,22 @@
 -- The accesses of a task end in the other order than they begin.
 use Rattle.std.proofs.Common.{◌≡◌, ◌∙◌, ◌++◌, ◌∷◌, [], ℕ, zero, suc, List, None, Option, Some, ap, append_assoc, drop, refl, replicate, subst, sym}
 use Rattle.std.proofs.lemmas.List.{append-nil}
-use Rattle.slot_table.specs.of_access_types_Access.{Access}
-use Rattle.slot_table.specs.of_access_types_declared.history.Happening.{Happening}
-use Rattle.slot_table.specs.of_access_types_declared.history.Happening.TheVariants as happenings
-use Rattle.slot_table.specs.of_access_types_declared.history.Mark.{Mark}
-use Rattle.written_tellings.specs.of_litmus_meaning_Task as meaning
-use Rattle.written_tellings.specs.of_litmus_syntax_Tree.{Block}
-use Rattle.written_tellings.specs.of_memory_operation_Effects.{moments_of, read_moments, write_moments}
-use Rattle.written_tellings.specs.of_memory_operation_declared.effect.Effect.{Effect}
-use Rattle.written_tellings.specs.of_memory_operation_declared.operation.Operation.{Operation}
-use Rattle.written_tellings.specs.of_memory_operation_declared.operation.Operation.TheVariants as operations
+use Rattle.access_types.specs.Access.{Access}
+use Rattle.access_types.specs.declared.history.Happening.{Happening}
+use Rattle.access_types.specs.declared.history.Happening.TheVariants as happenings
+use Rattle.access_types.specs.declared.history.Mark.{Mark}
+use Rattle.litmus_meaning.specs.Task as meaning
+use Rattle.litmus_syntax.specs.Tree.{Block}
+use Rattle.memory_operation.specs.Effects.{moments_of, read_moments, write_moments}
+use Rattle.memory_operation.specs.declared.effect.Effect.{Effect}
+use Rattle.memory_operation.specs.declared.operation.Operation.{Operation}
+use Rattle.memory_operation.specs.declared.operation.Operation.TheVariants as operations
 use Rattle.slot_table.specs.declared.records.Record.{Record}
-use Rattle.written_tellings.specs.of_written_order_Access.{operated}
-use Rattle.written_tellings.specs.of_written_order_Standing.{Setting, Standing, counting, doing}
-use Rattle.written_tellings.specs.of_written_order_WrittenOrder.{SpellsAll, at_first}
-use Rattle.written_tellings.proofs.of_written_order_AccessLemmas.{counting_progress}
-use Rattle.written_tellings.proofs.of_written_order_Induction.{Kept, by_block}
+use Rattle.written_order.specs.Access.{operated}
+use Rattle.written_order.specs.Standing.{Setting, Standing, counting, doing}
+use Rattle.written_order.specs.WrittenOrder.{SpellsAll, at_first}
+use Rattle.written_order.proofs.AccessLemmas.{counting_progress}
+use Rattle.written_order.proofs.Induction.{Kept, by_block}
 
 -- what goes on after this, where these go on before it, the newest first
 abbrev pub Runs : List Access → List Happening → List Access → Type 0

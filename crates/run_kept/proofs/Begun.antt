@@ -1,16 +1,16 @@
 -- Which access begins in what a task did.
 use Rattle.std.proofs.Common.{◌≡◌, ◌∙◌, ◌⊎◌, ◌++◌, ◌∷◌, [], inl, inr, ℕ, true, false, List, None, Option, Some, ap, refl, subst, sym}
-use Rattle.slot_table.specs.of_access_types_Access.{Access}
-use Rattle.slot_table.specs.of_access_types_declared.history.Happening.{Happening}
-use Rattle.slot_table.specs.of_access_types_declared.history.Happening.TheVariants as happenings
-use Rattle.written_tellings.specs.of_memory_operation_Effects.{moments_of, read_moments, write_moments}
-use Rattle.written_tellings.specs.of_memory_operation_declared.effect.Effect.{Effect}
+use Rattle.access_types.specs.Access.{Access}
+use Rattle.access_types.specs.declared.history.Happening.{Happening}
+use Rattle.access_types.specs.declared.history.Happening.TheVariants as happenings
+use Rattle.memory_operation.specs.Effects.{moments_of, read_moments, write_moments}
+use Rattle.memory_operation.specs.declared.effect.Effect.{Effect}
 use Rattle.run_kept.specs.Noted.{begun_by, begun_in}
 use Rattle.run_headline.specs.Events.{AreMarks, DoesEvent, IsEvent, IsMark, ReadsAtMost, Writes}
 use Rattle.slot_table.specs.declared.step.Answer.{Answer}
 use Rattle.slot_table.specs.declared.step.Answer.TheVariants as answers
 use Rattle.slot_table.specs.declared.step.Step.{Step}
-use Rattle.written_tellings.specs.of_written_order_Standing.{Setting}
+use Rattle.written_order.specs.Standing.{Setting}
 use Rattle.slot_table.specs.declared.step.Step.TheVariants.{CellExchange, CellLoad, Clear, Clock, Consume, Insert, Load, LockStore, LockTry, Name, PairLoad, Remove, Tell, TryConsume}
 
 -- none of these begins an access

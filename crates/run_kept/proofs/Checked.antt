@@ -2,43 +2,43 @@
 use Rattle.std.proofs.Common.{◌+◌, ◌⊎◌, length, length-append, ◌≡◌, ◌∙◌, ◌∷◌, ◌++◌, ◌||◌, [], ◌<◌, ℕ, Bool, true, false, IsTrue, List, Option, None, Some, MatchBool}
 use Rattle.std.proofs.Common.{MatchOption, ap, append-nil, append_assoc, arith, count_by, drop, if◌then◌else◌, inl, inr, refl, replicate, subst, suc, sym, zero}
 use Rattle.std.proofs.lemmas.List.Sums.{sum_by-cons}
-use Rattle.slot_table.specs.of_access_types_Access as access
-use Rattle.slot_table.specs.of_access_types_Ticket.{ticket_number}
-use Rattle.slot_table.specs.of_access_types_declared.history.Happening.{Happening}
-use Rattle.slot_table.specs.of_access_types_declared.history.Happening.TheVariants as happenings
-use Rattle.slot_table.specs.of_access_types_declared.history.Mark.{Mark}
-use Rattle.written_tellings.specs.of_litmus_meaning_Task as meaning
-use Rattle.written_tellings.specs.of_litmus_syntax_Tree.{Block}
-use Rattle.written_tellings.specs.of_memory_operation_Effects.{moments_of, read_moments, write_moments}
-use Rattle.written_tellings.specs.of_memory_operation_declared.effect.Effect.{Effect}
-use Rattle.written_tellings.specs.of_memory_operation_declared.operation.Operation.{Operation}
-use Rattle.run_headline.proofs.of_run_lists_Intervals as ends
-use Rattle.run_headline.proofs.of_run_lists_Intervals.{Has, NoneEnds, has_either, has_first, has_last}
-use Rattle.run_headline.proofs.of_run_lists_TaskFacts.{IsKnown, begins_known, silenced_too}
+use Rattle.access_types.specs.Access as access
+use Rattle.access_types.specs.Ticket.{ticket_number}
+use Rattle.access_types.specs.declared.history.Happening.{Happening}
+use Rattle.access_types.specs.declared.history.Happening.TheVariants as happenings
+use Rattle.access_types.specs.declared.history.Mark.{Mark}
+use Rattle.litmus_meaning.specs.Task as meaning
+use Rattle.litmus_syntax.specs.Tree.{Block}
+use Rattle.memory_operation.specs.Effects.{moments_of, read_moments, write_moments}
+use Rattle.memory_operation.specs.declared.effect.Effect.{Effect}
+use Rattle.memory_operation.specs.declared.operation.Operation.{Operation}
+use Rattle.run_lists.proofs.Intervals as ends
+use Rattle.run_lists.proofs.Intervals.{Has, NoneEnds, has_either, has_first, has_last}
+use Rattle.run_lists.proofs.TaskFacts.{IsKnown, begins_known, silenced_too}
 use Rattle.run_headline.specs.Watches.{is_verdict}
-use Rattle.written_tellings.specs.of_setup_access_Check as cases
-use Rattle.written_tellings.specs.of_setup_access_Check.{Check, ChecksOnce, Fallen, GoesOn, NoneFound, Pass, Passes, Rechecks, fallen_of, left_to_check}
-use Rattle.written_tellings.specs.of_setup_access_Found.{Takes, Tells}
-use Rattle.written_tellings.specs.of_setup_access_OwnAccesses.{IsOwn}
-use Rattle.written_tellings.specs.of_setup_access_Records.{MakesDone}
-use Rattle.written_tellings.specs.of_setup_access_declared.begun.Begun.{Begun}
-use Rattle.written_tellings.specs.of_setup_access_declared.outcome.Outcome.{Outcome}
-use Rattle.written_tellings.specs.of_setup_access_declared.outcome.Outcome.TheVariants as outcomes
-use Rattle.written_tellings.specs.of_setup_access_declared.outcome.Watchpoint.{Watchpoint}
-use Rattle.written_tellings.proofs.of_setup_access_DisciplineLemmas.{on_flag, on_word}
-use Rattle.slot_table.specs.of_slot_Pair.{Halves}
+use Rattle.setup_access.specs.Check as cases
+use Rattle.setup_access.specs.Check.{Check, ChecksOnce, Fallen, GoesOn, NoneFound, Pass, Passes, Rechecks, fallen_of, left_to_check}
+use Rattle.setup_access.specs.Found.{Takes, Tells}
+use Rattle.setup_access.specs.OwnAccesses.{IsOwn}
+use Rattle.setup_access.specs.Records.{MakesDone}
+use Rattle.setup_access.specs.declared.begun.Begun.{Begun}
+use Rattle.setup_access.specs.declared.outcome.Outcome.{Outcome}
+use Rattle.setup_access.specs.declared.outcome.Outcome.TheVariants as outcomes
+use Rattle.setup_access.specs.declared.outcome.Watchpoint.{Watchpoint}
+use Rattle.setup_access.proofs.DisciplineLemmas.{on_flag, on_word}
+use Rattle.slot.specs.Pair.{Halves}
 use Rattle.slot_table.specs.declared.records.Record.{Record}
 use Rattle.slot_table.specs.declared.step.Step.TheVariants.{Tell}
-use Rattle.report_text.specs.of_watch_word_Word.{Encodable}
+use Rattle.watch_word.specs.Word.{Encodable}
 use Rattle.run_kept.specs.Stamps.{is_end}
 use Rattle.written_tellings.specs.Begins.{is_begin}
-use Rattle.written_tellings.specs.of_written_order_Access.{Makes}
-use Rattle.written_tellings.specs.of_written_order_Standing.{BeginsNow, Setting, Standing, checks_of, coming, counting, doing, registered}
-use Rattle.written_tellings.specs.of_written_order_WrittenOrder.{ClosesScope, OpensScope, SpellsAll, at_first}
-use Rattle.written_tellings.proofs.of_written_order_AccessLemmas.{access_does, counting_progress, makes_did}
-use Rattle.written_tellings.proofs.of_written_order_Induction.{Kept, by_block}
-use Rattle.written_tellings.proofs.of_written_order_ScopesLemmas.{counting_scopes, operated_scopes}
-use Rattle.written_tellings.proofs.of_written_order_WayLemmas.{Begins}
+use Rattle.written_order.specs.Access.{Makes}
+use Rattle.written_order.specs.Standing.{BeginsNow, Setting, Standing, checks_of, coming, counting, doing, registered}
+use Rattle.written_order.specs.WrittenOrder.{ClosesScope, OpensScope, SpellsAll, at_first}
+use Rattle.written_order.proofs.AccessLemmas.{access_does, counting_progress, makes_did}
+use Rattle.written_order.proofs.Induction.{Kept, by_block}
+use Rattle.written_order.proofs.ScopesLemmas.{counting_scopes, operated_scopes}
+use Rattle.written_order.proofs.WayLemmas.{Begins}
 
 abbrev pub Each : (Fallen → Type 0) → List Fallen → Type 0
 Each P [] = Unit {0}

@@ -4,16 +4,16 @@ use Rattle.std.proofs.Common.{append-nil, arith, count_by, filter, if◌then◌e
 use Rattle.std.proofs.Math.Nat.{suc-mul}
 use Rattle.std.proofs.lemmas.List.Sums.{sum_by-cons}
 use Rattle.std.proofs.lemmas.Bool.Decides.{eqb_tells}
-use Rattle.slot_table.specs.of_access_types_declared.history.Happening.{Happening}
-use Rattle.slot_table.specs.of_access_types_declared.history.Happening.TheVariants as happenings
-use Rattle.written_tellings.specs.of_litmus_syntax_Limits.{BodyKeepsLimits, KeepsLimits}
-use Rattle.written_tellings.specs.of_litmus_syntax_Tree as tree
-use Rattle.run_headline.specs.of_run_lists_Run.{Run, idle, task_of, task_setting}
-use Rattle.run_headline.specs.of_run_lists_RunList.{RunList}
-use Rattle.run_headline.specs.of_run_lists_Told.{made_by}
-use Rattle.run_headline.proofs.of_run_lists_Histories.{did_of_all, did_then}
-use Rattle.run_headline.proofs.of_run_lists_OwnLasts.{own_latest}
-use Rattle.run_headline.proofs.of_run_lists_DoneOnlyGrows.{whole_chain}
+use Rattle.access_types.specs.declared.history.Happening.{Happening}
+use Rattle.access_types.specs.declared.history.Happening.TheVariants as happenings
+use Rattle.litmus_syntax.specs.Limits.{BodyKeepsLimits, KeepsLimits}
+use Rattle.litmus_syntax.specs.Tree as tree
+use Rattle.run_lists.specs.Run.{Run, idle, task_of, task_setting}
+use Rattle.run_lists.specs.RunList.{RunList}
+use Rattle.run_lists.specs.Told.{made_by}
+use Rattle.run_lists.proofs.Histories.{did_of_all, did_then}
+use Rattle.run_lists.proofs.OwnLasts.{own_latest}
+use Rattle.run_lists.proofs.DoneOnlyGrows.{whole_chain}
 use Rattle.run_headline.specs.Events.{AreMarks, EachDoesItsEvent, IsEvent, ReadsAtMost, Writes}
 use Rattle.slot_table.specs.Records.{Legal, records_of, words_after}
 use Rattle.slot_table.specs.StepLine.{step_line}
@@ -23,10 +23,10 @@ use Rattle.slot_table.specs.declared.step.Answer.{Answer}
 use Rattle.slot_table.specs.declared.step.Answer.TheVariants as answers
 use Rattle.slot_table.specs.declared.step.Step.{Step}
 use Rattle.slot_table.specs.declared.step.Step.TheVariants as steps
-use Rattle.written_tellings.specs.of_written_order_Standing as tasks
-use Rattle.written_tellings.specs.of_written_order_Standing.{Point}
-use Rattle.written_tellings.specs.of_written_order_Told.{did_by, did_next}
-use Rattle.written_tellings.specs.of_written_order_WrittenOrder.{SpellsAll, StepsOfBlock, WrittenOrder, at_first, first_point, stands_after}
+use Rattle.written_order.specs.Standing as tasks
+use Rattle.written_order.specs.Standing.{Point}
+use Rattle.written_order.specs.Told.{did_by, did_next}
+use Rattle.written_order.specs.WrittenOrder.{SpellsAll, StepsOfBlock, WrittenOrder, at_first, first_point, stands_after}
 use Rattle.written_tellings.specs.Begins.{begins_in, is_begin}
 use Rattle.run_kept.specs.Stamps.{is_clock, is_end, stamps_in}
 use Rattle.run_kept.proofs.Checked.{all_even, count_both, counted}

@@ -1,19 +1,19 @@
 -- The counters of tasks, added one after the other, are those of the list.
 use Rattle.std.proofs.Common.{◌≡◌, ◌∙◌, ◌+◌, [], ℕ, suc, Bool, false, List, None, Option, Some, ap, arith, count_by, length, refl, subst, sym}
-use Rattle.run_headline.specs.of_run_lists_Run.{Run}
-use Rattle.run_headline.specs.of_run_lists_RunList.{RunList}
-use Rattle.run_headline.specs.of_run_lists_Told.{OutcomeAt, outcomes_of}
+use Rattle.run_lists.specs.Run.{Run}
+use Rattle.run_lists.specs.RunList.{RunList}
+use Rattle.run_lists.specs.Told.{OutcomeAt, outcomes_of}
 use Rattle.run_kept.specs.Noted.{Notes}
 use Rattle.run_kept.specs.Totals.{AddUp, Counted, CountsList, CountsTasks, outcomes_below}
 use Rattle.run_kept.proofs.Sums.{all_below, all_came, below, no_outcome_below, none_below, of_record, of_step, one_task_came, one_task_more, outcomes_noted, resting_sum, steps_noted}
-use Rattle.written_tellings.specs.of_setup_access_declared.outcome.Outcome.{Outcome}
+use Rattle.setup_access.specs.declared.outcome.Outcome.{Outcome}
 use Rattle.slot_table.specs.Records.{records_of}
 use Rattle.slot_table.specs.declared.records.Record.{Record}
 use Rattle.slot_table.specs.declared.step.Answer.{Answer}
 use Rattle.slot_table.specs.declared.step.Step.{Step}
-use Rattle.run_headline.specs.of_task_log_Counters.{Count, is_arming, is_capacity, is_encoding, is_lost, is_masked, is_quiet, is_same, is_taken, is_two_sided, is_unencodable, is_unknown, resting, together}
-use Rattle.run_headline.specs.of_task_log_declared.counters.Counters.{Counters}
-use Rattle.run_headline.specs.of_task_log_declared.noted.Noted.{Noted}
+use Rattle.task_log.specs.Counters.{Count, is_arming, is_capacity, is_encoding, is_lost, is_masked, is_quiet, is_same, is_taken, is_two_sided, is_unencodable, is_unknown, resting, together}
+use Rattle.task_log.specs.declared.counters.Counters.{Counters}
+use Rattle.task_log.specs.declared.noted.Noted.{Noted}
 
 both_rest : (some one both a b c : ℕ) → some ≡ resting a → one ≡ resting b → both ≡ together some one → c ≡ a + b → both ≡ resting c
 both_rest some one both a b c first second is sum =

@@ -6,42 +6,42 @@ use Rattle.std.proofs.lemmas.Bool.{and_right, eq-eqb}
 use Rattle.std.proofs.lemmas.Bool.Decides.{eqb_tells}
 use Rattle.std.proofs.lemmas.List.{append-nil}
 use Rattle.std.proofs.lemmas.List.Elements.{All-cons, All-nil}
-use Rattle.slot_table.specs.of_access_types_Access.{Access}
-use Rattle.slot_table.specs.of_access_types_History.{History, beginning, happenings_of}
-use Rattle.slot_table.specs.of_access_types_Marked as spec
-use Rattle.slot_table.specs.of_access_types_Marked.{BeginsAfter, CountedAsMarked, CountsAfter, EndsRaised, IsWithinNext, Silenced, begins_countable, is_countable_begin, is_disable, is_enable, is_next, marks_of, next_mark}
-use Rattle.slot_table.specs.of_access_types_declared.history.Happening.{Happening}
-use Rattle.slot_table.specs.of_access_types_declared.history.Happening.TheVariants as happenings
-use Rattle.slot_table.specs.of_access_types_declared.history.Mark.{Mark}
-use Rattle.slot_table.specs.of_access_types_declared.history.Moment.{Moment}
-use Rattle.written_tellings.proofs.of_litmus_meaning_TextSitesLemmas.{begun_at}
-use Rattle.written_tellings.proofs.of_litmus_meaning_TicketLemmas.{numbered}
-use Rattle.run_headline.specs.of_run_lists_Run.{Run, task_of, task_setting}
-use Rattle.run_headline.specs.of_run_lists_RunList.{RunList}
-use Rattle.run_headline.specs.of_run_lists_Told.{history_by, history_of, made_by, moments_of}
-use Rattle.run_headline.proofs.of_run_lists_Histories.{did_of_all, did_then, of_both, of_task}
-use Rattle.run_headline.proofs.of_run_lists_OwnLasts.{own_latest}
-use Rattle.run_headline.proofs.of_run_lists_OwnMarks.{begins_once, counts_own, marks_same, own_of}
+use Rattle.access_types.specs.Access.{Access}
+use Rattle.access_types.specs.History.{History, beginning, happenings_of}
+use Rattle.access_types.specs.Marked as spec
+use Rattle.access_types.specs.Marked.{BeginsAfter, CountedAsMarked, CountsAfter, EndsRaised, IsWithinNext, Silenced, begins_countable, is_countable_begin, is_disable, is_enable, is_next, marks_of, next_mark}
+use Rattle.access_types.specs.declared.history.Happening.{Happening}
+use Rattle.access_types.specs.declared.history.Happening.TheVariants as happenings
+use Rattle.access_types.specs.declared.history.Mark.{Mark}
+use Rattle.access_types.specs.declared.history.Moment.{Moment}
+use Rattle.litmus_meaning.proofs.TextSitesLemmas.{begun_at}
+use Rattle.litmus_meaning.proofs.TicketLemmas.{numbered}
+use Rattle.run_lists.specs.Run.{Run, task_of, task_setting}
+use Rattle.run_lists.specs.RunList.{RunList}
+use Rattle.run_lists.specs.Told.{history_by, history_of, made_by, moments_of}
+use Rattle.run_lists.proofs.Histories.{did_of_all, did_then, of_both, of_task}
+use Rattle.run_lists.proofs.OwnLasts.{own_latest}
+use Rattle.run_lists.proofs.OwnMarks.{begins_once, counts_own, marks_same, own_of}
 use Rattle.run_kept.specs.Decided.{IsDecided, IsStampedSo}
 use Rattle.run_kept.specs.Noted.{AreNoted, IsBegun, IsNoted, Notes, begun_in}
 use Rattle.run_kept.proofs.Begun.{begins_first}
 use Rattle.run_kept.proofs.Sums.{counted}
 use Rattle.run_headline.specs.Events.{DoesEvent, EachDoesItsEvent}
 use Rattle.run_headline.proofs.Watches.{is_below}
-use Rattle.written_tellings.specs.of_setup_access_declared.begun.Begun.{Begun}
+use Rattle.setup_access.specs.declared.begun.Begun.{Begun}
 use Rattle.slot_table.specs.Records.{records_of}
 use Rattle.slot_table.specs.declared.records.Record.{Record}
 use Rattle.slot_table.specs.declared.step.Answer.{Answer}
 use Rattle.slot_table.specs.declared.step.Answer.TheVariants as answers
 use Rattle.slot_table.specs.declared.step.Step.{Step}
 use Rattle.slot_table.specs.declared.step.Step.TheVariants as steps
-use Rattle.run_headline.specs.of_task_log_Touches.{accesses_of, end_newest, goes_on, stamped, stamped_at, touches_at, touches_of}
-use Rattle.run_headline.specs.of_task_log_declared.noted.Noted.{Noted}
-use Rattle.run_headline.specs.of_task_log_declared.touches.Touch.{Touch}
-use Rattle.written_tellings.specs.of_written_order_Standing as tasks
-use Rattle.written_tellings.specs.of_written_order_Standing.{Standing}
-use Rattle.written_tellings.specs.of_written_order_Told.{did_by, did_next}
-use Rattle.written_tellings.proofs.of_written_order_MeaningLemmas.{whole_means}
+use Rattle.task_log.specs.Touches.{accesses_of, end_newest, goes_on, stamped, stamped_at, touches_at, touches_of}
+use Rattle.task_log.specs.declared.noted.Noted.{Noted}
+use Rattle.task_log.specs.declared.touches.Touch.{Touch}
+use Rattle.written_order.specs.Standing as tasks
+use Rattle.written_order.specs.Standing.{Standing}
+use Rattle.written_order.specs.Told.{did_by, did_next}
+use Rattle.written_order.proofs.MeaningLemmas.{whole_means}
 
 -- the own moments of a task are countable as they stand among all
 countable_same : (plain : Bool) (task : ℕ) (history : History)

@@ -2,16 +2,16 @@
 use Rattle.std.proofs.Common.{◌≡◌, ◌∙◌, ◌++◌, ◌∷◌, [], ℕ, true, List, ap, arith, drop, le_refl, length, refl, replicate, subst, sym}
 use Rattle.std.proofs.lemmas.Bool.{le-leb}
 use Rattle.std.proofs.lemmas.List.{append-nil}
-use Rattle.slot_table.specs.of_access_types_declared.history.Happening.TheVariants as happenings
-use Rattle.written_tellings.specs.of_litmus_meaning_Task as meaning
-use Rattle.written_tellings.specs.of_litmus_syntax_Tree.{Block}
+use Rattle.access_types.specs.declared.history.Happening.TheVariants as happenings
+use Rattle.litmus_meaning.specs.Task as meaning
+use Rattle.litmus_syntax.specs.Tree.{Block}
 use Rattle.slot_table.specs.declared.records.Record.{Record}
 use Rattle.task_run.specs.Told.{last_of}
-use Rattle.written_tellings.proofs.of_written_order_Induction.{Kept, by_block}
-use Rattle.written_tellings.specs.of_written_order_Access.{operated}
-use Rattle.written_tellings.specs.of_written_order_Standing.{Point, Setting, Standing, coming, counting, doing, point_by}
-use Rattle.written_tellings.specs.of_written_order_Told.{stands_by}
-use Rattle.written_tellings.specs.of_written_order_WrittenOrder.{SpellsAll, StepsOfBlock, WrittenOrder, at_first, first_point, stands_after}
+use Rattle.written_order.proofs.Induction.{Kept, by_block}
+use Rattle.written_order.specs.Access.{operated}
+use Rattle.written_order.specs.Standing.{Point, Setting, Standing, coming, counting, doing, point_by}
+use Rattle.written_order.specs.Told.{stands_by}
+use Rattle.written_order.specs.WrittenOrder.{SpellsAll, StepsOfBlock, WrittenOrder, at_first, first_point, stands_after}
 use Rattle.written_tellings.specs.TellAlike.{StandsAlike, TellAlike}
 
 last_with : (last : Point) (points : List Point) (one : Point) → last_of last (points ++ one ∷ []) ≡ one

@@ -4,14 +4,14 @@ use Rattle.std.specs.List.{cons_option, filter_map, list_any}
 use Rattle.std.specs.Prelude.{is_none}
 use Rattle.std.proofs.lemmas.Bool.Decides.{eqb_tells}
 use Rattle.std.proofs.lemmas.List.Elements.{Contains-append_left}
-use Rattle.slot_table.specs.of_access_types_Access.{Access}
-use Rattle.slot_table.specs.of_access_types_Stamped.{Stamped}
-use Rattle.slot_table.specs.of_access_types_declared.history.Happening.{Happening}
-use Rattle.slot_table.specs.of_access_types_declared.history.Happening.TheVariants as happenings
-use Rattle.run_headline.specs.of_run_lists_Run.{Run, first_words, task_setting}
-use Rattle.run_headline.specs.of_run_lists_RunList.{RunList}
-use Rattle.run_headline.specs.of_run_lists_Told.{made_by}
-use Rattle.run_headline.proofs.of_run_lists_OwnLasts.{own_latest}
+use Rattle.access_types.specs.Access.{Access}
+use Rattle.access_types.specs.Stamped.{Stamped}
+use Rattle.access_types.specs.declared.history.Happening.{Happening}
+use Rattle.access_types.specs.declared.history.Happening.TheVariants as happenings
+use Rattle.run_lists.specs.Run.{Run, first_words, task_setting}
+use Rattle.run_lists.specs.RunList.{RunList}
+use Rattle.run_lists.specs.Told.{made_by}
+use Rattle.run_lists.proofs.OwnLasts.{own_latest}
 use Rattle.run_kept.specs.Noted.{AreNoted, IsBegun, IsNoted, Notes, begun_in}
 use Rattle.run_kept.specs.Spans.{HappensAt}
 use Rattle.run_kept.proofs.Balance.{ArePlain, Runs, plain_both}
@@ -19,17 +19,17 @@ use Rattle.run_kept.proofs.Begun.{none_begun}
 use Rattle.run_kept.proofs.Spanning as spanning
 use Rattle.run_kept.proofs.Spanning.{Kind, Newest, kind_of, legal_at, marks_plain, newest, open_in, plain_none, still}
 use Rattle.run_headline.specs.Events.{AreMarks, DoesEvent, EachDoesItsEvent}
-use Rattle.written_tellings.specs.of_setup_access_declared.begun.Begun.{Begun}
+use Rattle.setup_access.specs.declared.begun.Begun.{Begun}
 use Rattle.slot_table.specs.Records.{Legal, records_of}
 use Rattle.slot_table.specs.declared.records.Record.{Record}
 use Rattle.slot_table.specs.declared.step.Answer.{Answer}
 use Rattle.slot_table.specs.declared.step.Answer.TheVariants as answers
 use Rattle.slot_table.specs.declared.step.Step.{Step}
 use Rattle.slot_table.specs.declared.step.Step.TheVariants as steps
-use Rattle.run_headline.specs.of_task_log_Touches.{accesses_of, end_newest, goes_on, stamped, stamped_at, touches_at, touches_of}
-use Rattle.run_headline.specs.of_task_log_declared.noted.Noted.{Noted}
-use Rattle.run_headline.specs.of_task_log_declared.touches.Touch.{Touch}
-use Rattle.written_tellings.specs.of_written_order_Told.{did_by, did_next}
+use Rattle.task_log.specs.Touches.{accesses_of, end_newest, goes_on, stamped, stamped_at, touches_at, touches_of}
+use Rattle.task_log.specs.declared.noted.Noted.{Noted}
+use Rattle.task_log.specs.declared.touches.Touch.{Touch}
+use Rattle.written_order.specs.Told.{did_by, did_next}
 
 -- an access that ended at a stamp is kept
 record IsKept (touches : List Touch) (a : Access) (stamp : ℕ) : Type 0 where

@@ -5,25 +5,25 @@ use Rattle.std.specs.Option.{option_to_list}
 use Rattle.std.proofs.lemmas.Bool.{eq-eqb, ne_eqb}
 use Rattle.std.proofs.lemmas.Bool.Decides.{eqb_tells}
 use Rattle.std.proofs.lemmas.List.{length-append, length-map}
-use Rattle.slot_table.specs.of_access_types_Arms.{Arm}
-use Rattle.slot_table.specs.of_access_types_Takes.{Take}
-use Rattle.written_tellings.specs.of_litmus_syntax_Tree.{Block}
+use Rattle.access_types.specs.Arms.{Arm}
+use Rattle.access_types.specs.Takes.{Take}
+use Rattle.litmus_syntax.specs.Tree.{Block}
 use Rattle.run_kept.specs.Noted.{AreNoted}
 use Rattle.run_kept.proofs.Sums.{counted, of_step}
 use Rattle.run_kept.proofs.Watches.{is_remove, is_tell}
-use Rattle.written_tellings.specs.of_setup_access_Check.{Fallen}
-use Rattle.written_tellings.specs.of_setup_access_declared.outcome.Outcome.{Outcome}
-use Rattle.written_tellings.specs.of_setup_access_declared.outcome.Outcome.TheVariants as outcomes
+use Rattle.setup_access.specs.Check.{Fallen}
+use Rattle.setup_access.specs.declared.outcome.Outcome.{Outcome}
+use Rattle.setup_access.specs.declared.outcome.Outcome.TheVariants as outcomes
 use Rattle.slot_table.specs.declared.records.Record.{Record}
 use Rattle.slot_table.specs.declared.step.Answer.{Answer}
 use Rattle.slot_table.specs.declared.step.Step.{Step}
 use Rattle.slot_table.specs.declared.step.Step.TheVariants as steps
-use Rattle.run_headline.specs.of_task_log_Arms.{arm_removed, arms_at, arms_of, takes_at, takes_of}
-use Rattle.run_headline.specs.of_task_log_Reports.{reported, reported_in}
-use Rattle.run_headline.specs.of_task_log_declared.noted.Noted.{Noted}
-use Rattle.written_tellings.specs.of_written_order_Standing.{Setting}
-use Rattle.written_tellings.specs.of_written_order_Told.{fell_next, to_come}
-use Rattle.written_tellings.specs.of_written_order_WrittenOrder.{WrittenOrder}
+use Rattle.task_log.specs.Arms.{arm_removed, arms_at, arms_of, takes_at, takes_of}
+use Rattle.task_log.specs.Reports.{reported, reported_in}
+use Rattle.task_log.specs.declared.noted.Noted.{Noted}
+use Rattle.written_order.specs.Standing.{Setting}
+use Rattle.written_order.specs.Told.{fell_next, to_come}
+use Rattle.written_order.specs.WrittenOrder.{WrittenOrder}
 
 -- an arming for each remove, and a taking for each tell
 one_longer : {X : Type 0} (xs : List X) (x : X) → length (xs ++ x ∷ []) ≡ 1 + length xs

@@ -3,22 +3,22 @@ use Rattle.std.proofs.Common.{◌≡◌, ◌∙◌, ◌<◌, ◌≤◌, ◌+◌,
 use Rattle.std.proofs.lemmas.Bool.Decides.{eqb_tells}
 use Rattle.std.proofs.lemmas.List.{append-nil, length-append, length-map}
 use Rattle.std.proofs.Math.Nat.{suc-mul}
-use Rattle.slot_table.specs.of_access_types_Access.{Access}
-use Rattle.slot_table.specs.of_access_types_Arms.{Arm}
-use Rattle.slot_table.specs.of_access_types_Takes.{Take}
-use Rattle.slot_table.specs.of_access_types_declared.history.Happening.{Happening}
-use Rattle.slot_table.specs.of_access_types_declared.history.Happening.TheVariants as happenings
-use Rattle.run_headline.specs.of_run_lists_Run.{Run, task_of, task_setting}
-use Rattle.run_headline.specs.of_run_lists_RunList.{RunList}
-use Rattle.run_headline.specs.of_run_lists_Told.{made_by}
-use Rattle.run_headline.proofs.of_run_lists_Histories.{did_of_all}
-use Rattle.run_headline.proofs.of_run_lists_OwnLasts.{own_latest}
+use Rattle.access_types.specs.Access.{Access}
+use Rattle.access_types.specs.Arms.{Arm}
+use Rattle.access_types.specs.Takes.{Take}
+use Rattle.access_types.specs.declared.history.Happening.{Happening}
+use Rattle.access_types.specs.declared.history.Happening.TheVariants as happenings
+use Rattle.run_lists.specs.Run.{Run, task_of, task_setting}
+use Rattle.run_lists.specs.RunList.{RunList}
+use Rattle.run_lists.specs.Told.{made_by}
+use Rattle.run_lists.proofs.Histories.{did_of_all}
+use Rattle.run_lists.proofs.OwnLasts.{own_latest}
 use Rattle.run_kept.specs.Lists.{AreArmsAt, AreArmsBy, ByTask, take_of, takes_by}
 use Rattle.run_kept.specs.Spans.{is_end}
 use Rattle.run_kept.proofs.Balance.{Runs, runs_split, whole_runs}
 use Rattle.run_kept.proofs.Sums.{counted, of_record}
 use Rattle.run_kept.proofs.Watches.{is_remove, is_tell}
-use Rattle.slot_table.specs.of_slot_Pair.{Halves}
+use Rattle.slot.specs.Pair.{Halves}
 use Rattle.slot_table.specs.Armings.{last_arming_number}
 use Rattle.slot_table.specs.Discipline.{heard}
 use Rattle.slot_table.specs.Meetings.{Meeting, told_by, told_to}
@@ -27,7 +27,7 @@ use Rattle.slot_table.specs.declared.records.Record.{Record}
 use Rattle.slot_table.specs.declared.step.Answer.{Answer}
 use Rattle.slot_table.specs.declared.step.Step.{Step}
 use Rattle.slot_table.specs.declared.step.Step.TheVariants as steps
-use Rattle.written_tellings.specs.of_written_order_Told.{did_by}
+use Rattle.written_order.specs.Told.{did_by}
 use Rattle.written_tellings.specs.Begins.{begins_in, is_begin}
 
 -- no more end than begin, and go on before

@@ -2,22 +2,22 @@
 use Rattle.std.proofs.Common.{◌≡◌, ◌≢◌, ◌<◌, ◌≤◌, ◌∙◌, ◌++◌, ◌∷◌, [], ℕ, List, ap, append_assoc, arith, length, map, refl, reverse, subst, sym}
 use Rattle.std.proofs.lemmas.Bool.{ne_eqb}
 use Rattle.std.proofs.lemmas.List.{length-reverse, reverse-append}
-use Rattle.slot_table.specs.of_access_types_declared.history.Happening.{Happening}
-use Rattle.written_tellings.specs.of_litmus_meaning_Task as meaning
-use Rattle.written_tellings.specs.of_litmus_syntax_Tree.{Block}
-use Rattle.run_headline.specs.of_run_lists_Run.{Run}
-use Rattle.run_headline.specs.of_run_lists_RunList.{RunList}
-use Rattle.run_headline.specs.of_run_lists_Told.{made_by}
-use Rattle.run_headline.proofs.of_run_lists_OwnLasts.{own_latest}
+use Rattle.access_types.specs.declared.history.Happening.{Happening}
+use Rattle.litmus_meaning.specs.Task as meaning
+use Rattle.litmus_syntax.specs.Tree.{Block}
+use Rattle.run_lists.specs.Run.{Run}
+use Rattle.run_lists.specs.RunList.{RunList}
+use Rattle.run_lists.specs.Told.{made_by}
+use Rattle.run_lists.proofs.OwnLasts.{own_latest}
 use Rattle.run_kept.specs.Noted.{AreNoted, IsBegun, IsNoted, Notes}
-use Rattle.written_tellings.specs.of_setup_access_Check.{Fallen}
-use Rattle.written_tellings.specs.of_setup_access_declared.outcome.Outcome.{Outcome}
+use Rattle.setup_access.specs.Check.{Fallen}
+use Rattle.setup_access.specs.declared.outcome.Outcome.{Outcome}
 use Rattle.slot_table.specs.Records.{records_of}
 use Rattle.slot_table.specs.declared.records.Record.{Record}
-use Rattle.run_headline.specs.of_task_log_declared.noted.Noted.{Noted}
-use Rattle.written_tellings.specs.of_written_order_Standing.{Setting}
-use Rattle.written_tellings.specs.of_written_order_Told.{Came, came_of, did_by, did_next, fell_next}
-use Rattle.written_tellings.specs.of_written_order_WrittenOrder.{WrittenOrder}
+use Rattle.task_log.specs.declared.noted.Noted.{Noted}
+use Rattle.written_order.specs.Standing.{Setting}
+use Rattle.written_order.specs.Told.{Came, came_of, did_by, did_next, fell_next}
+use Rattle.written_order.specs.WrittenOrder.{WrittenOrder}
 use Rattle.written_tellings.specs.TellAlike.{TellAlike}
 use Rattle.written_tellings.proofs.Telling.{told_alike}
 

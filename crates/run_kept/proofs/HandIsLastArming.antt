@@ -13,7 +13,7 @@ use Rattle.slot_table.specs.declared.step.Answer.{Answer}
 use Rattle.slot_table.specs.declared.step.Answer.TheVariants as answers
 use Rattle.slot_table.specs.declared.step.Step.{Step}
 use Rattle.slot_table.specs.declared.step.Step.TheVariants as steps
-use Rattle.run_headline.specs.of_task_log_Noted.{armed_by, named_by}
+use Rattle.task_log.specs.Noted.{armed_by, named_by}
 
 -- the watch word that a task's records, the latest first, last set up
 abbrev pub last_word : List Record → Option ℕ

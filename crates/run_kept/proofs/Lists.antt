@@ -6,22 +6,22 @@ use Rattle.std.proofs.lemmas.List.{length-append, length-map, length-reverse}
 use Rattle.std.proofs.lemmas.List.Elements.{All-get_or}
 use Rattle.std.proofs.lemmas.List.Sums.{sum_by-take-le, sum_by_more}
 use Rattle.std.proofs.Math.Nat.{suc-mul}
-use Rattle.slot_table.specs.of_access_types_declared.report.Report.{Report}
-use Rattle.written_tellings.specs.of_litmus_syntax_Limits.{BodyKeepsLimits, KeepsLimits, TaskKeepsLimits, block_repeats}
-use Rattle.written_tellings.specs.of_litmus_syntax_Tree.{Task}
-use Rattle.run_headline.specs.of_run_lists_Reports as lists
-use Rattle.run_headline.specs.of_run_lists_Reports.{reports_of}
-use Rattle.run_headline.specs.of_run_lists_Run.{Run, idle, task_of}
-use Rattle.run_headline.specs.of_run_lists_RunList.{RunList}
-use Rattle.run_headline.specs.of_run_lists_Told.{OutcomeAt, armed_by, came_next, made_by, outcome_at, outcomes_of}
-use Rattle.run_headline.proofs.of_run_lists_OwnLasts.{own_latest}
+use Rattle.access_types.specs.declared.report.Report.{Report}
+use Rattle.litmus_syntax.specs.Limits.{BodyKeepsLimits, KeepsLimits, TaskKeepsLimits, block_repeats}
+use Rattle.litmus_syntax.specs.Tree.{Task}
+use Rattle.run_lists.specs.Reports as lists
+use Rattle.run_lists.specs.Reports.{reports_of}
+use Rattle.run_lists.specs.Run.{Run, idle, task_of}
+use Rattle.run_lists.specs.RunList.{RunList}
+use Rattle.run_lists.specs.Told.{OutcomeAt, armed_by, came_next, made_by, outcome_at, outcomes_of}
+use Rattle.run_lists.proofs.OwnLasts.{own_latest}
 use Rattle.run_kept.specs.Totals.{outcomes_below}
 use Rattle.run_kept.proofs.Sums.{all_came, came_of, counted, no_outcome_below, one_task_came}
 use Rattle.run_kept.proofs.Fallen.{few_fell, fell_by}
-use Rattle.written_tellings.specs.of_setup_access_declared.outcome.Outcome.{Outcome}
+use Rattle.setup_access.specs.declared.outcome.Outcome.{Outcome}
 use Rattle.slot_table.specs.Records.{records_of}
 use Rattle.slot_table.specs.declared.records.Record.{Record}
-use Rattle.written_tellings.specs.of_written_order_Told.{fell_next}
+use Rattle.written_order.specs.Told.{fell_next}
 
 -- some outcome
 abbrev some_came : Option Outcome → Bool

@@ -7,34 +7,34 @@ use Rattle.std.proofs.lemmas.Bool.{ne_eqb}
 use Rattle.std.proofs.lemmas.Bool.Decides.{leb_tells}
 use Rattle.std.proofs.lemmas.List.{append-nil, length-append}
 use Rattle.std.proofs.lemmas.List.Elements.{filter-append}
-use Rattle.slot_table.specs.of_access_types_Access as access
-use Rattle.slot_table.specs.of_access_types_Marked.{CountsAfter, EndsRaised, is_disable, is_enable, marks_of}
-use Rattle.slot_table.specs.of_access_types_declared.history.Happening.{Happening}
-use Rattle.slot_table.specs.of_access_types_declared.history.Happening.TheVariants as happenings
-use Rattle.written_tellings.specs.of_litmus_meaning_Task as meaning
-use Rattle.written_tellings.specs.of_litmus_syntax_Tree.{Block}
-use Rattle.written_tellings.specs.of_memory_operation_Effects.{moments_of, read_moments, write_moments}
-use Rattle.written_tellings.specs.of_memory_operation_Operations.{Operates}
-use Rattle.written_tellings.specs.of_memory_operation_declared.effect.Effect.{Effect}
-use Rattle.written_tellings.specs.of_memory_operation_declared.operation.Operation.{Operation}
-use Rattle.written_tellings.specs.of_memory_operation_declared.operation.Operation.TheVariants as operations
-use Rattle.run_headline.proofs.of_run_lists_Histories.{did_then}
-use Rattle.run_headline.proofs.of_run_lists_DoneOnlyGrows.{Chain, by_later, whole_chain}
-use Rattle.run_headline.specs.of_run_lists_Told as told
+use Rattle.access_types.specs.Access as access
+use Rattle.access_types.specs.Marked.{CountsAfter, EndsRaised, is_disable, is_enable, marks_of}
+use Rattle.access_types.specs.declared.history.Happening.{Happening}
+use Rattle.access_types.specs.declared.history.Happening.TheVariants as happenings
+use Rattle.litmus_meaning.specs.Task as meaning
+use Rattle.litmus_syntax.specs.Tree.{Block}
+use Rattle.memory_operation.specs.Effects.{moments_of, read_moments, write_moments}
+use Rattle.memory_operation.specs.Operations.{Operates}
+use Rattle.memory_operation.specs.declared.effect.Effect.{Effect}
+use Rattle.memory_operation.specs.declared.operation.Operation.{Operation}
+use Rattle.memory_operation.specs.declared.operation.Operation.TheVariants as operations
+use Rattle.run_lists.proofs.Histories.{did_then}
+use Rattle.run_lists.proofs.DoneOnlyGrows.{Chain, by_later, whole_chain}
+use Rattle.run_lists.specs.Told as told
 use Rattle.run_kept.specs.Noted.{IsBegun, IsNoted, begun_by, begun_in}
 use Rattle.run_kept.proofs.Afters.{After, follow_left, walk_left}
 use Rattle.run_kept.proofs.Begun.{NoBeginFirst, NoneBegins, moments_begin_none, none_both, none_by_others, none_first, one_first, reads_begin_none, writes_begin_none}
 use Rattle.run_kept.proofs.Points.{EachDid, before_end, chain_after, each_at, falls_after, from_fewer, goes_on, past, stands_still, up_to_end}
 use Rattle.run_kept.proofs.Unfinished.{Unfinished, unfinished}
 use Rattle.run_headline.specs.Events.{DoesEvent}
-use Rattle.written_tellings.proofs.of_setup_access_QuietSteps.{IsOfCheck, once, rechecks}
-use Rattle.written_tellings.specs.of_setup_access_Check.{Check, ChecksBegun, Fallen, Passes, left_to_check}
-use Rattle.written_tellings.specs.of_setup_access_Fallen.{outcomes_in}
-use Rattle.written_tellings.specs.of_setup_access_Parts.{made}
-use Rattle.written_tellings.specs.of_setup_access_Setting as settings
-use Rattle.written_tellings.specs.of_setup_access_declared.begun.Begun.{Begun}
-use Rattle.written_tellings.specs.of_setup_access_declared.outcome.Outcome.{Outcome}
-use Rattle.written_tellings.proofs.of_setup_access_DisciplineLemmas.{on_word}
+use Rattle.setup_access.proofs.QuietSteps.{IsOfCheck, once, rechecks}
+use Rattle.setup_access.specs.Check.{Check, ChecksBegun, Fallen, Passes, left_to_check}
+use Rattle.setup_access.specs.Fallen.{outcomes_in}
+use Rattle.setup_access.specs.Parts.{made}
+use Rattle.setup_access.specs.Setting as settings
+use Rattle.setup_access.specs.declared.begun.Begun.{Begun}
+use Rattle.setup_access.specs.declared.outcome.Outcome.{Outcome}
+use Rattle.setup_access.proofs.DisciplineLemmas.{on_word}
 use Rattle.slot_table.specs.declared.records.Record.{Record}
 use Rattle.slot_table.specs.declared.step.Answer.{Answer}
 use Rattle.slot_table.specs.declared.step.Step.{Step}
@@ -46,11 +46,11 @@ use Rattle.task_run.specs.Says.{Says}
 use Rattle.task_run.specs.Told.{AllFellFrom, AllFrom, IsTold, last_of}
 use Rattle.task_run.specs.declared.run.TaskRun.{TaskRun}
 use Rattle.task_run.proofs.FellLemmas.{AllShorter}
-use Rattle.task_run.specs.of_text_walk_declared.walk.Walk.{Walk}
-use Rattle.written_tellings.specs.of_written_order_Access.{Makes, operated}
-use Rattle.written_tellings.specs.of_written_order_Standing.{BeginsNow, Point, Setting, Standing, checks_of, doing, point_by}
-use Rattle.written_tellings.specs.of_written_order_Told.{did_by, did_next, fell_next, to_come}
-use Rattle.written_tellings.specs.of_written_order_WrittenOrder.{StepsOfBlock, WrittenOrder, at_first, first_point}
+use Rattle.text_walk.specs.declared.walk.Walk.{Walk}
+use Rattle.written_order.specs.Access.{Makes, operated}
+use Rattle.written_order.specs.Standing.{BeginsNow, Point, Setting, Standing, checks_of, doing, point_by}
+use Rattle.written_order.specs.Told.{did_by, did_next, fell_next, to_come}
+use Rattle.written_order.specs.WrittenOrder.{StepsOfBlock, WrittenOrder, at_first, first_point}
 use Rattle.written_tellings.proofs.Falling.{AllUpTo, IsFalling, falling_way}
 use Rattle.written_tellings.proofs.SureOperations.{add_later, clocks}
 

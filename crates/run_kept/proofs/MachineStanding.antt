@@ -1,12 +1,12 @@
 -- The registers of a machine are those that the records tell.
 use Rattle.std.proofs.Common.{◌≡◌, ◌<◌, ◌≤◌, ◌∙◌, ◌+◌, ◌++◌, ◌∷◌, [], ℕ, List, Option, ap, append_assoc, arith, drop, length, refl, subst, sym}
 use Rattle.std.proofs.lemmas.List.{append-nil, length-append}
-use Rattle.slot_table.specs.of_access_types_Access as access
-use Rattle.slot_table.specs.of_access_types_declared.history.Happening.TheVariants as happenings
-use Rattle.written_tellings.specs.of_litmus_meaning_Task as meaning
-use Rattle.written_tellings.specs.of_litmus_syntax_Tree.{Block}
-use Rattle.written_tellings.specs.of_memory_operation_declared.effect.Effect.{Effect}
-use Rattle.written_tellings.specs.of_memory_operation_declared.operation.Operation.{Operation}
+use Rattle.access_types.specs.Access as access
+use Rattle.access_types.specs.declared.history.Happening.TheVariants as happenings
+use Rattle.litmus_meaning.specs.Task as meaning
+use Rattle.litmus_syntax.specs.Tree.{Block}
+use Rattle.memory_operation.specs.declared.effect.Effect.{Effect}
+use Rattle.memory_operation.specs.declared.operation.Operation.{Operation}
 use Rattle.run_kept.proofs.Afters.{After, follow_left, walk_left}
 use Rattle.slot_table.specs.declared.records.Record.{Record}
 use Rattle.run_kept.proofs.PartNotOver.{Goes, part_goes}
@@ -20,10 +20,10 @@ use Rattle.task_run.specs.declared.machine.Machine.{Machine}
 use Rattle.task_run.specs.declared.run.TaskRun.{TaskRun}
 use Rattle.task_run.specs.declared.stage.Stage.{Stage}
 use Rattle.task_run.specs.declared.stage.Stage.TheVariants as stages
-use Rattle.task_run.specs.of_text_walk_declared.walk.Walk.{Walk}
-use Rattle.written_tellings.specs.of_written_order_Access.{Makes, operated}
-use Rattle.written_tellings.specs.of_written_order_Standing.{Point, Setting, Standing, doing, point_by}
-use Rattle.written_tellings.specs.of_written_order_WrittenOrder.{WrittenOrder, first_point, stands_after}
+use Rattle.text_walk.specs.declared.walk.Walk.{Walk}
+use Rattle.written_order.specs.Access.{Makes, operated}
+use Rattle.written_order.specs.Standing.{Point, Setting, Standing, doing, point_by}
+use Rattle.written_order.specs.WrittenOrder.{WrittenOrder, first_point, stands_after}
 use Rattle.written_tellings.proofs.Falling.{AllUpTo}
 
 below_all : (m n : ℕ) (points : List Point) → m < n → AllUpTo m points → AllBelow n points

@@ -1,26 +1,26 @@
 -- What a machine says of the latest record of a run list is noted of it.
 use Rattle.std.proofs.Common.{◌≡◌, ◌∙◌, ◌++◌, ◌∷◌, [], ℕ, List, Option, ap, length, refl, reverse, subst, sym}
 use Rattle.std.proofs.lemmas.List.{length-reverse, reverse-append}
-use Rattle.written_tellings.specs.of_litmus_syntax_Tree.{Block}
-use Rattle.run_headline.specs.of_run_lists_Run.{Run, task_of, task_setting}
-use Rattle.run_headline.specs.of_run_lists_RunList.{RunList}
-use Rattle.run_headline.specs.of_run_lists_Told.{made_by}
-use Rattle.run_headline.proofs.of_run_lists_OwnLasts.{own_latest}
+use Rattle.litmus_syntax.specs.Tree.{Block}
+use Rattle.run_lists.specs.Run.{Run, task_of, task_setting}
+use Rattle.run_lists.specs.RunList.{RunList}
+use Rattle.run_lists.specs.Told.{made_by}
+use Rattle.run_lists.proofs.OwnLasts.{own_latest}
 use Rattle.run_kept.specs.Noted.{IsBegun, IsNoted}
 use Rattle.run_kept.proofs.MachineMatchesRecords.{says_what_begins, says_what_is_noted}
 use Rattle.run_headline.specs.Events.{DoesEvent, EachDoesItsEvent}
-use Rattle.written_tellings.specs.of_setup_access_declared.begun.Begun.{Begun}
-use Rattle.written_tellings.specs.of_setup_access_declared.outcome.Outcome.{Outcome}
+use Rattle.setup_access.specs.declared.begun.Begun.{Begun}
+use Rattle.setup_access.specs.declared.outcome.Outcome.{Outcome}
 use Rattle.slot_table.specs.Records.{records_of}
 use Rattle.slot_table.specs.declared.records.Record.{Record}
-use Rattle.run_headline.specs.of_task_log_declared.noted.Noted.{Noted}
+use Rattle.task_log.specs.declared.noted.Noted.{Noted}
 use Rattle.task_run.specs.Fell.{FellAt}
 use Rattle.task_run.specs.Leads.{BeginsNext, Leads, stands_at}
 use Rattle.task_run.specs.Says.{Says}
 use Rattle.task_run.specs.declared.run.TaskRun.{TaskRun}
-use Rattle.written_tellings.specs.of_written_order_Standing.{Setting}
-use Rattle.written_tellings.specs.of_written_order_Told.{did_by, did_next}
-use Rattle.written_tellings.specs.of_written_order_WrittenOrder.{WrittenOrder}
+use Rattle.written_order.specs.Standing.{Setting}
+use Rattle.written_order.specs.Told.{did_by, did_next}
+use Rattle.written_order.specs.WrittenOrder.{WrittenOrder}
 
 -- the same of the same records
 same_of : (s : Setting) (registers : ℕ) (body : Block) (P : (r : List Record) → WrittenOrder s registers body r → Type 0) (latest : Record) (made : ℕ)

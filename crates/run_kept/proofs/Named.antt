@@ -1,21 +1,21 @@
 -- Where a verdict falls, the ticket of its access is the last name of its task.
 use Rattle.std.proofs.Common.{◌≡◌, ◌∙◌, ◌++◌, ◌∷◌, [], ℕ, All, Contains, List, Option, Some, ap, arith, length, map, refl, reverse, subst, sym, true}
 use Rattle.std.proofs.lemmas.List.Elements.{All-contains, Contains-append_left, Contains-append_right}
-use Rattle.slot_table.specs.of_access_types_Ticket.{ticket_number}
-use Rattle.run_headline.specs.of_run_lists_Run.{Run, first_cells, locks_of, task_setting}
-use Rattle.run_headline.specs.of_run_lists_RunList.{RunList}
-use Rattle.run_headline.specs.of_run_lists_Told.{Armed, OutcomeAt, armed_by, came_next, made_by, outcome_at, outcomes_by, outcomes_of}
-use Rattle.run_headline.proofs.of_run_lists_OwnLasts.{own_latest}
+use Rattle.access_types.specs.Ticket.{ticket_number}
+use Rattle.run_lists.specs.Run.{Run, first_cells, locks_of, task_setting}
+use Rattle.run_lists.specs.RunList.{RunList}
+use Rattle.run_lists.specs.Told.{Armed, OutcomeAt, armed_by, came_next, made_by, outcome_at, outcomes_by, outcomes_of}
+use Rattle.run_lists.proofs.OwnLasts.{own_latest}
 use Rattle.run_kept.proofs.Naming.{last_name, watch_named}
 use Rattle.run_kept.proofs.OutcomesOfOwnTask.{AllOfTask}
 use Rattle.run_kept.proofs.Verdicts.{fell_own, same_end}
 use Rattle.run_headline.specs.Watches.{IfVerdict, IsOfWatch, is_verdict}
 use Rattle.run_headline.proofs.Lists.{SettledAt, settled_at}
-use Rattle.written_tellings.specs.of_setup_access_Check.{Fallen}
+use Rattle.setup_access.specs.Check.{Fallen}
 use Rattle.slot_table.specs.Records.{records_of}
 use Rattle.slot_table.specs.declared.records.Record.{Record}
 use Rattle.slot_table.proofs.Lists.{Keeps, keeps_before}
-use Rattle.written_tellings.specs.of_written_order_Standing.{checks_of}
+use Rattle.written_order.specs.Standing.{checks_of}
 
 module _ (run : Run) (all : List Record) (list : RunList run all) where
   abbrev Rules : List Record → Type 0

@@ -2,27 +2,27 @@
 use Rattle.std.proofs.Common.{◌≡◌, ◌∙◌, ◌++◌, ◌∷◌, [], inl, inr, ℕ, Bool, true, false, List, MatchBool, None, Option, Some, ap, append_assoc, refl, reverse, subst, sym}
 use Rattle.std.proofs.lemmas.List.{reverse-append}
 use Rattle.std.specs.Option.{option_or}
-use Rattle.slot_table.specs.of_access_types_Access.{Access}
-use Rattle.slot_table.specs.of_access_types_Ticket.{ticket_number}
-use Rattle.written_tellings.specs.of_litmus_syntax_Tree.{Block}
-use Rattle.run_headline.proofs.of_run_lists_CheckFacts.{back}
+use Rattle.access_types.specs.Access.{Access}
+use Rattle.access_types.specs.Ticket.{ticket_number}
+use Rattle.litmus_syntax.specs.Tree.{Block}
+use Rattle.run_lists.proofs.CheckFacts.{back}
 use Rattle.run_kept.specs.Noted.{AreNoted}
-use Rattle.written_tellings.specs.of_setup_access_Found.{Hears, finder_half}
-use Rattle.written_tellings.specs.of_setup_access_Setting.{Setting, slot_of, try_order}
-use Rattle.written_tellings.specs.of_setup_access_Setup.{Arms, Judged, Judges, SetsUp, TriesInsert, WatchesAt}
-use Rattle.written_tellings.specs.of_setup_access_Values.{LoadsFrom, both_values, source_of}
-use Rattle.written_tellings.specs.of_setup_access_Verdicts.{HitOutcome, UntouchedOutcome}
-use Rattle.written_tellings.specs.of_setup_access_declared.outcome.Outcome.{Outcome}
-use Rattle.written_tellings.specs.of_setup_access_declared.source.Source.{Source}
-use Rattle.written_tellings.proofs.of_setup_access_DisciplineLemmas.{on_flag, on_halves, on_word}
-use Rattle.slot_table.specs.of_slot_Pair.{Halves}
+use Rattle.setup_access.specs.Found.{Hears, finder_half}
+use Rattle.setup_access.specs.Setting.{Setting, slot_of, try_order}
+use Rattle.setup_access.specs.Setup.{Arms, Judged, Judges, SetsUp, TriesInsert, WatchesAt}
+use Rattle.setup_access.specs.Values.{LoadsFrom, both_values, source_of}
+use Rattle.setup_access.specs.Verdicts.{HitOutcome, UntouchedOutcome}
+use Rattle.setup_access.specs.declared.outcome.Outcome.{Outcome}
+use Rattle.setup_access.specs.declared.source.Source.{Source}
+use Rattle.setup_access.proofs.DisciplineLemmas.{on_flag, on_halves, on_word}
+use Rattle.slot.specs.Pair.{Halves}
 use Rattle.slot_table.specs.declared.records.Record.{Record}
 use Rattle.slot_table.specs.declared.step.Step.{Step}
 use Rattle.slot_table.specs.declared.step.Step.TheVariants.{CellLoad, Consume, PairLoad}
-use Rattle.run_headline.specs.of_task_log_Noted.{last_of, named, named_by}
-use Rattle.run_headline.specs.of_task_log_declared.noted.Noted.{Noted}
-use Rattle.written_tellings.specs.of_written_order_Standing as tasks
-use Rattle.written_tellings.specs.of_written_order_WrittenOrder.{WrittenOrder}
+use Rattle.task_log.specs.Noted.{last_of, named, named_by}
+use Rattle.task_log.specs.declared.noted.Noted.{Noted}
+use Rattle.written_order.specs.Standing as tasks
+use Rattle.written_order.specs.WrittenOrder.{WrittenOrder}
 
 -- the ticket by which a task's records, the latest first, last named it
 abbrev pub last_name : List Record → Option ℕ

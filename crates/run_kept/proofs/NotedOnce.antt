@@ -2,22 +2,22 @@
 use Rattle.std.proofs.Common.{◌≡◌, ◌↔◌, ◌∙◌, ◌<◌, ◌∷◌, [], ℕ, Bool, IsTrue, List, None, Option, Some, ap, length, refl, subst, sym}
 use Rattle.std.specs.Coded.{le_prop}
 use Rattle.std.specs.Option.{option_to_list}
-use Rattle.slot_table.specs.of_access_types_Access.{Access}
-use Rattle.slot_table.specs.of_access_types_Marked.{CountsAfter, EndsRaised, is_disable, is_enable, marks_of}
-use Rattle.slot_table.specs.of_access_types_declared.history.Happening.{Happening}
-use Rattle.written_tellings.specs.of_litmus_syntax_Tree.{Block}
-use Rattle.run_headline.specs.of_run_lists_Told.{moments_of}
+use Rattle.access_types.specs.Access.{Access}
+use Rattle.access_types.specs.Marked.{CountsAfter, EndsRaised, is_disable, is_enable, marks_of}
+use Rattle.access_types.specs.declared.history.Happening.{Happening}
+use Rattle.litmus_syntax.specs.Tree.{Block}
+use Rattle.run_lists.specs.Told.{moments_of}
 use Rattle.run_kept.specs.Noted.{AreNoted, IsBegun, IsNoted}
-use Rattle.written_tellings.specs.of_setup_access_declared.begun.Begun.{Begun}
-use Rattle.written_tellings.specs.of_setup_access_declared.outcome.Outcome.{Outcome}
+use Rattle.setup_access.specs.declared.begun.Begun.{Begun}
+use Rattle.setup_access.specs.declared.outcome.Outcome.{Outcome}
 use Rattle.slot_table.specs.declared.records.Record.{Record}
 use Rattle.slot_table.specs.declared.step.Answer.{Answer}
 use Rattle.slot_table.specs.declared.step.Step.{Step}
-use Rattle.run_headline.specs.of_task_log_declared.noted.Noted.{Noted}
+use Rattle.task_log.specs.declared.noted.Noted.{Noted}
 use Rattle.task_run.proofs.EndLemmas.{one_answer}
-use Rattle.written_tellings.specs.of_written_order_Standing.{Setting}
-use Rattle.written_tellings.specs.of_written_order_Told.{did_by, did_next}
-use Rattle.written_tellings.specs.of_written_order_WrittenOrder.{WrittenOrder}
+use Rattle.written_order.specs.Standing.{Setting}
+use Rattle.written_order.specs.Told.{did_by, did_next}
+use Rattle.written_order.specs.WrittenOrder.{WrittenOrder}
 
 begun_is : (one other : Begun) → one.access ≡ other.access → one.marked ≡ other.marked → one.silenced ≡ other.silenced → one ≡ other
 begun_is one other same marked silenced =

@@ -7,31 +7,31 @@ use Rattle.std.proofs.lemmas.Bool.{eq-eqb, ne_eqb}
 use Rattle.std.proofs.lemmas.List.Elements.{All-cons, All-contains, All-nil}
 use Rattle.std.proofs.lemmas.List.Concat.{flat_map-cons}
 use Rattle.std.proofs.lemmas.List.Sums.{length-filter, sum_by-append, sum_by-cons}
-use Rattle.slot_table.specs.of_access_types_Arms.{Arm}
-use Rattle.slot_table.specs.of_access_types_Takes.{Take}
-use Rattle.slot_table.specs.of_access_types_declared.arms.ArmOutcome.{ArmOutcome}
-use Rattle.slot_table.specs.of_access_types_declared.arms.ArmOutcome.TheVariants as became_as
-use Rattle.slot_table.specs.of_access_types_declared.arms.HitResult.{HitResult}
-use Rattle.slot_table.specs.of_access_types_declared.arms.HitResult.TheVariants as results
-use Rattle.slot_table.specs.of_access_types_declared.report.Report.{Report}
+use Rattle.access_types.specs.Arms.{Arm}
+use Rattle.access_types.specs.Takes.{Take}
+use Rattle.access_types.specs.declared.arms.ArmOutcome.{ArmOutcome}
+use Rattle.access_types.specs.declared.arms.ArmOutcome.TheVariants as became_as
+use Rattle.access_types.specs.declared.arms.HitResult.{HitResult}
+use Rattle.access_types.specs.declared.arms.HitResult.TheVariants as results
+use Rattle.access_types.specs.declared.report.Report.{Report}
 use Rattle.report_text.specs.Truth.{Pair, hit_in, hits_in, is_pair, is_take, origin_of, origins_in, pair_in, pairs_in, race_in, unknown_in}
 use Rattle.run_kept.proofs.Pairing.{all_paired}
 use Rattle.run_kept.proofs.Tallies.{Worth, all_add_up, by_task, counted_flat, own, same_sums, swapped, total}
-use Rattle.run_headline.specs.of_run_lists_Answers.{AnswersTaking, IfAnswer, IsOfPair, is_answer}
-use Rattle.run_headline.specs.of_run_lists_Reports.{reported, reports_of}
-use Rattle.run_headline.specs.of_run_lists_Run.{Run, first_cells, locks_of}
-use Rattle.run_headline.specs.of_run_lists_RunList.{RunList}
-use Rattle.run_headline.specs.of_run_lists_Told.{Armed, OutcomeAt, came_next, outcomes_by, outcomes_of}
-use Rattle.run_headline.proofs.of_run_lists_OwnLasts.{still_told}
+use Rattle.run_lists.specs.Answers.{AnswersTaking, IfAnswer, IsOfPair, is_answer}
+use Rattle.run_lists.specs.Reports.{reported, reports_of}
+use Rattle.run_lists.specs.Run.{Run, first_cells, locks_of}
+use Rattle.run_lists.specs.RunList.{RunList}
+use Rattle.run_lists.specs.Told.{Armed, OutcomeAt, came_next, outcomes_by, outcomes_of}
+use Rattle.run_lists.proofs.OwnLasts.{still_told}
 use Rattle.run_kept.specs.Lists.{AreArmsOf, AreTakesOf, Became, ByTask, IsHit, take_of, takes_by, verdicts_by}
 use Rattle.run_kept.proofs.Naming.{last_name}
 use Rattle.run_kept.proofs.Settling.{HandSays, Known, Match, Suits}
 use Rattle.run_kept.proofs.Sums.{counted, counted_both}
 use Rattle.run_headline.specs.Takings.{HasOneAnswer, answers, is_armed}
 use Rattle.run_headline.specs.Watches.{IfVerdict, is_verdict}
-use Rattle.written_tellings.specs.of_setup_access_declared.outcome.Outcome.{Outcome}
-use Rattle.written_tellings.specs.of_setup_access_declared.outcome.Outcome.TheVariants as outcomes
-use Rattle.slot_table.specs.of_slot_Pair.{Halves}
+use Rattle.setup_access.specs.declared.outcome.Outcome.{Outcome}
+use Rattle.setup_access.specs.declared.outcome.Outcome.TheVariants as outcomes
+use Rattle.slot.specs.Pair.{Halves}
 use Rattle.slot_table.specs.Armings.{last_arming_number, number_made}
 use Rattle.slot_table.specs.Discipline.{AllAreFinished, heard}
 use Rattle.slot_table.specs.Meetings.{Meeting, finders_told, numbers_met, told_by, told_to}
@@ -42,9 +42,9 @@ use Rattle.slot_table.specs.declared.step.Step.{Step}
 use Rattle.slot_table.specs.declared.step.Step.TheVariants as steps
 use Rattle.slot_table.proofs.Lists.{Keeps}
 use Rattle.slot_table.proofs.Moves.{some_same}
-use Rattle.run_headline.specs.of_task_log_Noted.{dropped}
-use Rattle.written_tellings.specs.of_value_filter_declared.verdict.Reason.{Reason}
-use Rattle.written_tellings.specs.of_value_filter_declared.verdict.Reason.TheVariants.{Encoding, MaskedBits, SameValue}
+use Rattle.task_log.specs.Noted.{dropped}
+use Rattle.value_filter.specs.declared.verdict.Reason.{Reason}
+use Rattle.value_filter.specs.declared.verdict.Reason.TheVariants.{Encoding, MaskedBits, SameValue}
 
 -- this holds of each
 abbrev Each : {X : Type 0} → (X → Type 0) → List X → Type 0

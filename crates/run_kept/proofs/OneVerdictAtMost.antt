@@ -1,30 +1,30 @@
 -- An access that isn't a scoped assertion has one verdict at most.
 use Rattle.std.proofs.Common.{◌+◌, ◌≡◌, ◌≤◌, ◌==◌, ◌&&◌, ◌∙◌, ◌∷◌, ◌++◌, ◌||◌, [], ℕ, Bool, true, false, List, Option, MatchBool, ap, append-nil, append_assoc, arith, count_by, drop, if◌then◌else◌, refl, replicate, subst, sym}
 use Rattle.std.specs.Prelude.{not}
-use Rattle.slot_table.specs.of_access_types_Access as access
-use Rattle.slot_table.specs.of_access_types_Kind.{is_scoped}
-use Rattle.slot_table.specs.of_access_types_Ticket.{ticket_number}
-use Rattle.slot_table.specs.of_access_types_declared.history.Happening.{Happening}
-use Rattle.slot_table.specs.of_access_types_declared.history.Happening.TheVariants as happenings
-use Rattle.written_tellings.specs.of_litmus_meaning_Task as meaning
-use Rattle.written_tellings.specs.of_litmus_syntax_Tree.{Block}
-use Rattle.written_tellings.specs.of_memory_operation_declared.effect.Effect.{Effect}
-use Rattle.written_tellings.specs.of_memory_operation_Effects.{moments_of}
-use Rattle.written_tellings.specs.of_memory_operation_declared.operation.Operation.{Operation}
+use Rattle.access_types.specs.Access as access
+use Rattle.access_types.specs.Kind.{is_scoped}
+use Rattle.access_types.specs.Ticket.{ticket_number}
+use Rattle.access_types.specs.declared.history.Happening.{Happening}
+use Rattle.access_types.specs.declared.history.Happening.TheVariants as happenings
+use Rattle.litmus_meaning.specs.Task as meaning
+use Rattle.litmus_syntax.specs.Tree.{Block}
+use Rattle.memory_operation.specs.declared.effect.Effect.{Effect}
+use Rattle.memory_operation.specs.Effects.{moments_of}
+use Rattle.memory_operation.specs.declared.operation.Operation.{Operation}
 use Rattle.run_headline.specs.Watches.{is_verdict}
-use Rattle.written_tellings.specs.of_setup_access_Check.{Check, Fallen, Pass, Passes, Rechecks, fallen_of, left_to_check}
-use Rattle.written_tellings.specs.of_setup_access_declared.begun.Begun.{Begun}
-use Rattle.written_tellings.proofs.of_setup_access_DisciplineLemmas.{on_word}
+use Rattle.setup_access.specs.Check.{Check, Fallen, Pass, Passes, Rechecks, fallen_of, left_to_check}
+use Rattle.setup_access.specs.declared.begun.Begun.{Begun}
+use Rattle.setup_access.proofs.DisciplineLemmas.{on_word}
 use Rattle.slot_table.specs.declared.records.Record.{Record}
 use Rattle.std.proofs.lemmas.List.Sums.{sum_by-cons}
-use Rattle.written_tellings.specs.of_written_order_Access.{Makes}
-use Rattle.written_tellings.specs.of_written_order_Standing.{Setting, Standing, checks_of, coming, counting, doing, registered}
-use Rattle.written_tellings.specs.of_written_order_WrittenOrder.{ClosesScope, OpensScope, SpellsAll, at_first}
-use Rattle.written_tellings.proofs.of_written_order_AccessLemmas.{access_does, counting_progress, makes_did}
-use Rattle.written_tellings.proofs.of_written_order_ScopesLemmas.{counting_scopes, operated_scopes}
-use Rattle.written_tellings.proofs.of_written_order_WayLemmas.{Begins}
+use Rattle.written_order.specs.Access.{Makes}
+use Rattle.written_order.specs.Standing.{Setting, Standing, checks_of, coming, counting, doing, registered}
+use Rattle.written_order.specs.WrittenOrder.{ClosesScope, OpensScope, SpellsAll, at_first}
+use Rattle.written_order.proofs.AccessLemmas.{access_does, counting_progress, makes_did}
+use Rattle.written_order.proofs.ScopesLemmas.{counting_scopes, operated_scopes}
+use Rattle.written_order.proofs.WayLemmas.{Begins}
 use Rattle.run_kept.proofs.Checked.{count_both, counted}
-use Rattle.written_tellings.proofs.of_written_order_Induction.{Kept, by_block}
+use Rattle.written_order.proofs.Induction.{Kept, by_block}
 
 -- the verdict is on an access of this ticket, which is no scoped assertion
 abbrev pub is_verdict_of : ℕ → Fallen → Bool

@@ -2,34 +2,34 @@
 use Rattle.std.proofs.Common.{◌≡◌, ◌∙◌, ◌≤◌, ◌+◌, ◌*◌, ◌==◌, ◌||◌, ◌++◌, ◌∷◌, [], inl, inr, ℕ, zero, suc, Bool, true, false, List, MatchBool, Option, None, Some, ap, arith, length, not, refl, subst, sym, if◌then◌else◌}
 use Rattle.std.proofs.Math.Nat.{one-mul, suc-mul}
 use Rattle.std.proofs.lemmas.List.{length-append}
-use Rattle.slot_table.specs.of_access_types_Access as access
-use Rattle.slot_table.specs.of_access_types_declared.history.Bytes.{Bytes}
-use Rattle.slot_table.specs.of_access_types_declared.history.Happening.TheVariants as happenings
-use Rattle.slot_table.specs.of_access_types_declared.history.Mark.{Mark}
-use Rattle.slot_table.specs.of_access_types_declared.history.Mark.TheVariants as marks
-use Rattle.slot_table.specs.of_access_types_declared.kind.Kind.{Kind}
-use Rattle.written_tellings.specs.of_litmus_meaning_Calls.{Scoped, scoped_assertion}
-use Rattle.written_tellings.specs.of_litmus_meaning_Loads.{load_in}
-use Rattle.written_tellings.specs.of_litmus_meaning_Meaning.{Chooses, after_condition}
-use Rattle.written_tellings.specs.of_litmus_meaning_Task.{has_lock}
-use Rattle.written_tellings.specs.of_litmus_syntax_Limits.{BlockScopes, StatementScopes, block_repeats, scoped_limit, scopes_of, statement_repeats}
-use Rattle.written_tellings.specs.of_litmus_syntax_Sites.{accesses_of, assignment_has_access, call_has_access, expression_has_access, sites_of}
-use Rattle.written_tellings.specs.of_litmus_syntax_Tree.{Assignment, Block, Expression, Load, Statement}
-use Rattle.written_tellings.specs.of_litmus_syntax_Tree as tree
-use Rattle.written_tellings.specs.of_litmus_syntax_declared.statement.Call.{Call}
-use Rattle.written_tellings.specs.of_litmus_syntax_declared.statement.Call.TheVariants as calls
-use Rattle.written_tellings.specs.of_memory_operation_declared.effect.Effect.{Effect}
-use Rattle.written_tellings.specs.of_memory_operation_declared.operation.Operation.{Operation}
-use Rattle.written_tellings.specs.of_setup_access_Check.{Check, ChecksAll, ChecksBegun, ChecksOnce, Close, Fallen, Pass, Passes, Rechecks, fallen_of, left_to_check}
-use Rattle.written_tellings.specs.of_setup_access_Setting as checks
-use Rattle.written_tellings.specs.of_setup_access_declared.begun.Begun.{Begun}
-use Rattle.written_tellings.proofs.of_setup_access_DisciplineLemmas.{on_word}
+use Rattle.access_types.specs.Access as access
+use Rattle.access_types.specs.declared.history.Bytes.{Bytes}
+use Rattle.access_types.specs.declared.history.Happening.TheVariants as happenings
+use Rattle.access_types.specs.declared.history.Mark.{Mark}
+use Rattle.access_types.specs.declared.history.Mark.TheVariants as marks
+use Rattle.access_types.specs.declared.kind.Kind.{Kind}
+use Rattle.litmus_meaning.specs.Calls.{Scoped, scoped_assertion}
+use Rattle.litmus_meaning.specs.Loads.{load_in}
+use Rattle.litmus_meaning.specs.Meaning.{Chooses, after_condition}
+use Rattle.litmus_meaning.specs.Task.{has_lock}
+use Rattle.litmus_syntax.specs.Limits.{BlockScopes, StatementScopes, block_repeats, scoped_limit, scopes_of, statement_repeats}
+use Rattle.litmus_syntax.specs.Sites.{accesses_of, assignment_has_access, call_has_access, expression_has_access, sites_of}
+use Rattle.litmus_syntax.specs.Tree.{Assignment, Block, Expression, Load, Statement}
+use Rattle.litmus_syntax.specs.Tree as tree
+use Rattle.litmus_syntax.specs.declared.statement.Call.{Call}
+use Rattle.litmus_syntax.specs.declared.statement.Call.TheVariants as calls
+use Rattle.memory_operation.specs.declared.effect.Effect.{Effect}
+use Rattle.memory_operation.specs.declared.operation.Operation.{Operation}
+use Rattle.setup_access.specs.Check.{Check, ChecksAll, ChecksBegun, ChecksOnce, Close, Fallen, Pass, Passes, Rechecks, fallen_of, left_to_check}
+use Rattle.setup_access.specs.Setting as checks
+use Rattle.setup_access.specs.declared.begun.Begun.{Begun}
+use Rattle.setup_access.proofs.DisciplineLemmas.{on_word}
 use Rattle.slot_table.specs.declared.records.Record.{Record}
-use Rattle.written_tellings.specs.of_written_order_Access.{Makes}
-use Rattle.written_tellings.specs.of_written_order_Standing.{Setting, Standing, checks_of, coming, counting, doing}
-use Rattle.written_tellings.specs.of_written_order_WrittenOrder.{ChecksAt, ClosesScope, MakesMark, Only, OpensScope, SpellsAll, Steps, StepsInBlock, StepsInDataRace, StepsOf}
-use Rattle.written_tellings.specs.of_written_order_WrittenOrder.{StepsOfAssignment, StepsOfBlock, StepsOfCall, StepsOfExpression, StepsOfLoad, StepsOfTurns, at_first, marked_so_often}
-use Rattle.written_tellings.proofs.of_written_order_ScopesLemmas.{counting_scopes, operated_scopes}
+use Rattle.written_order.specs.Access.{Makes}
+use Rattle.written_order.specs.Standing.{Setting, Standing, checks_of, coming, counting, doing}
+use Rattle.written_order.specs.WrittenOrder.{ChecksAt, ClosesScope, MakesMark, Only, OpensScope, SpellsAll, Steps, StepsInBlock, StepsInDataRace, StepsOf}
+use Rattle.written_order.specs.WrittenOrder.{StepsOfAssignment, StepsOfBlock, StepsOfCall, StepsOfExpression, StepsOfLoad, StepsOfTurns, at_first, marked_so_often}
+use Rattle.written_order.proofs.ScopesLemmas.{counting_scopes, operated_scopes}
 use Rattle.written_tellings.proofs.BeginsBound.{scaled}
 
 -- a check of an access has one outcome, and those of the scoped assertions in force, at most

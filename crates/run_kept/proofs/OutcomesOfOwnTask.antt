@@ -1,15 +1,15 @@
 -- Each outcome that falls of a task's checks is of an access of that task.
 use Rattle.std.proofs.Common.{◌≡◌, ◌++◌, ◌||◌, ◌∷◌, [], ℕ, Bool, true, false, List, MatchBool, subst, sym}
-use Rattle.written_tellings.specs.of_litmus_syntax_Tree.{Block}
-use Rattle.written_tellings.specs.of_setup_access_Check.{Check, ChecksBegun, Close, Fallen, Passes, Rechecks, left_to_check}
-use Rattle.written_tellings.specs.of_setup_access_OwnAccesses.{AreOwn}
-use Rattle.written_tellings.specs.of_setup_access_Setting as checks
-use Rattle.written_tellings.specs.of_setup_access_declared.begun.Begun.{Begun}
-use Rattle.written_tellings.proofs.of_setup_access_DisciplineLemmas.{on_word}
+use Rattle.litmus_syntax.specs.Tree.{Block}
+use Rattle.setup_access.specs.Check.{Check, ChecksBegun, Close, Fallen, Passes, Rechecks, left_to_check}
+use Rattle.setup_access.specs.OwnAccesses.{AreOwn}
+use Rattle.setup_access.specs.Setting as checks
+use Rattle.setup_access.specs.declared.begun.Begun.{Begun}
+use Rattle.setup_access.proofs.DisciplineLemmas.{on_word}
 use Rattle.slot_table.specs.declared.records.Record.{Record}
-use Rattle.written_tellings.specs.of_written_order_Standing.{Setting, Standing, checks_of, counting}
-use Rattle.written_tellings.specs.of_written_order_WrittenOrder.{SpellsAll, at_first}
-use Rattle.written_tellings.proofs.of_written_order_Induction.{Kept, by_block}
+use Rattle.written_order.specs.Standing.{Setting, Standing, checks_of, counting}
+use Rattle.written_order.specs.WrittenOrder.{SpellsAll, at_first}
+use Rattle.written_order.proofs.Induction.{Kept, by_block}
 
 -- each of these outcomes is of an access of the task
 abbrev pub AllOfTask : ℕ → List Fallen → Type 0

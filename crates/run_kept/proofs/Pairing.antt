@@ -5,14 +5,14 @@ use Rattle.std.specs.Option.{option_map}
 use Rattle.std.proofs.lemmas.Bool.{eq-eqb}
 use Rattle.std.proofs.lemmas.Bool.Decides.{eqb_tells}
 use Rattle.std.proofs.lemmas.List.{append-nil}
-use Rattle.slot_table.specs.of_access_types_Arms.{Arm}
-use Rattle.slot_table.specs.of_access_types_Ticket.{ticket_number}
-use Rattle.slot_table.specs.of_access_types_declared.arms.ArmOutcome.{ArmOutcome}
+use Rattle.access_types.specs.Arms.{Arm}
+use Rattle.access_types.specs.Ticket.{ticket_number}
+use Rattle.access_types.specs.declared.arms.ArmOutcome.{ArmOutcome}
 use Rattle.run_kept.proofs.Named.{named_so, rules_then}
-use Rattle.run_headline.specs.of_run_lists_Run.{Run, first_cells, locks_of}
-use Rattle.run_headline.specs.of_run_lists_RunList.{RunList}
-use Rattle.run_headline.specs.of_run_lists_Told.{Armed, OutcomeAt, armed_by, armed_in, came_next, outcome_at, outcomes_of}
-use Rattle.run_headline.proofs.of_run_lists_OwnLasts.{finder_told, own_latest, own_name, still_told}
+use Rattle.run_lists.specs.Run.{Run, first_cells, locks_of}
+use Rattle.run_lists.specs.RunList.{RunList}
+use Rattle.run_lists.specs.Told.{Armed, OutcomeAt, armed_by, armed_in, came_next, outcome_at, outcomes_of}
+use Rattle.run_lists.proofs.OwnLasts.{finder_told, own_latest, own_name, still_told}
 use Rattle.run_kept.specs.Lists.{AreArmsAt, AreArmsBy, Became, IsArm, verdicts_by}
 use Rattle.run_kept.proofs.HandIsLastArming.{IsNamed, Says, all_say, in_part, last_word}
 use Rattle.run_kept.proofs.Naming.{last_name}
@@ -26,9 +26,9 @@ use Rattle.run_headline.specs.Watches.{IfVerdict, is_verdict}
 use Rattle.run_headline.proofs.Counts.{Answered, Unanswered}
 use Rattle.run_headline.proofs.Falls.{outcomes_in}
 use Rattle.run_headline.proofs.Lists.{SettledAt, settled_at}
-use Rattle.written_tellings.specs.of_setup_access_Check.{Fallen}
-use Rattle.written_tellings.specs.of_setup_access_declared.outcome.Outcome.{Outcome}
-use Rattle.slot_table.specs.of_slot_Pair.{Halves}
+use Rattle.setup_access.specs.Check.{Fallen}
+use Rattle.setup_access.specs.declared.outcome.Outcome.{Outcome}
+use Rattle.slot.specs.Pair.{Halves}
 use Rattle.slot_table.specs.Armings.{last_arming, last_arming_number, named_at, number_made}
 use Rattle.slot_table.specs.Discipline.{Allows, hand_after, heard, heard_after, in_hand}
 use Rattle.slot_table.specs.Meetings.{finders_told}

@@ -1,30 +1,30 @@
 -- A part of a text that a machine is in is not over by its records so far: what completes them has one of it at least.
 use Rattle.std.proofs.Common.{◌≡◌, ◌<◌, ◌∙◌, ◌+◌, ◌++◌, ◌∷◌, [], inl, inr, ℕ, Bool, true, false, List, Option, ap, append_assoc, arith, length, refl, subst, sym}
 use Rattle.std.proofs.lemmas.List.{append-nil, length-append}
-use Rattle.run_headline.proofs.of_access_run_CheckFronts.{check, close, framed_checks, makes_access, operates}
-use Rattle.run_headline.proofs.of_access_run_WholeLemmas.{split}
-use Rattle.run_headline.specs.of_access_run_Access.{MakesAccess}
-use Rattle.run_headline.specs.of_access_run_Leads.{AccessIsDone, StageLeads}
-use Rattle.run_headline.specs.of_access_run_Moved.{FramedChecks, moved}
-use Rattle.run_headline.specs.of_access_run_Whole.{NoneWhole}
-use Rattle.run_headline.specs.of_access_run_declared.stage.Stage.{Stage}
-use Rattle.run_headline.specs.of_access_run_declared.stage.Stage.TheVariants as own_stages
-use Rattle.slot_table.specs.of_access_types_Access as access
-use Rattle.written_tellings.proofs.of_memory_operation_FrameLemmas.{lock_front}
-use Rattle.written_tellings.proofs.of_memory_operation_Fronts.{framed}
-use Rattle.written_tellings.specs.of_memory_operation_LockLeads.{LockLeads, LockLeft}
-use Rattle.written_tellings.specs.of_memory_operation_Locks.{TakesLock}
-use Rattle.written_tellings.specs.of_memory_operation_Operations.{Operates}
-use Rattle.written_tellings.specs.of_memory_operation_declared.effect.Effect.{Effect}
-use Rattle.written_tellings.specs.of_memory_operation_declared.lock.LockWait.{LockWait}
-use Rattle.written_tellings.specs.of_memory_operation_declared.operation.Operation.{Operation}
-use Rattle.written_tellings.proofs.of_setup_access_LeadsLemmas.{same_ends}
-use Rattle.written_tellings.specs.of_setup_access_Check.{Check, Close, Passes}
-use Rattle.written_tellings.specs.of_setup_access_Parts.{made}
-use Rattle.written_tellings.specs.of_setup_access_Records.{MakesDone, MakesWord}
-use Rattle.written_tellings.specs.of_setup_access_Setting as settings
-use Rattle.written_tellings.specs.of_setup_access_declared.begun.Begun.{Begun}
-use Rattle.written_tellings.specs.of_setup_access_declared.checker.Checker.{Checker}
+use Rattle.access_run.proofs.CheckFronts.{check, close, framed_checks, makes_access, operates}
+use Rattle.access_run.proofs.WholeLemmas.{split}
+use Rattle.access_run.specs.Access.{MakesAccess}
+use Rattle.access_run.specs.Leads.{AccessIsDone, StageLeads}
+use Rattle.access_run.specs.Moved.{FramedChecks, moved}
+use Rattle.access_run.specs.Whole.{NoneWhole}
+use Rattle.access_run.specs.declared.stage.Stage.{Stage}
+use Rattle.access_run.specs.declared.stage.Stage.TheVariants as own_stages
+use Rattle.access_types.specs.Access as access
+use Rattle.memory_operation.proofs.FrameLemmas.{lock_front}
+use Rattle.memory_operation.proofs.Fronts.{framed}
+use Rattle.memory_operation.specs.LockLeads.{LockLeads, LockLeft}
+use Rattle.memory_operation.specs.Locks.{TakesLock}
+use Rattle.memory_operation.specs.Operations.{Operates}
+use Rattle.memory_operation.specs.declared.effect.Effect.{Effect}
+use Rattle.memory_operation.specs.declared.lock.LockWait.{LockWait}
+use Rattle.memory_operation.specs.declared.operation.Operation.{Operation}
+use Rattle.setup_access.proofs.LeadsLemmas.{same_ends}
+use Rattle.setup_access.specs.Check.{Check, Close, Passes}
+use Rattle.setup_access.specs.Parts.{made}
+use Rattle.setup_access.specs.Records.{MakesDone, MakesWord}
+use Rattle.setup_access.specs.Setting as settings
+use Rattle.setup_access.specs.declared.begun.Begun.{Begun}
+use Rattle.setup_access.specs.declared.checker.Checker.{Checker}
 use Rattle.slot_table.specs.declared.records.Record.{Record}
 use Rattle.slot_table.specs.declared.step.Answer.TheVariants as answers
 use Rattle.slot_table.specs.declared.step.Step.TheVariants.{Clock, LockStore, LockTry}
@@ -33,9 +33,9 @@ use Rattle.task_run.specs.Agrees.{IsIn}
 use Rattle.task_run.specs.Part.{Part, closes, locks, makes, opens, over, stops, unlocks}
 use Rattle.task_run.specs.declared.machine.Machine.{Machine}
 use Rattle.task_run.specs.declared.stage.Stage as machine_stages
-use Rattle.written_tellings.specs.of_written_order_Access.{Makes}
-use Rattle.written_tellings.specs.of_written_order_Standing.{Setting, Standing, checks_of, lock_number}
-use Rattle.written_tellings.specs.of_written_order_WrittenOrder.{ClosesScope, OpensScope}
+use Rattle.written_order.specs.Access.{Makes}
+use Rattle.written_order.specs.Standing.{Setting, Standing, checks_of, lock_number}
+use Rattle.written_order.specs.WrittenOrder.{ClosesScope, OpensScope}
 
 -- where no beginning of the records is so, a part that is so has one record more at least
 shorter : (P : List Record → Type 0) (mine more part rest : List Record)

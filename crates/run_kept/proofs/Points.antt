@@ -2,10 +2,10 @@
 use Rattle.std.proofs.Common.{◌≡◌, ◌∙◌, ◌<◌, ◌≤◌, ◌++◌, ◌∷◌, [], inl, inr, ℕ, List, arith, refl}
 use Rattle.std.proofs.lemmas.Bool.{le-leb}
 use Rattle.std.proofs.lemmas.Bool.Decides.{leb_tells}
-use Rattle.slot_table.specs.of_access_types_declared.history.Happening.{Happening}
-use Rattle.run_headline.proofs.of_run_lists_DoneOnlyGrows.{Chain}
+use Rattle.access_types.specs.declared.history.Happening.{Happening}
+use Rattle.run_lists.proofs.DoneOnlyGrows.{Chain}
 use Rattle.task_run.specs.Told.{AllFrom, last_of}
-use Rattle.written_tellings.specs.of_written_order_Standing.{Point, point_by}
+use Rattle.written_order.specs.Standing.{Point, point_by}
 use Rattle.written_tellings.proofs.Falling.{AllUpTo, IsFalling}
 
 pub from_fewer : (n m : ℕ) (points : List Point) → m ≤ n → AllFrom n points → AllFrom m points

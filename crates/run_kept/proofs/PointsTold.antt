@@ -3,14 +3,14 @@ use Rattle.std.proofs.Common.{◌≡◌, ◌<◌, ◌≤◌, ◌++◌, ◌∷◌
 use Rattle.std.proofs.lemmas.Bool.{le-leb}
 use Rattle.std.proofs.lemmas.Bool.Decides.{leb_tells}
 use Rattle.std.proofs.lemmas.List.{append-nil}
-use Rattle.slot_table.specs.of_access_types_Access as access
-use Rattle.written_tellings.specs.of_memory_operation_declared.effect.Effect.{Effect}
-use Rattle.written_tellings.specs.of_memory_operation_declared.operation.Operation.{Operation}
-use Rattle.written_tellings.specs.of_memory_operation_declared.operation.Operation.TheVariants as operations
+use Rattle.access_types.specs.Access as access
+use Rattle.memory_operation.specs.declared.effect.Effect.{Effect}
+use Rattle.memory_operation.specs.declared.operation.Operation.{Operation}
+use Rattle.memory_operation.specs.declared.operation.Operation.TheVariants as operations
 use Rattle.slot_table.specs.declared.records.Record.{Record}
 use Rattle.task_run.specs.Told.{AllFrom, last_of}
-use Rattle.written_tellings.specs.of_written_order_Access.{operated}
-use Rattle.written_tellings.specs.of_written_order_Standing.{Point, Standing, point_by}
+use Rattle.written_order.specs.Access.{operated}
+use Rattle.written_order.specs.Standing.{Point, Standing, point_by}
 
 -- with these registers, and so many calls that had nothing to end
 abbrev pub IsAs : List ℕ → ℕ → Point → Type 0

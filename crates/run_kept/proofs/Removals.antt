@@ -3,9 +3,9 @@ use Rattle.std.proofs.Common.{◌≡◌, ◌∙◌, ◌++◌, ◌∷◌, [], inl
 use Rattle.std.specs.Option.{option_or}
 use Rattle.std.proofs.lemmas.Bool.Decides.{eqb_tells}
 use Rattle.std.proofs.lemmas.List.{append-nil, map-append}
-use Rattle.slot_table.specs.of_access_types_Arms.{Arm}
-use Rattle.written_tellings.specs.of_litmus_syntax_Tree.{Block}
-use Rattle.run_headline.proofs.of_run_lists_OwnLasts.{own_latest, own_name, own_word}
+use Rattle.access_types.specs.Arms.{Arm}
+use Rattle.litmus_syntax.specs.Tree.{Block}
+use Rattle.run_lists.proofs.OwnLasts.{own_latest, own_name, own_word}
 use Rattle.run_kept.specs.Noted.{AreNoted}
 use Rattle.run_kept.specs.Removed.{Removed, as_removed, removed_at, removed_by}
 use Rattle.run_kept.proofs.HandIsLastArming.{AreOf, IsNamed, Says, all_say, in_part, last_word}
@@ -22,11 +22,11 @@ use Rattle.slot_table.proofs.Lists.{Keeps, allowed_at, fits_all, keeps_before, v
 use Rattle.slot_table.proofs.Moves.{is_setter}
 use Rattle.slot_table.proofs.Phases.{Fits, View}
 use Rattle.slot_table.proofs.Steps.{here_part}
-use Rattle.run_headline.specs.of_task_log_Arms.{arm_removed, arms_at, arms_of, setter_named}
-use Rattle.run_headline.specs.of_task_log_Noted.{armed, armed_by, last_of}
-use Rattle.run_headline.specs.of_task_log_declared.noted.Noted.{Noted}
-use Rattle.written_tellings.specs.of_written_order_Standing.{Setting}
-use Rattle.written_tellings.specs.of_written_order_WrittenOrder.{WrittenOrder}
+use Rattle.task_log.specs.Arms.{arm_removed, arms_at, arms_of, setter_named}
+use Rattle.task_log.specs.Noted.{armed, armed_by, last_of}
+use Rattle.task_log.specs.declared.noted.Noted.{Noted}
+use Rattle.written_order.specs.Standing.{Setting}
+use Rattle.written_order.specs.WrittenOrder.{WrittenOrder}
 
 pub words_noted : {s : Setting} {registers : ℕ} {body : Block} {records : List Record} (written : WrittenOrder s registers body records) (own : List Record)
     (noted : List Noted) → AreNoted written own noted → last_of armed noted ≡ last_word own

@@ -6,15 +6,15 @@ use Rattle.std.proofs.lemmas.Bool.{eq-eqb, ne_eqb}
 use Rattle.std.proofs.lemmas.Bool.Decides.{eqb_tells}
 use Rattle.std.proofs.lemmas.List.{append-nil}
 use Rattle.std.proofs.lemmas.List.Elements.{All-contains, filter-append, filter_map-append}
-use Rattle.slot_table.specs.of_access_types_Ticket.{task_in, ticket_number}
-use Rattle.slot_table.specs.of_access_types_declared.report.Report.{Report}
-use Rattle.slot_table.specs.of_access_types_declared.report.Report.TheVariants as reports
-use Rattle.run_headline.specs.of_run_lists_Answers.{AnswersTaking, IfAnswer, IsOfPair, is_answer}
-use Rattle.run_headline.specs.of_run_lists_Reports as lists
-use Rattle.run_headline.specs.of_run_lists_Run.{Run, first_cells, locks_of}
-use Rattle.run_headline.specs.of_run_lists_RunList.{RunList}
-use Rattle.run_headline.specs.of_run_lists_Told.{Armed, OutcomeAt, armed_by, came_next, made_by, outcome_at, outcomes_by, outcomes_of}
-use Rattle.run_headline.proofs.of_run_lists_OwnLasts.{own_latest}
+use Rattle.access_types.specs.Ticket.{task_in, ticket_number}
+use Rattle.access_types.specs.declared.report.Report.{Report}
+use Rattle.access_types.specs.declared.report.Report.TheVariants as reports
+use Rattle.run_lists.specs.Answers.{AnswersTaking, IfAnswer, IsOfPair, is_answer}
+use Rattle.run_lists.specs.Reports as lists
+use Rattle.run_lists.specs.Run.{Run, first_cells, locks_of}
+use Rattle.run_lists.specs.RunList.{RunList}
+use Rattle.run_lists.specs.Told.{Armed, OutcomeAt, armed_by, came_next, made_by, outcome_at, outcomes_by, outcomes_of}
+use Rattle.run_lists.proofs.OwnLasts.{own_latest}
 use Rattle.run_kept.specs.Noted.{AreNoted, IsNoted, Notes}
 use Rattle.run_kept.proofs.Naming.{last_name, names_noted}
 use Rattle.run_kept.proofs.Named.{named_so, rules_then, told_there}
@@ -23,10 +23,10 @@ use Rattle.run_headline.specs.Settles.{Settles}
 use Rattle.run_headline.specs.Watches.{IfVerdict, is_verdict}
 use Rattle.run_headline.proofs.Falls.{outcomes_in}
 use Rattle.run_headline.proofs.Lists.{SettledAt, settled_at}
-use Rattle.written_tellings.specs.of_setup_access_Check.{Fallen}
-use Rattle.written_tellings.specs.of_setup_access_declared.outcome.Outcome.{Outcome}
-use Rattle.written_tellings.specs.of_setup_access_declared.outcome.Outcome.TheVariants as outcomes
-use Rattle.slot_table.specs.of_slot_Pair.{Halves}
+use Rattle.setup_access.specs.Check.{Fallen}
+use Rattle.setup_access.specs.declared.outcome.Outcome.{Outcome}
+use Rattle.setup_access.specs.declared.outcome.Outcome.TheVariants as outcomes
+use Rattle.slot.specs.Pair.{Halves}
 use Rattle.slot_table.specs.Discipline.{Allows, Discipline, in_hand}
 use Rattle.slot_table.specs.Records.{records_of}
 use Rattle.slot_table.specs.declared.discipline.InHand.{InHand}
@@ -36,12 +36,12 @@ use Rattle.slot_table.specs.declared.step.Step.{Step}
 use Rattle.slot_table.specs.declared.step.Step.TheVariants as steps
 use Rattle.slot_table.proofs.Lists.{Keeps}
 use Rattle.slot_table.proofs.Moves.{some_same}
-use Rattle.run_headline.specs.of_task_log_Arms.{setter_named}
-use Rattle.run_headline.specs.of_task_log_Noted.{named_by}
-use Rattle.run_headline.specs.of_task_log_Reports as logs
-use Rattle.run_headline.specs.of_task_log_Reports.{reported_in}
-use Rattle.run_headline.specs.of_task_log_declared.noted.Noted.{Noted}
-use Rattle.written_tellings.specs.of_written_order_Told.{fell_next}
+use Rattle.task_log.specs.Arms.{setter_named}
+use Rattle.task_log.specs.Noted.{named_by}
+use Rattle.task_log.specs.Reports as logs
+use Rattle.task_log.specs.Reports.{reported_in}
+use Rattle.task_log.specs.declared.noted.Noted.{Noted}
+use Rattle.written_order.specs.Told.{fell_next}
 
 -- a task's last name is a ticket of its own
 named_now : (task : ℕ) (own : List Record) (step : Step) (ticket : ℕ) → Allows task own step

@@ -5,15 +5,15 @@ use Rattle.std.specs.List.{cons_option, filter_map}
 use Rattle.std.specs.Option.{option_or, option_to_list}
 use Rattle.std.proofs.lemmas.List.{length-append, length-reverse, reverse-append}
 use Rattle.std.proofs.lemmas.List.Elements.{All-contains, Contains-append_right, filter_map-append}
-use Rattle.slot_table.specs.of_access_types_Ticket.{ticket_number}
-use Rattle.slot_table.specs.of_access_types_declared.report.Report.{Report}
-use Rattle.slot_table.specs.of_access_types_declared.report.Report.TheVariants as reports
-use Rattle.run_headline.specs.of_run_lists_Reports as lists
-use Rattle.run_headline.specs.of_run_lists_Reports.{reports_by, reports_of}
-use Rattle.run_headline.specs.of_run_lists_Run.{Run, task_of, task_setting}
-use Rattle.run_headline.specs.of_run_lists_RunList.{RunList}
-use Rattle.run_headline.specs.of_run_lists_Told.{Armed, OutcomeAt, armed_by, came_next, made_by, outcome_at, outcomes_by, outcomes_of}
-use Rattle.run_headline.proofs.of_run_lists_OwnLasts.{own_latest, own_split}
+use Rattle.access_types.specs.Ticket.{ticket_number}
+use Rattle.access_types.specs.declared.report.Report.{Report}
+use Rattle.access_types.specs.declared.report.Report.TheVariants as reports
+use Rattle.run_lists.specs.Reports as lists
+use Rattle.run_lists.specs.Reports.{reports_by, reports_of}
+use Rattle.run_lists.specs.Run.{Run, task_of, task_setting}
+use Rattle.run_lists.specs.RunList.{RunList}
+use Rattle.run_lists.specs.Told.{Armed, OutcomeAt, armed_by, came_next, made_by, outcome_at, outcomes_by, outcomes_of}
+use Rattle.run_lists.proofs.OwnLasts.{own_latest, own_split}
 use Rattle.run_kept.specs.Noted.{AreNoted, IsNoted, Notes}
 use Rattle.run_kept.proofs.Growth.{one_more_listed}
 use Rattle.run_kept.proofs.Naming.{last_name, names_noted, watch_named}
@@ -21,9 +21,9 @@ use Rattle.run_kept.proofs.OutcomesOfOwnTask.{AllOfTask, whole_own}
 use Rattle.run_headline.specs.Settles.{Settles}
 use Rattle.run_headline.specs.Takings.{EachSettles}
 use Rattle.run_headline.specs.Watches.{IfVerdict, IsOfWatch, is_verdict}
-use Rattle.written_tellings.specs.of_setup_access_Check.{Fallen}
-use Rattle.written_tellings.specs.of_setup_access_declared.outcome.Outcome.{Outcome}
-use Rattle.written_tellings.specs.of_setup_access_declared.outcome.Outcome.TheVariants as outcomes
+use Rattle.setup_access.specs.Check.{Fallen}
+use Rattle.setup_access.specs.declared.outcome.Outcome.{Outcome}
+use Rattle.setup_access.specs.declared.outcome.Outcome.TheVariants as outcomes
 use Rattle.slot_table.specs.Discipline.{in_hand}
 use Rattle.slot_table.specs.Records.{records_of}
 use Rattle.slot_table.specs.declared.discipline.InHand.{InHand}
@@ -31,12 +31,12 @@ use Rattle.slot_table.specs.declared.records.Record.{Record}
 use Rattle.slot_table.specs.declared.step.Answer.{Answer}
 use Rattle.slot_table.specs.declared.step.Step.{Step}
 use Rattle.slot_table.specs.declared.step.Step.TheVariants as steps
-use Rattle.run_headline.specs.of_task_log_Arms.{setter_named}
-use Rattle.run_headline.specs.of_task_log_Noted.{named_by}
-use Rattle.run_headline.specs.of_task_log_Reports as logs
-use Rattle.run_headline.specs.of_task_log_declared.noted.Noted.{Noted}
-use Rattle.written_tellings.specs.of_written_order_Standing.{checks_of}
-use Rattle.written_tellings.specs.of_written_order_Told.{Came, came_of, fell_next, to_come}
+use Rattle.task_log.specs.Arms.{setter_named}
+use Rattle.task_log.specs.Noted.{named_by}
+use Rattle.task_log.specs.Reports as logs
+use Rattle.task_log.specs.declared.noted.Noted.{Noted}
+use Rattle.written_order.specs.Standing.{checks_of}
+use Rattle.written_order.specs.Told.{Came, came_of, fell_next, to_come}
 use Rattle.written_tellings.specs.TellAlike.{TellAlike}
 use Rattle.written_tellings.proofs.Telling.{told_alike}
 

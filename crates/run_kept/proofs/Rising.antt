@@ -6,21 +6,21 @@ use Rattle.std.proofs.lemmas.List.{map-append}
 use Rattle.std.proofs.lemmas.List.Elements.{All-cons, All-nil}
 use Rattle.std.proofs.lemmas.List.Kept.{AllPairs-cons}
 use Rattle.std.proofs.lemmas.List.Sums.{sum_by-cons}
-use Rattle.slot_table.specs.of_access_types_Stamped.{Stamped}
-use Rattle.run_headline.specs.of_run_lists_Run.{Run}
-use Rattle.run_headline.specs.of_run_lists_RunList.{RunList}
-use Rattle.run_headline.proofs.of_run_lists_OwnLasts.{own_latest}
+use Rattle.access_types.specs.Stamped.{Stamped}
+use Rattle.run_lists.specs.Run.{Run}
+use Rattle.run_lists.specs.RunList.{RunList}
+use Rattle.run_lists.proofs.OwnLasts.{own_latest}
 use Rattle.run_kept.specs.Noted.{AreNoted, Notes}
-use Rattle.written_tellings.specs.of_setup_access_declared.begun.Begun.{Begun}
+use Rattle.setup_access.specs.declared.begun.Begun.{Begun}
 use Rattle.slot_table.specs.Records.{records_of}
 use Rattle.slot_table.specs.declared.records.Record.{Record}
 use Rattle.slot_table.specs.declared.step.Answer.{Answer}
 use Rattle.slot_table.specs.declared.step.Answer.TheVariants as answers
 use Rattle.slot_table.specs.declared.step.Step.{Step}
 use Rattle.slot_table.specs.declared.step.Step.TheVariants as steps
-use Rattle.run_headline.specs.of_task_log_Touches.{accesses_of, end_newest, goes_on, stamped, touches_at, touches_of}
-use Rattle.run_headline.specs.of_task_log_declared.noted.Noted.{Noted}
-use Rattle.run_headline.specs.of_task_log_declared.touches.Touch.{Touch}
+use Rattle.task_log.specs.Touches.{accesses_of, end_newest, goes_on, stamped, touches_at, touches_of}
+use Rattle.task_log.specs.declared.noted.Noted.{Noted}
+use Rattle.task_log.specs.declared.touches.Touch.{Touch}
 use Rattle.run_kept.specs.Stamps.{is_clock, stamps_in}
 
 -- numbers that rise, from one on, and stay below another

@@ -3,25 +3,25 @@ use Rattle.std.proofs.Common.{◌≡◌, ◌∙◌, ◌≤◌, ◌+◌, ◌++◌
 use Rattle.std.specs.List.{list_any}
 use Rattle.std.specs.Option.{option_to_list}
 use Rattle.std.proofs.lemmas.List.{length-append}
-use Rattle.slot_table.specs.of_access_types_Access.{Access}
-use Rattle.slot_table.specs.of_access_types_declared.history.Happening.{Happening}
-use Rattle.slot_table.specs.of_access_types_declared.history.Happening.TheVariants as happenings
-use Rattle.written_tellings.specs.of_litmus_syntax_Tree.{Block}
-use Rattle.run_headline.proofs.of_run_lists_Histories.{did_then}
+use Rattle.access_types.specs.Access.{Access}
+use Rattle.access_types.specs.declared.history.Happening.{Happening}
+use Rattle.access_types.specs.declared.history.Happening.TheVariants as happenings
+use Rattle.litmus_syntax.specs.Tree.{Block}
+use Rattle.run_lists.proofs.Histories.{did_then}
 use Rattle.run_kept.specs.Noted.{AreNoted, IsBegun, begun_in}
 use Rattle.run_kept.proofs.Sums.{counted, counted_both}
-use Rattle.written_tellings.specs.of_setup_access_declared.begun.Begun.{Begun}
+use Rattle.setup_access.specs.declared.begun.Begun.{Begun}
 use Rattle.slot_table.specs.declared.records.Record.{Record}
 use Rattle.slot_table.specs.declared.step.Answer.{Answer}
 use Rattle.slot_table.specs.declared.step.Answer.TheVariants as answers
 use Rattle.slot_table.specs.declared.step.Step.{Step}
 use Rattle.slot_table.specs.declared.step.Step.TheVariants as steps
-use Rattle.run_headline.specs.of_task_log_Touches.{end_newest, goes_on, touches_at, touches_of}
-use Rattle.run_headline.specs.of_task_log_declared.noted.Noted.{Noted}
-use Rattle.run_headline.specs.of_task_log_declared.touches.Touch.{Touch}
-use Rattle.written_tellings.specs.of_written_order_Standing.{Setting}
-use Rattle.written_tellings.specs.of_written_order_Told.{did_by, did_next}
-use Rattle.written_tellings.specs.of_written_order_WrittenOrder.{WrittenOrder}
+use Rattle.task_log.specs.Touches.{end_newest, goes_on, touches_at, touches_of}
+use Rattle.task_log.specs.declared.noted.Noted.{Noted}
+use Rattle.task_log.specs.declared.touches.Touch.{Touch}
+use Rattle.written_order.specs.Standing.{Setting}
+use Rattle.written_order.specs.Told.{did_by, did_next}
+use Rattle.written_order.specs.WrittenOrder.{WrittenOrder}
 use Rattle.written_tellings.specs.Begins.{begins_in, is_begin}
 
 same_length : (stamp : ℕ) (touches : List Touch) → length (end_newest stamp touches) ≡ length touches

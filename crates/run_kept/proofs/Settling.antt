@@ -3,13 +3,13 @@ use Rattle.std.proofs.Common.{◌≡◌, ◌≢◌, ◌∙◌, ◌⊎◌, ◌<�
 use Rattle.std.specs.Option.{option_or}
 use Rattle.std.proofs.lemmas.Bool.{eq-eqb}
 use Rattle.std.proofs.lemmas.Bool.Decides.{eqb_tells}
-use Rattle.slot_table.specs.of_access_types_Arms.{Arm}
-use Rattle.slot_table.specs.of_access_types_Ticket.{ticket_number}
-use Rattle.slot_table.specs.of_access_types_declared.arms.ArmOutcome.{ArmOutcome}
-use Rattle.run_headline.specs.of_run_lists_Told.{OutcomeAt}
+use Rattle.access_types.specs.Arms.{Arm}
+use Rattle.access_types.specs.Ticket.{ticket_number}
+use Rattle.access_types.specs.declared.arms.ArmOutcome.{ArmOutcome}
+use Rattle.run_lists.specs.Told.{OutcomeAt}
 use Rattle.run_kept.specs.Lists.{Became}
 use Rattle.run_headline.proofs.Falls.{ClearsNext}
-use Rattle.slot_table.specs.of_slot_Pair.{Halves}
+use Rattle.slot.specs.Pair.{Halves}
 use Rattle.slot_table.specs.Armings.{number_made_after}
 use Rattle.slot_table.specs.Discipline.{Allows, hand_after, heard, heard_after, in_hand}
 use Rattle.slot_table.specs.declared.discipline.InHand.{InHand}
@@ -20,7 +20,7 @@ use Rattle.slot_table.specs.declared.step.Answer.{Answer}
 use Rattle.slot_table.specs.declared.step.Answer.TheVariants as answers
 use Rattle.slot_table.specs.declared.step.Step.{Step}
 use Rattle.slot_table.specs.declared.step.Step.TheVariants as steps
-use Rattle.run_headline.specs.of_task_log_Noted.{named_by}
+use Rattle.task_log.specs.Noted.{named_by}
 
 -- what is known of a task: the verdicts that fell, the armings that are over, its last name, the number of its last
 -- arming at each index, and what last became of one

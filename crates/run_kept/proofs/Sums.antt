@@ -6,25 +6,25 @@ use Rattle.std.proofs.lemmas.Bool.{eq-eqb, le-ltb, lt-ltb, ne_eqb}
 use Rattle.std.proofs.lemmas.Bool.Decides.{eqb_tells, leb_tells}
 use Rattle.std.proofs.lemmas.List.{append-nil, length-append, length-reverse}
 use Rattle.std.proofs.lemmas.List.Sums.{sum_by-cons}
-use Rattle.written_tellings.specs.of_litmus_syntax_Tree.{Block, Task}
-use Rattle.written_tellings.specs.of_litmus_syntax_Tree as tree
-use Rattle.run_headline.specs.of_run_lists_Run.{Run, idle, task_of, task_setting}
-use Rattle.run_headline.specs.of_run_lists_RunList.{RunList}
-use Rattle.run_headline.specs.of_run_lists_Told.{Armed, OutcomeAt, armed_by, came_next, made_by, outcome_at, outcomes_by}
-use Rattle.run_headline.proofs.of_run_lists_OwnLasts.{own_latest, own_split}
+use Rattle.litmus_syntax.specs.Tree.{Block, Task}
+use Rattle.litmus_syntax.specs.Tree as tree
+use Rattle.run_lists.specs.Run.{Run, idle, task_of, task_setting}
+use Rattle.run_lists.specs.RunList.{RunList}
+use Rattle.run_lists.specs.Told.{Armed, OutcomeAt, armed_by, came_next, made_by, outcome_at, outcomes_by}
+use Rattle.run_lists.proofs.OwnLasts.{own_latest, own_split}
 use Rattle.run_kept.specs.Noted.{AreNoted, IsNoted, NotesBy}
 use Rattle.run_kept.specs.Totals.{outcomes_below}
-use Rattle.written_tellings.specs.of_setup_access_Check.{Fallen}
-use Rattle.written_tellings.specs.of_setup_access_declared.outcome.Outcome.{Outcome}
+use Rattle.setup_access.specs.Check.{Fallen}
+use Rattle.setup_access.specs.declared.outcome.Outcome.{Outcome}
 use Rattle.slot_table.specs.Records.{records_of}
 use Rattle.slot_table.specs.declared.records.Record.{Record}
 use Rattle.slot_table.specs.declared.step.Answer.{Answer}
 use Rattle.slot_table.specs.declared.step.Step.{Step}
-use Rattle.run_headline.specs.of_task_log_Counters.{resting, together}
-use Rattle.run_headline.specs.of_task_log_declared.noted.Noted.{Noted}
-use Rattle.written_tellings.specs.of_written_order_Standing.{Setting}
-use Rattle.written_tellings.specs.of_written_order_Told.{fell_next}
-use Rattle.written_tellings.specs.of_written_order_WrittenOrder.{WrittenOrder}
+use Rattle.task_log.specs.Counters.{resting, together}
+use Rattle.task_log.specs.declared.noted.Noted.{Noted}
+use Rattle.written_order.specs.Standing.{Setting}
+use Rattle.written_order.specs.Told.{fell_next}
+use Rattle.written_order.specs.WrittenOrder.{WrittenOrder}
 
 pub counted : {X : Type 0} (p : X → Bool) (x : X) (xs : List X) → count_by p (x ∷ xs) ≡ cond (p x) 1 0 + count_by p xs
 counted p x xs = sum_by-cons (λ g. cond (p g) 1 0) x xs

@@ -4,12 +4,12 @@ use Rattle.std.proofs.lemmas.Bool.{eq-eqb}
 use Rattle.std.proofs.lemmas.Bool.Decides.{eqb_tells}
 use Rattle.std.proofs.lemmas.List.{append-nil}
 use Rattle.std.proofs.lemmas.List.Elements.{All-contains, Contains-append_left, Contains-append_right}
-use Rattle.slot_table.specs.of_access_types_Takes.{Take}
-use Rattle.slot_table.specs.of_access_types_Ticket.{ticket_number}
-use Rattle.run_headline.specs.of_run_lists_Run.{Run}
-use Rattle.run_headline.specs.of_run_lists_RunList.{RunList}
-use Rattle.run_headline.specs.of_run_lists_Told.{Armed, OutcomeAt, armed_by, came_next, made_by, outcome_at, outcomes_by, outcomes_of}
-use Rattle.run_headline.proofs.of_run_lists_OwnLasts.{hears_at, own_latest}
+use Rattle.access_types.specs.Takes.{Take}
+use Rattle.access_types.specs.Ticket.{ticket_number}
+use Rattle.run_lists.specs.Run.{Run}
+use Rattle.run_lists.specs.RunList.{RunList}
+use Rattle.run_lists.specs.Told.{Armed, OutcomeAt, armed_by, came_next, made_by, outcome_at, outcomes_by, outcomes_of}
+use Rattle.run_lists.proofs.OwnLasts.{hears_at, own_latest}
 use Rattle.run_kept.specs.Lists.{take_of, takes_by}
 use Rattle.run_kept.specs.Noted.{AreNoted, IsNoted, Notes}
 use Rattle.run_kept.proofs.OutcomesOfOwnTask.{AllOfTask}
@@ -19,10 +19,10 @@ use Rattle.run_headline.specs.Settles.{Settles, TellsOf}
 use Rattle.run_headline.proofs.Falls.{outcomes_in}
 use Rattle.run_headline.proofs.Finds.{ends_so}
 use Rattle.run_headline.proofs.Lists.{SettledAt, settled_at}
-use Rattle.written_tellings.specs.of_setup_access_Check.{Fallen}
-use Rattle.written_tellings.specs.of_setup_access_declared.outcome.Outcome.{Outcome}
-use Rattle.written_tellings.specs.of_setup_access_declared.outcome.Outcome.TheVariants as outcomes
-use Rattle.slot_table.specs.of_slot_Pair.{Halves}
+use Rattle.setup_access.specs.Check.{Fallen}
+use Rattle.setup_access.specs.declared.outcome.Outcome.{Outcome}
+use Rattle.setup_access.specs.declared.outcome.Outcome.TheVariants as outcomes
+use Rattle.slot.specs.Pair.{Halves}
 use Rattle.slot_table.specs.Discipline.{heard, in_hand}
 use Rattle.slot_table.specs.Hearings.{EachHearsTheOther, HearsTheOther}
 use Rattle.slot_table.specs.Meetings.{Meeting, told_by, told_to}
@@ -31,8 +31,8 @@ use Rattle.slot_table.specs.declared.records.Record.{Record}
 use Rattle.slot_table.specs.declared.step.Step.{Step}
 use Rattle.slot_table.specs.declared.step.Step.TheVariants as steps
 use Rattle.slot_table.proofs.Moves.{some_same}
-use Rattle.run_headline.specs.of_task_log_Arms.{setter_told, takes_at, takes_of}
-use Rattle.run_headline.specs.of_task_log_declared.noted.Noted.{Noted}
+use Rattle.task_log.specs.Arms.{setter_told, takes_at, takes_of}
+use Rattle.task_log.specs.declared.noted.Noted.{Noted}
 
 -- a tell's one outcome has a pair
 record TellsPair (outcome : Outcome) : Type 0 where

@@ -4,8 +4,8 @@ use Rattle.std.specs.List.{flat_map, sum_by}
 use Rattle.std.proofs.lemmas.Bool.{eq-eqb, le-ltb, lt-ltb, ne_eqb}
 use Rattle.std.proofs.lemmas.List.Concat.{flat_map-cons}
 use Rattle.std.proofs.lemmas.List.Sums.{sum_by-cons}
-use Rattle.run_headline.specs.of_run_lists_Run.{Run}
-use Rattle.run_headline.specs.of_run_lists_RunList.{RunList}
+use Rattle.run_lists.specs.Run.{Run}
+use Rattle.run_lists.specs.RunList.{RunList}
 use Rattle.run_kept.proofs.Sums.{counted, counted_both, place, within}
 use Rattle.run_kept.proofs.Sums as sums
 use Rattle.slot_table.specs.declared.records.Record.{Record}

@@ -5,29 +5,29 @@ use Rattle.std.specs.List.{filter}
 use Rattle.std.proofs.lemmas.Bool.{le-leb}
 use Rattle.std.proofs.lemmas.List.{length-append, length-reverse}
 use Rattle.std.proofs.lemmas.List.Elements.{All-append, All-cons, All-contains, All-nil}
-use Rattle.slot_table.specs.of_access_types_Access as access
-use Rattle.slot_table.specs.of_access_types_History.{beginning, ending, happenings_of}
-use Rattle.slot_table.specs.of_access_types_Marked.{CountedAsMarked, Silenced}
-use Rattle.slot_table.specs.of_access_types_declared.history.Happening.{Happening}
-use Rattle.slot_table.specs.of_access_types_declared.history.Happening.TheVariants as happenings
-use Rattle.slot_table.specs.of_access_types_declared.history.Moment.{Moment}
-use Rattle.written_tellings.proofs.of_litmus_meaning_TicketLemmas.{of_text}
-use Rattle.written_tellings.specs.of_litmus_syntax_Tree as tree
-use Rattle.run_headline.specs.of_run_lists_Run.{Run, task_of, task_setting}
-use Rattle.run_headline.specs.of_run_lists_RunList.{AllHaveEnded, RunList}
-use Rattle.run_headline.specs.of_run_lists_Told.{Armed, OutcomeAt, armed_by, came_next, history_of, made_by, outcome_at, outcomes_by, outcomes_of}
-use Rattle.run_headline.proofs.of_run_lists_Begun.{heard_so, there, unmarked_so}
-use Rattle.run_headline.proofs.of_run_lists_Histories.{did_of_all, has_own, of_task, own_has}
-use Rattle.run_headline.proofs.of_run_lists_Intervals.{Has, contains_has, has_contains, has_first}
-use Rattle.run_headline.proofs.of_run_lists_DoneOnlyGrows.{last_of, whole_chain}
-use Rattle.written_tellings.specs.of_setup_access_Check.{Fallen}
+use Rattle.access_types.specs.Access as access
+use Rattle.access_types.specs.History.{beginning, ending, happenings_of}
+use Rattle.access_types.specs.Marked.{CountedAsMarked, Silenced}
+use Rattle.access_types.specs.declared.history.Happening.{Happening}
+use Rattle.access_types.specs.declared.history.Happening.TheVariants as happenings
+use Rattle.access_types.specs.declared.history.Moment.{Moment}
+use Rattle.litmus_meaning.proofs.TicketLemmas.{of_text}
+use Rattle.litmus_syntax.specs.Tree as tree
+use Rattle.run_lists.specs.Run.{Run, task_of, task_setting}
+use Rattle.run_lists.specs.RunList.{AllHaveEnded, RunList}
+use Rattle.run_lists.specs.Told.{Armed, OutcomeAt, armed_by, came_next, history_of, made_by, outcome_at, outcomes_by, outcomes_of}
+use Rattle.run_lists.proofs.Begun.{heard_so, there, unmarked_so}
+use Rattle.run_lists.proofs.Histories.{did_of_all, has_own, of_task, own_has}
+use Rattle.run_lists.proofs.Intervals.{Has, contains_has, has_contains, has_first}
+use Rattle.run_lists.proofs.DoneOnlyGrows.{last_of, whole_chain}
+use Rattle.setup_access.specs.Check.{Fallen}
 use Rattle.slot_table.specs.Records.{records_of}
 use Rattle.slot_table.specs.declared.records.Record.{Record}
-use Rattle.written_tellings.specs.of_written_order_Standing as tasks
-use Rattle.written_tellings.specs.of_written_order_Standing.{Point, Standing, point_by}
-use Rattle.written_tellings.specs.of_written_order_Told.{did_by, to_come}
-use Rattle.written_tellings.specs.of_written_order_WrittenOrder.{SpellsAll, first_point}
-use Rattle.written_tellings.proofs.of_written_order_MeaningLemmas.{whole_means}
+use Rattle.written_order.specs.Standing as tasks
+use Rattle.written_order.specs.Standing.{Point, Standing, point_by}
+use Rattle.written_order.specs.Told.{did_by, to_come}
+use Rattle.written_order.specs.WrittenOrder.{SpellsAll, first_point}
+use Rattle.written_order.proofs.MeaningLemmas.{whole_means}
 use Rattle.run_headline.proofs.Opens.{has_split}
 use Rattle.run_kept.specs.Watched.{FitsItsTask, IfTold, IfWatched}
 use Rattle.run_kept.proofs.Checked.{Each, FallsSo, all_closed, all_fall, all_fit}

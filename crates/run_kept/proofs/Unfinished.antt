@@ -1,35 +1,35 @@
 -- What a machine is before a step of isn't over before it.
 use Rattle.std.proofs.Common.{◌≡◌, ◌∙◌, ◌≤◌, ◌+◌, ◌++◌, ◌∷◌, [], inl, inr, ℕ, suc, true, false, Bool, List, Option, Some, ap, append_assoc, arith, length, refl, subst, sym}
 use Rattle.std.proofs.lemmas.List.{append-nil, length-append}
-use Rattle.run_headline.specs.of_access_run_Access.{MakesAccess}
-use Rattle.run_headline.specs.of_access_run_Leads.{AccessOnlyStep, StageLeads, StageSays}
-use Rattle.run_headline.specs.of_access_run_Moved.{FramedChecks, moved}
-use Rattle.run_headline.specs.of_access_run_Whole.{NoneWhole}
-use Rattle.run_headline.specs.of_access_run_declared.stage.Stage.{Stage}
-use Rattle.run_headline.specs.of_access_run_declared.stage.Stage.TheVariants as own_stages
-use Rattle.run_headline.proofs.of_access_run_CheckFronts.{check, close, framed_checks, makes_access}
-use Rattle.run_headline.proofs.of_access_run_LeadsLemmas.{check_only, end_only, operate_only}
-use Rattle.run_headline.proofs.of_access_run_WholeLemmas.{split}
-use Rattle.slot_table.specs.of_access_types_Access as access
-use Rattle.written_tellings.specs.of_memory_operation_LockLeads.{LockLeads, LockLeft, LockSays}
-use Rattle.written_tellings.specs.of_memory_operation_Locks.{TakesLock}
-use Rattle.written_tellings.specs.of_memory_operation_Operations.{Operates}
-use Rattle.written_tellings.specs.of_memory_operation_declared.effect.Effect.{Effect}
-use Rattle.written_tellings.specs.of_memory_operation_declared.lock.LockWait.{LockWait}
-use Rattle.written_tellings.specs.of_memory_operation_declared.operation.Operation.{Operation}
-use Rattle.written_tellings.proofs.of_memory_operation_FrameLemmas.{lock_front}
-use Rattle.written_tellings.proofs.of_memory_operation_Fronts.{framed}
-use Rattle.written_tellings.proofs.of_memory_operation_LeadsLemmas as operations
-use Rattle.written_tellings.specs.of_setup_access_Check.{Check, Close, Passes}
-use Rattle.written_tellings.specs.of_setup_access_Checker.{Checks}
-use Rattle.written_tellings.specs.of_setup_access_Leads as checks
-use Rattle.written_tellings.specs.of_setup_access_Parts.{made}
-use Rattle.written_tellings.specs.of_setup_access_Records.{MakesDone}
-use Rattle.written_tellings.specs.of_setup_access_Setting as settings
-use Rattle.written_tellings.specs.of_setup_access_declared.begun.Begun.{Begun}
-use Rattle.written_tellings.specs.of_setup_access_declared.checker.Checker.{Checker}
-use Rattle.written_tellings.proofs.of_setup_access_LeadsLemmas.{same_ends}
-use Rattle.written_tellings.proofs.of_setup_access_NextLemmas as nexts
+use Rattle.access_run.specs.Access.{MakesAccess}
+use Rattle.access_run.specs.Leads.{AccessOnlyStep, StageLeads, StageSays}
+use Rattle.access_run.specs.Moved.{FramedChecks, moved}
+use Rattle.access_run.specs.Whole.{NoneWhole}
+use Rattle.access_run.specs.declared.stage.Stage.{Stage}
+use Rattle.access_run.specs.declared.stage.Stage.TheVariants as own_stages
+use Rattle.access_run.proofs.CheckFronts.{check, close, framed_checks, makes_access}
+use Rattle.access_run.proofs.LeadsLemmas.{check_only, end_only, operate_only}
+use Rattle.access_run.proofs.WholeLemmas.{split}
+use Rattle.access_types.specs.Access as access
+use Rattle.memory_operation.specs.LockLeads.{LockLeads, LockLeft, LockSays}
+use Rattle.memory_operation.specs.Locks.{TakesLock}
+use Rattle.memory_operation.specs.Operations.{Operates}
+use Rattle.memory_operation.specs.declared.effect.Effect.{Effect}
+use Rattle.memory_operation.specs.declared.lock.LockWait.{LockWait}
+use Rattle.memory_operation.specs.declared.operation.Operation.{Operation}
+use Rattle.memory_operation.proofs.FrameLemmas.{lock_front}
+use Rattle.memory_operation.proofs.Fronts.{framed}
+use Rattle.memory_operation.proofs.LeadsLemmas as operations
+use Rattle.setup_access.specs.Check.{Check, Close, Passes}
+use Rattle.setup_access.specs.Checker.{Checks}
+use Rattle.setup_access.specs.Leads as checks
+use Rattle.setup_access.specs.Parts.{made}
+use Rattle.setup_access.specs.Records.{MakesDone}
+use Rattle.setup_access.specs.Setting as settings
+use Rattle.setup_access.specs.declared.begun.Begun.{Begun}
+use Rattle.setup_access.specs.declared.checker.Checker.{Checker}
+use Rattle.setup_access.proofs.LeadsLemmas.{same_ends}
+use Rattle.setup_access.proofs.NextLemmas as nexts
 use Rattle.slot_table.specs.declared.records.Record.{Record}
 use Rattle.slot_table.specs.declared.step.Answer.TheVariants as answers
 use Rattle.slot_table.specs.declared.step.Step.{Step}
@@ -41,9 +41,9 @@ use Rattle.task_run.specs.declared.run.TaskRun.{TaskRun}
 use Rattle.task_run.specs.declared.stage.Stage.TheVariants as stages
 use Rattle.task_run.specs.declared.stage.Stage as machine_stages
 use Rattle.task_run.proofs.EndLemmas.{begins_one, lock_only, one_answer}
-use Rattle.written_tellings.specs.of_written_order_Access.{Makes}
-use Rattle.written_tellings.specs.of_written_order_Standing.{Setting, Standing, checks_of, lock_number}
-use Rattle.written_tellings.specs.of_written_order_WrittenOrder.{ClosesScope, OpensScope}
+use Rattle.written_order.specs.Access.{Makes}
+use Rattle.written_order.specs.Standing.{Setting, Standing, checks_of, lock_number}
+use Rattle.written_order.specs.WrittenOrder.{ClosesScope, OpensScope}
 
 -- an access goes on with the step that it says
 says_only : (s : settings.Setting) (scopes : List Begun) (begun : Begun) (asked : ℕ) (operation : Option Operation) (mine : List Record) (checker : Checker)

@@ -6,16 +6,16 @@ use Rattle.std.proofs.lemmas.Bool.{eq-eqb}
 use Rattle.std.proofs.lemmas.Bool.Decides.{eqb_tells}
 use Rattle.std.proofs.lemmas.List.{append-nil, length-append}
 use Rattle.std.proofs.lemmas.List.Elements.{All-contains, Contains-append_left, Contains-append_right}
-use Rattle.slot_table.specs.of_access_types_Arms.{Arm}
-use Rattle.slot_table.specs.of_access_types_Ticket.{ticket_number}
-use Rattle.slot_table.specs.of_access_types_declared.arms.ArmOutcome.{ArmOutcome}
-use Rattle.slot_table.specs.of_access_types_declared.arms.ArmOutcome.TheVariants as became_as
-use Rattle.slot_table.specs.of_access_types_declared.arms.HitResult.TheVariants as results
-use Rattle.run_headline.specs.of_run_lists_Answers.{is_answer}
-use Rattle.run_headline.specs.of_run_lists_Run.{Run, first_cells, locks_of, task_of, task_setting}
-use Rattle.run_headline.specs.of_run_lists_RunList.{RunList}
-use Rattle.run_headline.specs.of_run_lists_Told.{Armed, OutcomeAt, armed_by, armed_in, came_next, made_by, outcome_at, outcomes_by, outcomes_of}
-use Rattle.run_headline.proofs.of_run_lists_OwnLasts.{finder_told, own_latest, own_name, still_told}
+use Rattle.access_types.specs.Arms.{Arm}
+use Rattle.access_types.specs.Ticket.{ticket_number}
+use Rattle.access_types.specs.declared.arms.ArmOutcome.{ArmOutcome}
+use Rattle.access_types.specs.declared.arms.ArmOutcome.TheVariants as became_as
+use Rattle.access_types.specs.declared.arms.HitResult.TheVariants as results
+use Rattle.run_lists.specs.Answers.{is_answer}
+use Rattle.run_lists.specs.Run.{Run, first_cells, locks_of, task_of, task_setting}
+use Rattle.run_lists.specs.RunList.{RunList}
+use Rattle.run_lists.specs.Told.{Armed, OutcomeAt, armed_by, armed_in, came_next, made_by, outcome_at, outcomes_by, outcomes_of}
+use Rattle.run_lists.proofs.OwnLasts.{finder_told, own_latest, own_name, still_told}
 use Rattle.run_kept.specs.Lists.{AreArmsAt, AreArmsBy, Became, IsArm, verdicts_by}
 use Rattle.run_kept.specs.Noted.{AreNoted, IsNoted, Notes}
 use Rattle.run_kept.proofs.HandIsLastArming.{IsNamed, Says, all_say, in_part, last_word}
@@ -29,10 +29,10 @@ use Rattle.run_headline.specs.Watches.{IfVerdict, IsOfWatch, is_verdict}
 use Rattle.run_headline.proofs.Counts.{Answered, NoAnswer, Unanswered, fell_cases}
 use Rattle.run_headline.proofs.Falls.{outcomes_in}
 use Rattle.run_headline.proofs.Lists.{SettledAt, settled_at}
-use Rattle.written_tellings.specs.of_setup_access_Check.{Fallen}
-use Rattle.written_tellings.specs.of_setup_access_declared.outcome.Outcome.{Outcome}
-use Rattle.written_tellings.specs.of_setup_access_declared.outcome.Outcome.TheVariants as outcomes
-use Rattle.slot_table.specs.of_slot_Pair.{Halves}
+use Rattle.setup_access.specs.Check.{Fallen}
+use Rattle.setup_access.specs.declared.outcome.Outcome.{Outcome}
+use Rattle.setup_access.specs.declared.outcome.Outcome.TheVariants as outcomes
+use Rattle.slot.specs.Pair.{Halves}
 use Rattle.slot_table.specs.Armings.{Arming, armed_after, last_arming, last_arming_number, named_at, number_after, number_made, number_made_after}
 use Rattle.slot_table.specs.Discipline.{Allows, hand_after, heard, heard_after, in_hand}
 use Rattle.slot_table.specs.Meetings.{finders_told}
@@ -51,11 +51,11 @@ use Rattle.slot_table.proofs.Lists.{Keeps, allowed_at, fits_all, keeps_before, v
 use Rattle.slot_table.proofs.Moves.{is_setter, some_same}
 use Rattle.slot_table.proofs.Phases.{Fits, View, meeting}
 use Rattle.slot_table.proofs.Steps.{here_part}
-use Rattle.run_headline.specs.of_task_log_Arms.{arm_removed, arms_at, arms_of, setter_named}
-use Rattle.run_headline.specs.of_task_log_Noted.{armed, became, became_of, dropped, finder_heard, last_of}
-use Rattle.run_headline.specs.of_task_log_declared.noted.Noted.{Noted}
-use Rattle.written_tellings.specs.of_written_order_Standing.{checks_of}
-use Rattle.written_tellings.specs.of_written_order_Told.{fell_next, to_come}
+use Rattle.task_log.specs.Arms.{arm_removed, arms_at, arms_of, setter_named}
+use Rattle.task_log.specs.Noted.{armed, became, became_of, dropped, finder_heard, last_of}
+use Rattle.task_log.specs.declared.noted.Noted.{Noted}
+use Rattle.written_order.specs.Standing.{checks_of}
+use Rattle.written_order.specs.Told.{fell_next, to_come}
 
 -- the number of the last arming at an index is that of its setter's own last one there
 made_step : (setter index word task : ℕ) (step : Step) (answer : Answer) (number : ℕ) (before : Option Arming) (last made : Option ℕ)

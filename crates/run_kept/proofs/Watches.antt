@@ -4,12 +4,12 @@ use Rattle.std.proofs.lemmas.Bool.{eq-eqb}
 use Rattle.std.proofs.lemmas.Bool.Decides.{eqb_tells}
 use Rattle.std.proofs.lemmas.List.{length-append, length-map, reverse-append}
 use Rattle.run_kept.proofs.Sums.{counted, counted_both, of_record}
-use Rattle.run_headline.proofs.of_run_lists_CheckFacts.{back}
+use Rattle.run_lists.proofs.CheckFacts.{back}
 use Rattle.run_headline.specs.Settles.{One, Settles, hears_finder}
 use Rattle.run_headline.proofs.Falls.{Falls, outcomes_in}
-use Rattle.written_tellings.specs.of_setup_access_Check.{Fallen}
-use Rattle.written_tellings.specs.of_setup_access_declared.outcome.Outcome.{Outcome}
-use Rattle.slot_table.specs.of_slot_Pair.{Halves}
+use Rattle.setup_access.specs.Check.{Fallen}
+use Rattle.setup_access.specs.declared.outcome.Outcome.{Outcome}
+use Rattle.slot.specs.Pair.{Halves}
 use Rattle.slot_table.specs.Discipline.{Allows, Discipline, hand_after, heard, heard_after, in_hand}
 use Rattle.slot_table.specs.declared.discipline.InHand.{InHand}
 use Rattle.slot_table.specs.declared.discipline.Part.{Part}

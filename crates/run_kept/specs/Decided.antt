@@ -1,11 +1,11 @@
 -- What the history decides of an access that begins.
 use Rattle.std.specs.Prelude.{◌↔◌, Bool, IsTrue, List}
-use Rattle.slot_table.specs.of_access_types_Access.{Access}
-use Rattle.slot_table.specs.of_access_types_Marked.{CountedAsMarked, Silenced}
-use Rattle.slot_table.specs.of_access_types_Stamped.{Stamped}
-use Rattle.run_headline.specs.of_run_lists_Run.{Run}
-use Rattle.run_headline.specs.of_run_lists_RunList.{RunList}
-use Rattle.run_headline.specs.of_run_lists_Told.{history_of}
+use Rattle.access_types.specs.Access.{Access}
+use Rattle.access_types.specs.Marked.{CountedAsMarked, Silenced}
+use Rattle.access_types.specs.Stamped.{Stamped}
+use Rattle.run_lists.specs.Run.{Run}
+use Rattle.run_lists.specs.RunList.{RunList}
+use Rattle.run_lists.specs.Told.{history_of}
 use Rattle.slot_table.specs.declared.records.Record.{Record}
 
 -- an access is said to be marked exactly where it counts as marked in the history that the list tells, and

@@ -1,30 +1,30 @@
 -- What a run list says of the accesses, the armings and the takings of its tasks that are over.
 use Rattle.std.specs.Prelude.{◌≡◌, ◌==◌, ◌<◌, ◌++◌, ℕ, zero, suc, List, [], ◌∷◌, All, AllPairs, Contains, MatchBool, Some, count_by, filter, length, map, if◌then◌else◌}
-use Rattle.slot_table.specs.of_access_types_Access.{Access}
-use Rattle.slot_table.specs.of_access_types_Arms.{Arm}
-use Rattle.slot_table.specs.of_access_types_Stamped.{Stamped}
-use Rattle.slot_table.specs.of_access_types_Takes.{Take}
-use Rattle.slot_table.specs.of_access_types_Ticket.{ticket_number}
-use Rattle.slot_table.specs.of_access_types_declared.arms.ArmOutcome.{ArmOutcome}
-use Rattle.slot_table.specs.of_access_types_declared.arms.ArmOutcome.TheVariants as arms
-use Rattle.slot_table.specs.of_access_types_declared.arms.HitResult.{HitResult}
-use Rattle.slot_table.specs.of_access_types_declared.arms.HitResult.TheVariants as results
-use Rattle.slot_table.specs.of_access_types_declared.history.Happening.TheVariants.{End}
-use Rattle.run_headline.specs.of_run_lists_Run.{Run}
-use Rattle.run_headline.specs.of_run_lists_RunList.{RunList}
-use Rattle.run_headline.specs.of_run_lists_Told.{OutcomeAt, came_next, made_by}
+use Rattle.access_types.specs.Access.{Access}
+use Rattle.access_types.specs.Arms.{Arm}
+use Rattle.access_types.specs.Stamped.{Stamped}
+use Rattle.access_types.specs.Takes.{Take}
+use Rattle.access_types.specs.Ticket.{ticket_number}
+use Rattle.access_types.specs.declared.arms.ArmOutcome.{ArmOutcome}
+use Rattle.access_types.specs.declared.arms.ArmOutcome.TheVariants as arms
+use Rattle.access_types.specs.declared.arms.HitResult.{HitResult}
+use Rattle.access_types.specs.declared.arms.HitResult.TheVariants as results
+use Rattle.access_types.specs.declared.history.Happening.TheVariants.{End}
+use Rattle.run_lists.specs.Run.{Run}
+use Rattle.run_lists.specs.RunList.{RunList}
+use Rattle.run_lists.specs.Told.{OutcomeAt, came_next, made_by}
 use Rattle.run_kept.specs.Decided.{IsStampedSo}
 use Rattle.run_kept.specs.Spans.{HappensAt, IsSpan, is_end}
 use Rattle.run_headline.specs.Watches.{is_verdict}
-use Rattle.written_tellings.specs.of_setup_access_declared.outcome.Outcome.{Outcome}
-use Rattle.written_tellings.specs.of_setup_access_declared.outcome.Outcome.TheVariants as outcomes
+use Rattle.setup_access.specs.declared.outcome.Outcome.{Outcome}
+use Rattle.setup_access.specs.declared.outcome.Outcome.TheVariants as outcomes
 use Rattle.slot_table.specs.Armings.{last_arming, last_arming_number}
 use Rattle.slot_table.specs.Meetings.{Meeting, finders_told, told_by}
 use Rattle.slot_table.specs.declared.records.Record.{Record}
 use Rattle.slot_table.specs.declared.step.Step.{Step}
 use Rattle.slot_table.specs.declared.step.Step.TheVariants.{Remove}
-use Rattle.run_headline.specs.of_task_log_Noted.{dropped}
-use Rattle.written_tellings.specs.of_written_order_Told.{did_by}
+use Rattle.task_log.specs.Noted.{dropped}
+use Rattle.written_order.specs.Told.{did_by}
 
 -- the accesses of a task that have ended: each began and ended in the list at its stamps, and is marked and
 -- silenced as the history decides; each end in the list is that of one of them, and they are as many as

@@ -1,21 +1,21 @@
 -- What is noted of a task's records: the access that begins with each, and the outcome that falls at it.
 use Rattle.std.specs.Prelude.{◌≡◌, ◌↔◌, ℕ, Bool, IsTrue, List, [], ◌∷◌, Option, None, Some, filter_map, length, map}
 use Rattle.std.specs.Option.{option_to_list}
-use Rattle.slot_table.specs.of_access_types_Access.{Access}
-use Rattle.slot_table.specs.of_access_types_Marked.{CountsAfter, EndsRaised, is_disable, is_enable, marks_of}
-use Rattle.slot_table.specs.of_access_types_declared.history.Happening.{Happening}
-use Rattle.slot_table.specs.of_access_types_declared.history.Happening.TheVariants.{Begin}
-use Rattle.written_tellings.specs.of_litmus_syntax_Tree.{Block}
-use Rattle.run_headline.specs.of_run_lists_Run.{Run}
-use Rattle.run_headline.specs.of_run_lists_RunList.{RunList}
-use Rattle.run_headline.specs.of_run_lists_Told.{moments_of}
-use Rattle.written_tellings.specs.of_setup_access_declared.begun.Begun.{Begun}
+use Rattle.access_types.specs.Access.{Access}
+use Rattle.access_types.specs.Marked.{CountsAfter, EndsRaised, is_disable, is_enable, marks_of}
+use Rattle.access_types.specs.declared.history.Happening.{Happening}
+use Rattle.access_types.specs.declared.history.Happening.TheVariants.{Begin}
+use Rattle.litmus_syntax.specs.Tree.{Block}
+use Rattle.run_lists.specs.Run.{Run}
+use Rattle.run_lists.specs.RunList.{RunList}
+use Rattle.run_lists.specs.Told.{moments_of}
+use Rattle.setup_access.specs.declared.begun.Begun.{Begun}
 use Rattle.slot_table.specs.Records.{records_of}
 use Rattle.slot_table.specs.declared.records.Record.{Record}
-use Rattle.run_headline.specs.of_task_log_declared.noted.Noted.{Noted}
-use Rattle.written_tellings.specs.of_written_order_Standing.{Setting}
-use Rattle.written_tellings.specs.of_written_order_Told.{did_by, did_next, fell_next}
-use Rattle.written_tellings.specs.of_written_order_WrittenOrder.{WrittenOrder}
+use Rattle.task_log.specs.declared.noted.Noted.{Noted}
+use Rattle.written_order.specs.Standing.{Setting}
+use Rattle.written_order.specs.Told.{did_by, did_next, fell_next}
+use Rattle.written_order.specs.WrittenOrder.{WrittenOrder}
 
 abbrev pub begun_by : Happening → Option Access
 begun_by (Begin a) = Some a

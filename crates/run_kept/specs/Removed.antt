@@ -1,7 +1,7 @@
 -- The armings and takings of a task that are over, as a run list has them.
 use Rattle.std.specs.Prelude.{◌==◌, ◌++◌, ℕ, List, [], ◌∷◌, Option, Some, if◌then◌else◌}
-use Rattle.slot_table.specs.of_access_types_Arms.{Arm}
-use Rattle.slot_table.specs.of_access_types_Takes.{Take}
+use Rattle.access_types.specs.Arms.{Arm}
+use Rattle.access_types.specs.Takes.{Take}
 use Rattle.slot_table.specs.Armings.{Arming, last_arming, named_at}
 use Rattle.slot_table.specs.declared.records.Record.{Record}
 use Rattle.slot_table.specs.declared.step.Step.{Step}

@@ -1,13 +1,13 @@
 -- Whose watchpoint a report is of.
 use Rattle.std.specs.Prelude.{◌≡◌, ◌==◌, ◌⊎◌, ℕ, Bool, List, filter, length}
-use Rattle.slot_table.specs.of_access_types_Ticket.{task_in}
-use Rattle.slot_table.specs.of_access_types_declared.report.Report.{Report}
-use Rattle.slot_table.specs.of_access_types_declared.report.Report.TheVariants.{Two, Unknown}
+use Rattle.access_types.specs.Ticket.{task_in}
+use Rattle.access_types.specs.declared.report.Report.{Report}
+use Rattle.access_types.specs.declared.report.Report.TheVariants.{Two, Unknown}
 use Rattle.slot_table.specs.declared.records.Record.{Record}
 use Rattle.run_kept.specs.Lists.{ByTask}
-use Rattle.run_headline.specs.of_run_lists_Reports.{reports_of}
-use Rattle.run_headline.specs.of_run_lists_Run.{Run}
-use Rattle.run_headline.specs.of_run_lists_RunList.{RunList}
+use Rattle.run_lists.specs.Reports.{reports_of}
+use Rattle.run_lists.specs.Run.{Run}
+use Rattle.run_lists.specs.RunList.{RunList}
 
 -- the ticket of the access that set the watchpoint up
 abbrev pub setter_of : Report → ℕ

@@ -1,14 +1,14 @@
 -- When the accesses of a task begin and end.
 use Rattle.std.specs.Prelude.{◌≡◌, ◌++◌, ℕ, Bool, List, ◌∷◌, false, true}
-use Rattle.slot_table.specs.of_access_types_Stamped.{Stamped}
-use Rattle.slot_table.specs.of_access_types_declared.history.Happening.{Happening}
-use Rattle.slot_table.specs.of_access_types_declared.history.Happening.TheVariants.{Begin, End}
-use Rattle.run_headline.specs.of_run_lists_Run.{Run}
-use Rattle.run_headline.specs.of_run_lists_RunList.{RunList}
-use Rattle.run_headline.specs.of_run_lists_Told.{made_by}
+use Rattle.access_types.specs.Stamped.{Stamped}
+use Rattle.access_types.specs.declared.history.Happening.{Happening}
+use Rattle.access_types.specs.declared.history.Happening.TheVariants.{Begin, End}
+use Rattle.run_lists.specs.Run.{Run}
+use Rattle.run_lists.specs.RunList.{RunList}
+use Rattle.run_lists.specs.Told.{made_by}
 use Rattle.slot_table.specs.declared.records.Record.{Record}
 use Rattle.slot_table.specs.declared.step.Answer.TheVariants.{Word}
-use Rattle.written_tellings.specs.of_written_order_Told.{did_next}
+use Rattle.written_order.specs.Told.{did_next}
 
 -- a record of the list with which the task did this first of all, and of which the clock's answer was this
 -- stamp

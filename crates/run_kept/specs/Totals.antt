@@ -1,12 +1,12 @@
 -- How often each thing comes of the checks in a run list.
 use Rattle.std.specs.Prelude.{◌≡◌, ◌++◌, ℕ, zero, suc, length, List, [], ◌∷◌, Some, count_by, filter, nat_lt, if◌then◌else◌}
-use Rattle.run_headline.specs.of_run_lists_Run.{Run}
-use Rattle.run_headline.specs.of_run_lists_RunList.{RunList}
-use Rattle.run_headline.specs.of_run_lists_Told.{OutcomeAt, came_next, outcomes_of}
+use Rattle.run_lists.specs.Run.{Run}
+use Rattle.run_lists.specs.RunList.{RunList}
+use Rattle.run_lists.specs.Told.{OutcomeAt, came_next, outcomes_of}
 use Rattle.slot_table.specs.declared.records.Record.{Record}
-use Rattle.run_headline.specs.of_task_log_Counters.{is_arming, is_capacity, is_encoding, is_lost, is_masked, is_quiet, is_same, is_taken, is_two_sided, is_unencodable, is_unknown, resting, together}
-use Rattle.run_headline.specs.of_task_log_declared.counters.Counters.{Counters}
-use Rattle.written_tellings.specs.of_written_order_WrittenOrder.{stands_after}
+use Rattle.task_log.specs.Counters.{is_arming, is_capacity, is_encoding, is_lost, is_masked, is_quiet, is_same, is_taken, is_two_sided, is_unencodable, is_unknown, resting, together}
+use Rattle.task_log.specs.declared.counters.Counters.{Counters}
+use Rattle.written_order.specs.WrittenOrder.{stands_after}
 
 -- the outcomes that fell at these records of the tasks below a number
 abbrev pub outcomes_below : {run : Run} {all : List Record} → RunList run all → ℕ → List Record → List OutcomeAt

@@ -1,15 +1,15 @@
 -- Which accesses set watchpoints up, and which hit them.
 use Rattle.std.specs.Prelude.{◌≡◌, ◌≢◌, ◌<◌, IsTrue, List, Some, length}
-use Rattle.slot_table.specs.of_access_types_Access.{Access, IsInLimits}
-use Rattle.slot_table.specs.of_access_types_Marked.{CountedAsMarked, Silenced}
-use Rattle.run_headline.specs.of_run_lists_Run.{IsOfProgram, Run}
-use Rattle.run_headline.specs.of_run_lists_RunList.{RunList}
-use Rattle.run_headline.specs.of_run_lists_Told.{OutcomeAt, history_of}
+use Rattle.access_types.specs.Access.{Access, IsInLimits}
+use Rattle.access_types.specs.Marked.{CountedAsMarked, Silenced}
+use Rattle.run_lists.specs.Run.{IsOfProgram, Run}
+use Rattle.run_lists.specs.RunList.{RunList}
+use Rattle.run_lists.specs.Told.{OutcomeAt, history_of}
 use Rattle.run_headline.specs.Watches.{is_verdict}
-use Rattle.written_tellings.specs.of_setup_access_declared.outcome.Outcome.TheVariants as outcomes
-use Rattle.slot_table.specs.of_slot_Pair.{Halves}
+use Rattle.setup_access.specs.declared.outcome.Outcome.TheVariants as outcomes
+use Rattle.slot.specs.Pair.{Halves}
 use Rattle.slot_table.specs.declared.records.Record.{Record}
-use Rattle.report_text.specs.of_watch_word_Word.{Encodable}
+use Rattle.watch_word.specs.Word.{Encodable}
 
 -- a word can stand for the access, and in the history that the list tells it doesn't count as marked and isn't
 -- silenced

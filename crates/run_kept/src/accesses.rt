@@ -1,14 +1,14 @@
 //! What is true of what logs keep of accesses.
 
 ghost use Rattle.std.specs.Prelude.{ℕ, List};
-ghost use Rattle.written_tellings.specs.of_litmus_syntax_Limits.{KeepsLimits};
-ghost use Rattle.run_headline.specs.of_run_lists_Run.{Run};
-ghost use Rattle.run_headline.specs.of_run_lists_RunList.{RunList};
+ghost use Rattle.litmus_syntax.specs.Limits.{KeepsLimits};
+ghost use Rattle.run_lists.specs.Run.{Run};
+ghost use Rattle.run_lists.specs.RunList.{RunList};
 ghost use Rattle.run_kept.specs.Lists.{AreAccessesOf};
 ghost use Rattle.run_kept.specs.Noted.{Notes};
 ghost use Rattle.slot_table.specs.declared.records.Record.{Record};
-ghost use Rattle.run_headline.specs.of_task_log_Touches.{accesses_of};
-ghost use Rattle.run_headline.specs.of_task_log_declared.noted.Noted.{Noted};
+ghost use Rattle.task_log.specs.Touches.{accesses_of};
+ghost use Rattle.task_log.specs.declared.noted.Noted.{Noted};
 
 use crate::logs::{
     a_log_keeps_the_accesses_that_have_ended, a_log_says_of_accesses_what_the_history_decides,

@@ -2,20 +2,18 @@
 
 ghost use Rattle.std.specs.Prelude.{◌≡◌, ◌==◌, ◌++◌, ℕ, List, map};
 ghost use Rattle.std.specs.List.{flat_map};
-ghost use Rattle.slot_table.specs.of_access_types_Arms.{Arm};
-ghost use Rattle.slot_table.specs.of_access_types_Takes.{Take};
-ghost use Rattle.slot_table.specs.of_access_types_Ticket.{ticket_number};
+ghost use Rattle.access_types.specs.Arms.{Arm};
+ghost use Rattle.access_types.specs.Takes.{Take};
+ghost use Rattle.access_types.specs.Ticket.{ticket_number};
 ghost use Rattle.report_text.specs.Truth.{AreOneBag, hits_in, is_pair, is_take, origins_in, pairs_in, race_in, unknown_in};
-ghost use Rattle.run_headline.specs.of_run_lists_Reports.{reports_of};
-ghost use Rattle.run_headline.specs.of_run_lists_Run.{Run};
-ghost use Rattle.run_headline.specs.of_run_lists_RunList.{AllHaveEnded, RunList};
+ghost use Rattle.run_lists.specs.Reports.{reports_of};
+ghost use Rattle.run_lists.specs.Run.{Run};
+ghost use Rattle.run_lists.specs.RunList.{AllHaveEnded, RunList};
 ghost use Rattle.run_kept.specs.Lists.{AreArms, AreArmsBy, AreTakes, verdicts_by};
 ghost use Rattle.slot_table.specs.declared.records.Record.{Record};
 
-use run_headline::run_lists::laws::{
-    answers_are_to_takings, roles_of_run_lists, run_lists_keep_the_discipline,
-};
 use run_headline::verdicts::{each_taking_has_one_answer, verdicts_are_on_watches};
+use run_lists::laws::{answers_are_to_takings, roles_of_run_lists, run_lists_keep_the_discipline};
 use slot_table::laws::heard_is_told;
 
 /// Law: each arming that a task has removed has a verdict of its own, of the access that set it up, in the order of

@@ -2,20 +2,20 @@
 
 ghost use Rattle.std.specs.Prelude.{◌*◌, ◌<◌, ◌≤◌, ℕ, List, length, reverse};
 ghost use Rattle.std.specs.List.{sum_by};
-ghost use Rattle.written_tellings.specs.of_litmus_syntax_Limits.{BodyKeepsLimits, KeepsLimits, block_repeats};
-ghost use Rattle.written_tellings.specs.of_litmus_syntax_Tree.{Block};
-ghost use Rattle.run_headline.specs.of_run_lists_Reports.{reports_of};
-ghost use Rattle.run_headline.specs.of_run_lists_Run.{Run};
-ghost use Rattle.run_headline.specs.of_run_lists_RunList.{RunList};
+ghost use Rattle.litmus_syntax.specs.Limits.{BodyKeepsLimits, KeepsLimits, block_repeats};
+ghost use Rattle.litmus_syntax.specs.Tree.{Block};
+ghost use Rattle.run_lists.specs.Reports.{reports_of};
+ghost use Rattle.run_lists.specs.Run.{Run};
+ghost use Rattle.run_lists.specs.RunList.{RunList};
 ghost use Rattle.run_kept.specs.Noted.{AreNoted, Notes};
 ghost use Rattle.slot_table.specs.declared.records.Record.{Record};
-ghost use Rattle.run_headline.specs.of_task_log_Arms.{arms_of, takes_of};
-ghost use Rattle.run_headline.specs.of_task_log_Reports.{reported_in};
-ghost use Rattle.run_headline.specs.of_task_log_declared.noted.Noted.{Noted};
-ghost use Rattle.written_tellings.specs.of_written_order_Standing.{Setting};
-ghost use Rattle.written_tellings.specs.of_written_order_WrittenOrder.{SpellsAll, WrittenOrder};
+ghost use Rattle.task_log.specs.Arms.{arms_of, takes_of};
+ghost use Rattle.task_log.specs.Reports.{reported_in};
+ghost use Rattle.task_log.specs.declared.noted.Noted.{Noted};
+ghost use Rattle.written_order.specs.Standing.{Setting};
+ghost use Rattle.written_order.specs.WrittenOrder.{SpellsAll, WrittenOrder};
 
-use written_tellings::written_order::the_written_order_keeps_the_discipline;
+use written_order::the_written_order_keeps_the_discipline;
 
 /// Law: of the checks of a task whose text keeps the limits no more outcomes fall than nine for each time that the
 /// loops of its text repeat an access: one for the access and one for each of the eight scoped assertions that may be

@@ -1,17 +1,17 @@
 //! How many accesses, armings and takings a run list has.
 
 ghost use Rattle.std.specs.Prelude.{◌*◌, ◌≤◌, List, length};
-ghost use Rattle.slot_table.specs.of_access_types_Arms.{Arm};
-ghost use Rattle.slot_table.specs.of_access_types_Stamped.{Stamped};
-ghost use Rattle.slot_table.specs.of_access_types_Takes.{Take};
-ghost use Rattle.written_tellings.specs.of_litmus_syntax_Limits.{KeepsLimits};
-ghost use Rattle.run_headline.specs.of_run_lists_Run.{Run};
-ghost use Rattle.run_headline.specs.of_run_lists_RunList.{RunList};
+ghost use Rattle.access_types.specs.Arms.{Arm};
+ghost use Rattle.access_types.specs.Stamped.{Stamped};
+ghost use Rattle.access_types.specs.Takes.{Take};
+ghost use Rattle.litmus_syntax.specs.Limits.{KeepsLimits};
+ghost use Rattle.run_lists.specs.Run.{Run};
+ghost use Rattle.run_lists.specs.RunList.{RunList};
 ghost use Rattle.run_kept.specs.Lists.{AreAccesses, AreArms, AreTakes};
 ghost use Rattle.slot_table.specs.declared.records.Record.{Record};
 
 use crate::bounds::few_outcomes_fall;
-use written_tellings::written_order::the_written_order_keeps_the_discipline;
+use written_order::the_written_order_keeps_the_discipline;
 use written_tellings::{few_accesses_begin, one_telling};
 
 /// Law: a run list whose program keeps the limits has at most 1,024 accesses that have ended for each of its tasks, and

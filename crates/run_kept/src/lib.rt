@@ -10,10 +10,3 @@ pub mod logs;
 pub mod reports;
 pub mod standing;
 pub mod watched;
-
-pub use run_headline;
-pub use run_headline::{run_lists, task_log};
-pub use task_run;
-pub use task_run::{program_layout, program_sites};
-pub use written_tellings;
-pub use written_tellings::written_order;

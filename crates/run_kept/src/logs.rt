@@ -1,46 +1,46 @@
 //! What is true of what a run list notes.
 
 ghost use Rattle.std.specs.Prelude.{◌+◌, ◌++◌, ◌==◌, ◌≡◌, ◌≢◌, ◌≤◌, ◌∷◌, ℕ, [], All, Contains, List, Option, count_by, length, map, reverse};
-ghost use Rattle.slot_table.specs.of_access_types_Access.{Access};
-ghost use Rattle.slot_table.specs.of_access_types_Arms.{Arm};
-ghost use Rattle.slot_table.specs.of_access_types_Stamped.{Stamped};
-ghost use Rattle.slot_table.specs.of_access_types_declared.history.Happening.TheVariants.{End};
-ghost use Rattle.written_tellings.specs.of_litmus_syntax_Limits.{BodyKeepsLimits, block_repeats};
-ghost use Rattle.written_tellings.specs.of_litmus_syntax_Tree.{Block};
+ghost use Rattle.access_types.specs.Access.{Access};
+ghost use Rattle.access_types.specs.Arms.{Arm};
+ghost use Rattle.access_types.specs.Stamped.{Stamped};
+ghost use Rattle.access_types.specs.declared.history.Happening.TheVariants.{End};
+ghost use Rattle.litmus_syntax.specs.Limits.{BodyKeepsLimits, block_repeats};
+ghost use Rattle.litmus_syntax.specs.Tree.{Block};
 ghost use Rattle.std.specs.Option.{option_to_list};
-ghost use Rattle.run_headline.specs.of_run_lists_Reports.{reports_of};
-ghost use Rattle.run_headline.specs.of_run_lists_Run.{Run, task_of, task_setting};
-ghost use Rattle.run_headline.specs.of_run_lists_RunList.{RunList};
-ghost use Rattle.run_headline.specs.of_run_lists_Told.{made_by};
+ghost use Rattle.run_lists.specs.Reports.{reports_of};
+ghost use Rattle.run_lists.specs.Run.{Run, task_of, task_setting};
+ghost use Rattle.run_lists.specs.RunList.{RunList};
+ghost use Rattle.run_lists.specs.Told.{made_by};
 ghost use Rattle.run_kept.specs.Decided.{IsStampedSo};
 ghost use Rattle.run_kept.specs.Lists.{AreArmsOf, AreTakesOf};
 ghost use Rattle.run_kept.specs.Noted.{AreNoted, IsBegun, IsNoted, Notes};
 ghost use Rattle.run_kept.specs.Removed.{as_removed, as_told, removed_by, told_by};
 ghost use Rattle.run_kept.specs.Spans.{HappensAt, IsSpan, is_end};
 ghost use Rattle.run_kept.specs.Totals.{AddUp, CountsList, CountsTasks};
-ghost use Rattle.written_tellings.specs.of_setup_access_declared.begun.Begun.{Begun};
-ghost use Rattle.written_tellings.specs.of_setup_access_declared.outcome.Outcome.{Outcome};
+ghost use Rattle.setup_access.specs.declared.begun.Begun.{Begun};
+ghost use Rattle.setup_access.specs.declared.outcome.Outcome.{Outcome};
 ghost use Rattle.slot_table.specs.Records.{records_of};
 ghost use Rattle.slot_table.specs.declared.records.Record.{Record};
-ghost use Rattle.run_headline.specs.of_task_log_Arms.{arms_of, takes_of};
-ghost use Rattle.run_headline.specs.of_task_log_Counters.{Count};
-ghost use Rattle.run_headline.specs.of_task_log_Reports.{reported};
-ghost use Rattle.run_headline.specs.of_task_log_Touches.{accesses_of, touches_of};
-ghost use Rattle.run_headline.specs.of_task_log_declared.counters.Counters.{Counters};
-ghost use Rattle.run_headline.specs.of_task_log_declared.noted.Noted.{Noted};
+ghost use Rattle.task_log.specs.Arms.{arms_of, takes_of};
+ghost use Rattle.task_log.specs.Counters.{Count};
+ghost use Rattle.task_log.specs.Reports.{reported};
+ghost use Rattle.task_log.specs.Touches.{accesses_of, touches_of};
+ghost use Rattle.task_log.specs.declared.counters.Counters.{Counters};
+ghost use Rattle.task_log.specs.declared.noted.Noted.{Noted};
 ghost use Rattle.task_run.specs.Fell.{FellAt};
 ghost use Rattle.task_run.specs.Leads.{BeginsNext, Leads, stands_at};
 ghost use Rattle.task_run.specs.Says.{Says};
 ghost use Rattle.task_run.specs.declared.run.TaskRun.{TaskRun};
-ghost use Rattle.written_tellings.specs.of_written_order_Standing.{Setting};
-ghost use Rattle.written_tellings.specs.of_written_order_Told.{did_by, did_next};
-ghost use Rattle.written_tellings.specs.of_written_order_WrittenOrder.{WrittenOrder};
+ghost use Rattle.written_order.specs.Standing.{Setting};
+ghost use Rattle.written_order.specs.Told.{did_by, did_next};
+ghost use Rattle.written_order.specs.WrittenOrder.{WrittenOrder};
 
-use run_headline::run_lists::laws::{roles_of_run_lists, run_lists_keep_the_discipline};
 use run_headline::verdicts::{
     outcomes_fall_where_they_are_settled, records_tell_their_events, tellings_are_on_finds,
     verdicts_are_on_watches,
 };
+use run_lists::laws::{roles_of_run_lists, run_lists_keep_the_discipline};
 use written_tellings::{few_accesses_begin, one_telling};
 
 /// Law: of one record more is noted what was noted before, and what is noted of that record. So it is of a task's

@@ -1,17 +1,17 @@
 //! What the records of a task say of its machine.
 
 ghost use Rattle.std.specs.Prelude.{◌≡◌, ℕ, List};
-ghost use Rattle.written_tellings.specs.of_litmus_meaning_Meaning.{MeansBlock};
-ghost use Rattle.written_tellings.specs.of_litmus_syntax_Tree.{Block};
+ghost use Rattle.litmus_meaning.specs.Meaning.{MeansBlock};
+ghost use Rattle.litmus_syntax.specs.Tree.{Block};
 ghost use Rattle.slot_table.specs.declared.records.Record.{Record};
 ghost use Rattle.task_run.specs.Leads.{Leads, stands_at};
 ghost use Rattle.task_run.specs.Says.{IsStopped};
 ghost use Rattle.task_run.specs.declared.run.TaskRun.{TaskRun};
-ghost use Rattle.written_tellings.specs.of_written_order_Standing.{Setting};
-ghost use Rattle.written_tellings.specs.of_written_order_WrittenOrder.{SpellsAll, WrittenOrder, at_first, stands_after};
+ghost use Rattle.written_order.specs.Standing.{Setting};
+ghost use Rattle.written_order.specs.WrittenOrder.{SpellsAll, WrittenOrder, at_first, stands_after};
 
+use written_order::what_is_done_is_meant;
 use written_tellings::one_telling;
-use written_tellings::written_order::what_is_done_is_meant;
 
 /// Law: the registers of a task's machine, and how many of its calls had nothing to end, are what the records tell that
 /// lead to the machine, however these are completed in the written order.

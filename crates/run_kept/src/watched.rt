@@ -1,12 +1,12 @@
 //! What is true of the accesses of each run list that are watched, and of their ends.
 
 ghost use Rattle.std.specs.Prelude.{◌≡◌, ◌<◌, ◌^◌, ◌++◌, ◌∷◌, All, Contains, List};
-ghost use Rattle.slot_table.specs.of_access_types_Access.{Access};
-ghost use Rattle.slot_table.specs.of_access_types_History.{beginning, ending};
-ghost use Rattle.written_tellings.specs.of_litmus_syntax_Limits.{KeepsLimits};
-ghost use Rattle.run_headline.specs.of_run_lists_Run.{Run};
-ghost use Rattle.run_headline.specs.of_run_lists_RunList.{AllHaveEnded, RunList};
-ghost use Rattle.run_headline.specs.of_run_lists_Told.{history_of, outcomes_of};
+ghost use Rattle.access_types.specs.Access.{Access};
+ghost use Rattle.access_types.specs.History.{beginning, ending};
+ghost use Rattle.litmus_syntax.specs.Limits.{KeepsLimits};
+ghost use Rattle.run_lists.specs.Run.{Run};
+ghost use Rattle.run_lists.specs.RunList.{AllHaveEnded, RunList};
+ghost use Rattle.run_lists.specs.Told.{history_of, outcomes_of};
 ghost use Rattle.slot_table.specs.declared.records.Record.{Record};
 ghost use Rattle.run_kept.specs.Stamps.{stamps_in};
 ghost use Rattle.run_kept.specs.Watched.{FitsItsTask, IfTold, IfWatched};

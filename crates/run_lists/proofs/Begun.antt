@@ -4,24 +4,24 @@ use Rattle.std.proofs.Common.{◌≡◌, ◌<◌, ◌≤◌, ◌∙◌, ◌+◌,
 use Rattle.std.proofs.Common.{Some, ap, append_assoc, arith, length, refl, reverse, slice_get, slice_index_or, subst, sym, take}
 use Rattle.std.proofs.lemmas.Bool.{eq-eqb}
 use Rattle.std.proofs.lemmas.Bool.Decides.{leb_tells}
-use Rattle.watch_word.specs.of_access_types_Access as access
-use Rattle.watch_word.specs.of_access_types_History.{History, beginning, happenings_of}
-use Rattle.watch_word.specs.of_access_types_Marked.{BeginsAfter, CountedAsMarked, CountsAfter, EndsRaised, Silenced, is_disable, is_enable, marks_of}
-use Rattle.watch_word.specs.of_access_types_declared.history.Happening.{Happening}
-use Rattle.watch_word.specs.of_access_types_declared.history.Happening.TheVariants as happenings
-use Rattle.watch_word.specs.of_access_types_declared.history.Mark.{Mark}
-use Rattle.written_order.specs.of_litmus_meaning_RunOfProgram.{setting_of}
-use Rattle.written_order.specs.of_litmus_meaning_TextSites.{IsOfText, block_sites}
-use Rattle.written_order.proofs.of_litmus_meaning_TextSitesLemmas.{begun_at}
-use Rattle.written_order.proofs.of_litmus_meaning_TicketLemmas.{numbered, of_text}
-use Rattle.written_order.specs.of_litmus_syntax_Tree as tree
+use Rattle.access_types.specs.Access as access
+use Rattle.access_types.specs.History.{History, beginning, happenings_of}
+use Rattle.access_types.specs.Marked.{BeginsAfter, CountedAsMarked, CountsAfter, EndsRaised, Silenced, is_disable, is_enable, marks_of}
+use Rattle.access_types.specs.declared.history.Happening.{Happening}
+use Rattle.access_types.specs.declared.history.Happening.TheVariants as happenings
+use Rattle.access_types.specs.declared.history.Mark.{Mark}
+use Rattle.litmus_meaning.specs.RunOfProgram.{setting_of}
+use Rattle.litmus_meaning.specs.TextSites.{IsOfText, block_sites}
+use Rattle.litmus_meaning.proofs.TextSitesLemmas.{begun_at}
+use Rattle.litmus_meaning.proofs.TicketLemmas.{numbered, of_text}
+use Rattle.litmus_syntax.specs.Tree as tree
 use Rattle.run_lists.specs.Run.{IsOfProgram, Run, idle, task_of, task_setting}
 use Rattle.run_lists.specs.RunList.{RunList}
 use Rattle.run_lists.specs.Told.{history_of, made_by, moments_of}
 use Rattle.run_lists.proofs.Histories.{did_of_all, of_both, of_task}
 use Rattle.run_lists.proofs.OwnMarks.{begins_once, counts_own, marks_same}
 use Rattle.run_lists.proofs.TaskFacts.{IsKnown}
-use Rattle.written_order.specs.of_setup_access_declared.begun.Begun.{Begun}
+use Rattle.setup_access.specs.declared.begun.Begun.{Begun}
 use Rattle.slot_table.specs.Records.{records_of}
 use Rattle.slot_table.specs.declared.records.Record.{Record}
 use Rattle.written_order.specs.Standing as tasks

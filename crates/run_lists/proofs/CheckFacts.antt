@@ -2,9 +2,9 @@
 -- and where. Each lemma is told how to go on.
 use Rattle.std.proofs.Common.{◌≡◌, ◌<◌, ◌≤◌, ◌∙◌, ◌∷◌, ◌+◌, ◌++◌, [], ℕ, suc, Bool, true, false, length, List, IsTrue, Option, None, Some, MatchBool, MatchOption, ap, arith, inl, inr, refl, subst, sym}
 use Rattle.std.proofs.lemmas.Bool.{eq-eqb}
-use Rattle.watch_word.specs.of_access_types_Access.{Access}
-use Rattle.watch_word.specs.of_access_types_Ticket.{ticket_number}
-use Rattle.slot_table.specs.of_slot_Pair.{Halves}
+use Rattle.access_types.specs.Access.{Access}
+use Rattle.access_types.specs.Ticket.{ticket_number}
+use Rattle.slot.specs.Pair.{Halves}
 use Rattle.slot_table.specs.Armings.{last_arming, last_arming_number, named_at}
 use Rattle.slot_table.specs.Discipline.{HasPart, heard, in_hand}
 use Rattle.slot_table.specs.declared.discipline.InHand.{InHand}
@@ -14,24 +14,24 @@ use Rattle.slot_table.specs.declared.step.Answer.TheVariants as answers
 use Rattle.slot_table.specs.declared.step.Step.{Step}
 use Rattle.slot_table.specs.declared.step.Step.TheVariants.{CellLoad, Clear, Consume, Insert, Load, Name, PairLoad, Remove, Tell, TryConsume}
 use Rattle.watch_word.specs.Word.{Encodable, word_of}
-use Rattle.written_order.specs.of_setup_access_Check as cases
-use Rattle.written_order.specs.of_setup_access_Check.{Check, ChecksOnce, Close, Ends, Fallen, GoesOn, NoneFound, Pass, Passes, Rechecks, fallen_of, left_to_check}
-use Rattle.written_order.specs.of_setup_access_Find.{LooksUp}
-use Rattle.written_order.specs.of_setup_access_Found.{Hears, Takes, Tells, finder_half, setter_half}
-use Rattle.written_order.specs.of_setup_access_Hits.{Hits}
-use Rattle.written_order.specs.of_setup_access_Parts.{made}
-use Rattle.written_order.specs.of_setup_access_Records.{MakesDone, MakesFlag, MakesWord}
-use Rattle.written_order.specs.of_setup_access_Setting.{Setting, look_order, slot_of, try_order}
-use Rattle.written_order.specs.of_setup_access_Setup.{Arms, Frees, Judged, Judges, TriesInsert, WatchesAt}
-use Rattle.written_order.specs.of_setup_access_Values.{LoadsFrom, both_values, source_of}
-use Rattle.written_order.specs.of_setup_access_Verdicts as verdicts
-use Rattle.written_order.specs.of_setup_access_Verdicts.{HitOutcome, UntouchedOutcome}
-use Rattle.written_order.specs.of_setup_access_declared.begun.Begun.{Begun}
-use Rattle.written_order.specs.of_setup_access_declared.outcome.Outcome.{Outcome}
-use Rattle.written_order.specs.of_setup_access_declared.outcome.Outcome.TheVariants as outcomes
-use Rattle.written_order.specs.of_setup_access_declared.outcome.Watchpoint.{Watchpoint}
-use Rattle.written_order.specs.of_setup_access_declared.source.Source.{Source}
-use Rattle.written_order.proofs.of_setup_access_DisciplineLemmas.{on_flag, on_halves, on_word, record_is}
+use Rattle.setup_access.specs.Check as cases
+use Rattle.setup_access.specs.Check.{Check, ChecksOnce, Close, Ends, Fallen, GoesOn, NoneFound, Pass, Passes, Rechecks, fallen_of, left_to_check}
+use Rattle.setup_access.specs.Find.{LooksUp}
+use Rattle.setup_access.specs.Found.{Hears, Takes, Tells, finder_half, setter_half}
+use Rattle.setup_access.specs.Hits.{Hits}
+use Rattle.setup_access.specs.Parts.{made}
+use Rattle.setup_access.specs.Records.{MakesDone, MakesFlag, MakesWord}
+use Rattle.setup_access.specs.Setting.{Setting, look_order, slot_of, try_order}
+use Rattle.setup_access.specs.Setup.{Arms, Frees, Judged, Judges, TriesInsert, WatchesAt}
+use Rattle.setup_access.specs.Values.{LoadsFrom, both_values, source_of}
+use Rattle.setup_access.specs.Verdicts as verdicts
+use Rattle.setup_access.specs.Verdicts.{HitOutcome, UntouchedOutcome}
+use Rattle.setup_access.specs.declared.begun.Begun.{Begun}
+use Rattle.setup_access.specs.declared.outcome.Outcome.{Outcome}
+use Rattle.setup_access.specs.declared.outcome.Outcome.TheVariants as outcomes
+use Rattle.setup_access.specs.declared.outcome.Watchpoint.{Watchpoint}
+use Rattle.setup_access.specs.declared.source.Source.{Source}
+use Rattle.setup_access.proofs.DisciplineLemmas.{on_flag, on_halves, on_word, record_is}
 use Rattle.run_lists.specs.Answers.{is_answer}
 
 -- own records after more of them

@@ -4,12 +4,12 @@ use Rattle.std.proofs.lemmas.List.{length-append}
 use Rattle.slot_table.specs.declared.records.Record.{Record}
 use Rattle.slot_table.specs.declared.step.Step.{Step}
 use Rattle.slot_table.specs.declared.step.Step.TheVariants.{Clock}
-use Rattle.written_order.specs.of_setup_access_Check.{Check, Close, Fallen, Passes, Rechecks, fallen_of, left_to_check}
-use Rattle.written_order.specs.of_setup_access_Records.{MakesWord}
-use Rattle.written_order.specs.of_setup_access_Setting.{Setting}
-use Rattle.written_order.specs.of_setup_access_declared.begun.Begun.{Begun}
-use Rattle.written_order.proofs.of_setup_access_DisciplineLemmas.{on_word}
-use Rattle.written_order.proofs.of_setup_access_FallLemmas.{EndsWith, once_comes, rechecks_come}
+use Rattle.setup_access.specs.Check.{Check, Close, Fallen, Passes, Rechecks, fallen_of, left_to_check}
+use Rattle.setup_access.specs.Records.{MakesWord}
+use Rattle.setup_access.specs.Setting.{Setting}
+use Rattle.setup_access.specs.declared.begun.Begun.{Begun}
+use Rattle.setup_access.proofs.DisciplineLemmas.{on_word}
+use Rattle.setup_access.proofs.FallLemmas.{EndsWith, once_comes, rechecks_come}
 use Rattle.run_lists.proofs.CheckFacts.{Goes, Good, OnTell, good_step, once}
 
 -- a list is as long as what it ends with, at least

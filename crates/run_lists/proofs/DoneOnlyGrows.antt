@@ -4,15 +4,15 @@ use Rattle.std.proofs.Common.{None, Option, Some, ap, arith, drop, length, refl,
 use Rattle.std.proofs.lemmas.Bool.{le-leb}
 use Rattle.std.proofs.lemmas.Bool.Decides.{leb_tells}
 use Rattle.std.proofs.lemmas.List.{append-nil, append_assoc}
-use Rattle.watch_word.specs.of_access_types_Access as access
-use Rattle.watch_word.specs.of_access_types_declared.history.Happening.{Happening}
-use Rattle.watch_word.specs.of_access_types_declared.history.Happening.TheVariants as happenings
-use Rattle.written_order.specs.of_litmus_meaning_Task as meaning
-use Rattle.written_order.specs.of_litmus_syntax_Tree.{Block}
-use Rattle.written_order.specs.of_memory_operation_Effects.{moments_of, read_moments, write_moments}
-use Rattle.written_order.specs.of_memory_operation_declared.effect.Effect.{Effect}
-use Rattle.written_order.specs.of_memory_operation_declared.operation.Operation.{Operation}
-use Rattle.written_order.specs.of_memory_operation_declared.operation.Operation.TheVariants as operations
+use Rattle.access_types.specs.Access as access
+use Rattle.access_types.specs.declared.history.Happening.{Happening}
+use Rattle.access_types.specs.declared.history.Happening.TheVariants as happenings
+use Rattle.litmus_meaning.specs.Task as meaning
+use Rattle.litmus_syntax.specs.Tree.{Block}
+use Rattle.memory_operation.specs.Effects.{moments_of, read_moments, write_moments}
+use Rattle.memory_operation.specs.declared.effect.Effect.{Effect}
+use Rattle.memory_operation.specs.declared.operation.Operation.{Operation}
+use Rattle.memory_operation.specs.declared.operation.Operation.TheVariants as operations
 use Rattle.slot_table.specs.declared.records.Record.{Record}
 use Rattle.written_order.specs.Access.{operated}
 use Rattle.written_order.specs.Standing.{Point, Setting, Standing, coming, counting, doing, point_by}

@@ -6,13 +6,13 @@ use Rattle.std.proofs.lemmas.Bool.{eq-eqb, ne_eqb}
 use Rattle.std.proofs.lemmas.Bool.Decides.{eqb_tells}
 use Rattle.std.proofs.lemmas.List.{append-nil, map-append, reverse-append}
 use Rattle.std.proofs.lemmas.List.Elements.{filter-append}
-use Rattle.watch_word.specs.of_access_types_Access.{Access}
-use Rattle.watch_word.specs.of_access_types_History.{History, InProgress, beginning, ending, happenings_of}
-use Rattle.watch_word.specs.of_access_types_declared.history.Happening.{Happening}
-use Rattle.watch_word.specs.of_access_types_declared.history.Happening.TheVariants as happenings
-use Rattle.watch_word.specs.of_access_types_declared.history.Moment.{Moment}
-use Rattle.written_order.specs.of_litmus_meaning_RunOfProgram.{IsBeginning}
-use Rattle.written_order.specs.of_litmus_syntax_Tree.{Block, Task}
+use Rattle.access_types.specs.Access.{Access}
+use Rattle.access_types.specs.History.{History, InProgress, beginning, ending, happenings_of}
+use Rattle.access_types.specs.declared.history.Happening.{Happening}
+use Rattle.access_types.specs.declared.history.Happening.TheVariants as happenings
+use Rattle.access_types.specs.declared.history.Moment.{Moment}
+use Rattle.litmus_meaning.specs.RunOfProgram.{IsBeginning}
+use Rattle.litmus_syntax.specs.Tree.{Block, Task}
 use Rattle.slot_table.specs.Records.{records_of}
 use Rattle.slot_table.specs.declared.records.Record.{Record}
 use Rattle.written_order.specs.Standing as order

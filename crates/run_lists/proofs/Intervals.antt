@@ -4,12 +4,12 @@ use Rattle.std.proofs.Common.{None, Option, Some, ap, append_assoc, arith, lengt
 use Rattle.std.proofs.lemmas.Bool.{le-leb}
 use Rattle.std.proofs.lemmas.Bool.Decides.{leb_tells}
 use Rattle.std.proofs.lemmas.List.{length-append}
-use Rattle.watch_word.specs.of_access_types_Access.{Access}
-use Rattle.watch_word.specs.of_access_types_declared.history.Happening.{Happening}
-use Rattle.watch_word.specs.of_access_types_declared.history.Happening.TheVariants as happenings
-use Rattle.watch_word.specs.of_access_types_declared.history.Mark.{Mark}
-use Rattle.written_order.specs.of_memory_operation_Effects.{moments_of, read_moments, write_moments}
-use Rattle.written_order.specs.of_memory_operation_declared.effect.Effect.{Effect}
+use Rattle.access_types.specs.Access.{Access}
+use Rattle.access_types.specs.declared.history.Happening.{Happening}
+use Rattle.access_types.specs.declared.history.Happening.TheVariants as happenings
+use Rattle.access_types.specs.declared.history.Mark.{Mark}
+use Rattle.memory_operation.specs.Effects.{moments_of, read_moments, write_moments}
+use Rattle.memory_operation.specs.declared.effect.Effect.{Effect}
 use Rattle.written_order.specs.Standing.{Point, point_by}
 use Rattle.written_order.proofs.WayLemmas.{Begins}
 use Rattle.run_lists.proofs.DoneOnlyGrows.{Chain, by_last, by_later, last_of}

@@ -4,7 +4,7 @@ use Rattle.std.proofs.lemmas.Bool.{eq-eqb}
 use Rattle.std.proofs.lemmas.Bool.Decides.{eqb_tells}
 use Rattle.std.proofs.lemmas.List.{length-append}
 use Rattle.std.proofs.lemmas.List.Elements.{All-contains, All-contains_itself, All-filter}
-use Rattle.slot_table.specs.of_slot_Pair.{Halves}
+use Rattle.slot.specs.Pair.{Halves}
 use Rattle.slot_table.specs.Armings.{Arming, armed_after, last_arming, last_arming_number, named_after, named_at, number_after, number_made, number_made_after}
 use Rattle.slot_table.specs.Discipline.{Allows, heard, in_hand}
 use Rattle.slot_table.specs.Hearings.{EachHearsTheOther, HearsTheOther, IsArming, SomeRecord}

@@ -5,16 +5,16 @@ use Rattle.std.proofs.lemmas.Bool.{and_right, eq-eqb}
 use Rattle.std.proofs.lemmas.List.Sums.{sum_by-cons}
 use Rattle.std.proofs.lemmas.Bool.Decides.{eqb_tells, leb_tells}
 use Rattle.std.proofs.lemmas.List.{map-append}
-use Rattle.watch_word.specs.of_access_types_Access.{Access}
-use Rattle.watch_word.specs.of_access_types_History.{History, happenings_of}
-use Rattle.watch_word.specs.of_access_types_Marked as spec
-use Rattle.watch_word.specs.of_access_types_Marked.{CountsAfter, EndsRaised, IsWithinNext, begins_countable, is_countable_begin, is_next, mark_before, marks_of, next_mark}
-use Rattle.watch_word.specs.of_access_types_declared.history.Happening.{Happening}
-use Rattle.watch_word.specs.of_access_types_declared.history.Happening.TheVariants as happenings
-use Rattle.watch_word.specs.of_access_types_declared.history.Mark.{Mark}
-use Rattle.watch_word.specs.of_access_types_declared.history.Moment.{Moment}
-use Rattle.written_order.specs.of_litmus_meaning_Task.{begins_at}
-use Rattle.written_order.proofs.of_litmus_meaning_TextSitesLemmas.{begun_append, begun_at, begun_cons}
+use Rattle.access_types.specs.Access.{Access}
+use Rattle.access_types.specs.History.{History, happenings_of}
+use Rattle.access_types.specs.Marked as spec
+use Rattle.access_types.specs.Marked.{CountsAfter, EndsRaised, IsWithinNext, begins_countable, is_countable_begin, is_next, mark_before, marks_of, next_mark}
+use Rattle.access_types.specs.declared.history.Happening.{Happening}
+use Rattle.access_types.specs.declared.history.Happening.TheVariants as happenings
+use Rattle.access_types.specs.declared.history.Mark.{Mark}
+use Rattle.access_types.specs.declared.history.Moment.{Moment}
+use Rattle.litmus_meaning.specs.Task.{begins_at}
+use Rattle.litmus_meaning.proofs.TextSitesLemmas.{begun_append, begun_at, begun_cons}
 use Rattle.run_lists.specs.Told.{moments_of}
 use Rattle.run_lists.proofs.Histories.{of_both}
 

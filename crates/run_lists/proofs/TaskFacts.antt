@@ -1,29 +1,29 @@
 -- What is so of the records of checks is so of all records of a text.
 use Rattle.std.proofs.Common.{◌≡◌, ◌<◌, ◌≤◌, ◌+◌, ◌-◌, ◌∙◌, ◌∷◌, ◌++◌, ◌||◌, [], ℕ, suc, Bool, true, false, drop, length, map, replicate, List, Option, None, Some, MatchBool, ap, append_assoc, arith, refl, subst, sym}
 use Rattle.std.proofs.lemmas.List.{append-nil}
-use Rattle.watch_word.specs.of_access_types_Kind.{is_scoped}
-use Rattle.watch_word.specs.of_access_types_Access as access
-use Rattle.watch_word.specs.of_access_types_Marked.{CountsAfter, EndsRaised, is_disable, is_enable, marks_of}
-use Rattle.watch_word.specs.of_access_types_declared.history.Happening.{Happening}
-use Rattle.watch_word.specs.of_access_types_declared.history.Happening.TheVariants as happenings
-use Rattle.written_order.specs.of_litmus_syntax_Tree.{Block}
-use Rattle.written_order.specs.of_litmus_meaning_Task as meaning
-use Rattle.written_order.specs.of_memory_operation_Effects.{moments_of, read_moments, write_moments}
-use Rattle.written_order.specs.of_memory_operation_Locks.{TakesLock}
-use Rattle.written_order.specs.of_memory_operation_Operations.{Changes, Exchanges, OnExchange, Operates, OperatesIn}
-use Rattle.written_order.specs.of_memory_operation_Values.{is_wanted, new_value, sum_of, with_value}
-use Rattle.written_order.specs.of_memory_operation_declared.effect.Effect.{Effect}
-use Rattle.written_order.specs.of_memory_operation_declared.operation.Change.{Change}
-use Rattle.written_order.specs.of_memory_operation_declared.operation.Change.TheVariants as changes
-use Rattle.written_order.specs.of_memory_operation_declared.operation.Operation.{Operation}
-use Rattle.written_order.specs.of_memory_operation_declared.operation.Operation.TheVariants as operations
-use Rattle.written_order.specs.of_setup_access_Check.{Fallen}
-use Rattle.written_order.specs.of_setup_access_OwnAccesses.{IsOwn}
-use Rattle.written_order.specs.of_setup_access_Records.{MakesDone, MakesWord}
-use Rattle.written_order.specs.of_setup_access_Values.{value_in}
-use Rattle.written_order.specs.of_setup_access_declared.begun.Begun.{Begun}
-use Rattle.written_order.specs.of_setup_access_declared.source.Source.{Source}
-use Rattle.written_order.proofs.of_setup_access_DisciplineLemmas.{on_flag, on_word}
+use Rattle.access_types.specs.Kind.{is_scoped}
+use Rattle.access_types.specs.Access as access
+use Rattle.access_types.specs.Marked.{CountsAfter, EndsRaised, is_disable, is_enable, marks_of}
+use Rattle.access_types.specs.declared.history.Happening.{Happening}
+use Rattle.access_types.specs.declared.history.Happening.TheVariants as happenings
+use Rattle.litmus_syntax.specs.Tree.{Block}
+use Rattle.litmus_meaning.specs.Task as meaning
+use Rattle.memory_operation.specs.Effects.{moments_of, read_moments, write_moments}
+use Rattle.memory_operation.specs.Locks.{TakesLock}
+use Rattle.memory_operation.specs.Operations.{Changes, Exchanges, OnExchange, Operates, OperatesIn}
+use Rattle.memory_operation.specs.Values.{is_wanted, new_value, sum_of, with_value}
+use Rattle.memory_operation.specs.declared.effect.Effect.{Effect}
+use Rattle.memory_operation.specs.declared.operation.Change.{Change}
+use Rattle.memory_operation.specs.declared.operation.Change.TheVariants as changes
+use Rattle.memory_operation.specs.declared.operation.Operation.{Operation}
+use Rattle.memory_operation.specs.declared.operation.Operation.TheVariants as operations
+use Rattle.setup_access.specs.Check.{Fallen}
+use Rattle.setup_access.specs.OwnAccesses.{IsOwn}
+use Rattle.setup_access.specs.Records.{MakesDone, MakesWord}
+use Rattle.setup_access.specs.Values.{value_in}
+use Rattle.setup_access.specs.declared.begun.Begun.{Begun}
+use Rattle.setup_access.specs.declared.source.Source.{Source}
+use Rattle.setup_access.proofs.DisciplineLemmas.{on_flag, on_word}
 use Rattle.slot_table.specs.declared.records.Record.{Record}
 use Rattle.slot_table.specs.declared.step.Answer.{Answer}
 use Rattle.slot_table.specs.declared.step.Answer.TheVariants as answers

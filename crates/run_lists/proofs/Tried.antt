@@ -1,20 +1,20 @@
 -- What a small list tells.
 use Rattle.std.proofs.Common.{◌≡◌, ◌∙◌, ℕ, zero, suc, Bool, true, false, List, [], ◌∷◌, None, Some, IsTrue, ◌≤◌, arith, lit<, refl, slice_get, subst, sym}
 use Rattle.std.proofs.lemmas.Bool.{ne_eqb}
-use Rattle.watch_word.specs.of_access_types_Sites.{map_of}
-use Rattle.watch_word.proofs.of_access_types_SiteEntries.{get-lookup}
-use Rattle.watch_word.specs.of_access_types_declared.history.Happening.{Happening}
-use Rattle.watch_word.specs.of_access_types_declared.history.Happening.TheVariants as happenings
-use Rattle.watch_word.specs.of_access_types_declared.history.Mark.TheVariants as marks
-use Rattle.watch_word.specs.of_access_types_declared.history.Moment.{Moment}
-use Rattle.written_order.specs.of_litmus_meaning_RunOfProgram.{setting_of}
-use Rattle.written_order.specs.of_litmus_meaning_TextSites.{block_sites}
-use Rattle.written_order.specs.of_litmus_meaning_declared.site.Site.{Site}
-use Rattle.written_order.specs.of_litmus_syntax_Tree.{Block, Program}
-use Rattle.written_order.specs.of_litmus_syntax_Tree as tree
-use Rattle.written_order.specs.of_litmus_syntax_declared.program.Contents.TheVariants.{Lock}
-use Rattle.written_order.specs.of_litmus_syntax_declared.proposition.Quantifier.TheVariants as quantifiers
-use Rattle.written_order.specs.of_litmus_syntax_declared.statement.Call.TheVariants as calls
+use Rattle.access_types.specs.Sites.{map_of}
+use Rattle.access_types.proofs.SiteEntries.{get-lookup}
+use Rattle.access_types.specs.declared.history.Happening.{Happening}
+use Rattle.access_types.specs.declared.history.Happening.TheVariants as happenings
+use Rattle.access_types.specs.declared.history.Mark.TheVariants as marks
+use Rattle.access_types.specs.declared.history.Moment.{Moment}
+use Rattle.litmus_meaning.specs.RunOfProgram.{setting_of}
+use Rattle.litmus_meaning.specs.TextSites.{block_sites}
+use Rattle.litmus_meaning.specs.declared.site.Site.{Site}
+use Rattle.litmus_syntax.specs.Tree.{Block, Program}
+use Rattle.litmus_syntax.specs.Tree as tree
+use Rattle.litmus_syntax.specs.declared.program.Contents.TheVariants.{Lock}
+use Rattle.litmus_syntax.specs.declared.proposition.Quantifier.TheVariants as quantifiers
+use Rattle.litmus_syntax.specs.declared.statement.Call.TheVariants as calls
 use Rattle.slot_table.specs.Records.{records_of}
 use Rattle.slot_table.specs.declared.records.Record.{Record}
 use Rattle.slot_table.specs.declared.step.Answer.TheVariants as answers

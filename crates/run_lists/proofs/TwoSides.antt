@@ -7,29 +7,29 @@ use Rattle.std.proofs.lemmas.Bool.Decides.{eqb_tells}
 use Rattle.std.proofs.lemmas.List.{append-nil, length-append, length-reverse, reverse-append, reverse-reverse}
 use Rattle.std.proofs.lemmas.List.Elements.{All-append, All-cons, All-nil}
 use Rattle.std.specs.FinMap as fin
-use Rattle.watch_word.specs.of_access_types_Access as access
-use Rattle.watch_word.specs.of_access_types_Access.{Breaks, Overlap}
-use Rattle.watch_word.specs.of_access_types_Kind.{write_flag}
-use Rattle.watch_word.specs.of_access_types_Marked.{CountedAsMarked, Silenced}
-use Rattle.watch_word.specs.of_access_types_Race.{TrueRace}
-use Rattle.watch_word.specs.of_access_types_Ticket.{ticket_number}
-use Rattle.written_order.proofs.of_litmus_meaning_TicketLemmas.{numbered}
-use Rattle.written_order.specs.of_setup_access_Check.{Fallen}
-use Rattle.written_order.specs.of_setup_access_Hits.{Hits}
-use Rattle.written_order.specs.of_setup_access_declared.begun.Begun.{Begun}
-use Rattle.written_order.specs.of_setup_access_declared.outcome.Outcome.{Outcome}
-use Rattle.written_order.specs.of_setup_access_declared.outcome.Outcome.TheVariants as outcomes
-use Rattle.written_order.specs.of_setup_access_Setting as checks
-use Rattle.written_order.specs.of_setup_access_Verdicts as verdicts
-use Rattle.written_order.specs.of_setup_access_Verdicts.{HitOutcome, SharesByte}
-use Rattle.written_order.proofs.of_setup_access_LawLemmas.{shares}
-use Rattle.written_order.specs.of_value_filter_Verdict as table
-use Rattle.written_order.specs.of_value_filter_Verdict.{VerdictOf}
-use Rattle.written_order.specs.of_value_filter_declared.verdict.Change.{Change}
-use Rattle.written_order.specs.of_value_filter_declared.verdict.Reason.{Reason}
-use Rattle.written_order.specs.of_value_filter_declared.verdict.Reason.TheVariants.{Encoding}
-use Rattle.written_order.specs.of_value_filter_declared.verdict.Verdict.TheVariants as verdict
-use Rattle.slot_table.specs.of_slot_Pair.{Halves}
+use Rattle.access_types.specs.Access as access
+use Rattle.access_types.specs.Access.{Breaks, Overlap}
+use Rattle.access_types.specs.Kind.{write_flag}
+use Rattle.access_types.specs.Marked.{CountedAsMarked, Silenced}
+use Rattle.access_types.specs.Race.{TrueRace}
+use Rattle.access_types.specs.Ticket.{ticket_number}
+use Rattle.litmus_meaning.proofs.TicketLemmas.{numbered}
+use Rattle.setup_access.specs.Check.{Fallen}
+use Rattle.setup_access.specs.Hits.{Hits}
+use Rattle.setup_access.specs.declared.begun.Begun.{Begun}
+use Rattle.setup_access.specs.declared.outcome.Outcome.{Outcome}
+use Rattle.setup_access.specs.declared.outcome.Outcome.TheVariants as outcomes
+use Rattle.setup_access.specs.Setting as checks
+use Rattle.setup_access.specs.Verdicts as verdicts
+use Rattle.setup_access.specs.Verdicts.{HitOutcome, SharesByte}
+use Rattle.setup_access.proofs.LawLemmas.{shares}
+use Rattle.value_filter.specs.Verdict as table
+use Rattle.value_filter.specs.Verdict.{VerdictOf}
+use Rattle.value_filter.specs.declared.verdict.Change.{Change}
+use Rattle.value_filter.specs.declared.verdict.Reason.{Reason}
+use Rattle.value_filter.specs.declared.verdict.Reason.TheVariants.{Encoding}
+use Rattle.value_filter.specs.declared.verdict.Verdict.TheVariants as verdict
+use Rattle.slot.specs.Pair.{Halves}
 use Rattle.slot_table.specs.Armings.{Arming, last_arming_number, number_made}
 use Rattle.slot_table.specs.Discipline.{in_hand}
 use Rattle.slot_table.specs.Hearings.{EachHearsTheOther, HeardItsFinder, HearsTheOther, IsArming, IsMet, IsTell, SomeRecord}

@@ -1,18 +1,18 @@
 -- The answers that setters give to takings: reports of two sides, and named discards.
 use Rattle.std.specs.Prelude.{◌≡◌, ◌↔◌, ◌++◌, ℕ, suc, Bool, true, false, List, Option, Some, Contains, IsTrue, length}
-use Rattle.watch_word.specs.of_access_types_Access.{Access, Overlap}
-use Rattle.watch_word.specs.of_access_types_Ticket.{ticket_number}
+use Rattle.access_types.specs.Access.{Access, Overlap}
+use Rattle.access_types.specs.Ticket.{ticket_number}
 use Rattle.run_lists.specs.Run.{IsOfProgram, Run, task_setting}
 use Rattle.run_lists.specs.RunList.{RunList}
 use Rattle.run_lists.specs.Told.{OutcomeAt}
-use Rattle.written_order.specs.of_setup_access_Verdicts.{HitOutcome}
-use Rattle.written_order.specs.of_setup_access_declared.outcome.Outcome.{Outcome}
-use Rattle.written_order.specs.of_setup_access_declared.outcome.Outcome.TheVariants as outcomes
-use Rattle.slot_table.specs.of_slot_Pair.{Halves}
+use Rattle.setup_access.specs.Verdicts.{HitOutcome}
+use Rattle.setup_access.specs.declared.outcome.Outcome.{Outcome}
+use Rattle.setup_access.specs.declared.outcome.Outcome.TheVariants as outcomes
+use Rattle.slot.specs.Pair.{Halves}
 use Rattle.slot_table.specs.Hearings.{IsMet}
 use Rattle.slot_table.specs.Meetings.{finders_told}
 use Rattle.slot_table.specs.declared.records.Record.{Record}
-use Rattle.written_order.specs.of_value_filter_declared.verdict.Reason.TheVariants.{Encoding}
+use Rattle.value_filter.specs.declared.verdict.Reason.TheVariants.{Encoding}
 use Rattle.watch_word.specs.Word.{word_of}
 use Rattle.written_order.specs.Standing.{checks_of}
 

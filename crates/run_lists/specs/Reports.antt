@@ -1,14 +1,14 @@
 -- The reports of a run list, in the order of the verdicts.
 use Rattle.std.specs.Prelude.{List, Option, None, Some, filter_map}
-use Rattle.watch_word.specs.of_access_types_Access.{Access}
-use Rattle.watch_word.specs.of_access_types_Ticket.{ticket_number}
-use Rattle.watch_word.specs.of_access_types_declared.report.Report.{Report}
-use Rattle.watch_word.specs.of_access_types_declared.report.Report.TheVariants as reports
+use Rattle.access_types.specs.Access.{Access}
+use Rattle.access_types.specs.Ticket.{ticket_number}
+use Rattle.access_types.specs.declared.report.Report.{Report}
+use Rattle.access_types.specs.declared.report.Report.TheVariants as reports
 use Rattle.run_lists.specs.Run.{Run}
 use Rattle.run_lists.specs.RunList.{RunList}
 use Rattle.run_lists.specs.Told.{outcomes_by}
-use Rattle.written_order.specs.of_setup_access_declared.outcome.Outcome.{Outcome}
-use Rattle.written_order.specs.of_setup_access_declared.outcome.Outcome.TheVariants as outcomes
+use Rattle.setup_access.specs.declared.outcome.Outcome.{Outcome}
+use Rattle.setup_access.specs.declared.outcome.Outcome.TheVariants as outcomes
 use Rattle.slot_table.specs.declared.records.Record.{Record}
 
 -- the report that an outcome of checking an access is, if it is one

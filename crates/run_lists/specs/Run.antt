@@ -1,15 +1,15 @@
 -- What a run goes by: its program, where the variables stand, and the rules.
 use Rattle.std.specs.Prelude.{◌≡◌, ◌↔◌, ℕ, List, [], Some, count_by, slice_index_or}
 use Rattle.std.specs.FinMap as map
-use Rattle.watch_word.specs.of_access_types_Access.{Access}
-use Rattle.watch_word.specs.of_access_types_Sites.{AccessMap}
-use Rattle.watch_word.specs.of_access_types_Ticket.{ticket_number}
-use Rattle.written_order.specs.of_litmus_meaning_Layout.{Place, cells_at_first}
-use Rattle.written_order.specs.of_litmus_meaning_RunOfProgram.{setting_of}
-use Rattle.written_order.specs.of_litmus_meaning_TextSites.{IsOfText}
-use Rattle.written_order.specs.of_litmus_syntax_Tree.{Program, Task}
-use Rattle.written_order.specs.of_litmus_syntax_Tree as tree
-use Rattle.written_order.specs.of_setup_access_declared.rules.Rules.{Rules}
+use Rattle.access_types.specs.Access.{Access}
+use Rattle.access_types.specs.Sites.{AccessMap}
+use Rattle.access_types.specs.Ticket.{ticket_number}
+use Rattle.litmus_meaning.specs.Layout.{Place, cells_at_first}
+use Rattle.litmus_meaning.specs.RunOfProgram.{setting_of}
+use Rattle.litmus_meaning.specs.TextSites.{IsOfText}
+use Rattle.litmus_syntax.specs.Tree.{Program, Task}
+use Rattle.litmus_syntax.specs.Tree as tree
+use Rattle.setup_access.specs.declared.rules.Rules.{Rules}
 use Rattle.slot_table.specs.Words.{Words, words_at_first}
 use Rattle.written_order.specs.Standing.{Setting, is_lock}
 

@@ -2,13 +2,13 @@
 -- What its tasks would still do is as it completes their records in the written order.
 use Rattle.std.specs.Prelude.{◌++◌, ℕ, zero, suc, List, [], ◌∷◌, Option, None, Some, length, map}
 use Rattle.std.specs.Option.{option_map}
-use Rattle.watch_word.specs.of_access_types_Access.{Access}
-use Rattle.watch_word.specs.of_access_types_History.{History}
-use Rattle.watch_word.specs.of_access_types_declared.history.Happening.{Happening}
+use Rattle.access_types.specs.Access.{Access}
+use Rattle.access_types.specs.History.{History}
+use Rattle.access_types.specs.declared.history.Happening.{Happening}
 use Rattle.run_lists.specs.Run.{Run}
 use Rattle.run_lists.specs.RunList.{RunList}
-use Rattle.written_order.specs.of_setup_access_Check.{Fallen}
-use Rattle.written_order.specs.of_setup_access_declared.outcome.Outcome.{Outcome}
+use Rattle.setup_access.specs.Check.{Fallen}
+use Rattle.setup_access.specs.declared.outcome.Outcome.{Outcome}
 use Rattle.slot_table.specs.Armings.{last_arming_number}
 use Rattle.slot_table.specs.Discipline.{in_hand}
 use Rattle.slot_table.specs.Records.{records_of}

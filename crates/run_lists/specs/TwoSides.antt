@@ -1,14 +1,14 @@
 -- What a report of two sides names.
 use Rattle.std.specs.Prelude.{◌≡◌, List}
-use Rattle.watch_word.specs.of_access_types_Marked.{CountedAsMarked}
-use Rattle.watch_word.specs.of_access_types_Race.{TrueRace}
+use Rattle.access_types.specs.Marked.{CountedAsMarked}
+use Rattle.access_types.specs.Race.{TrueRace}
 use Rattle.run_lists.specs.Answers.{AnswersTaking}
 use Rattle.run_lists.specs.Run.{Run}
 use Rattle.run_lists.specs.RunList.{RunList}
 use Rattle.run_lists.specs.Told.{OutcomeAt, history_of}
-use Rattle.written_order.specs.of_setup_access_declared.outcome.Outcome.{Outcome}
-use Rattle.written_order.specs.of_setup_access_declared.outcome.Outcome.TheVariants as outcomes
-use Rattle.slot_table.specs.of_slot_Pair.{Halves}
+use Rattle.setup_access.specs.declared.outcome.Outcome.{Outcome}
+use Rattle.setup_access.specs.declared.outcome.Outcome.TheVariants as outcomes
+use Rattle.slot.specs.Pair.{Halves}
 use Rattle.slot_table.specs.declared.records.Record.{Record}
 
 -- The pair of tickets is the one of the taking that the report answers, as its finder told it. It names

@@ -2,8 +2,8 @@
 
 ghost use Rattle.std.specs.Prelude.{◌≢◌, ℕ, List, All, AllPairs, IfSome, slice_get};
 ghost use Rattle.std.specs.List.Sorted.{IsPermutation};
-ghost use Rattle.watch_word.specs.of_access_types_History.{happenings_of};
-ghost use Rattle.written_order.specs.of_litmus_meaning_RunOfProgram.{IsBeginning};
+ghost use Rattle.access_types.specs.History.{happenings_of};
+ghost use Rattle.litmus_meaning.specs.RunOfProgram.{IsBeginning};
 ghost use Rattle.run_lists.specs.Answers.{IfAnswer};
 ghost use Rattle.run_lists.specs.Run.{Run, first_cells, first_words, locks_of};
 ghost use Rattle.run_lists.specs.RunList.{AllHaveEnded, RunList};

@@ -10,9 +10,9 @@ use Rattle.final_condition.specs.declared.condition.Finals.{Finals}
 use Rattle.run_output.specs.Finals.{AreAllRegisters, AreRegistersFrom, register_value, value_among}
 use Rattle.litmus_step.specs.Readers.{AreRegisters}
 use Rattle.litmus_syntax.specs.Tree.{Proposition, always, both, either, negation, never, register_is, variable_is}
-use Rattle.accepted_traces.specs.of_run_lists_Run.{Run}
-use Rattle.accepted_traces.specs.of_run_lists_RunList.{RunList}
-use Rattle.accepted_traces.specs.of_slot_table_declared.records.Record.{Record}
+use Rattle.run_lists.specs.Run.{Run}
+use Rattle.run_lists.specs.RunList.{RunList}
+use Rattle.slot_table.specs.declared.records.Record.{Record}
 
 -- the registers of one task more
 pub registers_go_on : {run : Run} {records : List Record} (list : RunList run records) (from number : ℕ) (all : List (List ℕ))

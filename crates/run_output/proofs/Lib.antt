@@ -1,5 +1,2 @@
 pub mod FinalLemmas
 pub mod CellValues
-pub use Rattle.accepted_traces.proofs.of_program_sites_prepared as of_program_sites_prepared
-pub use Rattle.accepted_traces.proofs.of_program_sites_settings as of_program_sites_settings
-pub use Rattle.litmus_step.proofs.FirstLemmas as of_litmus_step_FirstLemmas

@@ -10,11 +10,11 @@ use Rattle.litmus_meaning.specs.Values.{sign_extended}
 use Rattle.litmus_step.specs.Readers.{AreRegisters}
 use Rattle.litmus_step.specs.Runs.{tasks_of}
 use Rattle.litmus_syntax.specs.declared.program.Variable.{Variable}
-use Rattle.accepted_traces.specs.of_run_lists_Run.{Run}
-use Rattle.accepted_traces.specs.of_run_lists_RunList.{RunList}
-use Rattle.accepted_traces.specs.of_run_lists_Told.{history_of}
+use Rattle.run_lists.specs.Run.{Run}
+use Rattle.run_lists.specs.RunList.{RunList}
+use Rattle.run_lists.specs.Told.{history_of}
 use Rattle.run_output.specs.declared.finals.End.{End}
-use Rattle.accepted_traces.specs.of_slot_table_declared.records.Record.{Record}
+use Rattle.slot_table.specs.declared.records.Record.{Record}
 
 -- the value of the variable of a number, with these places, where this history has ended: the content of its bytes, with its sign, in 64
 -- bits

@@ -2,7 +2,7 @@
 use Rattle.std.specs.Prelude.{◌++◌, ℕ, List, codes}
 use Rattle.std.specs.Fmt.{decimal}
 use Rattle.access_types.specs.ReportText.{line}
-use Rattle.accepted_traces.specs.of_task_log_declared.counters.Counters.{Counters}
+use Rattle.task_log.specs.declared.counters.Counters.{Counters}
 
 -- the line of counters, with how many calls had nothing to end
 unfoldable pub counters_line : Counters → ℕ → List ℕ

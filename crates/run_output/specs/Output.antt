@@ -4,13 +4,13 @@ use Rattle.std.specs.List.{flat_map}
 use Rattle.access_types.specs.Sites.{AccessMap}
 use Rattle.access_types.specs.declared.report.Report.{Report}
 use Rattle.report_text.specs.ReportOf.{report_text}
-use Rattle.accepted_traces.specs.of_run_lists_Run.{Run}
-use Rattle.accepted_traces.specs.of_run_lists_RunList.{RunList}
-use Rattle.accepted_traces.specs.of_run_kept_Totals.{CountsList, IsUnbalanced}
+use Rattle.run_lists.specs.Run.{Run}
+use Rattle.run_lists.specs.RunList.{RunList}
+use Rattle.run_kept.specs.Totals.{CountsList, IsUnbalanced}
 use Rattle.run_output.specs.Finals.{HoldsAtEnd}
 use Rattle.run_output.specs.Lines.{condition_line, counters_line}
 use Rattle.run_output.specs.declared.output.Found.{Found}
-use Rattle.accepted_traces.specs.of_slot_table_declared.records.Record.{Record}
+use Rattle.slot_table.specs.declared.records.Record.{Record}
 
 -- the reports in order, of the accesses that their tickets name, the line of counters, and the line on the condition
 abbrev pub output_text : AccessMap → List Report → Found → List ℕ

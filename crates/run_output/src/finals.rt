@@ -3,31 +3,31 @@
 ghost use Rattle.std.specs.Prelude.{◌≡◌, ℕ, List, IfOk, map, slice_get, unwrap_or};
 ghost use Rattle.access_types.specs.Sites.{AccessMap};
 ghost use Rattle.final_condition.specs.Holds.{variable_of};
-ghost use Rattle.accepted_traces.specs.of_program_sites_Prepared.{IsPrepared};
+ghost use Rattle.program_sites.specs.Prepared.{IsPrepared};
 ghost use Rattle.litmus_step.specs.Runs.{run_of};
-ghost use Rattle.accepted_traces.specs.of_program_sites_declared.settings.Settings as terms;
+ghost use Rattle.program_sites.specs.declared.settings.Settings as terms;
 ghost use Rattle.litmus_syntax.specs.Limits.{KeepsLimits};
 ghost use Rattle.litmus_syntax.specs.Views.{program_of};
 ghost use Rattle.litmus_syntax.specs.declared.program.Program as tree;
-ghost use Rattle.accepted_traces.specs.of_program_layout_Places.{places_of};
+ghost use Rattle.program_layout.specs.Places.{places_of};
 ghost use Rattle.run_output.specs.Finals as spec;
 ghost use Rattle.run_output.specs.Finals.{AreAllRegisters, IsEndOf, value_in_cells, variable_value};
 ghost use Rattle.run_output.specs.Output.{IsFoundOf};
-ghost use Rattle.accepted_traces.specs.of_run_lists_Run.{Run};
-ghost use Rattle.accepted_traces.specs.of_run_lists_Run.{first_words};
-ghost use Rattle.accepted_traces.specs.of_run_lists_RunList.{RunList};
-ghost use Rattle.accepted_traces.specs.of_run_lists_Told.{history_of};
-ghost use Rattle.accepted_traces.specs.of_slot_table_Records.{words_after};
-ghost use Rattle.accepted_traces.specs.of_slot_table_declared.records.Record.{Record};
+ghost use Rattle.run_lists.specs.Run.{Run};
+ghost use Rattle.run_lists.specs.Run.{first_words};
+ghost use Rattle.run_lists.specs.RunList.{RunList};
+ghost use Rattle.run_lists.specs.Told.{history_of};
+ghost use Rattle.slot_table.specs.Records.{words_after};
+ghost use Rattle.slot_table.specs.declared.records.Record.{Record};
 
 use crate::output::Found;
-use accepted_traces::program_layout::laws::variables_lie_in_one_cell;
-use accepted_traces::run_headline::histories::cells_hold_the_content;
 use access_types::Bytes;
 use final_condition::{Finals, holds};
 use litmus_meaning::sign_extended;
 use litmus_step::{Prepared, Ran};
 use litmus_syntax::Program;
+use program_layout::laws::variables_lie_in_one_cell;
+use run_headline::histories::cells_hold_the_content;
 use std::alloc::{AllocError, Global};
 
 /// The end of a run.

@@ -9,11 +9,9 @@ pub mod output;
 pub mod trace;
 pub mod written;
 
-pub use accepted_traces::{run_headline, task_log, trace_replay};
 pub use error::EngineError;
 pub use finals::{End, end_of, found_of};
 pub use lines::{write_condition, write_counters, write_stuck};
-pub use litmus_step;
 pub use output::{Found, output_of, write_output};
 pub use trace::{trace_if, trace_of};
 pub use written::Written;

@@ -4,9 +4,9 @@ ghost use Rattle.run_output.specs.Lines.{condition_line, counters_line, stuck_li
 ghost use Rattle.report_text.specs.Pieces.{text_of};
 ghost use Rattle.report_text.specs.Sink.{Writes};
 
-use accepted_traces::task_log::Counters;
 use report_text::pieces::{Piece, write_parts, write_pieces};
 use report_text::{Sink, WriteError};
+use task_log::Counters;
 
 /// Writes the line of counters, with how many calls had nothing to end.
 ///

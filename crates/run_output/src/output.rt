@@ -7,19 +7,19 @@ ghost use Rattle.report_text.specs.Sink.{Writes};
 ghost use Rattle.litmus_step.specs.Runs.{run_of};
 ghost use Rattle.litmus_syntax.specs.Limits.{KeepsLimits};
 ghost use Rattle.litmus_syntax.specs.Views.{program_of};
-ghost use Rattle.accepted_traces.specs.of_program_sites_Prepared.{IsPrepared, sites_in};
-ghost use Rattle.accepted_traces.specs.of_program_sites_declared.settings.Settings as terms;
+ghost use Rattle.program_sites.specs.Prepared.{IsPrepared, sites_in};
+ghost use Rattle.program_sites.specs.declared.settings.Settings as terms;
 ghost use Rattle.run_output.specs.Output.{IsOutput, output_text};
-ghost use Rattle.accepted_traces.specs.of_slot_table_declared.records.Record.{Record};
+ghost use Rattle.slot_table.specs.declared.records.Record.{Record};
 
 use crate::finals::found_of;
 use crate::lines::{write_condition, write_counters};
-use accepted_traces::task_log::Counters;
 use access_types::{Report, Sites};
 use litmus_step::{Prepared, Ran};
 use litmus_syntax::Program;
 use report_text::{MemorySink, Sink, WriteError, write_report};
 use std::alloc::{AllocError, Global};
+use task_log::Counters;
 
 /// What was found in a run.
 #[derive(Clone, Copy)]

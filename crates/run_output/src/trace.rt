@@ -1,10 +1,10 @@
 //! The trace of a run, which is accepted where all its tasks have ended.
 
 ghost use Rattle.std.specs.Prelude.{◌≡◌, ◌≤◌, ◌&&◌, IfOk, IfSome, List, is_some};
-ghost use Rattle.accepted_traces.specs.of_run_lists_Run.{Run};
-ghost use Rattle.accepted_traces.specs.of_run_lists_RunList.{AllHaveEnded};
+ghost use Rattle.run_lists.specs.Run.{Run};
+ghost use Rattle.run_lists.specs.RunList.{AllHaveEnded};
 ghost use Rattle.run_output.specs.Traces.{IsToBeAccepted, IsTraceOf};
-ghost use Rattle.accepted_traces.specs.of_slot_table_declared.records.Record.{Record};
+ghost use Rattle.slot_table.specs.declared.records.Record.{Record};
 
 use crate::masks::masks_are_low;
 use accepted_traces::laws::traces_in_either_order_are_true;

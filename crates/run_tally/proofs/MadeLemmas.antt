@@ -9,28 +9,28 @@ use Rattle.std.specs.Global.{Global}
 use Rattle.std.specs.Prelude.{IsErrAnd}
 use Rattle.std.specs.Option.{option_copied, option_map}
 use Rattle.access_types.specs.Sites.{AccessMap}
-use Rattle.run_output.specs.of_litmus_step_Runs.{run_of}
-use Rattle.run_output.specs.of_program_sites_declared.settings.Settings.{Settings}
+use Rattle.litmus_step.specs.Runs.{run_of}
+use Rattle.program_sites.specs.declared.settings.Settings.{Settings}
 use Rattle.litmus_syntax.specs.declared.program.Program.{Program}
-use Rattle.run_output.specs.of_program_layout_Places.{AreFit}
+use Rattle.program_layout.specs.Places.{AreFit}
 use Rattle.run_tally.proofs.TallyLemmas.{some}
 use Rattle.litmus_parse.specs.Read.{IsReadAs}
 use Rattle.run_tally.specs.Errors.{IsRefused, Stops, StopsRun, is_counted}
 use Rattle.run_output.specs.Traces.{IsToBeAccepted, IsTraceOf}
-use Rattle.run_output.specs.of_run_lists_Run as lists
-use Rattle.run_output.specs.of_run_lists_RunList.{AllHaveEnded, RunList}
+use Rattle.run_lists.specs.Run as lists
+use Rattle.run_lists.specs.RunList.{AllHaveEnded, RunList}
 use Rattle.runner.proofs.ColumnLemmas.{item_there}
 use Rattle.runner.specs.Result.{AreResultsOf, IsOf, IsResultOf, IsRunOnce}
 use Rattle.runner.specs.declared.run.Turn.{Turn}
-use Rattle.run_output.specs.of_slot_table_declared.records.Record.{Record}
+use Rattle.slot_table.specs.declared.records.Record.{Record}
 use Rattle.run_tally.specs.Output.{AreQuietBeforeLast, IsTraceOfLast, reports_in}
 use Rattle.run_tally.specs.Runs.{AreMadeApart, AreNumberedFrom, ComeFrom, Comes, IsLast, IsNumbered, OneRun, StuckRun}
 use Rattle.run_output.specs.declared.error.EngineError.{EngineError}
 use Rattle.run_output.specs.declared.error.EngineError.TheVariants.{Run, SinkFailed, Text}
-use Rattle.run_output.specs.of_program_sites_Errors.{IsOfPreparing}
+use Rattle.program_sites.specs.Errors.{IsOfPreparing}
 use Rattle.runner.specs.Found.{IsInVain, IsOfThreads, IsThrough}
-use Rattle.run_output.specs.of_program_sites_declared.error.RunError.{RunError}
-use Rattle.run_output.specs.of_program_sites_declared.error.RunError.TheVariants.{BadPlace, BadSchedule, BadSlots, NoThread, OutOfMemory, Stuck}
+use Rattle.program_sites.specs.declared.error.RunError.{RunError}
+use Rattle.program_sites.specs.declared.error.RunError.TheVariants.{BadPlace, BadSchedule, BadSlots, NoThread, OutOfMemory, Stuck}
 use Rattle.runner.specs.declared.result.RunResult.{RunResult}
 
 -- there is a last run where there are runs

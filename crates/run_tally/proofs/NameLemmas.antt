@@ -7,23 +7,23 @@ use Rattle.access_types.specs.Sites.{AccessMap}
 use Rattle.access_types.specs.Ticket.{ticket_number}
 use Rattle.access_types.specs.declared.report.Report.{Report}
 use Rattle.access_types.specs.declared.report.Report.TheVariants.{Two, Unknown}
-use Rattle.run_output.proofs.of_litmus_step_FirstLemmas.{of_task}
-use Rattle.run_output.specs.of_litmus_step_Runs.{run_of, tasks_of}
-use Rattle.run_output.specs.of_program_sites_declared.settings.Settings.{Settings}
+use Rattle.litmus_step.proofs.FirstLemmas.{of_task}
+use Rattle.litmus_step.specs.Runs.{run_of, tasks_of}
+use Rattle.program_sites.specs.declared.settings.Settings.{Settings}
 use Rattle.litmus_syntax.specs.Views.{program_of}
 use Rattle.litmus_syntax.specs.declared.program.Program.{Program}
-use Rattle.run_output.specs.of_program_layout_Places.{places_of}
-use Rattle.run_output.specs.of_program_sites_Sites.{AreSitesOf}
+use Rattle.program_layout.specs.Places.{places_of}
+use Rattle.program_sites.specs.Sites.{AreSitesOf}
 use Rattle.report_text.specs.ReportOf.{NamesAccesses}
-use Rattle.run_output.specs.of_run_headline_Reported.{IsTrueReport}
-use Rattle.run_output.specs.of_run_kept_Setters.{is_by, reports_by}
-use Rattle.run_output.specs.of_run_lists_Reports.{reports_of}
-use Rattle.run_output.specs.of_run_lists_Run.{IsOfProgram, Run}
-use Rattle.run_output.specs.of_run_lists_RunList.{RunList}
-use Rattle.run_output.specs.of_run_kept_Lists.{ByTask}
+use Rattle.run_headline.specs.Reported.{IsTrueReport}
+use Rattle.run_kept.specs.Setters.{is_by, reports_by}
+use Rattle.run_lists.specs.Reports.{reports_of}
+use Rattle.run_lists.specs.Run.{IsOfProgram, Run}
+use Rattle.run_lists.specs.RunList.{RunList}
+use Rattle.run_kept.specs.Lists.{ByTask}
 use Rattle.runner.specs.Result.{IsRunOnce}
 use Rattle.runner.specs.declared.result.RunResult.{RunResult}
-use Rattle.run_output.specs.of_slot_table_declared.records.Record.{Record}
+use Rattle.slot_table.specs.declared.records.Record.{Record}
 
 there : {X : Type 0} (found : Option X) (x : X) → found ≡ Some x → IsSome found
 there None x is = absurd (cc)

@@ -10,10 +10,10 @@ use Rattle.std.proofs.lemmas.Grind.{flat_map-append}
 use Rattle.std.specs.List.{sum_by}
 use Rattle.access_types.specs.declared.report.Report.{Report}
 use Rattle.report_text.specs.Groups.{Group, counted}
-use Rattle.run_output.specs.of_run_kept_Totals.{AddUp}
+use Rattle.run_kept.specs.Totals.{AddUp}
 use Rattle.run_tally.specs.Output.{AreSums}
-use Rattle.run_output.specs.of_task_log_Counters.{resting, together}
-use Rattle.run_output.specs.of_task_log_declared.counters.Counters.{Counters}
+use Rattle.task_log.specs.Counters.{resting, together}
+use Rattle.task_log.specs.declared.counters.Counters.{Counters}
 
 -- one count more, where the sum rests at its last value
 pub rested : {X : Type 0} (f : X → ℕ) (all : List X) (one : X) (old new : ℕ) → old ≡ resting (sum_by f all) → new ≡ together old (f one)

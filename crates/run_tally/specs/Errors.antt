@@ -3,18 +3,18 @@ use Rattle.std.specs.Prelude.{◌≡◌, ◌<◌, ◌⊎◌, ℕ, Bool, List, fa
 use Rattle.access_types.specs.Sites.{AccessMap}
 use Rattle.litmus_parse.specs.Grammar.{SpellsProgram}
 use Rattle.litmus_parse.specs.Read.{IsReadAs}
-use Rattle.run_output.specs.of_litmus_step_Runs.{run_of}
-use Rattle.run_output.specs.of_program_sites_declared.settings.Settings.{Settings}
+use Rattle.litmus_step.specs.Runs.{run_of}
+use Rattle.program_sites.specs.declared.settings.Settings.{Settings}
 use Rattle.litmus_syntax.specs.Tree as tree
 use Rattle.litmus_syntax.specs.declared.error.ParseError.{ParseError}
 use Rattle.litmus_syntax.specs.declared.error.ParseError.TheVariants as parse
 use Rattle.litmus_syntax.specs.declared.program.Program.{Program}
-use Rattle.run_output.specs.of_program_layout_Places.{AreFit}
+use Rattle.program_layout.specs.Places.{AreFit}
 use Rattle.run_output.specs.declared.error.EngineError.{EngineError}
 use Rattle.run_output.specs.declared.error.EngineError.TheVariants.{Run, SinkFailed, Text}
 use Rattle.runner.specs.Found.{IsInVain, IsThrough}
-use Rattle.run_output.specs.of_program_sites_declared.error.RunError.{RunError}
-use Rattle.run_output.specs.of_program_sites_declared.error.RunError.TheVariants.{BadPlace, BadSchedule, BadSlots, NoThread, OutOfMemory, Stuck}
+use Rattle.program_sites.specs.declared.error.RunError.{RunError}
+use Rattle.program_sites.specs.declared.error.RunError.TheVariants.{BadPlace, BadSchedule, BadSlots, NoThread, OutOfMemory, Stuck}
 
 -- some steps of the task end in a wait with as many vain tries as are allowed, and each task below comes to the end of its text
 pub record GetsStuck (program : Program) (settings : Settings) (task : ℕ) : Type 0 where

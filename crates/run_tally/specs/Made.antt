@@ -1,10 +1,10 @@
 -- What is kept of the runs that were made.
 use Rattle.std.specs.Prelude.{◌≡◌, ◌⊎◌, ◌<◌, ◌+◌, ◌++◌, ◌∷◌, [], ℕ, All, Bool, List, Ok, Result, false, length, true}
 use Rattle.access_types.specs.Sites.{AccessMap}
-use Rattle.run_output.specs.of_program_sites_declared.settings.Settings.{Settings}
+use Rattle.program_sites.specs.declared.settings.Settings.{Settings}
 use Rattle.litmus_syntax.specs.declared.program.Program.{Program}
 use Rattle.run_tally.specs.Output.{AreAsMany, AreQuietBeforeLast}
-use Rattle.run_output.specs.of_program_sites_declared.error.RunError.{RunError}
+use Rattle.program_sites.specs.declared.error.RunError.{RunError}
 use Rattle.run_tally.specs.Runs.{AreMadeApart, IsLast, OneRun, StuckRun}
 use Rattle.run_tally.specs.Tally.{Tallies}
 use Rattle.run_tally.specs.declared.made.Made.{Made}

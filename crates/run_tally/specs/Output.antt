@@ -3,11 +3,11 @@ use Rattle.std.specs.Prelude.{◌≡◌, ◌≤◌, ◌<◌, ◌+◌, ◌++◌, 
 use Rattle.std.specs.List.{flat_map, sum_by}
 use Rattle.access_types.specs.Sites.{AccessMap}
 use Rattle.access_types.specs.declared.report.Report.{Report}
-use Rattle.run_output.specs.of_program_sites_declared.settings.Settings.{Settings}
+use Rattle.program_sites.specs.declared.settings.Settings.{Settings}
 use Rattle.litmus_syntax.specs.Views.{program_of}
 use Rattle.litmus_syntax.specs.declared.program.Program.{Program}
-use Rattle.run_output.specs.of_program_layout_Places.{AreFit, places_of}
-use Rattle.run_output.specs.of_program_sites_Sites.{AreSitesOf}
+use Rattle.program_layout.specs.Places.{AreFit, places_of}
+use Rattle.program_sites.specs.Sites.{AreSitesOf}
 use Rattle.report_text.specs.Groups.{AreGroupsOf, Group, group_text}
 use Rattle.report_text.specs.ReportOf.{report_text}
 use Rattle.run_output.specs.Lines.{condition_line, counters_line, stuck_line}
@@ -15,8 +15,8 @@ use Rattle.litmus_parse.specs.Read.{IsReadAs}
 use Rattle.run_output.specs.Traces.{IsToBeAccepted, IsTraceOf}
 use Rattle.run_tally.specs.Runs.{AreMadeApart, OneRun, StuckRun}
 use Rattle.run_tally.specs.declared.times.Times.{Times}
-use Rattle.run_output.specs.of_task_log_Counters.{resting}
-use Rattle.run_output.specs.of_task_log_declared.counters.Counters.{Counters}
+use Rattle.task_log.specs.Counters.{resting}
+use Rattle.task_log.specs.declared.counters.Counters.{Counters}
 
 -- the reports of all runs, one run after the other
 abbrev pub reports_in : {program : Program} {settings : Settings} → List (OneRun program settings) → List Report

@@ -2,12 +2,12 @@
 use Rattle.std.specs.Prelude.{◌≡◌, ◌<◌, ◌+◌, ◌*◌, ◌++◌, ◌∷◌, [], ℕ, All, AllPairs, IfErr, IfOk, List, Ok, Option, None, Result, Some, Vec, length, slice_get, slice_index_or}
 use Rattle.std.specs.Global.{Global}
 use Rattle.std.specs.declared.alloc.AllocError.{AllocError}
-use Rattle.run_output.specs.of_program_sites_declared.settings.Settings.{Settings}
+use Rattle.program_sites.specs.declared.settings.Settings.{Settings}
 use Rattle.litmus_syntax.specs.declared.program.Program.{Program}
 use Rattle.run_tally.specs.Errors.{GetsStuck, StopsRun}
-use Rattle.run_output.specs.of_run_headline_Headline.{Headline}
+use Rattle.run_headline.specs.Headline.{Headline}
 use Rattle.runner.specs.Result.{IsRunOnce}
-use Rattle.run_output.specs.of_program_sites_declared.error.RunError.{RunError}
+use Rattle.program_sites.specs.declared.error.RunError.{RunError}
 use Rattle.runner.specs.declared.result.RunResult.{RunResult}
 use Rattle.run_output.specs.Output.{IsFoundOf}
 use Rattle.run_output.specs.declared.output.Found.{Found}

@@ -1,14 +1,14 @@
 -- What is kept of the runs so far.
 use Rattle.std.specs.Prelude.{◌≡◌, ◌==◌, [], List, fold, length, map, not}
 use Rattle.access_types.specs.Sites.{AccessMap}
-use Rattle.run_output.specs.of_program_sites_declared.settings.Settings.{Settings}
+use Rattle.program_sites.specs.declared.settings.Settings.{Settings}
 use Rattle.litmus_syntax.specs.declared.program.Program.{Program}
 use Rattle.report_text.specs.Groups.{counted}
 use Rattle.report_text.specs.ReportOf.{report_text}
 use Rattle.run_tally.specs.Output.{AreSums, held_in, reports_in, unbalanced_in}
 use Rattle.run_tally.specs.Runs.{OneRun}
 use Rattle.run_tally.specs.declared.tally.Tally.{Tally}
-use Rattle.run_output.specs.of_task_log_Counters.{resting}
+use Rattle.task_log.specs.Counters.{resting}
 
 -- What is kept is of these runs: their reports, by their texts, are counted one after the other; the counters are summed, and the runs
 -- in which the condition held are counted.

@@ -13,10 +13,6 @@ mod turns;
 
 pub use delay::Delay;
 pub use hooks::{Delays, Hooks};
-pub use litmus_parse;
-pub use run_output;
-pub use run_output::{EngineError, Written, litmus_step, trace_replay};
-pub use runner;
-pub use runner::shared_table;
+pub use run_output::{EngineError, Written};
 pub use runs::{run_text_often, run_text_with};
 pub use times::{Progress, Times};

@@ -3,13 +3,13 @@
 
 ghost use Rattle.std.specs.Prelude.{◌≡◌, ◌≤◌, ◌<◌, ◌+◌, ◌-◌, ◌*◌, ◌^◌, ◌++◌, ◌∷◌, [], ℕ, All, List, IfErr, IfOk, OnOk, length, slice_get, true};
 ghost use Rattle.access_types.specs.Sites.{AccessMap};
-ghost use Rattle.run_output.specs.of_program_sites_Prepared.{IsPrepared, sites_in};
-ghost use Rattle.run_output.specs.of_program_sites_declared.settings.Settings as terms;
+ghost use Rattle.program_sites.specs.Prepared.{IsPrepared, sites_in};
+ghost use Rattle.program_sites.specs.declared.settings.Settings as terms;
 ghost use Rattle.litmus_syntax.specs.Limits.{KeepsLimits};
 ghost use Rattle.litmus_syntax.specs.Views.{program_of};
 ghost use Rattle.litmus_syntax.specs.declared.program.Program as tree;
-ghost use Rattle.run_output.specs.of_program_layout_Places.{places_of};
-ghost use Rattle.run_output.specs.of_program_sites_Sites.{AreSitesOf};
+ghost use Rattle.program_layout.specs.Places.{places_of};
+ghost use Rattle.program_sites.specs.Sites.{AreSitesOf};
 ghost use Rattle.std.specs.Option.{option_copied};
 ghost use Rattle.report_text.specs.Sink.{Writes};
 ghost use Rattle.run_tally.specs.Errors as spec;
@@ -25,9 +25,9 @@ use crate::starters::Starters;
 use crate::tally::Tally;
 use crate::times::{Progress, Times};
 use litmus_parse::Program;
+use litmus_step::{Prepared, Settings};
 use report_text::laws::groups_are_of_their_texts;
 use report_text::{MemorySink, Sink, WriteError};
-use run_output::litmus_step::{Prepared, Settings};
 use run_output::{EngineError, write_stuck};
 use runner::{RunError, RunResult, Turn, run_batch};
 use std::alloc::{AllocError, Global};

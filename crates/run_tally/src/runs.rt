@@ -13,7 +13,7 @@ use crate::made::{Plan, made_of};
 use crate::starters::Starters;
 use crate::times::{Progress, Times};
 use litmus_parse::{Program, parse};
-use run_output::litmus_step::{Prepared, Settings};
+use litmus_step::{Prepared, Settings};
 use run_output::{EngineError, Written, trace_if};
 use std::alloc::Global;
 use std::sync::Wait;

@@ -2,8 +2,8 @@
 
 ghost use Rattle.std.specs.Prelude.{◌≡◌, ◌++◌, ◌∷◌, ◌↔◌, [], All, List, IfOk, IsTrue, OnOk, fold, map};
 ghost use Rattle.access_types.specs.Sites.{AccessMap};
-ghost use Rattle.run_output.specs.of_program_sites_Prepared.{IsPrepared, sites_in};
-ghost use Rattle.run_output.specs.of_program_sites_declared.settings.Settings as terms;
+ghost use Rattle.program_sites.specs.Prepared.{IsPrepared, sites_in};
+ghost use Rattle.program_sites.specs.declared.settings.Settings as terms;
 ghost use Rattle.litmus_syntax.specs.Limits.{KeepsLimits};
 ghost use Rattle.litmus_syntax.specs.Views.{program_of};
 ghost use Rattle.litmus_syntax.specs.declared.program.Program as tree;
@@ -17,13 +17,13 @@ ghost use Rattle.runner.specs.Result.{IsRunOnce};
 
 use access_types::{Report, Sites};
 use litmus_parse::Program;
+use litmus_step::Prepared;
 use report_text::{Groups, Sink, WriteError};
-use run_output::litmus_step::Prepared;
-use run_output::run_headline::laws::the_headline_holds;
-use run_output::task_log::Counters;
+use run_headline::laws::the_headline_holds;
 use run_output::{found_of, write_condition, write_counters};
 use runner::RunResult;
 use std::alloc::{AllocError, Global};
+use task_log::Counters;
 
 /// What is found of the runs so far.
 #[derive(Drop)]

@@ -3,15 +3,15 @@ use Rattle.std.proofs.Common.{◌≡◌, ◌<◌, ◌+◌, ◌∙◌, ◌∷◌,
 use Rattle.std.proofs.lemmas.List.{length-append}
 use Rattle.std.proofs.lemmas.Option.{slice_get-get_or, slice_get-map, slice_get_within}
 use Rattle.litmus_step.specs.Runs.{tasks_of}
-use Rattle.accepted_traces.specs.of_run_lists_Run.{Run}
-use Rattle.accepted_traces.specs.of_program_sites_declared.error.RunError.{RunError}
+use Rattle.run_lists.specs.Run.{Run}
+use Rattle.program_sites.specs.declared.error.RunError.{RunError}
 use Rattle.runner.proofs.ColumnLemmas.{item_there}
 use Rattle.runner.specs.Columns.{AreColumns}
 use Rattle.runner.specs.Result.{AreResultsOf, IsResultOf}
 use Rattle.runner.specs.declared.result.RunResult.{RunResult}
 use Rattle.runner.specs.declared.run.Turn.{Turn}
 use Rattle.litmus_syntax.specs.declared.program.Program.{Program}
-use Rattle.accepted_traces.specs.of_program_sites_declared.settings.Settings.{Settings}
+use Rattle.program_sites.specs.declared.settings.Settings.{Settings}
 use Rattle.runner.specs.Starts.{AreAllOutcomes, AreAllStarts, AreOutcomesOfEach, AreStarts, AreStartsOfEach, AreTaskStarts}
 use Rattle.runner.specs.declared.first.TaskStart.{TaskStart}
 use Rattle.runner.specs.declared.first.TaskStarts.{TaskStarts}

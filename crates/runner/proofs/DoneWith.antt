@@ -3,14 +3,14 @@ use Rattle.std.proofs.Common.{◌≡◌, ◌+◌, ◌∙◌, ◌∷◌, ◌++◌
 use Rattle.std.proofs.lemmas.List.{length-append}
 use Rattle.access_types.specs.declared.history.Happening.{Happening}
 use Rattle.litmus_syntax.specs.Tree.{Block}
-use Rattle.accepted_traces.proofs.of_run_headline_RecordsDoEvents.{done_with}
-use Rattle.accepted_traces.proofs.of_run_headline_AccessesBeginOnce.{begin_once}
-use Rattle.accepted_traces.proofs.of_run_headline_TextTells.{whole_tells}
-use Rattle.accepted_traces.specs.of_run_headline_Events.{DoesEvent, IsEvent}
+use Rattle.run_headline.proofs.RecordsDoEvents.{done_with}
+use Rattle.run_headline.proofs.AccessesBeginOnce.{begin_once}
+use Rattle.run_headline.proofs.TextTells.{whole_tells}
+use Rattle.run_headline.specs.Events.{DoesEvent, IsEvent}
 use Rattle.slot_table.specs.declared.records.Record.{Record}
-use Rattle.accepted_traces.specs.of_written_order_Standing.{Point, Setting, point_by}
-use Rattle.accepted_traces.specs.of_written_order_Told.{did_by, did_next, to_come}
-use Rattle.accepted_traces.specs.of_written_order_WrittenOrder.{WrittenOrder, first_point}
+use Rattle.written_order.specs.Standing.{Point, Setting, point_by}
+use Rattle.written_order.specs.Told.{did_by, did_next, to_come}
+use Rattle.written_order.specs.WrittenOrder.{WrittenOrder, first_point}
 
 drop_front : (first rest : List Happening) → drop (length first) (first ++ rest) ≡ rest
 drop_front [] rest = refl

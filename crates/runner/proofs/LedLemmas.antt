@@ -10,31 +10,31 @@ use Rattle.litmus_step.proofs.KeptLemmas.{more_reports}
 use Rattle.litmus_step.specs.Leads.{MakesNext}
 use Rattle.litmus_step.specs.Runs.{CanBeMade, tasks_of}
 use Rattle.litmus_syntax.specs.Tree.{Block}
-use Rattle.accepted_traces.specs.of_run_lists_Run.{Run, first_words, idle, task_of, task_setting}
-use Rattle.accepted_traces.specs.of_run_lists_RunList.{InWrittenOrder}
-use Rattle.accepted_traces.proofs.of_run_kept_MachineMatchesRecords.{says_what_is_noted}
-use Rattle.accepted_traces.specs.of_run_kept_Noted.{AreNoted, IsNoted}
+use Rattle.run_lists.specs.Run.{Run, first_words, idle, task_of, task_setting}
+use Rattle.run_lists.specs.RunList.{InWrittenOrder}
+use Rattle.run_kept.proofs.MachineMatchesRecords.{says_what_is_noted}
+use Rattle.run_kept.specs.Noted.{AreNoted, IsNoted}
 use Rattle.runner.proofs.DoneWith.{does_last}
 use Rattle.runner.specs.Led.{IsLed}
 use Rattle.runner.specs.Machine.{SaysBegin}
-use Rattle.accepted_traces.specs.of_setup_access_Parts.{made}
-use Rattle.accepted_traces.specs.of_setup_access_declared.begun.Begun.{Begun}
-use Rattle.accepted_traces.specs.of_setup_access_declared.outcome.Outcome.{Outcome}
+use Rattle.setup_access.specs.Parts.{made}
+use Rattle.setup_access.specs.declared.begun.Begun.{Begun}
+use Rattle.setup_access.specs.declared.outcome.Outcome.{Outcome}
 use Rattle.slot_table.specs.Answer.{Answers}
 use Rattle.slot_table.specs.Discipline.{Allows, Discipline}
 use Rattle.slot_table.specs.StepLine.{Names}
 use Rattle.slot_table.specs.declared.records.Record.{Record}
 use Rattle.slot_table.specs.declared.step.Answer.{Answer}
 use Rattle.slot_table.specs.declared.step.Step.{Step}
-use Rattle.accepted_traces.specs.of_task_log_Reports.{reported_in}
-use Rattle.accepted_traces.specs.of_task_log_declared.log.TaskLog.{TaskLog}
-use Rattle.accepted_traces.specs.of_task_log_declared.noted.Noted.{Noted}
-use Rattle.accepted_traces.specs.of_task_run_Fell.{FellAt}
-use Rattle.accepted_traces.specs.of_task_run_Leads.{Leads, LeadsOn}
-use Rattle.accepted_traces.specs.of_task_run_declared.run.TaskRun.{TaskRun}
-use Rattle.accepted_traces.specs.of_written_order_Standing.{Setting}
-use Rattle.accepted_traces.specs.of_written_order_Waits.{WithinTurns}
-use Rattle.accepted_traces.specs.of_written_order_WrittenOrder.{WrittenOrder}
+use Rattle.task_log.specs.Reports.{reported_in}
+use Rattle.task_log.specs.declared.log.TaskLog.{TaskLog}
+use Rattle.task_log.specs.declared.noted.Noted.{Noted}
+use Rattle.task_run.specs.Fell.{FellAt}
+use Rattle.task_run.specs.Leads.{Leads, LeadsOn}
+use Rattle.task_run.specs.declared.run.TaskRun.{TaskRun}
+use Rattle.written_order.specs.Standing.{Setting}
+use Rattle.written_order.specs.Waits.{WithinTurns}
+use Rattle.written_order.specs.WrittenOrder.{WrittenOrder}
 
 abbrev pub KeepsDiscipline : Type 0
 KeepsDiscipline = (s : Setting) (registers : ℕ) (body : Block) (records : List Record)

@@ -9,14 +9,14 @@ use Rattle.litmus_step.specs.Readers.{AreRegisters}
 use Rattle.litmus_step.specs.Runs.{CanBeMade, tasks_of}
 use Rattle.litmus_syntax.specs.Limits.{KeepsLimits}
 use Rattle.litmus_syntax.specs.Tree.{Block, Task}
-use Rattle.accepted_traces.specs.of_run_headline_Headline.{Headline}
-use Rattle.accepted_traces.specs.of_run_kept_Setters.{AreReports, reports_by}
-use Rattle.accepted_traces.specs.of_run_lists_Reports.{reports_of}
-use Rattle.accepted_traces.specs.of_run_lists_Run.{Run, first_words, idle, task_of, task_setting}
-use Rattle.accepted_traces.specs.of_run_lists_RunList.{AllHaveEnded, InWrittenOrder, RunList}
-use Rattle.accepted_traces.specs.of_run_kept_Lists.{ByTask}
-use Rattle.accepted_traces.specs.of_run_kept_Noted.{AreNoted, Notes}
-use Rattle.accepted_traces.specs.of_run_kept_Totals.{IsUnbalanced, unbalanced_below}
+use Rattle.run_headline.specs.Headline.{Headline}
+use Rattle.run_kept.specs.Setters.{AreReports, reports_by}
+use Rattle.run_lists.specs.Reports.{reports_of}
+use Rattle.run_lists.specs.Run.{Run, first_words, idle, task_of, task_setting}
+use Rattle.run_lists.specs.RunList.{AllHaveEnded, InWrittenOrder, RunList}
+use Rattle.run_kept.specs.Lists.{ByTask}
+use Rattle.run_kept.specs.Noted.{AreNoted, Notes}
+use Rattle.run_kept.specs.Totals.{IsUnbalanced, unbalanced_below}
 use Rattle.runner.specs.Found.{AreFound, IsFound, calls_below, calls_of}
 use Rattle.runner.specs.Hits.{AllHitsOverlap}
 use Rattle.runner.specs.Result.{IsOf}
@@ -30,15 +30,15 @@ use Rattle.slot_table.specs.Discipline.{IsFinished}
 use Rattle.slot_table.specs.Records.{Legal, records_of, words_after}
 use Rattle.slot_table.specs.Words.{Words}
 use Rattle.slot_table.specs.declared.records.Record.{Record}
-use Rattle.accepted_traces.specs.of_task_log_Counters.{together}
-use Rattle.accepted_traces.specs.of_task_log_Keeps.{Keeps}
-use Rattle.accepted_traces.specs.of_task_log_Reports.{reported_in}
-use Rattle.accepted_traces.specs.of_task_log_declared.log.TaskLog.{TaskLog}
-use Rattle.accepted_traces.specs.of_task_log_declared.noted.Noted.{Noted}
-use Rattle.accepted_traces.specs.of_task_plan_Counts.{up_to_last}
-use Rattle.accepted_traces.specs.of_written_order_Standing.{Setting}
-use Rattle.accepted_traces.specs.of_written_order_Waits.{WithinTurns}
-use Rattle.accepted_traces.specs.of_written_order_WrittenOrder.{SpellsAll, at_first, stands_after}
+use Rattle.task_log.specs.Counters.{together}
+use Rattle.task_log.specs.Keeps.{Keeps}
+use Rattle.task_log.specs.Reports.{reported_in}
+use Rattle.task_log.specs.declared.log.TaskLog.{TaskLog}
+use Rattle.task_log.specs.declared.noted.Noted.{Noted}
+use Rattle.task_plan.specs.Counts.{up_to_last}
+use Rattle.written_order.specs.Standing.{Setting}
+use Rattle.written_order.specs.Waits.{WithinTurns}
+use Rattle.written_order.specs.WrittenOrder.{SpellsAll, at_first, stands_after}
 
 -- what the laws on the reports of a task, and on the headline, say
 abbrev pub ReportsItsOwn : Type 0

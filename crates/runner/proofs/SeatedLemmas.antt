@@ -8,8 +8,8 @@ use Rattle.litmus_step.specs.Runs.{CanBeMade, tasks_of}
 use Rattle.litmus_step.specs.Steps.{Reaches}
 use Rattle.litmus_syntax.specs.Limits.{BlockScopes, BodyKeepsLimits, TaskKeepsLimits, block_repeats, block_rises}
 use Rattle.litmus_syntax.specs.Tree.{Block}
-use Rattle.accepted_traces.specs.of_run_lists_Run.{Run, first_words, idle, task_of, task_setting}
-use Rattle.accepted_traces.specs.of_run_kept_Noted.{AreNoted}
+use Rattle.run_lists.specs.Run.{Run, first_words, idle, task_of, task_setting}
+use Rattle.run_kept.specs.Noted.{AreNoted}
 use Rattle.runner.specs.Found.{IsFound}
 use Rattle.litmus_step.specs.Kept.{AreFirst}
 use Rattle.runner.specs.Led.{IsLed}
@@ -17,9 +17,9 @@ use Rattle.runner.specs.Machine.{SaysBegin}
 use Rattle.runner.specs.Terms.{AreTerms, run_by}
 use Rattle.runner.specs.declared.seated.Found.{Found}
 use Rattle.runner.specs.declared.terms.Terms.{Terms}
-use Rattle.accepted_traces.specs.of_setup_access_Parts.{made}
-use Rattle.accepted_traces.specs.of_setup_access_declared.begun.Begun.{Begun}
-use Rattle.accepted_traces.specs.of_setup_access_declared.outcome.Outcome.{Outcome}
+use Rattle.setup_access.specs.Parts.{made}
+use Rattle.setup_access.specs.declared.begun.Begun.{Begun}
+use Rattle.setup_access.specs.declared.outcome.Outcome.{Outcome}
 use Rattle.shared_table.specs.Given as given
 use Rattle.shared_table.specs.Seats.{MayMake, Opened, Sitting, seat_after}
 use Rattle.slot_table.specs.Answer.{Answers}
@@ -29,16 +29,16 @@ use Rattle.slot_table.specs.Words.{Words}
 use Rattle.slot_table.specs.declared.records.Record.{Record}
 use Rattle.slot_table.specs.declared.step.Answer.{Answer}
 use Rattle.slot_table.specs.declared.step.Step.{Step}
-use Rattle.accepted_traces.specs.of_task_log_Reports.{reported_in}
-use Rattle.accepted_traces.specs.of_task_log_declared.log.TaskLog.{TaskLog}
-use Rattle.accepted_traces.specs.of_task_log_declared.noted.Noted.{Noted}
-use Rattle.accepted_traces.specs.of_task_plan_Counts.{up_to_last}
-use Rattle.accepted_traces.specs.of_task_run_Fell.{FellAt, fell_of}
-use Rattle.accepted_traces.specs.of_task_run_Leads.{Leads, LeadsOn, stands_at}
-use Rattle.accepted_traces.specs.of_task_run_Says.{IsStopped}
-use Rattle.accepted_traces.specs.of_task_run_declared.run.TaskRun.{TaskRun}
-use Rattle.accepted_traces.specs.of_written_order_Standing.{Setting}
-use Rattle.accepted_traces.specs.of_written_order_WrittenOrder.{SpellsAll, WrittenOrder, stands_after}
+use Rattle.task_log.specs.Reports.{reported_in}
+use Rattle.task_log.specs.declared.log.TaskLog.{TaskLog}
+use Rattle.task_log.specs.declared.noted.Noted.{Noted}
+use Rattle.task_plan.specs.Counts.{up_to_last}
+use Rattle.task_run.specs.Fell.{FellAt, fell_of}
+use Rattle.task_run.specs.Leads.{Leads, LeadsOn, stands_at}
+use Rattle.task_run.specs.Says.{IsStopped}
+use Rattle.task_run.specs.declared.run.TaskRun.{TaskRun}
+use Rattle.written_order.specs.Standing.{Setting}
+use Rattle.written_order.specs.WrittenOrder.{SpellsAll, WrittenOrder, stands_after}
 
 -- what the laws on tasks at their seats say
 abbrev pub NamesWord : Type 0

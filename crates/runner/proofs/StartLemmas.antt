@@ -5,13 +5,13 @@ use Rattle.std.proofs.lemmas.List.FromFn.{length-range_with_len}
 use Rattle.std.specs.List.{range_with_len}
 use Rattle.litmus_step.specs.Kept.{accesses_kept, watches_kept}
 use Rattle.litmus_step.specs.Leads.{LeadsTask}
-use Rattle.accepted_traces.specs.of_run_lists_Run.{Run}
-use Rattle.accepted_traces.specs.of_run_lists_RunList.{RunList}
+use Rattle.run_lists.specs.Run.{Run}
+use Rattle.run_lists.specs.RunList.{RunList}
 use Rattle.runner.specs.Led.{IsLed}
 use Rattle.shared_table.specs.Seats.{Opened, Sitting, new_seats}
-use Rattle.accepted_traces.specs.of_task_log_Keeps.{Keeps}
-use Rattle.accepted_traces.specs.of_task_log_declared.log.TaskLog.{TaskLog}
-use Rattle.accepted_traces.specs.of_task_run_declared.run.TaskRun.{TaskRun}
+use Rattle.task_log.specs.Keeps.{Keeps}
+use Rattle.task_log.specs.declared.log.TaskLog.{TaskLog}
+use Rattle.task_run.specs.declared.run.TaskRun.{TaskRun}
 
 some_same : (one other : Sitting) → Some one ≡ Some other → one ≡ other
 some_same one other same = cc

@@ -1,9 +1,9 @@
 -- The two sides of each hit, whatever came of it.
 use Rattle.std.specs.Prelude.{ℕ, All, List}
 use Rattle.accepted_traces.specs.Parts.{OfNamed}
-use Rattle.accepted_traces.specs.of_run_kept_Lists.{AreAccesses, AreArms, AreTakes}
-use Rattle.accepted_traces.specs.of_run_lists_Run.{Run}
-use Rattle.accepted_traces.specs.of_run_lists_RunList.{RunList}
+use Rattle.run_kept.specs.Lists.{AreAccesses, AreArms, AreTakes}
+use Rattle.run_lists.specs.Run.{Run}
+use Rattle.run_lists.specs.RunList.{RunList}
 use Rattle.access_types.specs.Arms.{Arm}
 use Rattle.access_types.specs.Stamped.{Stamped}
 use Rattle.access_types.specs.Takes.{Take}

@@ -2,18 +2,18 @@
 use Rattle.std.specs.Prelude.{ℕ, List, length, reverse}
 use Rattle.access_types.specs.declared.report.Report.{Report}
 use Rattle.litmus_step.specs.Kept.{accesses_kept, watches_kept}
-use Rattle.accepted_traces.specs.of_run_lists_Run.{Run, task_of, task_setting}
-use Rattle.accepted_traces.specs.of_run_lists_RunList.{InWrittenOrder}
-use Rattle.accepted_traces.specs.of_run_kept_Noted.{AreNoted}
+use Rattle.run_lists.specs.Run.{Run, task_of, task_setting}
+use Rattle.run_lists.specs.RunList.{InWrittenOrder}
+use Rattle.run_kept.specs.Noted.{AreNoted}
 use Rattle.litmus_step.specs.Kept.{AreFirst}
 use Rattle.slot_table.specs.declared.records.Record.{Record}
-use Rattle.accepted_traces.specs.of_task_log_Keeps.{Keeps}
-use Rattle.accepted_traces.specs.of_task_log_Reports.{reported_in}
-use Rattle.accepted_traces.specs.of_task_log_declared.log.TaskLog.{TaskLog}
-use Rattle.accepted_traces.specs.of_task_log_declared.noted.Noted.{Noted}
-use Rattle.accepted_traces.specs.of_task_run_Leads.{Leads}
-use Rattle.accepted_traces.specs.of_task_run_declared.run.TaskRun.{TaskRun}
-use Rattle.accepted_traces.specs.of_written_order_Waits.{WithinTurns}
+use Rattle.task_log.specs.Keeps.{Keeps}
+use Rattle.task_log.specs.Reports.{reported_in}
+use Rattle.task_log.specs.declared.log.TaskLog.{TaskLog}
+use Rattle.task_log.specs.declared.noted.Noted.{Noted}
+use Rattle.task_run.specs.Leads.{Leads}
+use Rattle.task_run.specs.declared.run.TaskRun.{TaskRun}
+use Rattle.written_order.specs.Waits.{WithinTurns}
 
 -- A task's own records, the latest first, are in the written order of its text, with no wait for longer than the turns. They lead
 -- to its machine, and what is kept of its steps is what is noted of them.

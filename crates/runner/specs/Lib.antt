@@ -7,4 +7,3 @@ pub mod Starts
 pub mod Hits
 pub mod Result
 pub mod Columns
-pub use Rattle.shared_table.specs.Seats as of_shared_table_Seats

@@ -2,13 +2,13 @@
 use Rattle.std.specs.Prelude.{◌⊎◌, ℕ, List, Option}
 use Rattle.litmus_step.specs.Steps.{Reaches}
 use Rattle.litmus_syntax.specs.Tree.{Block}
-use Rattle.accepted_traces.specs.of_setup_access_declared.begun.Begun.{Begun}
+use Rattle.setup_access.specs.declared.begun.Begun.{Begun}
 use Rattle.slot_table.specs.declared.records.Record.{Record}
-use Rattle.accepted_traces.specs.of_task_run_Leads.{BeginsNext, Leads, stands_at}
-use Rattle.accepted_traces.specs.of_task_run_declared.run.TaskRun.{TaskRun}
-use Rattle.accepted_traces.specs.of_written_order_Standing.{Setting}
-use Rattle.accepted_traces.specs.of_written_order_Waits as waits
-use Rattle.accepted_traces.specs.of_written_order_WrittenOrder.{SpellsAll}
+use Rattle.task_run.specs.Leads.{BeginsNext, Leads, stands_at}
+use Rattle.task_run.specs.declared.run.TaskRun.{TaskRun}
+use Rattle.written_order.specs.Standing.{Setting}
+use Rattle.written_order.specs.Waits as waits
+use Rattle.written_order.specs.WrittenOrder.{SpellsAll}
 
 -- this access begins with the next step, by whatever records lead to the machine
 abbrev pub SaysBegin : TaskRun → Option Begun → Type 0

@@ -4,15 +4,15 @@ use Rattle.access_types.specs.Sites.{AccessMap}
 use Rattle.litmus_step.specs.Kept.{AreLogs}
 use Rattle.litmus_step.specs.Readers.{AreRegisters}
 use Rattle.litmus_step.specs.Runs.{CanBeMade, run_of, tasks_of}
-use Rattle.accepted_traces.specs.of_program_sites_declared.settings.Settings.{Settings}
+use Rattle.program_sites.specs.declared.settings.Settings.{Settings}
 use Rattle.litmus_syntax.specs.declared.program.Program.{Program}
-use Rattle.accepted_traces.specs.of_run_headline_Headline.{Headline}
-use Rattle.accepted_traces.specs.of_run_kept_Setters.{AreReports}
-use Rattle.accepted_traces.specs.of_run_lists_Run.{Run, first_words}
-use Rattle.accepted_traces.specs.of_run_lists_RunList.{AllHaveEnded, RunList}
-use Rattle.accepted_traces.specs.of_run_kept_Totals.{IsUnbalanced}
-use Rattle.accepted_traces.specs.of_program_sites_declared.error.RunError.{RunError}
-use Rattle.accepted_traces.specs.of_program_sites_declared.error.RunError.TheVariants.{Stuck}
+use Rattle.run_headline.specs.Headline.{Headline}
+use Rattle.run_kept.specs.Setters.{AreReports}
+use Rattle.run_lists.specs.Run.{Run, first_words}
+use Rattle.run_lists.specs.RunList.{AllHaveEnded, RunList}
+use Rattle.run_kept.specs.Totals.{IsUnbalanced}
+use Rattle.program_sites.specs.declared.error.RunError.{RunError}
+use Rattle.program_sites.specs.declared.error.RunError.TheVariants.{Stuck}
 use Rattle.runner.specs.Found.{IsInVain, IsOfThreads, IsThrough}
 use Rattle.runner.specs.Hits.{AllHitsOverlap}
 use Rattle.runner.specs.declared.result.RunResult.{RunResult}

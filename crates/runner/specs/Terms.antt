@@ -1,13 +1,13 @@
 -- What a run goes by.
 use Rattle.std.specs.Prelude.{◌≡◌, [], ℕ, List, Some, slice_get}
-use Rattle.accepted_traces.specs.of_program_sites_Prepared.{IsPrepared, sites_in}
+use Rattle.program_sites.specs.Prepared.{IsPrepared, sites_in}
 use Rattle.litmus_step.specs.Runs.{CanBeMade, run_of, tasks_of}
-use Rattle.accepted_traces.specs.of_program_sites_declared.prepared.Prepared.{Prepared}
-use Rattle.accepted_traces.specs.of_program_sites_declared.settings.Settings.{Settings}
+use Rattle.program_sites.specs.declared.prepared.Prepared.{Prepared}
+use Rattle.program_sites.specs.declared.settings.Settings.{Settings}
 use Rattle.litmus_syntax.specs.declared.program.Program.{Program}
-use Rattle.accepted_traces.specs.of_run_lists_Run as lists
-use Rattle.accepted_traces.specs.of_run_lists_Run.{Run}
-use Rattle.accepted_traces.specs.of_run_lists_RunList.{RunList}
+use Rattle.run_lists.specs.Run as lists
+use Rattle.run_lists.specs.Run.{Run}
+use Rattle.run_lists.specs.RunList.{RunList}
 use Rattle.runner.specs.declared.terms.Batch.{Batch}
 use Rattle.runner.specs.declared.terms.Terms.{Terms}
 use Rattle.shared_table.specs.Given.{first_words}

@@ -2,9 +2,9 @@
 
 ghost use Rattle.std.specs.Prelude.{◌≡◌};
 
-use accepted_traces::task_run::{After, Before, TaskRun};
 use slot_table::{Answer, Step};
 use std::thread;
+use task_run::{After, Before, TaskRun};
 
 /// A point on a task's way.
 #[derive(Clone, Copy, PartialEq, Eq)]

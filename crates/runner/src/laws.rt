@@ -9,52 +9,50 @@ ghost use Rattle.litmus_step.specs.Leads.{MakesNext};
 ghost use Rattle.litmus_step.specs.Readers.{IsMeant};
 ghost use Rattle.litmus_step.specs.Runs.{CanBeMade, tasks_of};
 ghost use Rattle.litmus_syntax.specs.Limits.{KeepsLimits};
-ghost use Rattle.accepted_traces.specs.of_run_headline_Cells.{CellsHold, memory_after, run_cells};
-ghost use Rattle.accepted_traces.specs.of_run_headline_Reported.{IsTrueReport};
-ghost use Rattle.accepted_traces.specs.of_run_lists_Reports.{reports_of};
-ghost use Rattle.accepted_traces.specs.of_run_lists_Run.{Run, first_words};
-ghost use Rattle.accepted_traces.specs.of_run_lists_RunList.{AllHaveEnded, RunList};
-ghost use Rattle.accepted_traces.specs.of_run_lists_Told.{history_of};
-ghost use Rattle.accepted_traces.specs.of_run_kept_Lists.{AreAccesses};
+ghost use Rattle.run_headline.specs.Cells.{CellsHold, memory_after, run_cells};
+ghost use Rattle.run_headline.specs.Reported.{IsTrueReport};
+ghost use Rattle.run_lists.specs.Reports.{reports_of};
+ghost use Rattle.run_lists.specs.Run.{Run, first_words};
+ghost use Rattle.run_lists.specs.RunList.{AllHaveEnded, RunList};
+ghost use Rattle.run_lists.specs.Told.{history_of};
+ghost use Rattle.run_kept.specs.Lists.{AreAccesses};
 ghost use Rattle.runner.specs.Hits.{AllHitsOverlap};
 ghost use Rattle.runner.specs.Led.{IsLed};
 ghost use Rattle.runner.specs.Machine.{SaysBegin};
 ghost use Rattle.runner.specs.Result.{IsOf};
 ghost use Rattle.runner.specs.declared.result.RunResult.{RunResult};
-ghost use Rattle.accepted_traces.specs.of_setup_access_Parts.{made};
-ghost use Rattle.accepted_traces.specs.of_setup_access_declared.begun.Begun.{Begun};
-ghost use Rattle.accepted_traces.specs.of_setup_access_declared.outcome.Outcome.{Outcome};
+ghost use Rattle.setup_access.specs.Parts.{made};
+ghost use Rattle.setup_access.specs.declared.begun.Begun.{Begun};
+ghost use Rattle.setup_access.specs.declared.outcome.Outcome.{Outcome};
 ghost use Rattle.slot_table.specs.Answer.{Answers};
 ghost use Rattle.slot_table.specs.Discipline.{Allows};
 ghost use Rattle.slot_table.specs.StepLine.{Names};
 ghost use Rattle.slot_table.specs.declared.records.Record.{Record};
 ghost use Rattle.slot_table.specs.declared.step.Answer.{Answer};
 ghost use Rattle.slot_table.specs.declared.step.Step.{Step};
-ghost use Rattle.accepted_traces.specs.of_task_log_declared.log.TaskLog.{TaskLog};
-ghost use Rattle.accepted_traces.specs.of_task_run_Fell.{FellAt};
-ghost use Rattle.accepted_traces.specs.of_task_run_Leads.{LeadsOn};
-ghost use Rattle.accepted_traces.specs.of_task_run_declared.run.TaskRun.{TaskRun};
+ghost use Rattle.task_log.specs.declared.log.TaskLog.{TaskLog};
+ghost use Rattle.task_run.specs.Fell.{FellAt};
+ghost use Rattle.task_run.specs.Leads.{LeadsOn};
+ghost use Rattle.task_run.specs.declared.run.TaskRun.{TaskRun};
 
-use accepted_traces::run_headline::histories::{
-    cells_hold_the_content, reports_are_true, unknown_origins_changed,
-};
-use accepted_traces::run_headline::verdicts::{
+use litmus_meaning::laws::tickets_have_room;
+use litmus_step::laws::machines_stand_where_the_list_does;
+use run_headline::histories::{cells_hold_the_content, reports_are_true, unknown_origins_changed};
+use run_headline::verdicts::{
     answers_are_on_a_watch_and_a_find, records_tell_their_events, verdicts_are_on_watches,
 };
-use accepted_traces::run_kept::bags::{armings_have_their_own_verdicts, the_bags_are_equal};
-use accepted_traces::run_kept::logs::one_more_is_noted;
-use accepted_traces::run_kept::watched::{
+use run_kept::bags::{armings_have_their_own_verdicts, the_bags_are_equal};
+use run_kept::logs::one_more_is_noted;
+use run_kept::watched::{
     accesses_of_ended_tasks_have_ended, accesses_that_begin_fit, stamps_tell_the_order,
     watched_accesses_are_unmarked_and_heard,
 };
-use accepted_traces::run_lists::laws::{reports_name_two_sides, run_lists_keep_the_discipline};
-use accepted_traces::written_order::laws::the_written_order_keeps_the_discipline;
-use accepted_traces::written_tellings::steps_name_words_of_the_run;
-use litmus_meaning::laws::tickets_have_room;
-use litmus_step::laws::machines_stand_where_the_list_does;
-use litmus_step::task_laws::laws::an_answer_leads_on;
+use run_lists::laws::{reports_name_two_sides, run_lists_keep_the_discipline};
 use slot_table::laws::heard_is_told;
+use task_laws::laws::an_answer_leads_on;
 use watch_word::words_read_back;
+use written_order::laws::the_written_order_keeps_the_discipline;
+use written_tellings::steps_name_words_of_the_run;
 
 /// Law: where a task's own records lead to its machine, the step that it makes next names a word of the run, and the
 /// discipline of watchpoints allows it. Followed by the record of this step, whatever is answered, they lead on, and

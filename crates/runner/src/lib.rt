@@ -16,4 +16,3 @@ pub use hooks::{Gate, NoStall, Open, Point, Stall};
 pub use litmus_step::RunError;
 pub use result::RunResult;
 pub use run::{Turn, run_batch, run_once, run_prepared};
-pub use shared_table;

@@ -2,20 +2,20 @@
 
 ghost use Rattle.std.specs.Prelude.{◌≡◌, ◌<◌, All, IfOk, List, length, slice_index_or};
 ghost use Rattle.accepted_traces.specs.Parts.{ReportFits};
-ghost use Rattle.accepted_traces.specs.of_run_lists_Run.{Run};
-ghost use Rattle.accepted_traces.specs.of_run_lists_RunList.{RunList};
-ghost use Rattle.accepted_traces.specs.of_run_kept_Lists.{AreAccesses, AreArms, AreTakes};
-ghost use Rattle.accepted_traces.specs.of_run_kept_Totals.{CountsList};
+ghost use Rattle.run_lists.specs.Run.{Run};
+ghost use Rattle.run_lists.specs.RunList.{RunList};
+ghost use Rattle.run_kept.specs.Lists.{AreAccesses, AreArms, AreTakes};
+ghost use Rattle.run_kept.specs.Totals.{CountsList};
 ghost use Rattle.runner.specs.Result.{IsOf};
 ghost use Rattle.slot_table.specs.declared.records.Record.{Record};
 
 use crate::laws::reports_are_of_ended_accesses;
-use accepted_traces::task_log::{Counters, TaskLog};
 use access_types::{Arm, Report, Stamped, Take};
 use litmus_step::Ran;
 use litmus_step::logs::{accesses_of, arms_of, counters_of, takes_of};
 use shared_table::Gathered;
 use std::alloc::{AllocError, Global};
+use task_log::{Counters, TaskLog};
 
 /// What came of a run on threads: what was kept of the steps of its tasks, and the words at its end. Only a call that
 /// makes a run answers one, and it is never copied: those of two numbers are of two calls.

@@ -2,14 +2,14 @@
 
 ghost use Rattle.std.specs.Prelude.{◌≡◌, ◌<◌, ◌⊎◌, ℕ, IfErr, IfOk, IsErrOf, length};
 ghost use Rattle.access_types.specs.Sites.{AccessMap};
-ghost use Rattle.accepted_traces.specs.of_program_sites_Prepared.{IsPrepared};
+ghost use Rattle.program_sites.specs.Prepared.{IsPrepared};
 ghost use Rattle.litmus_step.specs.Runs.{run_of};
 ghost use Rattle.litmus_syntax.specs.Limits.{KeepsLimits};
 ghost use Rattle.litmus_syntax.specs.Views.{program_of};
-ghost use Rattle.accepted_traces.specs.of_program_layout_Places.{AreFit};
+ghost use Rattle.program_layout.specs.Places.{AreFit};
 ghost use Rattle.runner.specs.Found.{IsInVain, IsOfThreads, IsThrough};
 ghost use Rattle.runner.specs.Result.{AreResultsOf, IsRunOnce};
-ghost use Rattle.accepted_traces.specs.of_program_sites_declared.error.RunError.TheVariants.{BadPlace, BadSchedule, BadSlots, NoThread, OutOfMemory, Stuck};
+ghost use Rattle.program_sites.specs.declared.error.RunError.TheVariants.{BadPlace, BadSchedule, BadSlots, NoThread, OutOfMemory, Stuck};
 
 use crate::columns::columns_of;
 use crate::first::{first_runs, task_starts};

@@ -5,24 +5,24 @@ ghost use Rattle.runner.specs.Found.{IsFound, IsInVain};
 ghost use Rattle.runner.specs.Machine.{MakesNoMore};
 ghost use Rattle.runner.specs.Seated.{IsSeated};
 ghost use Rattle.runner.specs.Terms.{AreTerms, run_by};
-ghost use Rattle.accepted_traces.specs.of_program_sites_declared.error.RunError.TheVariants.{OutOfMemory, Stuck};
+ghost use Rattle.program_sites.specs.declared.error.RunError.TheVariants.{OutOfMemory, Stuck};
 ghost use Rattle.runner.specs.declared.terms.Terms.{Terms};
 
 use crate::hooks::{Gate, Stall, comes_to, has_passed, waits};
 use crate::laws::seats_lead_on;
 use crate::terms::Terms;
-use accepted_traces::run_kept::bounds::few_watches_are_over;
-use accepted_traces::run_kept::standing::machines_stand_where_the_records_tell;
-use accepted_traces::task_log::{Noted, TaskLog};
-use accepted_traces::task_run::TaskRun;
-use accepted_traces::task_run::laws::no_task_stops;
 use access_types::Report;
 use litmus_step::RunError;
 use litmus_step::logs::note;
+use run_kept::bounds::few_watches_are_over;
+use run_kept::standing::machines_stand_where_the_records_tell;
 use shared_table::TaskSeat;
 use slot_table::Board;
 use std::alloc::Global;
 use std::sync::{Wait, WaitMethods};
+use task_log::{Noted, TaskLog};
+use task_run::TaskRun;
+use task_run::laws::no_task_stops;
 
 /// A task with its seat before the shared words.
 #[derive(Drop)]

@@ -3,29 +3,29 @@
 ghost use Rattle.std.specs.Prelude.{◌≡◌, ◌<◌, ◌⊎◌, ℕ, IfErr, IfOk, IsErrOf, length, map};
 ghost use Rattle.std.specs.List.{flat_map};
 ghost use Rattle.access_types.specs.Sites.{AccessMap};
-ghost use Rattle.accepted_traces.specs.of_program_sites_Prepared.{sites_in};
+ghost use Rattle.program_sites.specs.Prepared.{sites_in};
 ghost use Rattle.litmus_step.specs.Runs.{run_of, tasks_of};
-ghost use Rattle.accepted_traces.specs.of_run_lists_Run.{Run};
+ghost use Rattle.run_lists.specs.Run.{Run};
 ghost use Rattle.runner.specs.Found.{AreFound, IsInVain, IsOfThreads, IsThrough, calls_below};
 ghost use Rattle.runner.specs.Result.{AreResultsOf, IsRunOnce};
 ghost use Rattle.runner.specs.Starts.{AreOutcomes, AreOutcomesOfEach};
 ghost use Rattle.runner.specs.Terms.{AreGiven, AreGivenEach};
-ghost use Rattle.accepted_traces.specs.of_program_sites_declared.error.RunError.TheVariants.{OutOfMemory, Stuck};
+ghost use Rattle.program_sites.specs.declared.error.RunError.TheVariants.{OutOfMemory, Stuck};
 ghost use Rattle.shared_table.specs.Seats.{Opened};
 
 use crate::laws::sides_of_hits_overlap;
 use crate::result::RunResult;
 use crate::run::Turn;
 use crate::seated::Found;
-use accepted_traces::run_headline::laws::the_headline_holds;
-use accepted_traces::run_kept::reports::a_task_reports_its_own;
-use accepted_traces::task_log::TaskLog;
-use accepted_traces::written_order::the_written_order_keeps_the_discipline;
 use access_types::Report;
 use litmus_step::{Prepared, RunError, Settings};
 use litmus_syntax::Program;
+use run_headline::laws::the_headline_holds;
+use run_kept::reports::a_task_reports_its_own;
 use shared_table::{SharedTable, TaskSeat};
 use std::alloc::{AllocError, Global};
+use task_log::TaskLog;
+use written_order::the_written_order_keeps_the_discipline;
 
 /// What is found of all tasks, if it is of each.
 ///

@@ -2,13 +2,13 @@
 use Rattle.std.proofs.Common.{◌≡◌, ◌∙◌, ◌∷◌, [], ℕ, List, ap, refl, suc, sym}
 use Rattle.final_condition.specs.Holds.{register_of, variable_of}
 use Rattle.final_condition.specs.declared.condition.Finals.{Finals}
-use Rattle.accepted_traces.specs.of_run_lists_Told.{history_of}
-use Rattle.accepted_traces.specs.of_written_order_WrittenOrder.{stands_after}
+use Rattle.run_lists.specs.Told.{history_of}
+use Rattle.written_order.specs.WrittenOrder.{stands_after}
 use Rattle.run_output.proofs.FinalLemmas.{all_registers_same, holds_alike, registers_same}
 use Rattle.run_output.specs.Finals.{AreAllRegisters, AreFinals, AreRegistersFrom, HoldsAtEnd, register_value, variable_value}
-use Rattle.schedule_search.specs.of_run_lists_Run.{Run}
-use Rattle.schedule_search.specs.of_run_lists_RunList.{RunList}
-use Rattle.schedule_search.specs.of_slot_table_declared.records.Record.{Record}
+use Rattle.run_lists.specs.Run.{Run}
+use Rattle.run_lists.specs.RunList.{RunList}
+use Rattle.slot_table.specs.declared.records.Record.{Record}
 use Rattle.search_output.specs.Ends.{EndTheSame}
 use Rattle.search_text.specs.States.{state_text}
 

@@ -1,7 +1,3 @@
 pub mod TraceLemmas
 pub mod StateLemmas
 pub mod EndLemmas
-pub use Rattle.schedule_search.proofs.of_program_sites_prepared as of_program_sites_prepared
-pub use Rattle.schedule_search.proofs.of_program_sites_settings as of_program_sites_settings
-pub use Rattle.schedule_search.proofs.of_litmus_step_FirstLemmas as of_litmus_step_FirstLemmas
-pub use Rattle.schedule_search.proofs.Sent as of_schedule_search_Sent

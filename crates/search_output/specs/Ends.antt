@@ -3,9 +3,9 @@ use Rattle.std.specs.Prelude.{◌≡◌, ◌↔◌, ℕ, List}
 use Rattle.final_condition.specs.Holds.{register_of, variable_of}
 use Rattle.final_condition.specs.declared.condition.Finals.{Finals}
 use Rattle.run_output.specs.Finals.{AreFinals, HoldsAtEnd}
-use Rattle.schedule_search.specs.of_litmus_step_Runs.{HasEnded}
-use Rattle.schedule_search.specs.of_run_lists_Run.{Run, first_words}
-use Rattle.schedule_search.specs.of_run_lists_RunList.{RunList}
+use Rattle.litmus_step.specs.Runs.{HasEnded}
+use Rattle.run_lists.specs.Run.{Run, first_words}
+use Rattle.run_lists.specs.RunList.{RunList}
 use Rattle.search_text.specs.States.{state_text}
 use Rattle.slot_table.specs.Records.{words_after}
 use Rattle.slot_table.specs.Words.{but_clock}

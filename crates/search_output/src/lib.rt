@@ -6,9 +6,5 @@ pub mod laws;
 pub mod state_findings;
 
 pub use findings::Findings;
-pub use run_output;
-pub use schedule_search;
-pub use schedule_search::litmus_step;
-pub use search_text;
 pub use search_text::{Asked, Entry, MemorySink, Sink, Visited, WriteError};
 pub use state_findings::StateFindings;

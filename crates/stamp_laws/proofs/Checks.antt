@@ -1,23 +1,23 @@
 -- A check with other stamps comes to the same.
 use Rattle.std.proofs.Common.{◌≡◌, ◌<◌, ◌⊎◌, ◌+◌, ◌||◌, ◌∷◌, [], ℕ, Bool, List, MatchOption, Option, None, Some, ap, inl, inr, length, map, subst, sym}
-use Rattle.slot_table.specs.of_access_types_Access.{Access}
-use Rattle.slot_table.specs.of_access_types_Ticket.{ticket_number}
-use Rattle.slot_table.specs.of_slot_Pair.{Halves}
+use Rattle.access_types.specs.Access.{Access}
+use Rattle.access_types.specs.Ticket.{ticket_number}
+use Rattle.slot.specs.Pair.{Halves}
 use Rattle.slot_table.specs.declared.records.Record.{Record}
 use Rattle.slot_table.specs.declared.step.Answer.{Answer}
 use Rattle.slot_table.specs.declared.step.Step.TheVariants.{CellLoad, Clear, Consume, Insert, Load, Name, PairLoad, Remove, Tell, TryConsume}
-use Rattle.written_tellings.specs.of_setup_access_Check as cases
-use Rattle.written_tellings.specs.of_setup_access_Check.{Check, ChecksAll, ChecksBegun, ChecksOnce, Close, Ends, Fallen, NoneFound, Pass, Passes, Rechecks, left_to_check}
-use Rattle.written_tellings.specs.of_setup_access_Find.{LooksUp}
-use Rattle.written_tellings.specs.of_setup_access_Found.{Hears, Takes, finder_half, setter_half}
-use Rattle.written_tellings.specs.of_setup_access_Records.{OnHalves}
-use Rattle.written_tellings.specs.of_setup_access_Setting.{Setting, look_order, slot_of, try_order}
-use Rattle.written_tellings.specs.of_setup_access_Setup.{Arms, Judged, Judges, TriesInsert, WatchesAt}
-use Rattle.written_tellings.specs.of_setup_access_Values.{LoadsFrom, both_values, source_of}
-use Rattle.written_tellings.specs.of_setup_access_declared.begun.Begun.{Begun}
-use Rattle.written_tellings.specs.of_setup_access_declared.outcome.Outcome.{Outcome}
-use Rattle.written_tellings.specs.of_setup_access_declared.outcome.Watchpoint.{Watchpoint}
-use Rattle.written_tellings.specs.of_setup_access_declared.source.Source.{Source}
+use Rattle.setup_access.specs.Check as cases
+use Rattle.setup_access.specs.Check.{Check, ChecksAll, ChecksBegun, ChecksOnce, Close, Ends, Fallen, NoneFound, Pass, Passes, Rechecks, left_to_check}
+use Rattle.setup_access.specs.Find.{LooksUp}
+use Rattle.setup_access.specs.Found.{Hears, Takes, finder_half, setter_half}
+use Rattle.setup_access.specs.Records.{OnHalves}
+use Rattle.setup_access.specs.Setting.{Setting, look_order, slot_of, try_order}
+use Rattle.setup_access.specs.Setup.{Arms, Judged, Judges, TriesInsert, WatchesAt}
+use Rattle.setup_access.specs.Values.{LoadsFrom, both_values, source_of}
+use Rattle.setup_access.specs.declared.begun.Begun.{Begun}
+use Rattle.setup_access.specs.declared.outcome.Outcome.{Outcome}
+use Rattle.setup_access.specs.declared.outcome.Watchpoint.{Watchpoint}
+use Rattle.setup_access.specs.declared.source.Source.{Source}
 use Rattle.stamp_laws.proofs.Restamped.{GivesStamps, done, either_way, flag, halves_so, restamped, same_answer, stamp, word}
 
 module _ (given : ℕ → Record → Answer) (gives : GivesStamps given) where

@@ -1,23 +1,23 @@
 -- An operation on memory with other stamps, and the tries of a lock, come to the same.
 use Rattle.std.proofs.Common.{◌≡◌, ◌∷◌, [], ℕ, true, false, List, MatchBool, Option, None, Some, ap, length, subst, sym}
-use Rattle.slot_table.specs.of_access_types_Access.{Access}
+use Rattle.access_types.specs.Access.{Access}
 use Rattle.slot_table.specs.declared.records.Record.{Record}
 use Rattle.slot_table.specs.declared.step.Answer.{Answer}
 use Rattle.slot_table.specs.declared.step.Answer.TheVariants as answers
 use Rattle.slot_table.specs.declared.step.Step.TheVariants.{CellExchange, CellLoad, LockTry}
-use Rattle.written_tellings.specs.of_memory_operation_Effects.{changed}
-use Rattle.written_tellings.specs.of_memory_operation_Locks.{TakesLock}
-use Rattle.written_tellings.specs.of_memory_operation_Operations.{Changes, Exchanges, OnExchange, Operates, OperatesIn}
-use Rattle.written_tellings.specs.of_memory_operation_Values.{is_wanted, new_value, sum_of, with_value}
-use Rattle.written_tellings.specs.of_memory_operation_declared.effect.Effect.{Effect}
-use Rattle.written_tellings.specs.of_memory_operation_declared.operation.Change.{Change}
-use Rattle.written_tellings.specs.of_memory_operation_declared.operation.Change.TheVariants as changes
-use Rattle.written_tellings.specs.of_memory_operation_declared.operation.Operation.{Operation}
-use Rattle.written_tellings.specs.of_memory_operation_declared.operation.Operation.TheVariants as operations
-use Rattle.written_tellings.specs.of_setup_access_Records.{OnFlag}
-use Rattle.written_tellings.specs.of_setup_access_Setting.{Setting}
-use Rattle.written_tellings.specs.of_setup_access_Values.{value_in}
-use Rattle.written_tellings.specs.of_setup_access_declared.source.Source.{Source}
+use Rattle.memory_operation.specs.Effects.{changed}
+use Rattle.memory_operation.specs.Locks.{TakesLock}
+use Rattle.memory_operation.specs.Operations.{Changes, Exchanges, OnExchange, Operates, OperatesIn}
+use Rattle.memory_operation.specs.Values.{is_wanted, new_value, sum_of, with_value}
+use Rattle.memory_operation.specs.declared.effect.Effect.{Effect}
+use Rattle.memory_operation.specs.declared.operation.Change.{Change}
+use Rattle.memory_operation.specs.declared.operation.Change.TheVariants as changes
+use Rattle.memory_operation.specs.declared.operation.Operation.{Operation}
+use Rattle.memory_operation.specs.declared.operation.Operation.TheVariants as operations
+use Rattle.setup_access.specs.Records.{OnFlag}
+use Rattle.setup_access.specs.Setting.{Setting}
+use Rattle.setup_access.specs.Values.{value_in}
+use Rattle.setup_access.specs.declared.source.Source.{Source}
 use Rattle.stamp_laws.proofs.Restamped.{GivesStamps, either_way, flag_so, restamped, same_answer, word}
 
 exchange_so : (answer : Answer) (A C : Type 0) (B D : ℕ → Type 0) → (A → C) → ((word : ℕ) → B word → D word) → OnExchange answer A B → OnExchange answer C D

@@ -1,13 +1,13 @@
 -- Records with other answers of the clock: each step that has them goes on as before.
 use Rattle.std.proofs.Common.{◌≡◌, ◌∷◌, [], ℕ, Bool, List, MatchBool, true, false, arith, length, refl, subst, sym}
-use Rattle.slot_table.specs.of_slot_Pair.{Halves}
+use Rattle.slot.specs.Pair.{Halves}
 use Rattle.slot_table.specs.Answer.{IsWord}
 use Rattle.slot_table.specs.declared.records.Record.{Record}
 use Rattle.slot_table.specs.declared.step.Answer.{Answer}
 use Rattle.slot_table.specs.declared.step.Answer.TheVariants as answers
 use Rattle.slot_table.specs.declared.step.Step.{Step}
 use Rattle.slot_table.specs.declared.step.Step.TheVariants.{Clock}
-use Rattle.written_tellings.specs.of_setup_access_Records.{Makes, MakesDone, MakesFlag, MakesWord, OnFlag, OnHalves, OnWord}
+use Rattle.setup_access.specs.Records.{Makes, MakesDone, MakesFlag, MakesWord, OnFlag, OnHalves, OnWord}
 
 abbrev pub AsksClock : Step → Type 0
 AsksClock Clock = Unit {0}

@@ -8,11 +8,11 @@ use Rattle.slot_table.specs.declared.step.Answer.{Answer}
 use Rattle.slot_table.specs.declared.step.Answer.TheVariants as answers
 use Rattle.slot_table.specs.declared.step.Step.{Step}
 use Rattle.slot_table.specs.declared.step.Step.TheVariants.{Clock}
-use Rattle.written_tellings.specs.of_litmus_syntax_Tree.{Block}
-use Rattle.written_tellings.specs.of_setup_access_Check.{Fallen}
-use Rattle.written_tellings.specs.of_written_order_Standing.{Setting}
-use Rattle.written_tellings.specs.of_written_order_Told.{Came, came_of}
-use Rattle.written_tellings.specs.of_written_order_WrittenOrder.{SpellsAll, at_first}
+use Rattle.litmus_syntax.specs.Tree.{Block}
+use Rattle.setup_access.specs.Check.{Fallen}
+use Rattle.written_order.specs.Standing.{Setting}
+use Rattle.written_order.specs.Told.{Came, came_of}
+use Rattle.written_order.specs.WrittenOrder.{SpellsAll, at_first}
 use Rattle.stamp_laws.proofs.Checks.{fallen_there}
 use Rattle.stamp_laws.proofs.Restamped.{AsksClock, GivesStamps, restamped, same_length}
 use Rattle.stamp_laws.proofs.Texts.{block, standing_there}

@@ -2,37 +2,37 @@
 use Rattle.std.proofs.Common.{◌≡◌, ◌↔◌, ◌∙◌, ◌++◌, ◌==◌, ◌+◌, ◌∷◌, [], ℕ, zero, suc, Bool, true, false, List, IsTrue, Option, None, Some, ap, drop, inl, inr, length, map}
 use Rattle.std.proofs.Common.{refl, replicate, subst, sym, if◌then◌else◌}
 use Rattle.std.proofs.lemmas.List.{map-append}
-use Rattle.slot_table.specs.of_access_types_Access as access
-use Rattle.slot_table.specs.of_access_types_declared.history.Happening.{Happening}
-use Rattle.slot_table.specs.of_access_types_declared.history.Happening.TheVariants as happenings
-use Rattle.slot_table.specs.of_access_types_declared.history.Mark.{Mark}
-use Rattle.slot_table.specs.of_access_types_declared.history.Mark.TheVariants as marks
-use Rattle.slot_table.specs.of_access_types_declared.history.Bytes.{Bytes}
-use Rattle.slot_table.specs.of_access_types_declared.kind.Kind.{Kind}
+use Rattle.access_types.specs.Access as access
+use Rattle.access_types.specs.declared.history.Happening.{Happening}
+use Rattle.access_types.specs.declared.history.Happening.TheVariants as happenings
+use Rattle.access_types.specs.declared.history.Mark.{Mark}
+use Rattle.access_types.specs.declared.history.Mark.TheVariants as marks
+use Rattle.access_types.specs.declared.history.Bytes.{Bytes}
+use Rattle.access_types.specs.declared.kind.Kind.{Kind}
 use Rattle.slot_table.specs.declared.records.Record.{Record}
 use Rattle.slot_table.specs.declared.step.Answer.{Answer}
 use Rattle.slot_table.specs.declared.step.Step.TheVariants.{LockStore}
-use Rattle.written_tellings.specs.of_litmus_syntax_Sites.{accesses_of, sites_of}
-use Rattle.written_tellings.specs.of_litmus_syntax_Tree.{Assignment, Block, Expression, Load, Statement}
-use Rattle.written_tellings.specs.of_litmus_syntax_Tree as tree
-use Rattle.written_tellings.specs.of_litmus_syntax_declared.statement.Call.{Call}
-use Rattle.written_tellings.specs.of_litmus_syntax_declared.statement.Call.TheVariants as calls
-use Rattle.written_tellings.specs.of_litmus_meaning_Assignments.{compound_kind, write_kind}
-use Rattle.written_tellings.specs.of_litmus_meaning_Calls.{Scoped, scoped_assertion}
-use Rattle.written_tellings.specs.of_litmus_meaning_Loads.{exchange_kind, fetch_kind, load_in, variable_of}
-use Rattle.written_tellings.specs.of_litmus_meaning_Meaning.{after_condition}
-use Rattle.written_tellings.specs.of_litmus_meaning_Task.{Progress, access_now, bytes_in, has_lock}
-use Rattle.written_tellings.specs.of_litmus_meaning_Task as meaning
-use Rattle.written_tellings.specs.of_memory_operation_Effects.{moments_of, read_moments, write_moments}
-use Rattle.written_tellings.specs.of_memory_operation_declared.effect.Effect.{Effect}
-use Rattle.written_tellings.specs.of_memory_operation_declared.operation.Operation.{Operation}
-use Rattle.written_tellings.specs.of_memory_operation_declared.operation.Operation.TheVariants as operations
-use Rattle.written_tellings.specs.of_setup_access_Check.{Fallen}
-use Rattle.written_tellings.specs.of_setup_access_declared.begun.Begun.{Begun}
-use Rattle.written_tellings.specs.of_written_order_Access.{Makes, operated}
-use Rattle.written_tellings.specs.of_written_order_Standing.{BeginsNow, EndsNothing, Setting, Standing, checks_of, coming, counting, doing, lock_number, registered}
-use Rattle.written_tellings.specs.of_written_order_WrittenOrder.{ChecksAt, ClosesScope, MakesMark, Only, OpensScope, StepsInBlock, StepsInDataRace, StepsOf, StepsOfAssignment, StepsOfBlock}
-use Rattle.written_tellings.specs.of_written_order_WrittenOrder.{StepsOfCall, StepsOfExpression, StepsOfLoad, StepsOfTurns, fetch_operation, marked_so_often}
+use Rattle.litmus_syntax.specs.Sites.{accesses_of, sites_of}
+use Rattle.litmus_syntax.specs.Tree.{Assignment, Block, Expression, Load, Statement}
+use Rattle.litmus_syntax.specs.Tree as tree
+use Rattle.litmus_syntax.specs.declared.statement.Call.{Call}
+use Rattle.litmus_syntax.specs.declared.statement.Call.TheVariants as calls
+use Rattle.litmus_meaning.specs.Assignments.{compound_kind, write_kind}
+use Rattle.litmus_meaning.specs.Calls.{Scoped, scoped_assertion}
+use Rattle.litmus_meaning.specs.Loads.{exchange_kind, fetch_kind, load_in, variable_of}
+use Rattle.litmus_meaning.specs.Meaning.{after_condition}
+use Rattle.litmus_meaning.specs.Task.{Progress, access_now, bytes_in, has_lock}
+use Rattle.litmus_meaning.specs.Task as meaning
+use Rattle.memory_operation.specs.Effects.{moments_of, read_moments, write_moments}
+use Rattle.memory_operation.specs.declared.effect.Effect.{Effect}
+use Rattle.memory_operation.specs.declared.operation.Operation.{Operation}
+use Rattle.memory_operation.specs.declared.operation.Operation.TheVariants as operations
+use Rattle.setup_access.specs.Check.{Fallen}
+use Rattle.setup_access.specs.declared.begun.Begun.{Begun}
+use Rattle.written_order.specs.Access.{Makes, operated}
+use Rattle.written_order.specs.Standing.{BeginsNow, EndsNothing, Setting, Standing, checks_of, coming, counting, doing, lock_number, registered}
+use Rattle.written_order.specs.WrittenOrder.{ChecksAt, ClosesScope, MakesMark, Only, OpensScope, StepsInBlock, StepsInDataRace, StepsOf, StepsOfAssignment, StepsOfBlock}
+use Rattle.written_order.specs.WrittenOrder.{StepsOfCall, StepsOfExpression, StepsOfLoad, StepsOfTurns, fetch_operation, marked_so_often}
 use Rattle.stamp_laws.proofs.Checks.{check, close, fallen_there, passes_there}
 use Rattle.stamp_laws.proofs.Operations.{locks, operates}
 use Rattle.stamp_laws.proofs.Restamped.{GivesStamps, done, either_way, restamped, same_length, stamp}

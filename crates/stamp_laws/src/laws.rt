@@ -2,9 +2,9 @@
 
 ghost use Rattle.std.specs.Prelude.{◌++◌, ◌∷◌, ℕ, List};
 ghost use Rattle.slot_table.specs.declared.records.Record.{Record};
-ghost use Rattle.written_tellings.specs.of_litmus_syntax_Tree.{Block};
-ghost use Rattle.written_tellings.specs.of_written_order_Standing.{Setting};
-ghost use Rattle.written_tellings.specs.of_written_order_WrittenOrder.{SpellsAll};
+ghost use Rattle.litmus_syntax.specs.Tree.{Block};
+ghost use Rattle.written_order.specs.Standing.{Setting};
+ghost use Rattle.written_order.specs.WrittenOrder.{SpellsAll};
 ghost use Rattle.stamp_laws.specs.Stamps.{EndsSo, IsButStamp};
 
 /// Law: stamps tell nothing. With another stamp in one of its records a task's text is spelled as before: the task ends

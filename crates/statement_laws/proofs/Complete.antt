@@ -2,27 +2,27 @@
 use Rattle.std.proofs.Common.{◌≡◌, ◌∙◌, ℕ, suc, ◌+◌, ◌*◌, ◌<◌, ◌≤◌, ◌==◌, List, [], ◌∷◌, Bool, true, false, cond, Option, Some, None, length, map, refl, sym, ap, arith}
 use Rattle.std.proofs.lemmas.Bool.{eqb-true}
 use Rattle.std.specs.Prelude.{set}
-use Rattle.litmus_body.specs.of_litmus_lex_declared.sign.Sign.{Sign}
-use Rattle.litmus_body.specs.of_litmus_lex_declared.sign.Sign.TheVariants.{OpenParen, CloseParen, OpenBrace, CloseBrace, Semicolon, Assign}
-use Rattle.litmus_body.specs.of_litmus_syntax_Limits.{block_count, block_repeats, own_repeats}
-use Rattle.litmus_body.specs.of_litmus_syntax_Tree as tree
-use Rattle.litmus_body.specs.of_litmus_syntax_declared.statement.Call.{Call}
-use Rattle.litmus_body.specs.of_litmus_cursor_declared.words.CallWord.{CallWord}
-use Rattle.litmus_body.specs.of_litmus_cursor_declared.words.VariableType.{VariableType}
-use Rattle.litmus_body.specs.of_litmus_cursor_declared.words.VariableType.TheVariants as types
-use Rattle.litmus_body.specs.of_litmus_cursor_declared.words.Word.TheVariants as words
-use Rattle.litmus_body.specs.of_litmus_cursor_Front.{◌>>=◌, first, is_sign, take_sign}
-use Rattle.litmus_body.specs.of_litmus_cursor_Words.{Symbol, word, identifier, number, sign, fault}
-use Rattle.litmus_body.specs.of_litmus_expression_Counters.{AreCounters}
-use Rattle.litmus_body.specs.of_litmus_expression_Expressions as expressions
-use Rattle.litmus_body.specs.of_litmus_expression_Expressions.{Expression}
-use Rattle.litmus_body.specs.of_litmus_expression_ExpressionReader.{expression_at}
-use Rattle.litmus_body.specs.of_litmus_expression_Followed.{Differ, accesses, name_of}
-use Rattle.litmus_body.specs.of_litmus_expression_Names.{IsInteger, Names, Parameter}
-use Rattle.litmus_body.specs.of_litmus_expression_Places.{Place, deeper}
-use Rattle.litmus_body.specs.of_litmus_expression_States.{State, after, with_left}
-use Rattle.litmus_body.proofs.of_litmus_expression_Complete.{expression_read, follows_close, placed}
-use Rattle.litmus_body.proofs.of_litmus_expression_Taken.{bind_some, is_sign_is}
+use Rattle.litmus_lex.specs.declared.sign.Sign.{Sign}
+use Rattle.litmus_lex.specs.declared.sign.Sign.TheVariants.{OpenParen, CloseParen, OpenBrace, CloseBrace, Semicolon, Assign}
+use Rattle.litmus_syntax.specs.Limits.{block_count, block_repeats, own_repeats}
+use Rattle.litmus_syntax.specs.Tree as tree
+use Rattle.litmus_syntax.specs.declared.statement.Call.{Call}
+use Rattle.litmus_cursor.specs.declared.words.CallWord.{CallWord}
+use Rattle.litmus_cursor.specs.declared.words.VariableType.{VariableType}
+use Rattle.litmus_cursor.specs.declared.words.VariableType.TheVariants as types
+use Rattle.litmus_cursor.specs.declared.words.Word.TheVariants as words
+use Rattle.litmus_cursor.specs.Front.{◌>>=◌, first, is_sign, take_sign}
+use Rattle.litmus_cursor.specs.Words.{Symbol, word, identifier, number, sign, fault}
+use Rattle.litmus_expression.specs.Counters.{AreCounters}
+use Rattle.litmus_expression.specs.Expressions as expressions
+use Rattle.litmus_expression.specs.Expressions.{Expression}
+use Rattle.litmus_expression.specs.ExpressionReader.{expression_at}
+use Rattle.litmus_expression.specs.Followed.{Differ, accesses, name_of}
+use Rattle.litmus_expression.specs.Names.{IsInteger, Names, Parameter}
+use Rattle.litmus_expression.specs.Places.{Place, deeper}
+use Rattle.litmus_expression.specs.States.{State, after, with_left}
+use Rattle.litmus_expression.proofs.Complete.{expression_read, follows_close, placed}
+use Rattle.litmus_expression.proofs.Taken.{bind_some, is_sign_is}
 use Rattle.litmus_body.specs.declared.statement.Counted.{Counted}
 use Rattle.litmus_body.specs.declared.statement.Counted.TheVariants as counteds
 use Rattle.litmus_body.specs.declared.statement.LoopHeader.{LoopHeader}

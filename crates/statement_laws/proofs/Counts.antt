@@ -1,12 +1,12 @@
 -- What a statement or a block counts, and where it begins scopes.
 use Rattle.std.proofs.Common.{◌≡◌, ℕ, ◌+◌, ◌≤◌, ◌==◌, Bool, true, false, cond, Option, Some, None, List, refl, ap, arith}
 use Rattle.std.proofs.lemmas.Bool.{eqb-true}
-use Rattle.litmus_body.specs.of_litmus_syntax_Limits.{BlockScopes, BlockTurns, StatementScopes, StatementTurns, block_count, block_repeats, call_scopes, own_repeats, scopes_of, statement_count, statement_repeats}
-use Rattle.litmus_body.specs.of_litmus_syntax_Tree as tree
-use Rattle.litmus_body.specs.of_litmus_syntax_declared.statement.Call.{Call}
-use Rattle.litmus_body.specs.of_litmus_syntax_declared.statement.Call.TheVariants as calls
-use Rattle.litmus_body.specs.of_litmus_expression_Followed.{accesses}
-use Rattle.litmus_body.specs.of_litmus_expression_Places.{Place, asserting}
+use Rattle.litmus_syntax.specs.Limits.{BlockScopes, BlockTurns, StatementScopes, StatementTurns, block_count, block_repeats, call_scopes, own_repeats, scopes_of, statement_count, statement_repeats}
+use Rattle.litmus_syntax.specs.Tree as tree
+use Rattle.litmus_syntax.specs.declared.statement.Call.{Call}
+use Rattle.litmus_syntax.specs.declared.statement.Call.TheVariants as calls
+use Rattle.litmus_expression.specs.Followed.{accesses}
+use Rattle.litmus_expression.specs.Places.{Place, asserting}
 use Rattle.litmus_body.specs.StatementReader.{behind}
 use Rattle.litmus_body.specs.Statements.{Enclosable, alone, assignment, kept, load, raced}
 

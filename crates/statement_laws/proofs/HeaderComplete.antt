@@ -2,24 +2,24 @@
 use Rattle.std.proofs.Common.{◌≡◌, ◌∙◌, ℕ, ◌+◌, ◌*◌, ◌≤◌, ◌==◌, nat_lt, List, ◌∷◌, Bool, true, false, cond, Option, Some, None, map, refl, ap, subst, arith, eq-eqb}
 use Rattle.std.proofs.lemmas.Bool.{eqb-true, le-ltb}
 use Rattle.std.specs.Prelude.{Contains}
-use Rattle.litmus_body.specs.of_litmus_lex_declared.sign.Sign.TheVariants.{OpenParen, CloseParen, Semicolon, Comma, Assign, Increment}
-use Rattle.litmus_body.specs.of_litmus_lex_declared.sign.Sign.TheVariants as signs
-use Rattle.litmus_body.specs.of_litmus_syntax_Tree as tree
-use Rattle.litmus_body.specs.of_litmus_cursor_declared.words.VariableType.{VariableType}
-use Rattle.litmus_body.specs.of_litmus_cursor_declared.words.Word.TheVariants as words
-use Rattle.litmus_body.specs.of_litmus_cursor_Front.{◌>>=◌, take_number, take_sign}
-use Rattle.litmus_body.specs.of_litmus_cursor_Words.{Symbol, word, identifier, number, sign}
-use Rattle.litmus_body.specs.of_litmus_expression_Counters.{AreCounters}
-use Rattle.litmus_body.specs.of_litmus_expression_Expressions.{Expression}
-use Rattle.litmus_body.specs.of_litmus_expression_ExpressionReader.{expression_at}
-use Rattle.litmus_body.specs.of_litmus_expression_Followed.{Differ, Follows, accesses, name_of}
-use Rattle.litmus_body.specs.of_litmus_expression_NameReader.{free_name, parameter_named}
-use Rattle.litmus_body.specs.of_litmus_expression_Names.{IsChanged, IsFree, Names, Parameter}
-use Rattle.litmus_body.specs.of_litmus_expression_PlaceReader.{count_statement, take_changed}
-use Rattle.litmus_body.specs.of_litmus_expression_Places.{is_counter, repeats_of}
-use Rattle.litmus_body.specs.of_litmus_expression_States.{State, after, with_left}
-use Rattle.litmus_body.proofs.of_litmus_expression_Complete.{expression_read, placed, register_back}
-use Rattle.litmus_body.proofs.of_litmus_expression_Named.{found_at, free_named}
+use Rattle.litmus_lex.specs.declared.sign.Sign.TheVariants.{OpenParen, CloseParen, Semicolon, Comma, Assign, Increment}
+use Rattle.litmus_lex.specs.declared.sign.Sign.TheVariants as signs
+use Rattle.litmus_syntax.specs.Tree as tree
+use Rattle.litmus_cursor.specs.declared.words.VariableType.{VariableType}
+use Rattle.litmus_cursor.specs.declared.words.Word.TheVariants as words
+use Rattle.litmus_cursor.specs.Front.{◌>>=◌, take_number, take_sign}
+use Rattle.litmus_cursor.specs.Words.{Symbol, word, identifier, number, sign}
+use Rattle.litmus_expression.specs.Counters.{AreCounters}
+use Rattle.litmus_expression.specs.Expressions.{Expression}
+use Rattle.litmus_expression.specs.ExpressionReader.{expression_at}
+use Rattle.litmus_expression.specs.Followed.{Differ, Follows, accesses, name_of}
+use Rattle.litmus_expression.specs.NameReader.{free_name, parameter_named}
+use Rattle.litmus_expression.specs.Names.{IsChanged, IsFree, Names, Parameter}
+use Rattle.litmus_expression.specs.PlaceReader.{count_statement, take_changed}
+use Rattle.litmus_expression.specs.Places.{is_counter, repeats_of}
+use Rattle.litmus_expression.specs.States.{State, after, with_left}
+use Rattle.litmus_expression.proofs.Complete.{expression_read, placed, register_back}
+use Rattle.litmus_expression.proofs.Named.{found_at, free_named}
 use Rattle.litmus_body.specs.declared.statement.LoopHeader.{LoopHeader}
 use Rattle.litmus_body.specs.StatementReader.{behind_register, bound_at, counter_at, declaration_at, header_at, is_number, is_the_register, more_declared}
 use Rattle.litmus_body.specs.StatementReader.{step_at, take_again, take_zero}

@@ -2,24 +2,24 @@
 use Rattle.std.proofs.Common.{◌≡◌, ◌∙◌, ℕ, ◌+◌, ◌<◌, ◌≤◌, ◌==◌, List, [], ◌∷◌, Bool, true, false, Option, Some, None, length, refl, sym, ap, subst}
 use Rattle.std.proofs.lemmas.Bool.{eqb-true}
 use Rattle.std.specs.Prelude.{slice_get}
-use Rattle.litmus_body.specs.of_litmus_lex_declared.sign.Sign.TheVariants.{OpenParen, CloseParen, Semicolon, Comma, Assign, Increment}
-use Rattle.litmus_body.specs.of_litmus_lex_declared.sign.Sign.TheVariants as signs
-use Rattle.litmus_body.specs.of_litmus_syntax_Tree as tree
-use Rattle.litmus_body.specs.of_litmus_cursor_declared.words.Word.TheVariants as words
-use Rattle.litmus_body.specs.of_litmus_cursor_Front.{◌>>=◌, first, is_sign, number_of, others, take_number, take_sign}
-use Rattle.litmus_body.specs.of_litmus_cursor_Words.{Symbol, word, identifier, number, sign, fault}
-use Rattle.litmus_body.specs.of_litmus_expression_Counters.{AreCounters}
-use Rattle.litmus_body.specs.of_litmus_expression_Expressions.{Expression}
-use Rattle.litmus_body.specs.of_litmus_expression_ExpressionReader.{expression_at}
-use Rattle.litmus_body.specs.of_litmus_expression_NameReader.{index_of, numbered, register_at, register_name, register_named}
-use Rattle.litmus_body.specs.of_litmus_expression_Names.{IsChanged, Names, Parameter}
-use Rattle.litmus_body.specs.of_litmus_expression_PlaceReader.{count_statement, take_changed}
-use Rattle.litmus_body.specs.of_litmus_expression_Places.{Place, repeats_of}
-use Rattle.litmus_body.specs.of_litmus_expression_States.{State, after, with_left}
-use Rattle.litmus_body.proofs.of_litmus_expression_Fewer.{at_last, behind_it, either_way, unless_it}
-use Rattle.litmus_body.proofs.of_litmus_expression_Sound.{register_reads}
-use Rattle.litmus_body.proofs.of_litmus_expression_Taken.{front, is_sign_is, same_given, sign_taken}
-use Rattle.litmus_body.proofs.of_litmus_expression_Whole.{changed_reads, expression_reads}
+use Rattle.litmus_lex.specs.declared.sign.Sign.TheVariants.{OpenParen, CloseParen, Semicolon, Comma, Assign, Increment}
+use Rattle.litmus_lex.specs.declared.sign.Sign.TheVariants as signs
+use Rattle.litmus_syntax.specs.Tree as tree
+use Rattle.litmus_cursor.specs.declared.words.Word.TheVariants as words
+use Rattle.litmus_cursor.specs.Front.{◌>>=◌, first, is_sign, number_of, others, take_number, take_sign}
+use Rattle.litmus_cursor.specs.Words.{Symbol, word, identifier, number, sign, fault}
+use Rattle.litmus_expression.specs.Counters.{AreCounters}
+use Rattle.litmus_expression.specs.Expressions.{Expression}
+use Rattle.litmus_expression.specs.ExpressionReader.{expression_at}
+use Rattle.litmus_expression.specs.NameReader.{index_of, numbered, register_at, register_name, register_named}
+use Rattle.litmus_expression.specs.Names.{IsChanged, Names, Parameter}
+use Rattle.litmus_expression.specs.PlaceReader.{count_statement, take_changed}
+use Rattle.litmus_expression.specs.Places.{Place, repeats_of}
+use Rattle.litmus_expression.specs.States.{State, after, with_left}
+use Rattle.litmus_expression.proofs.Fewer.{at_last, behind_it, either_way, unless_it}
+use Rattle.litmus_expression.proofs.Sound.{register_reads}
+use Rattle.litmus_expression.proofs.Taken.{front, is_sign_is, same_given, sign_taken}
+use Rattle.litmus_expression.proofs.Whole.{changed_reads, expression_reads}
 use Rattle.litmus_body.specs.declared.statement.LoopHeader.{LoopHeader}
 use Rattle.litmus_body.specs.StatementReader.{behind_register, bound_at, counter_at, declaration_at, header_at, is_number, is_the_register, more_declared}
 use Rattle.litmus_body.specs.StatementReader.{step_at, take_again, take_zero, zero_of}

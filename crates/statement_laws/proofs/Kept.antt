@@ -2,31 +2,31 @@
 use Rattle.std.proofs.Common.{◌≡◌, ◌∙◌, ℕ, zero, suc, ◌+◌, ◌*◌, ◌<◌, ◌≤◌, ◌==◌, nat_lt, List, [], ◌∷◌, Bool, true, false, cond, Option, Some, None, length, refl, sym}
 use Rattle.std.proofs.Common.{subst, arith, eq-eqb}
 use Rattle.std.proofs.lemmas.Bool.{ltb-false}
-use Rattle.litmus_body.specs.of_access_types_declared.history.Mark.{Mark}
-use Rattle.litmus_body.specs.of_access_types_declared.history.Mark.TheVariants as marks
-use Rattle.litmus_body.specs.of_litmus_lex_declared.sign.Sign.TheVariants.{OpenParen, CloseParen, OpenBrace, CloseBrace, Semicolon, Comma, Assign, Increment}
-use Rattle.litmus_body.specs.of_litmus_lex_declared.sign.Sign.TheVariants as signs
-use Rattle.litmus_body.specs.of_litmus_syntax_Limits.{BlockScopes, BlockTurns, BodyKeepsLimits, StatementScopes, StatementTurns, block_count, block_repeats, call_scopes}
-use Rattle.litmus_body.specs.of_litmus_syntax_Limits.{own_repeats, statement_count, statement_repeats}
-use Rattle.litmus_body.specs.of_litmus_syntax_Sites.{has_access}
-use Rattle.litmus_body.specs.of_litmus_syntax_Tree as tree
-use Rattle.litmus_body.specs.of_litmus_syntax_declared.statement.Call.{Call}
-use Rattle.litmus_body.specs.of_litmus_syntax_declared.statement.Call.TheVariants as calls
-use Rattle.litmus_body.specs.of_litmus_cursor_declared.words.CallWord.{CallWord}
-use Rattle.litmus_body.specs.of_litmus_cursor_declared.words.CallWord.TheVariants as asks
-use Rattle.litmus_body.specs.of_litmus_cursor_declared.words.StoreWord.{StoreWord}
-use Rattle.litmus_body.specs.of_litmus_cursor_Front.{◌>>=◌, begins_call, first, is_sign, others, take_number, take_sign}
-use Rattle.litmus_body.specs.of_litmus_cursor_Words.{Symbol}
-use Rattle.litmus_body.specs.of_litmus_expression_Counters.{AreCounters}
-use Rattle.litmus_body.specs.of_litmus_expression_declared.process.Takes.TheVariants.{Integers, Locks, Memory}
-use Rattle.litmus_body.specs.of_litmus_expression_ExpressionReader.{expression_at, load_at, take_star}
-use Rattle.litmus_body.specs.of_litmus_expression_NameReader.{count_access, register_at, register_name, take_variable}
-use Rattle.litmus_body.specs.of_litmus_expression_Names.{Parameter}
-use Rattle.litmus_body.specs.of_litmus_expression_PlaceReader.{count_statement, take_changed}
-use Rattle.litmus_body.specs.of_litmus_expression_Places.{Place, asserting, deeper, in_loop, is_counter, outermost, repeats_of}
-use Rattle.litmus_body.specs.of_litmus_expression_States.{State, after, entering, with_left}
-use Rattle.litmus_body.proofs.of_litmus_expression_Fewer.{at_last, behind_it, either_way, unless_it}
-use Rattle.litmus_body.proofs.of_litmus_expression_Whole.{changed_reads, expression_reads}
+use Rattle.access_types.specs.declared.history.Mark.{Mark}
+use Rattle.access_types.specs.declared.history.Mark.TheVariants as marks
+use Rattle.litmus_lex.specs.declared.sign.Sign.TheVariants.{OpenParen, CloseParen, OpenBrace, CloseBrace, Semicolon, Comma, Assign, Increment}
+use Rattle.litmus_lex.specs.declared.sign.Sign.TheVariants as signs
+use Rattle.litmus_syntax.specs.Limits.{BlockScopes, BlockTurns, BodyKeepsLimits, StatementScopes, StatementTurns, block_count, block_repeats, call_scopes}
+use Rattle.litmus_syntax.specs.Limits.{own_repeats, statement_count, statement_repeats}
+use Rattle.litmus_syntax.specs.Sites.{has_access}
+use Rattle.litmus_syntax.specs.Tree as tree
+use Rattle.litmus_syntax.specs.declared.statement.Call.{Call}
+use Rattle.litmus_syntax.specs.declared.statement.Call.TheVariants as calls
+use Rattle.litmus_cursor.specs.declared.words.CallWord.{CallWord}
+use Rattle.litmus_cursor.specs.declared.words.CallWord.TheVariants as asks
+use Rattle.litmus_cursor.specs.declared.words.StoreWord.{StoreWord}
+use Rattle.litmus_cursor.specs.Front.{◌>>=◌, begins_call, first, is_sign, others, take_number, take_sign}
+use Rattle.litmus_cursor.specs.Words.{Symbol}
+use Rattle.litmus_expression.specs.Counters.{AreCounters}
+use Rattle.litmus_expression.specs.declared.process.Takes.TheVariants.{Integers, Locks, Memory}
+use Rattle.litmus_expression.specs.ExpressionReader.{expression_at, load_at, take_star}
+use Rattle.litmus_expression.specs.NameReader.{count_access, register_at, register_name, take_variable}
+use Rattle.litmus_expression.specs.Names.{Parameter}
+use Rattle.litmus_expression.specs.PlaceReader.{count_statement, take_changed}
+use Rattle.litmus_expression.specs.Places.{Place, asserting, deeper, in_loop, is_counter, outermost, repeats_of}
+use Rattle.litmus_expression.specs.States.{State, after, entering, with_left}
+use Rattle.litmus_expression.proofs.Fewer.{at_last, behind_it, either_way, unless_it}
+use Rattle.litmus_expression.proofs.Whole.{changed_reads, expression_reads}
 use Rattle.litmus_body.specs.declared.statement.Counted.{Counted}
 use Rattle.litmus_body.specs.declared.statement.Counted.TheVariants as counteds
 use Rattle.litmus_body.specs.declared.statement.LoopHeader.{LoopHeader}

@@ -2,28 +2,28 @@
 use Rattle.std.proofs.Common.{◌≡◌, ◌∙◌, ℕ, zero, suc, ◌+◌, ◌-◌, ◌*◌, ◌≤◌, ◌==◌, nat_lt, List, [], ◌∷◌, ◌++◌, true, false, cond, Option, Some, None, length, refl, sym}
 use Rattle.std.proofs.Common.{subst}
 use Rattle.std.proofs.lemmas.Bool.{ltb-false}
-use Rattle.litmus_body.specs.of_litmus_lex_declared.sign.Sign.TheVariants.{OpenParen, CloseParen, Comma}
-use Rattle.litmus_body.specs.of_litmus_syntax_declared.expression.BinaryOperator.{BinaryOperator}
-use Rattle.litmus_body.specs.of_litmus_syntax_declared.expression.UnaryOperator.{UnaryOperator}
-use Rattle.litmus_body.specs.of_litmus_syntax_declared.expression.ReadForm.{ReadForm}
-use Rattle.litmus_body.specs.of_litmus_syntax_declared.expression.ReadForm.TheVariants as reads
-use Rattle.litmus_body.specs.of_litmus_syntax_Tree as tree
-use Rattle.litmus_body.specs.of_litmus_cursor_declared.words.LoadWord.{LoadWord}
-use Rattle.litmus_body.specs.of_litmus_cursor_declared.words.LoadWord.TheVariants as loads
-use Rattle.litmus_body.specs.of_litmus_cursor_Front.{◌>>=◌, begins_call, first, others, take_sign}
-use Rattle.litmus_body.specs.of_litmus_expression_declared.process.Takes.{Takes}
-use Rattle.litmus_body.specs.of_litmus_expression_declared.process.Takes.TheVariants.{Integers}
-use Rattle.litmus_body.specs.of_litmus_expression_ExpressionReader.{Readers, Beginning, a_number, parenthesis, a_load, a_name, nothing, Loader, starred, called, by, deep}
-use Rattle.litmus_body.specs.of_litmus_expression_ExpressionReader.{all_of_it, applied, beginning_of, binary_at, closed, combined, expression_at, fetch_with, idle}
-use Rattle.litmus_body.specs.of_litmus_expression_ExpressionReader.{is_foreign, level_at, load_at, loader_of, more_with, of_level, opened, operand_with, prefixed_with, pure_of, read_by, read_of}
-use Rattle.litmus_body.specs.of_litmus_expression_ExpressionReader.{read_with, register_operand, take_operator, take_star, unary_at}
-use Rattle.litmus_body.specs.of_litmus_expression_ExpressionReader as reader
-use Rattle.litmus_body.specs.of_litmus_expression_NameReader.{count_access, index_of, numbered, register_at, register_name, register_named, take_register, take_variable}
-use Rattle.litmus_body.specs.of_litmus_expression_States.{State, after, with_left}
-use Rattle.litmus_body.proofs.of_litmus_expression_Fewer.{at_last, behind_it, either_way, unless_it}
-use Rattle.litmus_body.proofs.of_litmus_expression_Shorter.{Found}
-use Rattle.litmus_body.proofs.of_litmus_expression_Sound.{variable_reads}
-use Rattle.litmus_body.proofs.of_litmus_expression_Whole.{star_reads}
+use Rattle.litmus_lex.specs.declared.sign.Sign.TheVariants.{OpenParen, CloseParen, Comma}
+use Rattle.litmus_syntax.specs.declared.expression.BinaryOperator.{BinaryOperator}
+use Rattle.litmus_syntax.specs.declared.expression.UnaryOperator.{UnaryOperator}
+use Rattle.litmus_syntax.specs.declared.expression.ReadForm.{ReadForm}
+use Rattle.litmus_syntax.specs.declared.expression.ReadForm.TheVariants as reads
+use Rattle.litmus_syntax.specs.Tree as tree
+use Rattle.litmus_cursor.specs.declared.words.LoadWord.{LoadWord}
+use Rattle.litmus_cursor.specs.declared.words.LoadWord.TheVariants as loads
+use Rattle.litmus_cursor.specs.Front.{◌>>=◌, begins_call, first, others, take_sign}
+use Rattle.litmus_expression.specs.declared.process.Takes.{Takes}
+use Rattle.litmus_expression.specs.declared.process.Takes.TheVariants.{Integers}
+use Rattle.litmus_expression.specs.ExpressionReader.{Readers, Beginning, a_number, parenthesis, a_load, a_name, nothing, Loader, starred, called, by, deep}
+use Rattle.litmus_expression.specs.ExpressionReader.{all_of_it, applied, beginning_of, binary_at, closed, combined, expression_at, fetch_with, idle}
+use Rattle.litmus_expression.specs.ExpressionReader.{is_foreign, level_at, load_at, loader_of, more_with, of_level, opened, operand_with, prefixed_with, pure_of, read_by, read_of}
+use Rattle.litmus_expression.specs.ExpressionReader.{read_with, register_operand, take_operator, take_star, unary_at}
+use Rattle.litmus_expression.specs.ExpressionReader as reader
+use Rattle.litmus_expression.specs.NameReader.{count_access, index_of, numbered, register_at, register_name, register_named, take_register, take_variable}
+use Rattle.litmus_expression.specs.States.{State, after, with_left}
+use Rattle.litmus_expression.proofs.Fewer.{at_last, behind_it, either_way, unless_it}
+use Rattle.litmus_expression.proofs.Shorter.{Found}
+use Rattle.litmus_expression.proofs.Sound.{variable_reads}
+use Rattle.litmus_expression.proofs.Whole.{star_reads}
 
 -- no more accesses than may be
 abbrev pub Low : State → Type 0

@@ -1,12 +1,12 @@
 -- Names of registers still differ, and are no more than may be, behind what is spelled.
 use Rattle.std.proofs.Common.{ℕ, ◌≤◌, List, [], ◌∷◌, Option, length, arith, length-append}
-use Rattle.litmus_body.specs.of_litmus_syntax_Tree as tree
-use Rattle.litmus_body.specs.of_litmus_cursor_Words.{Symbol}
-use Rattle.litmus_body.specs.of_litmus_expression_Expressions as grammar
-use Rattle.litmus_body.specs.of_litmus_expression_Expressions.{Expression, Level, Load, Operand, Pure}
-use Rattle.litmus_body.specs.of_litmus_expression_Followed.{Differ}
-use Rattle.litmus_body.specs.of_litmus_expression_Names.{Names, Numbered, Parameter, known, new}
-use Rattle.litmus_body.proofs.of_litmus_expression_Named.{differ_more}
+use Rattle.litmus_syntax.specs.Tree as tree
+use Rattle.litmus_cursor.specs.Words.{Symbol}
+use Rattle.litmus_expression.specs.Expressions as grammar
+use Rattle.litmus_expression.specs.Expressions.{Expression, Level, Load, Operand, Pure}
+use Rattle.litmus_expression.specs.Followed.{Differ}
+use Rattle.litmus_expression.specs.Names.{Names, Numbered, Parameter, known, new}
+use Rattle.litmus_expression.proofs.Named.{differ_more}
 use Rattle.litmus_body.specs.Statements as statements
 use Rattle.litmus_body.specs.Statements.{Body, Declared, Enclosable, Simple, Statement, Statements}
 

@@ -1,17 +1,17 @@
 -- How a statement begins says with which symbol.
 use Rattle.std.proofs.Common.{◌≡◌, ℕ, List, ◌∷◌, Option, Some, None, refl, ap, subst}
-use Rattle.litmus_body.specs.of_litmus_lex_declared.sign.Sign.TheVariants.{OpenParen, Semicolon, Star}
-use Rattle.litmus_body.specs.of_litmus_cursor_declared.words.VariableType.{VariableType}
-use Rattle.litmus_body.specs.of_litmus_cursor_declared.words.VariableType.TheVariants as types
-use Rattle.litmus_body.specs.of_litmus_cursor_declared.words.Word.{Word}
-use Rattle.litmus_body.specs.of_litmus_cursor_declared.words.Word.TheVariants as words
-use Rattle.litmus_body.specs.of_litmus_cursor_Front.{begins_call, first, others}
-use Rattle.litmus_body.specs.of_litmus_cursor_Words.{Symbol, word, identifier, number, sign, fault}
-use Rattle.litmus_body.specs.of_litmus_expression_NameReader.{parameter_named}
-use Rattle.litmus_body.specs.of_litmus_expression_Names.{IsInteger, Parameter}
-use Rattle.litmus_body.specs.of_litmus_expression_States.{State}
-use Rattle.litmus_body.proofs.of_litmus_expression_Fewer.{unless_it}
-use Rattle.litmus_body.proofs.of_litmus_expression_Taken.{front}
+use Rattle.litmus_lex.specs.declared.sign.Sign.TheVariants.{OpenParen, Semicolon, Star}
+use Rattle.litmus_cursor.specs.declared.words.VariableType.{VariableType}
+use Rattle.litmus_cursor.specs.declared.words.VariableType.TheVariants as types
+use Rattle.litmus_cursor.specs.declared.words.Word.{Word}
+use Rattle.litmus_cursor.specs.declared.words.Word.TheVariants as words
+use Rattle.litmus_cursor.specs.Front.{begins_call, first, others}
+use Rattle.litmus_cursor.specs.Words.{Symbol, word, identifier, number, sign, fault}
+use Rattle.litmus_expression.specs.NameReader.{parameter_named}
+use Rattle.litmus_expression.specs.Names.{IsInteger, Parameter}
+use Rattle.litmus_expression.specs.States.{State}
+use Rattle.litmus_expression.proofs.Fewer.{unless_it}
+use Rattle.litmus_expression.proofs.Taken.{front}
 use Rattle.litmus_body.specs.declared.statement.Counted.{Counted}
 use Rattle.litmus_body.specs.declared.statement.Counted.TheVariants as counteds
 use Rattle.litmus_body.specs.declared.statement.Opening.{Opening}

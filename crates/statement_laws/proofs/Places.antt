@@ -4,12 +4,12 @@ use Rattle.std.proofs.lemmas.Bool.{eqb-true}
 use Rattle.std.proofs.lemmas.List.{get_or-set_other, get_or-set_same, length-replicate, length-set}
 use Rattle.std.proofs.lemmas.Option.{slice_get_within}
 use Rattle.std.specs.Prelude.{Contains, replicate, set, slice_get}
-use Rattle.litmus_body.specs.of_litmus_syntax_Tree as tree
-use Rattle.litmus_body.specs.of_litmus_expression_Counters.{AreCounters}
-use Rattle.litmus_body.specs.of_litmus_expression_Names.{Names, Numbered, known, new}
-use Rattle.litmus_body.specs.of_litmus_expression_Places.{Place, asserting, deeper, is_counter}
-use Rattle.litmus_body.proofs.of_litmus_expression_Fewer.{at_last, either_way, unless_it}
-use Rattle.litmus_body.proofs.of_litmus_expression_Named.{among, in_front, in_none, in_rest}
+use Rattle.litmus_syntax.specs.Tree as tree
+use Rattle.litmus_expression.specs.Counters.{AreCounters}
+use Rattle.litmus_expression.specs.Names.{Names, Numbered, known, new}
+use Rattle.litmus_expression.specs.Places.{Place, asserting, deeper, is_counter}
+use Rattle.litmus_expression.proofs.Fewer.{at_last, either_way, unless_it}
+use Rattle.litmus_expression.proofs.Named.{among, in_front, in_none, in_rest}
 use Rattle.litmus_body.specs.StatementReader.{begins_scope, behind}
 
 pub not_both : (b : Bool) → b ≡ true → b ≡ false → ⊥

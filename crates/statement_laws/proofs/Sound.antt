@@ -1,20 +1,20 @@
 -- What the readers of statements and blocks read is spelled so.
 use Rattle.std.proofs.Common.{◌≡◌, ◌∙◌, ℕ, zero, suc, ◌+◌, ◌*◌, ◌<◌, ◌≤◌, List, [], ◌∷◌, Bool, true, false, Option, Some, None, length, refl, sym, ap, subst, arith}
-use Rattle.litmus_body.specs.of_litmus_lex_declared.sign.Sign.TheVariants.{OpenParen, CloseParen, OpenBrace, CloseBrace, Semicolon}
-use Rattle.litmus_body.specs.of_litmus_syntax_Tree as tree
-use Rattle.litmus_body.specs.of_litmus_cursor_declared.words.Word.TheVariants as words
-use Rattle.litmus_body.specs.of_litmus_cursor_Front.{◌>>=◌, first, is_sign, others, take_sign}
-use Rattle.litmus_body.specs.of_litmus_cursor_Words.{Symbol, word, sign}
-use Rattle.litmus_body.specs.of_litmus_expression_Counters.{AreCounters}
-use Rattle.litmus_body.specs.of_litmus_expression_Expressions.{Expression}
-use Rattle.litmus_body.specs.of_litmus_expression_ExpressionReader.{expression_at}
-use Rattle.litmus_body.specs.of_litmus_expression_Names.{Names, Parameter}
-use Rattle.litmus_body.specs.of_litmus_expression_PlaceReader.{count_statement}
-use Rattle.litmus_body.specs.of_litmus_expression_Places.{Place, deeper, in_loop, outermost}
-use Rattle.litmus_body.specs.of_litmus_expression_States.{State, after, with_left}
-use Rattle.litmus_body.proofs.of_litmus_expression_Fewer.{at_last, behind_it, either_way}
-use Rattle.litmus_body.proofs.of_litmus_expression_Taken.{front, is_sign_is, sign_taken}
-use Rattle.litmus_body.proofs.of_litmus_expression_Whole.{expression_reads}
+use Rattle.litmus_lex.specs.declared.sign.Sign.TheVariants.{OpenParen, CloseParen, OpenBrace, CloseBrace, Semicolon}
+use Rattle.litmus_syntax.specs.Tree as tree
+use Rattle.litmus_cursor.specs.declared.words.Word.TheVariants as words
+use Rattle.litmus_cursor.specs.Front.{◌>>=◌, first, is_sign, others, take_sign}
+use Rattle.litmus_cursor.specs.Words.{Symbol, word, sign}
+use Rattle.litmus_expression.specs.Counters.{AreCounters}
+use Rattle.litmus_expression.specs.Expressions.{Expression}
+use Rattle.litmus_expression.specs.ExpressionReader.{expression_at}
+use Rattle.litmus_expression.specs.Names.{Names, Parameter}
+use Rattle.litmus_expression.specs.PlaceReader.{count_statement}
+use Rattle.litmus_expression.specs.Places.{Place, deeper, in_loop, outermost}
+use Rattle.litmus_expression.specs.States.{State, after, with_left}
+use Rattle.litmus_expression.proofs.Fewer.{at_last, behind_it, either_way}
+use Rattle.litmus_expression.proofs.Taken.{front, is_sign_is, sign_taken}
+use Rattle.litmus_expression.proofs.Whole.{expression_reads}
 use Rattle.litmus_body.specs.declared.statement.Counted.{Counted}
 use Rattle.litmus_body.specs.declared.statement.Counted.TheVariants as counteds
 use Rattle.litmus_body.specs.declared.statement.Opening.{Opening}

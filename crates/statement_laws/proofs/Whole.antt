@@ -1,15 +1,15 @@
 -- The whole body of a process.
 use Rattle.std.proofs.Common.{◌≡◌, ◌∙◌, ℕ, ◌+◌, ◌<◌, ◌≤◌, List, [], false, Some, map, sym, ap, arith}
 use Rattle.std.specs.Prelude.{replicate}
-use Rattle.litmus_body.specs.of_litmus_syntax_Limits.{BodyKeepsLimits, block_count, block_repeats}
-use Rattle.litmus_body.specs.of_litmus_syntax_Tree as tree
-use Rattle.litmus_body.specs.of_litmus_cursor_Words.{Symbol}
-use Rattle.litmus_body.specs.of_litmus_expression_Followed.{Differ, name_of}
-use Rattle.litmus_body.specs.of_litmus_expression_Names.{Names, Parameter}
-use Rattle.litmus_body.specs.of_litmus_expression_Places.{outermost}
-use Rattle.litmus_body.specs.of_litmus_expression_States.{State}
-use Rattle.litmus_body.proofs.of_litmus_expression_Complete.{placed}
-use Rattle.litmus_body.proofs.of_litmus_expression_Taken.{same_given}
+use Rattle.litmus_syntax.specs.Limits.{BodyKeepsLimits, block_count, block_repeats}
+use Rattle.litmus_syntax.specs.Tree as tree
+use Rattle.litmus_cursor.specs.Words.{Symbol}
+use Rattle.litmus_expression.specs.Followed.{Differ, name_of}
+use Rattle.litmus_expression.specs.Names.{Names, Parameter}
+use Rattle.litmus_expression.specs.Places.{outermost}
+use Rattle.litmus_expression.specs.States.{State}
+use Rattle.litmus_expression.proofs.Complete.{placed}
+use Rattle.litmus_expression.proofs.Taken.{same_given}
 use Rattle.litmus_body.specs.StatementReader.{block_at}
 use Rattle.litmus_body.specs.Statements.{Statements}
 use Rattle.statement_laws.specs.Spelled.{begins_body}

@@ -1,13 +1,13 @@
 -- What is read is spelled so: what laws say of the readers of statements and blocks. What is counted as it is
 -- read is no part of the relation, which asks for the limits of a body when it is whole.
 use Rattle.std.specs.Prelude.{◌≡◌, ◌≤◌, ℕ, List, [], ◌∷◌, Option, length}
-use Rattle.litmus_body.specs.of_litmus_lex_declared.sign.Sign.TheVariants.{OpenBrace}
-use Rattle.litmus_body.specs.of_litmus_syntax_Limits.{nesting_limit, registers_limit, scoped_limit}
-use Rattle.litmus_body.specs.of_litmus_syntax_Tree as tree
-use Rattle.litmus_body.specs.of_litmus_cursor_Words.{Symbol, sign}
-use Rattle.litmus_body.specs.of_litmus_expression_Counters.{AreCounters}
-use Rattle.litmus_body.specs.of_litmus_expression_Places.{Place}
-use Rattle.litmus_body.specs.of_litmus_expression_States.{State}
+use Rattle.litmus_lex.specs.declared.sign.Sign.TheVariants.{OpenBrace}
+use Rattle.litmus_syntax.specs.Limits.{nesting_limit, registers_limit, scoped_limit}
+use Rattle.litmus_syntax.specs.Tree as tree
+use Rattle.litmus_cursor.specs.Words.{Symbol, sign}
+use Rattle.litmus_expression.specs.Counters.{AreCounters}
+use Rattle.litmus_expression.specs.Places.{Place}
+use Rattle.litmus_expression.specs.States.{State}
 use Rattle.litmus_body.specs.Statements.{Body, Statement, Statements}
 
 -- a state at a place: these registers count the loops round it, and no limit is passed

@@ -1,9 +1,9 @@
 -- Where the body of a process begins to be read: its parameters are known, and nothing is counted.
 use Rattle.std.specs.Prelude.{List, [], ◌∷◌}
-use Rattle.litmus_body.specs.of_litmus_lex_declared.sign.Sign.TheVariants.{OpenBrace}
-use Rattle.litmus_body.specs.of_litmus_cursor_Words.{Symbol, sign}
-use Rattle.litmus_body.specs.of_litmus_expression_Names.{Parameter}
-use Rattle.litmus_body.specs.of_litmus_expression_States.{State}
+use Rattle.litmus_lex.specs.declared.sign.Sign.TheVariants.{OpenBrace}
+use Rattle.litmus_cursor.specs.Words.{Symbol, sign}
+use Rattle.litmus_expression.specs.Names.{Parameter}
+use Rattle.litmus_expression.specs.States.{State}
 
 -- before a `{` and these symbols
 abbrev pub begins_body : List Parameter → List Symbol → State

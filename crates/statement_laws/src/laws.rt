@@ -1,13 +1,13 @@
 //! What is true of the readers of statements and blocks and of their grammar.
 
 ghost use Rattle.std.specs.Prelude.{◌≡◌, ℕ, List, [], Option, Some, map};
-ghost use Rattle.litmus_body.specs.of_litmus_syntax_Limits.{BodyKeepsLimits, block_count, block_repeats};
-ghost use Rattle.litmus_body.specs.of_litmus_syntax_Tree as tree;
-ghost use Rattle.litmus_body.specs.of_litmus_cursor_Words.{Symbol};
-ghost use Rattle.litmus_body.specs.of_litmus_expression_Followed.{Differ, name_of};
-ghost use Rattle.litmus_body.specs.of_litmus_expression_Names.{Names, Parameter};
-ghost use Rattle.litmus_body.specs.of_litmus_expression_Places.{Place, outermost};
-ghost use Rattle.litmus_body.specs.of_litmus_expression_States.{State, entering};
+ghost use Rattle.litmus_syntax.specs.Limits.{BodyKeepsLimits, block_count, block_repeats};
+ghost use Rattle.litmus_syntax.specs.Tree as tree;
+ghost use Rattle.litmus_cursor.specs.Words.{Symbol};
+ghost use Rattle.litmus_expression.specs.Followed.{Differ, name_of};
+ghost use Rattle.litmus_expression.specs.Names.{Names, Parameter};
+ghost use Rattle.litmus_expression.specs.Places.{Place, outermost};
+ghost use Rattle.litmus_expression.specs.States.{State, entering};
 ghost use Rattle.litmus_body.specs.StatementReader.{block_at, body_at, statement_at};
 ghost use Rattle.litmus_body.specs.Statements.{Statements};
 ghost use Rattle.statement_laws.specs.Reads.{ReadsBody, ReadsStatement, ReadsWhole, Stands};

@@ -1,35 +1,35 @@
 -- How many steps of a check, and of an operation on memory, are no tries in vain.
 use Rattle.std.proofs.Common.{◌≡◌, ◌≤◌, ◌∙◌, ◌+◌, ◌*◌, ◌||◌, ◌∷◌, [], ℕ, Bool, true, false, List, MatchBool, MatchOption, None, Option, Some, ap, arith, eq-eqb, inl, inr, length, refl}
-use Rattle.run_lists.specs.of_access_types_Access.{Access}
-use Rattle.run_lists.specs.of_memory_operation_Locks.{TakesLock}
-use Rattle.run_lists.specs.of_memory_operation_Operations.{Exchanges, OnExchange, Operates, OperatesIn}
-use Rattle.run_lists.specs.of_memory_operation_Values.{is_wanted, sum_of}
-use Rattle.run_lists.specs.of_memory_operation_declared.effect.Effect.{Effect}
-use Rattle.run_lists.specs.of_memory_operation_declared.operation.Change.{Change}
-use Rattle.run_lists.specs.of_memory_operation_declared.operation.Change.TheVariants as changes
-use Rattle.run_lists.specs.of_memory_operation_declared.operation.Operation.{Operation}
-use Rattle.run_lists.specs.of_memory_operation_declared.operation.Operation.TheVariants as operations
-use Rattle.run_lists.proofs.of_setup_access_DisciplineLemmas.{on_flag, on_halves, on_word}
-use Rattle.run_lists.specs.of_setup_access_Check as cases
-use Rattle.run_lists.specs.of_setup_access_Check.{Check, ChecksAll, ChecksBegun, ChecksOnce, Close, Fallen, GoesOn, NoneFound, Pass, Passes, Rechecks, fallen_of, left_to_check}
-use Rattle.run_lists.specs.of_setup_access_Find.{LooksUp}
-use Rattle.run_lists.specs.of_setup_access_Found.{Hears, Takes, setter_half, finder_half}
-use Rattle.run_lists.specs.of_setup_access_Records.{MakesDone, MakesFlag, MakesWord}
-use Rattle.run_lists.specs.of_setup_access_Setting.{Setting, look_order, slot_of, try_order}
-use Rattle.run_lists.specs.of_setup_access_Setup.{Arms, Frees, Judged, Judges, TriesInsert, WatchesAt}
-use Rattle.run_lists.specs.of_setup_access_Values.{LoadsFrom, both_values, source_of, value_in}
-use Rattle.run_lists.specs.of_setup_access_declared.begun.Begun.{Begun}
-use Rattle.run_lists.specs.of_setup_access_declared.outcome.Outcome.{Outcome}
-use Rattle.run_lists.specs.of_setup_access_declared.outcome.Watchpoint.{Watchpoint}
-use Rattle.run_lists.specs.of_setup_access_declared.source.Source.{Source}
-use Rattle.run_lists.specs.of_slot_Pair.{Halves}
-use Rattle.run_lists.specs.of_slot_table_declared.records.Record.{Record}
-use Rattle.run_lists.specs.of_slot_table_declared.step.Answer.{Answer}
-use Rattle.run_lists.specs.of_slot_table_declared.step.Answer.TheVariants as answers
-use Rattle.run_lists.specs.of_slot_table_declared.step.Step.{Step}
-use Rattle.run_lists.specs.of_slot_table_declared.step.Step.TheVariants.{CellExchange, LockTry, PairLoad}
+use Rattle.access_types.specs.Access.{Access}
+use Rattle.memory_operation.specs.Locks.{TakesLock}
+use Rattle.memory_operation.specs.Operations.{Exchanges, OnExchange, Operates, OperatesIn}
+use Rattle.memory_operation.specs.Values.{is_wanted, sum_of}
+use Rattle.memory_operation.specs.declared.effect.Effect.{Effect}
+use Rattle.memory_operation.specs.declared.operation.Change.{Change}
+use Rattle.memory_operation.specs.declared.operation.Change.TheVariants as changes
+use Rattle.memory_operation.specs.declared.operation.Operation.{Operation}
+use Rattle.memory_operation.specs.declared.operation.Operation.TheVariants as operations
+use Rattle.setup_access.proofs.DisciplineLemmas.{on_flag, on_halves, on_word}
+use Rattle.setup_access.specs.Check as cases
+use Rattle.setup_access.specs.Check.{Check, ChecksAll, ChecksBegun, ChecksOnce, Close, Fallen, GoesOn, NoneFound, Pass, Passes, Rechecks, fallen_of, left_to_check}
+use Rattle.setup_access.specs.Find.{LooksUp}
+use Rattle.setup_access.specs.Found.{Hears, Takes, setter_half, finder_half}
+use Rattle.setup_access.specs.Records.{MakesDone, MakesFlag, MakesWord}
+use Rattle.setup_access.specs.Setting.{Setting, look_order, slot_of, try_order}
+use Rattle.setup_access.specs.Setup.{Arms, Frees, Judged, Judges, TriesInsert, WatchesAt}
+use Rattle.setup_access.specs.Values.{LoadsFrom, both_values, source_of, value_in}
+use Rattle.setup_access.specs.declared.begun.Begun.{Begun}
+use Rattle.setup_access.specs.declared.outcome.Outcome.{Outcome}
+use Rattle.setup_access.specs.declared.outcome.Watchpoint.{Watchpoint}
+use Rattle.setup_access.specs.declared.source.Source.{Source}
+use Rattle.slot.specs.Pair.{Halves}
+use Rattle.slot_table.specs.declared.records.Record.{Record}
+use Rattle.slot_table.specs.declared.step.Answer.{Answer}
+use Rattle.slot_table.specs.declared.step.Answer.TheVariants as answers
+use Rattle.slot_table.specs.declared.step.Step.{Step}
+use Rattle.slot_table.specs.declared.step.Step.TheVariants.{CellExchange, LockTry, PairLoad}
 use Rattle.step_bounds.proofs.Firm.{firm, none_firm, one_firm, vain_before}
-use Rattle.run_lists.specs.of_written_order_Waits.{is_tried_again}
+use Rattle.written_order.specs.Waits.{is_tried_again}
 
 -- up to the rest, no more than so many of the records are no tries in vain
 abbrev pub Few : ℕ → List Record → List Record → Type 0

@@ -2,11 +2,11 @@
 use Rattle.std.proofs.Common.{◌≡◌, ◌<◌, ◌≤◌, ◌∙◌, ◌+◌, ◌*◌, ◌&&◌, ◌++◌, ◌∷◌, [], ℕ, suc, Bool, true, false, List, ap, arith, inl, inr, length, refl, reverse, subst, sym, if◌then◌else◌}
 use Rattle.std.proofs.lemmas.Bool.Decides.{leb_tells}
 use Rattle.std.proofs.lemmas.List.{append-nil, append_assoc, reverse-append}
-use Rattle.run_lists.specs.of_slot_table_declared.records.Record.{Record}
-use Rattle.run_lists.specs.of_slot_table_declared.step.Answer.{Answer}
-use Rattle.run_lists.specs.of_slot_table_declared.step.Step.{Step}
-use Rattle.run_lists.specs.of_slot_table_declared.step.Step.TheVariants.{CellExchange, LockTry, PairLoad}
-use Rattle.run_lists.specs.of_written_order_Waits.{IsTooMuch, IsTry, WithinTurns, exchanges_in, is_no, is_refused, loads_pair, tries_lock, vain_tries, is_tried_again}
+use Rattle.slot_table.specs.declared.records.Record.{Record}
+use Rattle.slot_table.specs.declared.step.Answer.{Answer}
+use Rattle.slot_table.specs.declared.step.Step.{Step}
+use Rattle.slot_table.specs.declared.step.Step.TheVariants.{CellExchange, LockTry, PairLoad}
+use Rattle.written_order.specs.Waits.{IsTooMuch, IsTry, WithinTurns, exchanges_in, is_no, is_refused, loads_pair, tries_lock, vain_tries, is_tried_again}
 
 -- a step counts unless it was a try in vain
 abbrev pub one : Bool → ℕ

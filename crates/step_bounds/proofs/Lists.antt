@@ -5,15 +5,15 @@ use Rattle.std.proofs.Math.Nat.{mul-le-mul}
 use Rattle.std.proofs.lemmas.Bool.Decides.{eqb_tells, leb_tells}
 use Rattle.std.proofs.lemmas.List.{length-append, length-reverse, reverse-reverse}
 use Rattle.std.proofs.lemmas.List.Elements.{All-get_or}
-use Rattle.run_lists.specs.of_litmus_syntax_Limits.{KeepsLimits, TaskKeepsLimits}
-use Rattle.run_lists.specs.of_litmus_syntax_Tree.{Task}
+use Rattle.litmus_syntax.specs.Limits.{KeepsLimits, TaskKeepsLimits}
+use Rattle.litmus_syntax.specs.Tree.{Task}
 use Rattle.run_lists.specs.Run.{Run, idle, task_of, task_setting}
 use Rattle.run_lists.specs.RunList.{RunList}
-use Rattle.run_lists.specs.of_slot_table_Records.{records_of}
-use Rattle.run_lists.specs.of_slot_table_declared.records.Record.{Record}
+use Rattle.slot_table.specs.Records.{records_of}
+use Rattle.slot_table.specs.declared.records.Record.{Record}
 use Rattle.step_bounds.proofs.Tasks.{few_of_task}
-use Rattle.run_lists.specs.of_written_order_Waits.{WithinTurns}
-use Rattle.run_lists.specs.of_written_order_WrittenOrder.{StepsOfBlock, at_first}
+use Rattle.written_order.specs.Waits.{WithinTurns}
+use Rattle.written_order.specs.WrittenOrder.{StepsOfBlock, at_first}
 
 -- how many records the tasks below a number have
 abbrev all_below : ℕ → List Record → ℕ

@@ -1,15 +1,15 @@
 -- How many steps a task makes whose text keeps the limits.
 use Rattle.std.proofs.Common.{◌≤◌, ◌+◌, ◌*◌, ◌^◌, ◌++◌, [], ℕ, List, arith, length, reverse}
 use Rattle.std.proofs.Math.Nat.{mul-le-mul_right}
-use Rattle.run_lists.specs.of_litmus_syntax_Limits.{BlockTurns, BodyKeepsLimits, StatementTurns, block_count, statement_count}
-use Rattle.run_lists.specs.of_litmus_syntax_Tree.{Block, Statement}
-use Rattle.run_lists.specs.of_litmus_syntax_Tree as tree
-use Rattle.run_lists.specs.of_slot_table_declared.records.Record.{Record}
+use Rattle.litmus_syntax.specs.Limits.{BlockTurns, BodyKeepsLimits, StatementTurns, block_count, statement_count}
+use Rattle.litmus_syntax.specs.Tree.{Block, Statement}
+use Rattle.litmus_syntax.specs.Tree as tree
+use Rattle.slot_table.specs.declared.records.Record.{Record}
 use Rattle.step_bounds.proofs.Firm.{few_within, firm, firm_front}
 use Rattle.step_bounds.proofs.Texts.{block_part, block_steps, statement_steps}
-use Rattle.run_lists.specs.of_written_order_Standing.{Setting}
-use Rattle.run_lists.specs.of_written_order_Waits.{WithinTurns}
-use Rattle.run_lists.specs.of_written_order_WrittenOrder.{WrittenOrder, at_first}
+use Rattle.written_order.specs.Standing.{Setting}
+use Rattle.written_order.specs.Waits.{WithinTurns}
+use Rattle.written_order.specs.WrittenOrder.{WrittenOrder, at_first}
 
 -- by how many statements there are, where the loops round them repeat them so often
 mutual

@@ -1,33 +1,33 @@
 -- How many steps of a text are no tries in vain.
 use Rattle.std.proofs.Common.{◌≡◌, ◌≤◌, ◌∙◌, ◌+◌, ◌*◌, ◌==◌, ◌∷◌, [], ℕ, zero, suc, Bool, true, false, List, MatchBool, None, Option, Some, ap, arith, drop, inl, inr, length, subst, sym}
 use Rattle.std.proofs.lemmas.List.{length-append}
-use Rattle.run_lists.specs.of_access_types_Access as access
-use Rattle.run_lists.specs.of_access_types_Access.{proper_mask}
-use Rattle.run_lists.specs.of_access_types_declared.history.Bytes.{Bytes}
-use Rattle.run_lists.specs.of_access_types_declared.history.Happening.TheVariants as happenings
-use Rattle.run_lists.specs.of_access_types_declared.kind.Kind.{Kind}
-use Rattle.run_lists.specs.of_litmus_meaning_Calls.{Scoped, check_kind, checked_bytes, scoped_assertion}
-use Rattle.run_lists.specs.of_litmus_meaning_Loads.{load_in}
-use Rattle.run_lists.specs.of_litmus_meaning_Meaning.{Chooses, after_condition}
-use Rattle.run_lists.specs.of_litmus_meaning_Task.{has_lock}
-use Rattle.run_lists.specs.of_litmus_syntax_Limits.{BlockScopes, StatementScopes, scopes_of}
-use Rattle.run_lists.specs.of_litmus_syntax_Sites.{accesses_of, sites_of}
-use Rattle.run_lists.specs.of_litmus_syntax_Tree.{Assignment, Block, Expression, Load, Statement}
-use Rattle.run_lists.specs.of_litmus_syntax_Tree as tree
-use Rattle.run_lists.specs.of_litmus_syntax_declared.statement.Call.{Call}
-use Rattle.run_lists.specs.of_litmus_syntax_declared.statement.Call.TheVariants as calls
-use Rattle.run_lists.specs.of_memory_operation_declared.effect.Effect.{Effect}
-use Rattle.run_lists.specs.of_memory_operation_declared.operation.Operation.{Operation}
-use Rattle.run_lists.specs.of_setup_access_Records.{MakesDone}
-use Rattle.run_lists.specs.of_setup_access_declared.begun.Begun.{Begun}
-use Rattle.run_lists.specs.of_slot_table_declared.records.Record.{Record}
-use Rattle.run_lists.specs.of_slot_table_declared.step.Step.TheVariants.{LockStore}
+use Rattle.access_types.specs.Access as access
+use Rattle.access_types.specs.Access.{proper_mask}
+use Rattle.access_types.specs.declared.history.Bytes.{Bytes}
+use Rattle.access_types.specs.declared.history.Happening.TheVariants as happenings
+use Rattle.access_types.specs.declared.kind.Kind.{Kind}
+use Rattle.litmus_meaning.specs.Calls.{Scoped, check_kind, checked_bytes, scoped_assertion}
+use Rattle.litmus_meaning.specs.Loads.{load_in}
+use Rattle.litmus_meaning.specs.Meaning.{Chooses, after_condition}
+use Rattle.litmus_meaning.specs.Task.{has_lock}
+use Rattle.litmus_syntax.specs.Limits.{BlockScopes, StatementScopes, scopes_of}
+use Rattle.litmus_syntax.specs.Sites.{accesses_of, sites_of}
+use Rattle.litmus_syntax.specs.Tree.{Assignment, Block, Expression, Load, Statement}
+use Rattle.litmus_syntax.specs.Tree as tree
+use Rattle.litmus_syntax.specs.declared.statement.Call.{Call}
+use Rattle.litmus_syntax.specs.declared.statement.Call.TheVariants as calls
+use Rattle.memory_operation.specs.declared.effect.Effect.{Effect}
+use Rattle.memory_operation.specs.declared.operation.Operation.{Operation}
+use Rattle.setup_access.specs.Records.{MakesDone}
+use Rattle.setup_access.specs.declared.begun.Begun.{Begun}
+use Rattle.slot_table.specs.declared.records.Record.{Record}
+use Rattle.slot_table.specs.declared.step.Step.TheVariants.{LockStore}
 use Rattle.step_bounds.proofs.Checks.{Few, check_few, close_few, done_few, few_both, few_more, lock_few, none_few, operates_few, word_few}
 use Rattle.text_bounds.proofs.Scopes.{BeginsScope, begins_scope, has_room}
-use Rattle.run_lists.proofs.of_written_order_ScopesLemmas.{counting_scopes, operated_scopes}
-use Rattle.run_lists.specs.of_written_order_Access.{Makes}
-use Rattle.run_lists.specs.of_written_order_Standing.{Setting, Standing, checks_of, coming, counting, doing, lock_number, registered}
-use Rattle.run_lists.specs.of_written_order_WrittenOrder.{ChecksAt, ClosesScope, Only, OpensScope, Steps, StepsInBlock, StepsInDataRace, StepsOf, StepsOfAssignment, StepsOfBlock, StepsOfCall, StepsOfExpression, StepsOfLoad, StepsOfTurns}
+use Rattle.written_order.proofs.ScopesLemmas.{counting_scopes, operated_scopes}
+use Rattle.written_order.specs.Access.{Makes}
+use Rattle.written_order.specs.Standing.{Setting, Standing, checks_of, coming, counting, doing, lock_number, registered}
+use Rattle.written_order.specs.WrittenOrder.{ChecksAt, ClosesScope, Only, OpensScope, Steps, StepsInBlock, StepsInDataRace, StepsOf, StepsOfAssignment, StepsOfBlock, StepsOfCall, StepsOfExpression, StepsOfLoad, StepsOfTurns}
 
 abbrev mutual
   -- how many steps a statement makes that are no tries in vain, at most

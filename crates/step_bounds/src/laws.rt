@@ -1,14 +1,14 @@
 //! How many steps there are, at most.
 
 ghost use Rattle.std.specs.Prelude.{◌+◌, ◌*◌, ◌^◌, ◌<◌, ◌≤◌, ℕ, List, length, reverse};
-ghost use Rattle.run_lists.specs.of_litmus_syntax_Limits.{BodyKeepsLimits, KeepsLimits};
-ghost use Rattle.run_lists.specs.of_litmus_syntax_Tree.{Block};
+ghost use Rattle.litmus_syntax.specs.Limits.{BodyKeepsLimits, KeepsLimits};
+ghost use Rattle.litmus_syntax.specs.Tree.{Block};
 ghost use Rattle.run_lists.specs.Run.{Run};
 ghost use Rattle.run_lists.specs.RunList.{RunList};
-ghost use Rattle.run_lists.specs.of_slot_table_declared.records.Record.{Record};
-ghost use Rattle.run_lists.specs.of_written_order_Standing.{Setting};
-ghost use Rattle.run_lists.specs.of_written_order_Waits.{WithinTurns};
-ghost use Rattle.run_lists.specs.of_written_order_WrittenOrder.{WrittenOrder};
+ghost use Rattle.slot_table.specs.declared.records.Record.{Record};
+ghost use Rattle.written_order.specs.Standing.{Setting};
+ghost use Rattle.written_order.specs.Waits.{WithinTurns};
+ghost use Rattle.written_order.specs.WrittenOrder.{WrittenOrder};
 
 /// Law: a task whose text keeps the limits, and which goes on with no wait for longer than the turns, makes no more
 /// than 2^25 steps for each turn and one, and a program no more than each of its tasks. So where the turns are a number

@@ -1,27 +1,27 @@
 -- An access is open, from wherever its task stands.
 use Rattle.std.proofs.Common.{◌≡◌, ◌<◌, ℕ, List, [], Option, None, Some, arith, refl, subst, sym}
 use Rattle.access_run.specs.Leads.{HasCell}
-use Rattle.program_layout.specs.of_access_types_Access.{Access}
+use Rattle.access_types.specs.Access.{Access}
 use Rattle.task_laws.proofs.Checks.{OfPasses, check_open, clock_open}
 use Rattle.task_laws.proofs.Memory.{operates_open}
 use Rattle.task_laws.proofs.Opens.{After, Begins, Lists, open_map}
-use Rattle.access_run.specs.of_memory_operation_Operations.{Operates}
-use Rattle.access_run.specs.of_memory_operation_declared.effect.Effect.{Effect}
-use Rattle.access_run.specs.of_memory_operation_declared.operation.Operation.{Operation}
-use Rattle.access_run.specs.of_memory_operation_declared.operation.Operation.TheVariants as operations
-use Rattle.access_run.specs.of_setup_access_Check.{Check, Fallen, Passes}
-use Rattle.access_run.specs.of_setup_access_OwnAccesses.{AreOwn, IsOwn}
-use Rattle.access_run.specs.of_setup_access_Records.{MakesWord}
-use Rattle.access_run.specs.of_setup_access_declared.begun.Begun.{Begun}
-use Rattle.access_run.specs.of_slot_table_declared.records.Record.{Record}
-use Rattle.access_run.specs.of_slot_table_declared.step.Step.TheVariants.{Clock}
+use Rattle.memory_operation.specs.Operations.{Operates}
+use Rattle.memory_operation.specs.declared.effect.Effect.{Effect}
+use Rattle.memory_operation.specs.declared.operation.Operation.{Operation}
+use Rattle.memory_operation.specs.declared.operation.Operation.TheVariants as operations
+use Rattle.setup_access.specs.Check.{Check, Fallen, Passes}
+use Rattle.setup_access.specs.OwnAccesses.{AreOwn, IsOwn}
+use Rattle.setup_access.specs.Records.{MakesWord}
+use Rattle.setup_access.specs.declared.begun.Begun.{Begun}
+use Rattle.slot_table.specs.declared.records.Record.{Record}
+use Rattle.slot_table.specs.declared.step.Step.TheVariants.{Clock}
 use Rattle.task_laws.proofs.SpelledAccesses.{after_access, begun_in, ends_at}
 use Rattle.task_laws.proofs.Decided.{begins_now}
 use Rattle.task_laws.specs.Begins.{one_at}
 use Rattle.task_laws.specs.StandingButWay.{Core, core_of, standing}
 use Rattle.task_laws.proofs.Places.{ByEach, BySome, PartIsOpen, Valued, WithinFrom, sum_open}
-use Rattle.text_bounds.specs.of_written_order_Access.{Makes}
-use Rattle.text_bounds.specs.of_written_order_Standing.{BeginsNow, Point, Setting, Standing, checks_of}
+use Rattle.written_order.specs.Access.{Makes}
+use Rattle.written_order.specs.Standing.{BeginsNow, Point, Setting, Standing, checks_of}
 
 -- where a task stands after an access hangs on what came of it, and on how often the sampler was asked
 core_ends : (at : Core) (way : List Point) (outcomes : List Fallen) (a : Access) (operation : Option Operation)

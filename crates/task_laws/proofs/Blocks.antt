@@ -2,17 +2,17 @@
 use Rattle.std.proofs.Common.{◌≡◌, ◌<◌, ◌≤◌, ◌∙◌, ◌+◌, ◌*◌, ◌++◌, ℕ, zero, suc, true, List, ap, arith, inl, inr, length, length-append, refl, subst, sym}
 use Rattle.std.proofs.Math.Nat.{suc-mul}
 use Rattle.std.proofs.lemmas.Bool.{cases_eq}
-use Rattle.program_layout.specs.of_litmus_meaning_Calls.{scoped_assertion}
-use Rattle.program_layout.specs.of_litmus_meaning_Loads.{variable_of}
-use Rattle.program_layout.specs.of_litmus_meaning_Meaning.{Chooses, after_condition}
-use Rattle.program_layout.specs.of_litmus_syntax_Limits.{BlockTyped, ExpressionTyped, IsVariable, StatementTyped}
-use Rattle.program_layout.specs.of_litmus_syntax_Sites.{accesses_of, assignment_has_access, call_has_access, expression_has_access, sites_of}
-use Rattle.program_layout.specs.of_litmus_syntax_Tree.{Block, Expression, Load, Statement}
-use Rattle.program_layout.specs.of_litmus_syntax_Tree as tree
-use Rattle.access_run.specs.of_setup_access_OwnAccesses.{AreOwn}
-use Rattle.access_run.specs.of_setup_access_Setting as checks
-use Rattle.access_run.specs.of_setup_access_declared.begun.Begun.{Begun}
-use Rattle.access_run.specs.of_slot_table_declared.records.Record.{Record}
+use Rattle.litmus_meaning.specs.Calls.{scoped_assertion}
+use Rattle.litmus_meaning.specs.Loads.{variable_of}
+use Rattle.litmus_meaning.specs.Meaning.{Chooses, after_condition}
+use Rattle.litmus_syntax.specs.Limits.{BlockTyped, ExpressionTyped, IsVariable, StatementTyped}
+use Rattle.litmus_syntax.specs.Sites.{accesses_of, assignment_has_access, call_has_access, expression_has_access, sites_of}
+use Rattle.litmus_syntax.specs.Tree.{Block, Expression, Load, Statement}
+use Rattle.litmus_syntax.specs.Tree as tree
+use Rattle.setup_access.specs.OwnAccesses.{AreOwn}
+use Rattle.setup_access.specs.Setting as checks
+use Rattle.setup_access.specs.declared.begun.Begun.{Begun}
+use Rattle.slot_table.specs.declared.records.Record.{Record}
 use Rattle.task_laws.proofs.SpelledBlocks.{after_own, alone, scoped_fits}
 use Rattle.task_laws.proofs.Parts.{set_at}
 use Rattle.task_laws.proofs.Statements.{few_at, fetch_bytes}
@@ -24,8 +24,8 @@ use Rattle.task_laws.proofs.Calls.{call_open}
 use Rattle.task_laws.proofs.Loads.{expression_open, load_open}
 use Rattle.task_laws.proofs.Places.{Both, PartIsOpen, Plain, StepsAreOpen, Valued, WithinFrom, part_as, part_both, part_still, part_via, part_wider}
 use Rattle.task_laws.proofs.Scopes.{in_block_open}
-use Rattle.text_bounds.specs.of_written_order_Standing.{Setting, Standing, checks_of, registered}
-use Rattle.text_bounds.specs.of_written_order_WrittenOrder.{Steps, StepsOf, StepsOfBlock, StepsOfExpression, StepsOfLoad, StepsOfTurns}
+use Rattle.written_order.specs.Standing.{Setting, Standing, checks_of, registered}
+use Rattle.written_order.specs.WrittenOrder.{Steps, StepsOf, StepsOfBlock, StepsOfExpression, StepsOfLoad, StepsOfTurns}
 
 -- nothing
 abbrev Nothing : Steps

@@ -1,30 +1,30 @@
 -- Calls are open, but for scoped assertions.
 use Rattle.std.proofs.Common.{◌≡◌, ◌≢◌, ◌<◌, ◌≤◌, ◌↔◌, ◌+◌, ◌^◌, ◌==◌, ℕ, Bool, true, false, IsTrue, List, [], ◌∷◌, MatchBool, None, Option, Some, ap, arith, count_by, not, refl, if◌then◌else◌}
 use Rattle.std.proofs.lemmas.List.Sums.{sum_by-append}
-use Rattle.program_layout.specs.of_access_types_Access.{proper_mask}
-use Rattle.program_layout.specs.of_access_types_declared.history.Bytes.{Bytes}
-use Rattle.program_layout.specs.of_access_types_declared.history.Happening.{Happening}
-use Rattle.program_layout.specs.of_access_types_declared.history.Happening.TheVariants as happenings
-use Rattle.program_layout.specs.of_access_types_declared.history.Mark.{Mark}
-use Rattle.program_layout.specs.of_access_types_declared.history.Mark.TheVariants as marks
-use Rattle.program_layout.specs.of_access_types_declared.kind.Claim.TheVariants.{NoAccesses, NoWrites}
-use Rattle.program_layout.specs.of_access_types_declared.kind.Kind.{Kind}
-use Rattle.program_layout.specs.of_access_types_declared.kind.Kind.TheVariants as kinds
+use Rattle.access_types.specs.Access.{proper_mask}
+use Rattle.access_types.specs.declared.history.Bytes.{Bytes}
+use Rattle.access_types.specs.declared.history.Happening.{Happening}
+use Rattle.access_types.specs.declared.history.Happening.TheVariants as happenings
+use Rattle.access_types.specs.declared.history.Mark.{Mark}
+use Rattle.access_types.specs.declared.history.Mark.TheVariants as marks
+use Rattle.access_types.specs.declared.kind.Claim.TheVariants.{NoAccesses, NoWrites}
+use Rattle.access_types.specs.declared.kind.Kind.{Kind}
+use Rattle.access_types.specs.declared.kind.Kind.TheVariants as kinds
 use Rattle.task_laws.proofs.Opens.{Begins, done_then, still_open}
 use Rattle.task_laws.proofs.Waits.{lock_open}
-use Rattle.program_layout.specs.of_litmus_meaning_Calls.{check_kind, checked_bytes}
-use Rattle.program_layout.specs.of_litmus_meaning_Task.{access_now, begins_at, bytes_in, has_lock}
-use Rattle.program_layout.specs.of_litmus_syntax_Limits.{CallTyped, IsVariable}
-use Rattle.program_layout.specs.of_litmus_syntax_Sites.{call_has_access}
-use Rattle.program_layout.specs.of_litmus_syntax_declared.statement.Call.{Call}
-use Rattle.program_layout.specs.of_litmus_syntax_declared.statement.Call.TheVariants as calls
-use Rattle.access_run.specs.of_memory_operation_Locks.{TakesLock}
-use Rattle.access_run.specs.of_memory_operation_declared.effect.Effect.{Effect}
-use Rattle.access_run.specs.of_setup_access_Check.{Fallen}
-use Rattle.access_run.specs.of_setup_access_OwnAccesses.{AreOwn}
-use Rattle.access_run.specs.of_setup_access_Records.{MakesDone}
-use Rattle.access_run.specs.of_slot_table_declared.records.Record.{Record}
-use Rattle.access_run.specs.of_slot_table_declared.step.Step.TheVariants.{LockStore}
+use Rattle.litmus_meaning.specs.Calls.{check_kind, checked_bytes}
+use Rattle.litmus_meaning.specs.Task.{access_now, begins_at, bytes_in, has_lock}
+use Rattle.litmus_syntax.specs.Limits.{CallTyped, IsVariable}
+use Rattle.litmus_syntax.specs.Sites.{call_has_access}
+use Rattle.litmus_syntax.specs.declared.statement.Call.{Call}
+use Rattle.litmus_syntax.specs.declared.statement.Call.TheVariants as calls
+use Rattle.memory_operation.specs.Locks.{TakesLock}
+use Rattle.memory_operation.specs.declared.effect.Effect.{Effect}
+use Rattle.setup_access.specs.Check.{Fallen}
+use Rattle.setup_access.specs.OwnAccesses.{AreOwn}
+use Rattle.setup_access.specs.Records.{MakesDone}
+use Rattle.slot_table.specs.declared.records.Record.{Record}
+use Rattle.slot_table.specs.declared.step.Step.TheVariants.{LockStore}
 use Rattle.task_laws.proofs.Decided.{nothing_told}
 use Rattle.task_laws.proofs.Statements.{above_zero, doing_at, few_at, in_range, lock_at, memory_bytes, no_mask, own_access, proper}
 use Rattle.task_laws.specs.Begins.{one_at, own_begins}
@@ -32,9 +32,9 @@ use Rattle.task_laws.specs.StandingButWay.{Core, begun_at, core_of, standing}
 use Rattle.task_laws.specs.Fits.{ArePlaced}
 use Rattle.task_laws.proofs.Accesses.{makes_open}
 use Rattle.task_laws.proofs.Places.{Plain, StepsAreOpen, Valued, WithinFrom, part_as, part_of, part_still, part_sum, part_via}
-use Rattle.text_bounds.specs.of_written_order_Access.{Makes}
-use Rattle.text_bounds.specs.of_written_order_Standing.{EndsNothing, Point, Setting, Standing, checks_of, coming, counting, doing, lock_number}
-use Rattle.text_bounds.specs.of_written_order_WrittenOrder.{ChecksAt, MakesMark, Only, Steps, StepsOfCall}
+use Rattle.written_order.specs.Access.{Makes}
+use Rattle.written_order.specs.Standing.{EndsNothing, Point, Setting, Standing, checks_of, coming, counting, doing, lock_number}
+use Rattle.written_order.specs.WrittenOrder.{ChecksAt, MakesMark, Only, Steps, StepsOfCall}
 
 -- one thing is done that begins no access
 begun_with : (at : Core) (does : List Happening) (k : ℕ) → count_by (begins_at k) does ≡ 0 → begun_at k (doing_at at does) ≡ begun_at k at

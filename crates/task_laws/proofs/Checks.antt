@@ -2,33 +2,33 @@
 use Rattle.std.proofs.Common.{◌≡◌, ◌↔◌, ◌⊎◌, ◌+◌, ◌<◌, ◌||◌, ℕ, Bool, true, false, List, [], ◌∷◌, MatchBool, MatchOption, Option, None, Some, arith, inl, inr, lit<, refl, subst, sym}
 use Rattle.std.proofs.lemmas.Bool.{cases_Bool, cases_lt}
 use Rattle.access_run.proofs.Decisions.{encodable_or_not, some_hit, some_untouched, watched_or_not}
-use Rattle.program_layout.specs.of_access_types_Access.{Access}
-use Rattle.program_layout.specs.of_access_types_Kind.{write_flag}
-use Rattle.program_layout.specs.of_access_types_Ticket.{ticket_number}
-use Rattle.access_run.specs.of_setup_access_Check.{Check, ChecksBegun, ChecksOnce, Close, Ends, Fallen, GoesOn, NoneFound, Pass, Passes, Rechecks, asked_silenced, counts_as_marked, fallen_of, left_to_check, skipped, unencodable, watched}
-use Rattle.access_run.specs.of_setup_access_Find.{LooksUp}
-use Rattle.access_run.specs.of_setup_access_Found.{FoundWatchpoint, Hears, Takes, Tells, TellsTo, finder_half, setter_half}
-use Rattle.access_run.specs.of_setup_access_Hits.{Hits}
-use Rattle.access_run.specs.of_setup_access_OwnAccesses.{AreOwn, IsOwn}
-use Rattle.access_run.specs.of_setup_access_Records.{MakesDone, MakesWord}
-use Rattle.access_run.specs.of_setup_access_Setting.{IsWatched, Setting, look_order, slot_of, try_order}
-use Rattle.access_run.specs.of_setup_access_Setup.{Arms, Frees, Judged, Judges, JudgesHit, SetsUp, TriesInsert, Watches, WatchesAt}
-use Rattle.access_run.specs.of_setup_access_Values.{LoadsFrom, LoadsValue, both_values, source_of, value_in}
-use Rattle.access_run.specs.of_setup_access_Verdicts.{HitOutcome, UntouchedOutcome}
-use Rattle.access_run.specs.of_setup_access_declared.begun.Begun.{Begun}
-use Rattle.access_run.specs.of_setup_access_declared.outcome.Outcome.{Outcome}
-use Rattle.access_run.specs.of_setup_access_declared.outcome.Outcome.TheVariants.{Capacity, Lost, Nothing, Told, Unencodable}
-use Rattle.access_run.specs.of_setup_access_declared.outcome.Watchpoint.{Watchpoint}
-use Rattle.access_run.specs.of_setup_access_declared.source.Source.{Source}
-use Rattle.access_run.specs.of_slot_Pair.{Halves}
-use Rattle.access_run.specs.of_slot_table_declared.records.Record.{Record}
-use Rattle.access_run.specs.of_slot_table_declared.step.Step.TheVariants as steps
+use Rattle.access_types.specs.Access.{Access}
+use Rattle.access_types.specs.Kind.{write_flag}
+use Rattle.access_types.specs.Ticket.{ticket_number}
+use Rattle.setup_access.specs.Check.{Check, ChecksBegun, ChecksOnce, Close, Ends, Fallen, GoesOn, NoneFound, Pass, Passes, Rechecks, asked_silenced, counts_as_marked, fallen_of, left_to_check, skipped, unencodable, watched}
+use Rattle.setup_access.specs.Find.{LooksUp}
+use Rattle.setup_access.specs.Found.{FoundWatchpoint, Hears, Takes, Tells, TellsTo, finder_half, setter_half}
+use Rattle.setup_access.specs.Hits.{Hits}
+use Rattle.setup_access.specs.OwnAccesses.{AreOwn, IsOwn}
+use Rattle.setup_access.specs.Records.{MakesDone, MakesWord}
+use Rattle.setup_access.specs.Setting.{IsWatched, Setting, look_order, slot_of, try_order}
+use Rattle.setup_access.specs.Setup.{Arms, Frees, Judged, Judges, JudgesHit, SetsUp, TriesInsert, Watches, WatchesAt}
+use Rattle.setup_access.specs.Values.{LoadsFrom, LoadsValue, both_values, source_of, value_in}
+use Rattle.setup_access.specs.Verdicts.{HitOutcome, UntouchedOutcome}
+use Rattle.setup_access.specs.declared.begun.Begun.{Begun}
+use Rattle.setup_access.specs.declared.outcome.Outcome.{Outcome}
+use Rattle.setup_access.specs.declared.outcome.Outcome.TheVariants.{Capacity, Lost, Nothing, Told, Unencodable}
+use Rattle.setup_access.specs.declared.outcome.Watchpoint.{Watchpoint}
+use Rattle.setup_access.specs.declared.source.Source.{Source}
+use Rattle.slot.specs.Pair.{Halves}
+use Rattle.slot_table.specs.declared.records.Record.{Record}
+use Rattle.slot_table.specs.declared.step.Step.TheVariants as steps
 use Rattle.task_laws.proofs.Opens.{After, Begins, IsOpen, Lists, Open, bool_open, chosen_open, decided_open, done_then, flag_then, is_open_as, mapped_open, none_open, open_map, open_word, still_open, then_open, word_in, word_out, word_then}
 use Rattle.task_laws.proofs.Waits.{hears_open}
-use Rattle.access_run.specs.of_watch_word_Layout.{masked, word_span}
-use Rattle.access_run.specs.of_watch_word_Word.{Encodable, watch_in, word_of}
-use Rattle.access_run.specs.of_watch_word_declared.layout.Layout.{Layout}
-use Rattle.access_run.specs.of_watch_word_declared.watch.Watch.{Watch}
+use Rattle.watch_word.specs.Layout.{masked, word_span}
+use Rattle.watch_word.specs.Word.{Encodable, watch_in, word_of}
+use Rattle.watch_word.specs.declared.layout.Layout.{Layout}
+use Rattle.watch_word.specs.declared.watch.Watch.{Watch}
 
 -- a word is a watch word that matches, or isn't
 hits_or_not : (layout : Layout) (a : Access) (word : ℕ) → Hits layout a word ⊎ (¬ Hits layout a word)

@@ -1,22 +1,22 @@
 -- What is decided where an access begins is decided.
 use Rattle.std.proofs.Common.{◌≡◌, ◌<◌, ◌≤◌, ◌⊎◌, ◌↔◌, ℕ, Bool, true, false, IsTrue, List, arith, inl, inr, refl}
 use Rattle.std.proofs.lemmas.Bool.{cases_Bool, cases_lt}
-use Rattle.program_layout.specs.of_access_types_Access.{Access}
-use Rattle.program_layout.specs.of_access_types_History.{History}
-use Rattle.program_layout.specs.of_access_types_Kind.{is_assertion, is_marked}
-use Rattle.program_layout.specs.of_access_types_Marked.{CountsAfter, EndsRaised, IsWithinNext, is_atomic_write, is_disable, is_enable, is_nest_close, is_nest_open, marks_of}
-use Rattle.program_layout.specs.of_access_types_Marked.CountsAfter.{atomic_write, declared, in_flat, in_nest, within_next}
-use Rattle.program_layout.specs.of_access_types_declared.history.Mark.{Mark}
-use Rattle.program_layout.specs.of_access_types_declared.history.Mark.TheVariants.{Disable, Enable, FlatBegin, FlatEnd, NestClose, NestOpen, Next}
-use Rattle.access_run.specs.of_setup_access_OwnAccesses.{IsOwn}
-use Rattle.access_run.specs.of_setup_access_declared.begun.Begun.{Begun}
-use Rattle.access_run.proofs.of_task_context_NextMarks.{IsWithinNext-left}
-use Rattle.access_run.proofs.of_task_context_OneContext.{some_context}
-use Rattle.access_run.proofs.of_task_context_Surpluses.{EndsRaised-surplus, surplus-EndsRaised}
-use Rattle.access_run.specs.of_task_context_Context.{Context}
-use Rattle.access_run.specs.of_task_context_History.{IsLeft, IsSurplus, LeadsTo}
-use Rattle.access_run.specs.of_task_context_History.IsLeft.{set, unset}
-use Rattle.text_bounds.specs.of_written_order_Standing.{BeginsNow, EndsNothing, IsDisabled, IsNested, Setting, Standing, checks_of, moments}
+use Rattle.access_types.specs.Access.{Access}
+use Rattle.access_types.specs.History.{History}
+use Rattle.access_types.specs.Kind.{is_assertion, is_marked}
+use Rattle.access_types.specs.Marked.{CountsAfter, EndsRaised, IsWithinNext, is_atomic_write, is_disable, is_enable, is_nest_close, is_nest_open, marks_of}
+use Rattle.access_types.specs.Marked.CountsAfter.{atomic_write, declared, in_flat, in_nest, within_next}
+use Rattle.access_types.specs.declared.history.Mark.{Mark}
+use Rattle.access_types.specs.declared.history.Mark.TheVariants.{Disable, Enable, FlatBegin, FlatEnd, NestClose, NestOpen, Next}
+use Rattle.setup_access.specs.OwnAccesses.{IsOwn}
+use Rattle.setup_access.specs.declared.begun.Begun.{Begun}
+use Rattle.task_context.proofs.NextMarks.{IsWithinNext-left}
+use Rattle.task_context.proofs.OneContext.{some_context}
+use Rattle.task_context.proofs.Surpluses.{EndsRaised-surplus, surplus-EndsRaised}
+use Rattle.task_context.specs.Context.{Context}
+use Rattle.task_context.specs.History.{IsLeft, IsSurplus, LeadsTo}
+use Rattle.task_context.specs.History.IsLeft.{set, unset}
+use Rattle.written_order.specs.Standing.{BeginsNow, EndsNothing, IsDisabled, IsNested, Setting, Standing, checks_of, moments}
 
 -- what is so or isn't is told by a Bool
 abbrev pub Told : Type 0 → Type 0

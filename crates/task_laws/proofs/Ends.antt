@@ -1,19 +1,19 @@
 -- What is open is open to its end: another answer of a step goes on to an end of its own.
 use Rattle.std.proofs.Common.{◌≡◌, ◌++◌, ℕ, Bool, List, [], ◌∷◌, None, Option, Some, refl, subst}
-use Rattle.program_layout.specs.of_access_types_Access.{Access}
+use Rattle.access_types.specs.Access.{Access}
 use Rattle.task_laws.specs.LeadsOn.{AnswersLeadOn}
 use Rattle.task_laws.proofs.Checks.{PassesAreOpen, check_open, close_open}
 use Rattle.task_laws.proofs.Memory.{operates_open}
 use Rattle.task_laws.proofs.Opens.{Begins, IsOpen, Lists, Open}
 use Rattle.task_laws.proofs.Waits.{lock_open}
-use Rattle.access_run.specs.of_memory_operation_Locks.{TakesLock}
-use Rattle.access_run.specs.of_memory_operation_Operations.{Operates}
-use Rattle.access_run.specs.of_memory_operation_declared.effect.Effect.{Effect}
-use Rattle.access_run.specs.of_memory_operation_declared.operation.Operation.{Operation}
-use Rattle.access_run.specs.of_setup_access_Check.{Check, Close, Passes}
-use Rattle.access_run.specs.of_setup_access_Setting.{Setting}
-use Rattle.access_run.specs.of_setup_access_declared.begun.Begun.{Begun}
-use Rattle.access_run.specs.of_slot_table_declared.records.Record.{Record}
+use Rattle.memory_operation.specs.Locks.{TakesLock}
+use Rattle.memory_operation.specs.Operations.{Operates}
+use Rattle.memory_operation.specs.declared.effect.Effect.{Effect}
+use Rattle.memory_operation.specs.declared.operation.Operation.{Operation}
+use Rattle.setup_access.specs.Check.{Check, Close, Passes}
+use Rattle.setup_access.specs.Setting.{Setting}
+use Rattle.setup_access.specs.declared.begun.Begun.{Begun}
+use Rattle.slot_table.specs.declared.records.Record.{Record}
 
 -- nothing follows
 abbrev pub AtEnd : Lists

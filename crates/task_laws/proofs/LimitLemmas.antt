@@ -2,11 +2,11 @@
 use Rattle.std.proofs.Common.{◌≡◌, ◌<◌, ◌≤◌, ◌⊎◌, ◌∙◌, ◌+◌, ◌*◌, ◌==◌, ◌++◌, ℕ, Bool, true, false, List, [], ◌∷◌, add-zero, ap, arith, inl, inr, length, length-append, ne_eqb, refl, subst, sym, zero-add, if◌then◌else◌}
 use Rattle.std.proofs.Math.Nat.{mul-zero, mul_assoc}
 use Rattle.std.proofs.lemmas.Bool.{cases_eq}
-use Rattle.program_layout.specs.of_litmus_meaning_Meaning.{after_condition}
-use Rattle.program_layout.specs.of_litmus_syntax_Limits.{BlockTurns, StatementTurns}
-use Rattle.program_layout.specs.of_litmus_syntax_Sites.{accesses_of, assignment_has_access, call_has_access, expression_has_access, itself, sites_of}
-use Rattle.program_layout.specs.of_litmus_syntax_Tree.{Block, Statement}
-use Rattle.program_layout.specs.of_litmus_syntax_Tree as tree
+use Rattle.litmus_meaning.specs.Meaning.{after_condition}
+use Rattle.litmus_syntax.specs.Limits.{BlockTurns, StatementTurns}
+use Rattle.litmus_syntax.specs.Sites.{accesses_of, assignment_has_access, call_has_access, expression_has_access, itself, sites_of}
+use Rattle.litmus_syntax.specs.Tree.{Block, Statement}
+use Rattle.litmus_syntax.specs.Tree as tree
 use Rattle.task_laws.specs.Begins.{block_begins, own_begins, statement_begins}
 
 -- none begin at a site, or it is one of so many from a site on

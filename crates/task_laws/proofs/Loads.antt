@@ -1,23 +1,23 @@
 -- Loads and expressions are open.
 use Rattle.std.proofs.Common.{◌≡◌, ◌<◌, ◌≤◌, ◌∙◌, ◌+◌, ℕ, true, List, None, Option, Some, ap, arith, refl, replicate, sym}
-use Rattle.program_layout.specs.of_access_types_Access.{Access}
-use Rattle.program_layout.specs.of_access_types_declared.history.Happening.{Happening}
-use Rattle.program_layout.specs.of_access_types_declared.history.Happening.TheVariants as happenings
-use Rattle.program_layout.specs.of_access_types_declared.history.Mark.TheVariants as marks
-use Rattle.program_layout.specs.of_access_types_declared.kind.Kind.{Kind}
-use Rattle.program_layout.specs.of_litmus_meaning_Expressions.{loading_value, pure_value}
-use Rattle.program_layout.specs.of_litmus_meaning_Loads.{fetch_kind, load_in, variable_of}
-use Rattle.program_layout.specs.of_litmus_meaning_Task.{access_now, bytes_in}
-use Rattle.program_layout.specs.of_litmus_meaning_Values.{sign_extended}
-use Rattle.program_layout.specs.of_litmus_syntax_Limits.{ExpressionTyped, IsVariable}
-use Rattle.program_layout.specs.of_litmus_syntax_Sites.{expression_has_access}
-use Rattle.program_layout.specs.of_litmus_syntax_Tree.{Expression, Load}
-use Rattle.program_layout.specs.of_litmus_syntax_Tree as tree
-use Rattle.access_run.specs.of_memory_operation_declared.effect.Effect.{Effect}
-use Rattle.access_run.specs.of_memory_operation_declared.operation.Operation.{Operation}
-use Rattle.access_run.specs.of_setup_access_Check.{Fallen}
-use Rattle.access_run.specs.of_setup_access_OwnAccesses.{AreOwn}
-use Rattle.access_run.specs.of_slot_table_declared.records.Record.{Record}
+use Rattle.access_types.specs.Access.{Access}
+use Rattle.access_types.specs.declared.history.Happening.{Happening}
+use Rattle.access_types.specs.declared.history.Happening.TheVariants as happenings
+use Rattle.access_types.specs.declared.history.Mark.TheVariants as marks
+use Rattle.access_types.specs.declared.kind.Kind.{Kind}
+use Rattle.litmus_meaning.specs.Expressions.{loading_value, pure_value}
+use Rattle.litmus_meaning.specs.Loads.{fetch_kind, load_in, variable_of}
+use Rattle.litmus_meaning.specs.Task.{access_now, bytes_in}
+use Rattle.litmus_meaning.specs.Values.{sign_extended}
+use Rattle.litmus_syntax.specs.Limits.{ExpressionTyped, IsVariable}
+use Rattle.litmus_syntax.specs.Sites.{expression_has_access}
+use Rattle.litmus_syntax.specs.Tree.{Expression, Load}
+use Rattle.litmus_syntax.specs.Tree as tree
+use Rattle.memory_operation.specs.declared.effect.Effect.{Effect}
+use Rattle.memory_operation.specs.declared.operation.Operation.{Operation}
+use Rattle.setup_access.specs.Check.{Fallen}
+use Rattle.setup_access.specs.OwnAccesses.{AreOwn}
+use Rattle.slot_table.specs.declared.records.Record.{Record}
 use Rattle.task_laws.proofs.ReadLemmas.{HasRead, fetch_reads, operation_reads}
 use Rattle.task_laws.proofs.Statements.{doing_at, few_at, in_range, load_bytes, no_mask, own_access}
 use Rattle.task_laws.specs.Begins.{one_at, own_begins}
@@ -26,9 +26,9 @@ use Rattle.task_laws.specs.Fits.{ArePlaced, HasBytes}
 use Rattle.task_laws.proofs.Accesses.{makes_open}
 use Rattle.task_laws.proofs.Places.{PartIsOpen, Valued, WithinFrom, part_still, part_via}
 use Rattle.task_plan.proofs.KeepsLemmas.{begun_still, marks_other}
-use Rattle.text_bounds.specs.of_written_order_Access.{Makes}
-use Rattle.text_bounds.specs.of_written_order_Standing.{Point, Setting, Standing, checks_of, doing}
-use Rattle.text_bounds.specs.of_written_order_WrittenOrder.{StepsOfExpression, StepsOfLoad, fetch_operation}
+use Rattle.written_order.specs.Access.{Makes}
+use Rattle.written_order.specs.Standing.{Point, Setting, Standing, checks_of, doing}
+use Rattle.written_order.specs.WrittenOrder.{StepsOfExpression, StepsOfLoad, fetch_operation}
 
 -- the value that was read, or 0
 abbrev read_or_none : Option ℕ → ℕ

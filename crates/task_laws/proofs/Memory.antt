@@ -1,27 +1,27 @@
 -- Operations on memory are open.
 use Rattle.std.proofs.Common.{◌≡◌, ◌⊎◌, ◌∙◌, ◌++◌, ℕ, Bool, true, false, List, [], ◌∷◌, Option, None, Some, IsSome, inl, inr, refl, subst, sym}
 use Rattle.access_run.specs.Leads.{HasCell}
-use Rattle.program_layout.specs.of_access_types_Access.{Access}
-use Rattle.access_run.proofs.of_memory_operation_TurnLemmas.{ends_now}
-use Rattle.access_run.specs.of_memory_operation_Effects.{and_then, changed, nothing, only_read}
-use Rattle.access_run.specs.of_memory_operation_Operations.{Changes, Exchanges, IsExchange, OnExchange, Operates, OperatesIn}
-use Rattle.access_run.specs.of_memory_operation_Values.{is_wanted, new_value, sum_of, with_value}
-use Rattle.access_run.specs.of_memory_operation_declared.effect.Effect.{Effect}
-use Rattle.access_run.specs.of_memory_operation_declared.operation.Change.{Change}
-use Rattle.access_run.specs.of_memory_operation_declared.operation.Change.TheVariants as changes
-use Rattle.access_run.specs.of_memory_operation_declared.operation.Operation.{Operation}
-use Rattle.access_run.specs.of_memory_operation_declared.operation.Operation.TheVariants as operations
-use Rattle.access_run.specs.of_setup_access_Parts.{made}
-use Rattle.access_run.specs.of_setup_access_Records.{MakesWord}
-use Rattle.access_run.specs.of_setup_access_Setting.{Setting}
-use Rattle.access_run.specs.of_setup_access_Values.{source_of, value_in}
-use Rattle.access_run.specs.of_setup_access_declared.source.Source.{Source}
-use Rattle.access_run.specs.of_slot_table_Answer.{Answers, IsWord}
-use Rattle.access_run.specs.of_slot_table_declared.records.Record.{Record}
-use Rattle.access_run.specs.of_slot_table_declared.step.Answer.{Answer}
-use Rattle.access_run.specs.of_slot_table_declared.step.Answer.TheVariants as answers
-use Rattle.access_run.specs.of_slot_table_declared.step.Step.{Step}
-use Rattle.access_run.specs.of_slot_table_declared.step.Step.TheVariants.{CellExchange, CellLoad}
+use Rattle.access_types.specs.Access.{Access}
+use Rattle.memory_operation.proofs.TurnLemmas.{ends_now}
+use Rattle.memory_operation.specs.Effects.{and_then, changed, nothing, only_read}
+use Rattle.memory_operation.specs.Operations.{Changes, Exchanges, IsExchange, OnExchange, Operates, OperatesIn}
+use Rattle.memory_operation.specs.Values.{is_wanted, new_value, sum_of, with_value}
+use Rattle.memory_operation.specs.declared.effect.Effect.{Effect}
+use Rattle.memory_operation.specs.declared.operation.Change.{Change}
+use Rattle.memory_operation.specs.declared.operation.Change.TheVariants as changes
+use Rattle.memory_operation.specs.declared.operation.Operation.{Operation}
+use Rattle.memory_operation.specs.declared.operation.Operation.TheVariants as operations
+use Rattle.setup_access.specs.Parts.{made}
+use Rattle.setup_access.specs.Records.{MakesWord}
+use Rattle.setup_access.specs.Setting.{Setting}
+use Rattle.setup_access.specs.Values.{source_of, value_in}
+use Rattle.setup_access.specs.declared.source.Source.{Source}
+use Rattle.slot_table.specs.Answer.{Answers, IsWord}
+use Rattle.slot_table.specs.declared.records.Record.{Record}
+use Rattle.slot_table.specs.declared.step.Answer.{Answer}
+use Rattle.slot_table.specs.declared.step.Answer.TheVariants as answers
+use Rattle.slot_table.specs.declared.step.Step.{Step}
+use Rattle.slot_table.specs.declared.step.Step.TheVariants.{CellExchange, CellLoad}
 use Rattle.task_laws.specs.SameStep.{IsAlike}
 use Rattle.task_laws.proofs.Opens.{After, Begins, IsOpen, Lists, Open, SomeIs, is_open_as, mapped_open, none_open, word_then}
 

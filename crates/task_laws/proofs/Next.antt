@@ -1,15 +1,15 @@
 -- What a task made goes on with any answer of its next step.
 use Rattle.std.proofs.Common.{◌++◌, ℕ, List, [], ◌∷◌, subst, sym}
-use Rattle.program_layout.specs.of_litmus_syntax_Tree.{Block}
-use Rattle.access_run.specs.of_memory_operation_Leads.{GoesOn}
-use Rattle.access_run.specs.of_setup_access_Parts.{made}
-use Rattle.access_run.specs.of_slot_table_Answer.{Answers}
-use Rattle.access_run.specs.of_slot_table_declared.records.Record.{Record}
-use Rattle.access_run.specs.of_slot_table_declared.step.Answer.{Answer}
-use Rattle.access_run.specs.of_slot_table_declared.step.Step.{Step}
+use Rattle.litmus_syntax.specs.Tree.{Block}
+use Rattle.memory_operation.specs.Leads.{GoesOn}
+use Rattle.setup_access.specs.Parts.{made}
+use Rattle.slot_table.specs.Answer.{Answers}
+use Rattle.slot_table.specs.declared.records.Record.{Record}
+use Rattle.slot_table.specs.declared.step.Answer.{Answer}
+use Rattle.slot_table.specs.declared.step.Step.{Step}
 use Rattle.task_laws.specs.SameStep.{IsAlike}
-use Rattle.text_bounds.specs.of_written_order_Standing.{Setting}
-use Rattle.text_bounds.specs.of_written_order_WrittenOrder.{SpellsAll, WrittenOrder}
+use Rattle.written_order.specs.Standing.{Setting}
+use Rattle.written_order.specs.WrittenOrder.{SpellsAll, WrittenOrder}
 
 module _ (s : Setting) (registers : ℕ) (body : Block) (records : List Record) (step : Step) (answer : Answer) (fits : Answers step answer)
     (another : (first other : Record) (later : List Record) → IsAlike first other → SpellsAll s registers body (records ++ first ∷ later)

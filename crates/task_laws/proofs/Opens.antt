@@ -1,12 +1,12 @@
 -- What is made of whatever answers come.
 use Rattle.std.proofs.Common.{◌≡◌, ◌↔◌, ◌⊎◌, ◌∙◌, ◌++◌, ℕ, Bool, true, false, List, [], ◌∷◌, MatchBool, inl, inr, refl, subst}
-use Rattle.access_run.specs.of_setup_access_Parts.{made}
-use Rattle.access_run.specs.of_setup_access_Records.{Makes, MakesDone, MakesFlag, MakesWord, OnFlag, OnWord}
-use Rattle.access_run.specs.of_slot_table_Answer.{Answers, IsFlag, IsWord}
-use Rattle.access_run.specs.of_slot_table_declared.records.Record.{Record}
-use Rattle.access_run.specs.of_slot_table_declared.step.Answer.{Answer}
-use Rattle.access_run.specs.of_slot_table_declared.step.Answer.TheVariants as answers
-use Rattle.access_run.specs.of_slot_table_declared.step.Step.{Step}
+use Rattle.setup_access.specs.Parts.{made}
+use Rattle.setup_access.specs.Records.{Makes, MakesDone, MakesFlag, MakesWord, OnFlag, OnWord}
+use Rattle.slot_table.specs.Answer.{Answers, IsFlag, IsWord}
+use Rattle.slot_table.specs.declared.records.Record.{Record}
+use Rattle.slot_table.specs.declared.step.Answer.{Answer}
+use Rattle.slot_table.specs.declared.step.Answer.TheVariants as answers
+use Rattle.slot_table.specs.declared.step.Step.{Step}
 use Rattle.task_laws.specs.SameStep.{IsAlike}
 
 abbrev pub Lists : Type 1

@@ -1,10 +1,10 @@
 -- Parts of a text are open, from a place on: whatever the way there and what came of checks.
 use Rattle.std.proofs.Common.{◌≡◌, ◌↔◌, ◌+◌, ◌≤◌, ℕ, List, subst, sym}
 use Rattle.task_laws.proofs.Opens.{After, Begins, IsOpen, Lists, Open, open_map}
-use Rattle.access_run.specs.of_setup_access_Check.{Fallen}
-use Rattle.access_run.specs.of_slot_table_declared.records.Record.{Record}
+use Rattle.setup_access.specs.Check.{Fallen}
+use Rattle.slot_table.specs.declared.records.Record.{Record}
 use Rattle.task_laws.specs.StandingButWay.{Core, begun_at, core_of, standing}
-use Rattle.text_bounds.specs.of_written_order_Standing.{Point, Standing}
+use Rattle.written_order.specs.Standing.{Point, Standing}
 
 -- the steps of a part of a text that gives a value
 abbrev pub Valued : Type 0 → Type 1

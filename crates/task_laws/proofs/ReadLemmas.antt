@@ -1,25 +1,25 @@
 -- In the written order the operation of a load reads a value.
 use Rattle.std.proofs.Common.{◌≡◌, ◌∙◌, ℕ, Bool, true, false, List, [], ◌∷◌, MatchBool, None, Option, Some, ap, refl}
-use Rattle.program_layout.specs.of_access_types_Access.{Access}
-use Rattle.program_layout.specs.of_litmus_syntax_Tree.{Fetch}
-use Rattle.program_layout.specs.of_litmus_syntax_Tree as tree
-use Rattle.access_run.specs.of_memory_operation_Effects.{changed}
-use Rattle.access_run.specs.of_memory_operation_Operations.{Ends, Exchanges, OnExchange, Operates}
-use Rattle.access_run.specs.of_memory_operation_Values.{is_wanted}
-use Rattle.access_run.specs.of_memory_operation_declared.effect.Effect.{Effect}
-use Rattle.access_run.specs.of_memory_operation_declared.operation.Change.{Change}
-use Rattle.access_run.specs.of_memory_operation_declared.operation.Change.TheVariants as changes
-use Rattle.access_run.specs.of_memory_operation_declared.operation.Operation.{Operation}
-use Rattle.access_run.specs.of_memory_operation_declared.operation.Operation.TheVariants as operations
-use Rattle.access_run.specs.of_setup_access_Records.{MakesWord, OnWord}
-use Rattle.access_run.specs.of_setup_access_Setting.{Setting}
-use Rattle.access_run.specs.of_setup_access_Values.{value_in}
-use Rattle.access_run.specs.of_setup_access_declared.source.Source.{Source}
-use Rattle.access_run.specs.of_slot_table_declared.records.Record.{Record}
-use Rattle.access_run.specs.of_slot_table_declared.step.Answer.{Answer}
-use Rattle.access_run.specs.of_slot_table_declared.step.Answer.TheVariants as answers
-use Rattle.access_run.specs.of_slot_table_declared.step.Step.{Step}
-use Rattle.text_bounds.specs.of_written_order_WrittenOrder.{fetch_operation}
+use Rattle.access_types.specs.Access.{Access}
+use Rattle.litmus_syntax.specs.Tree.{Fetch}
+use Rattle.litmus_syntax.specs.Tree as tree
+use Rattle.memory_operation.specs.Effects.{changed}
+use Rattle.memory_operation.specs.Operations.{Ends, Exchanges, OnExchange, Operates}
+use Rattle.memory_operation.specs.Values.{is_wanted}
+use Rattle.memory_operation.specs.declared.effect.Effect.{Effect}
+use Rattle.memory_operation.specs.declared.operation.Change.{Change}
+use Rattle.memory_operation.specs.declared.operation.Change.TheVariants as changes
+use Rattle.memory_operation.specs.declared.operation.Operation.{Operation}
+use Rattle.memory_operation.specs.declared.operation.Operation.TheVariants as operations
+use Rattle.setup_access.specs.Records.{MakesWord, OnWord}
+use Rattle.setup_access.specs.Setting.{Setting}
+use Rattle.setup_access.specs.Values.{value_in}
+use Rattle.setup_access.specs.declared.source.Source.{Source}
+use Rattle.slot_table.specs.declared.records.Record.{Record}
+use Rattle.slot_table.specs.declared.step.Answer.{Answer}
+use Rattle.slot_table.specs.declared.step.Answer.TheVariants as answers
+use Rattle.slot_table.specs.declared.step.Step.{Step}
+use Rattle.written_order.specs.WrittenOrder.{fetch_operation}
 
 -- the operation of a load
 abbrev pub Reads : Option Operation → Type 0

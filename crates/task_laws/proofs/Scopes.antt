@@ -1,16 +1,16 @@
 -- Scoped assertions are open: where they open, where they close, and what follows in their block.
 use Rattle.std.proofs.Common.{◌≡◌, ◌<◌, ◌≤◌, ◌↔◌, ◌∙◌, ◌+◌, ◌++◌, ℕ, Bool, IsTrue, List, [], ◌∷◌, None, Option, Some, arith, drop, refl, subst, sym}
-use Rattle.program_layout.specs.of_access_types_Access.{Access}
-use Rattle.program_layout.specs.of_access_types_declared.history.Happening.TheVariants as happenings
+use Rattle.access_types.specs.Access.{Access}
+use Rattle.access_types.specs.declared.history.Happening.TheVariants as happenings
 use Rattle.task_laws.proofs.Checks.{OfPasses, check_open, close_open}
 use Rattle.task_laws.proofs.Opens.{After, Lists, open_map}
-use Rattle.program_layout.specs.of_litmus_meaning_Calls.{Scoped, scoped_access}
-use Rattle.program_layout.specs.of_litmus_meaning_Task as meaning
-use Rattle.program_layout.specs.of_litmus_meaning_Task.{bytes_in}
-use Rattle.access_run.specs.of_setup_access_Check.{Check, Close, Passes}
-use Rattle.access_run.specs.of_setup_access_OwnAccesses.{AreOwn, IsOwn}
-use Rattle.access_run.specs.of_setup_access_declared.begun.Begun.{Begun}
-use Rattle.access_run.specs.of_slot_table_declared.records.Record.{Record}
+use Rattle.litmus_meaning.specs.Calls.{Scoped, scoped_access}
+use Rattle.litmus_meaning.specs.Task as meaning
+use Rattle.litmus_meaning.specs.Task.{bytes_in}
+use Rattle.setup_access.specs.Check.{Check, Close, Passes}
+use Rattle.setup_access.specs.OwnAccesses.{AreOwn, IsOwn}
+use Rattle.setup_access.specs.declared.begun.Begun.{Begun}
+use Rattle.slot_table.specs.declared.records.Record.{Record}
 use Rattle.task_laws.proofs.SpelledAccesses.{begun_more}
 use Rattle.task_laws.proofs.SpelledBlocks.{ScopedFits, own_more}
 use Rattle.task_laws.proofs.Decided.{begins_now, disabled_told}
@@ -20,8 +20,8 @@ use Rattle.task_laws.specs.StandingButWay.{Core, begun_at, core_of, standing}
 use Rattle.task_laws.specs.Fits.{ArePlaced, HasBytes}
 use Rattle.task_laws.proofs.Places.{Both, ByEach, BySome, PartIsOpen, Plain, StepsAreOpen, Valued, WithinFrom, part_as, part_both, part_wider, sum_open}
 use Rattle.task_plan.proofs.KeepsLemmas.{begun_still}
-use Rattle.text_bounds.specs.of_written_order_Standing.{BeginsNow, IsDisabled, Setting, Standing, checks_of, doing}
-use Rattle.text_bounds.specs.of_written_order_WrittenOrder.{ClosesScope, OpensScope, Steps, StepsInBlock}
+use Rattle.written_order.specs.Standing.{BeginsNow, IsDisabled, Setting, Standing, checks_of, doing}
+use Rattle.written_order.specs.WrittenOrder.{ClosesScope, OpensScope, Steps, StepsInBlock}
 
 -- after a scoped assertion has opened, and after one has closed
 abbrev opened_at : Core → Access → Begun → ℕ → Core

@@ -6,32 +6,32 @@ use Rattle.access_run.proofs.CheckEnds.{some_check}
 use Rattle.access_run.proofs.LeadsLemmas.{check_joined, operates_joined}
 use Rattle.access_run.specs.Leads.{HasCell}
 use Rattle.access_run.specs.Moved.{moved}
-use Rattle.program_layout.specs.of_access_types_Access.{Access}
-use Rattle.program_layout.specs.of_access_types_declared.history.Happening.{Happening}
-use Rattle.program_layout.specs.of_access_types_declared.history.Happening.TheVariants as happenings
-use Rattle.program_layout.specs.of_litmus_meaning_Task.{begins_at}
-use Rattle.access_run.specs.of_memory_operation_Effects.{moments_of, nothing, read_moments, write_moments}
-use Rattle.access_run.specs.of_memory_operation_Operations.{Operates}
-use Rattle.access_run.specs.of_memory_operation_declared.effect.Effect.{Effect}
-use Rattle.access_run.specs.of_memory_operation_declared.operation.Operation.{Operation}
-use Rattle.access_run.specs.of_memory_operation_declared.operation.Operation.TheVariants as operations
-use Rattle.access_run.specs.of_setup_access_Check.{Fallen, Passes}
-use Rattle.access_run.specs.of_setup_access_OwnAccesses.{AreOwn, IsOwn}
-use Rattle.access_run.specs.of_setup_access_Parts.{made}
-use Rattle.access_run.specs.of_setup_access_Setting as checks
-use Rattle.access_run.specs.of_setup_access_Values.{source_of}
-use Rattle.access_run.specs.of_setup_access_declared.source.Source.{Source}
-use Rattle.access_run.specs.of_slot_table_declared.records.Record.{Record}
-use Rattle.access_run.specs.of_slot_table_declared.step.Answer.TheVariants as answers
-use Rattle.access_run.specs.of_slot_table_declared.step.Step.TheVariants.{Clock}
+use Rattle.access_types.specs.Access.{Access}
+use Rattle.access_types.specs.declared.history.Happening.{Happening}
+use Rattle.access_types.specs.declared.history.Happening.TheVariants as happenings
+use Rattle.litmus_meaning.specs.Task.{begins_at}
+use Rattle.memory_operation.specs.Effects.{moments_of, nothing, read_moments, write_moments}
+use Rattle.memory_operation.specs.Operations.{Operates}
+use Rattle.memory_operation.specs.declared.effect.Effect.{Effect}
+use Rattle.memory_operation.specs.declared.operation.Operation.{Operation}
+use Rattle.memory_operation.specs.declared.operation.Operation.TheVariants as operations
+use Rattle.setup_access.specs.Check.{Fallen, Passes}
+use Rattle.setup_access.specs.OwnAccesses.{AreOwn, IsOwn}
+use Rattle.setup_access.specs.Parts.{made}
+use Rattle.setup_access.specs.Setting as checks
+use Rattle.setup_access.specs.Values.{source_of}
+use Rattle.setup_access.specs.declared.source.Source.{Source}
+use Rattle.slot_table.specs.declared.records.Record.{Record}
+use Rattle.slot_table.specs.declared.step.Answer.TheVariants as answers
+use Rattle.slot_table.specs.declared.step.Step.TheVariants.{Clock}
 use Rattle.task_laws.proofs.Decided.{begins_now}
 use Rattle.task_laws.proofs.ReadLemmas.{HasRead, Reads, operation_reads}
 use Rattle.task_laws.specs.Begins.{one_at}
 use Rattle.task_laws.specs.StandingButWay.{Core, begun_at, standing}
 use Rattle.task_plan.proofs.KeepsLemmas.{begun_still}
 use Rattle.task_plan.specs.SameProgress.{AreOther}
-use Rattle.text_bounds.specs.of_written_order_Access.{Makes, operated}
-use Rattle.text_bounds.specs.of_written_order_Standing.{Point, Setting, Standing, checks_of, doing}
+use Rattle.written_order.specs.Access.{Makes, operated}
+use Rattle.written_order.specs.Standing.{Point, Setting, Standing, checks_of, doing}
 
 -- what a task did by the end of an access of which this came
 abbrev pub did_in : Access → Option Operation → Effect → List Happening → List Happening

@@ -5,22 +5,22 @@ use Rattle.access_run.proofs.CheckEnds.{some_check, some_close}
 use Rattle.access_run.proofs.CheckFronts.{close, framed_checks}
 use Rattle.access_run.proofs.LeadsLemmas.{check_joined}
 use Rattle.access_run.specs.Moved.{moved}
-use Rattle.program_layout.specs.of_access_types_Access.{Access}
-use Rattle.program_layout.specs.of_access_types_declared.history.Happening.TheVariants as happenings
-use Rattle.program_layout.specs.of_litmus_meaning_Calls.{Scoped, scoped_access, scoped_assertion}
-use Rattle.program_layout.specs.of_litmus_meaning_Meaning.{Chooses, after_condition}
-use Rattle.program_layout.specs.of_litmus_meaning_Task as meaning
-use Rattle.program_layout.specs.of_litmus_meaning_Task.{access_now, bytes_in}
-use Rattle.program_layout.specs.of_litmus_syntax_Limits.{BlockTyped, IsVariable, StatementTyped}
-use Rattle.program_layout.specs.of_litmus_syntax_Sites.{accesses_of, assignment_has_access, call_has_access, expression_has_access, sites_of}
-use Rattle.program_layout.specs.of_litmus_syntax_Tree.{Block, Expression, Statement}
-use Rattle.program_layout.specs.of_litmus_syntax_Tree as tree
-use Rattle.program_layout.specs.of_litmus_syntax_declared.statement.Call.TheVariants as calls
-use Rattle.access_run.specs.of_setup_access_Check.{Check, Close, Passes}
-use Rattle.access_run.specs.of_setup_access_OwnAccesses.{AreOwn, IsOwn}
-use Rattle.access_run.specs.of_setup_access_Setting as checks
-use Rattle.access_run.specs.of_setup_access_declared.begun.Begun.{Begun}
-use Rattle.access_run.specs.of_slot_table_declared.records.Record.{Record}
+use Rattle.access_types.specs.Access.{Access}
+use Rattle.access_types.specs.declared.history.Happening.TheVariants as happenings
+use Rattle.litmus_meaning.specs.Calls.{Scoped, scoped_access, scoped_assertion}
+use Rattle.litmus_meaning.specs.Meaning.{Chooses, after_condition}
+use Rattle.litmus_meaning.specs.Task as meaning
+use Rattle.litmus_meaning.specs.Task.{access_now, bytes_in}
+use Rattle.litmus_syntax.specs.Limits.{BlockTyped, IsVariable, StatementTyped}
+use Rattle.litmus_syntax.specs.Sites.{accesses_of, assignment_has_access, call_has_access, expression_has_access, sites_of}
+use Rattle.litmus_syntax.specs.Tree.{Block, Expression, Statement}
+use Rattle.litmus_syntax.specs.Tree as tree
+use Rattle.litmus_syntax.specs.declared.statement.Call.TheVariants as calls
+use Rattle.setup_access.specs.Check.{Check, Close, Passes}
+use Rattle.setup_access.specs.OwnAccesses.{AreOwn, IsOwn}
+use Rattle.setup_access.specs.Setting as checks
+use Rattle.setup_access.specs.declared.begun.Begun.{Begun}
+use Rattle.slot_table.specs.declared.records.Record.{Record}
 use Rattle.task_laws.proofs.SpelledAccesses.{begun_more}
 use Rattle.task_laws.proofs.Decided.{begins_now, disabled_told}
 use Rattle.task_laws.proofs.Parts.{Both, Spelled, spelled_as, spelled_both, turns_spelled}
@@ -29,8 +29,8 @@ use Rattle.task_laws.specs.Begins.{block_begins, one_at, own_begins, statement_b
 use Rattle.task_laws.specs.StandingButWay.{Core, begun_at, standing}
 use Rattle.task_laws.specs.Fits.{ArePlaced, HasBytes}
 use Rattle.task_plan.proofs.KeepsLemmas.{begun_still}
-use Rattle.text_bounds.specs.of_written_order_Standing.{BeginsNow, Setting, Standing, checks_of, doing}
-use Rattle.text_bounds.specs.of_written_order_WrittenOrder.{ClosesScope, OpensScope, Steps, StepsInBlock, StepsOf, StepsOfBlock, StepsOfExpression}
+use Rattle.written_order.specs.Standing.{BeginsNow, Setting, Standing, checks_of, doing}
+use Rattle.written_order.specs.WrittenOrder.{ClosesScope, OpensScope, Steps, StepsInBlock, StepsOf, StepsOfBlock, StepsOfExpression}
 
 pub own_more : (s : checks.Setting) (scopes : List Begun) (begun : Begun) → AreOwn s scopes → IsOwn s begun.access → AreOwn s (scopes ++ begun ∷ [])
 own_more s [] begun are is = (is, tt)

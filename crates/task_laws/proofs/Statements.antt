@@ -3,44 +3,44 @@ use Rattle.std.proofs.Common.{◌≡◌, ◌≢◌, ◌<◌, ◌≤◌, ◌⊎�
 use Rattle.std.proofs.Common.{inl, inr, le_refl, not, refl, replicate, if◌then◌else◌}
 use Rattle.std.proofs.lemmas.Bool.{cases_Bool}
 use Rattle.std.proofs.lemmas.List.Sums.{sum_by-append}
-use Rattle.program_layout.specs.of_access_types_Access.{proper_mask}
-use Rattle.program_layout.specs.of_access_types_declared.history.Bytes.{Bytes}
-use Rattle.program_layout.specs.of_access_types_declared.history.Happening.{Happening}
-use Rattle.program_layout.specs.of_access_types_declared.history.Happening.TheVariants as happenings
-use Rattle.program_layout.specs.of_access_types_declared.history.Mark.{Mark}
-use Rattle.program_layout.specs.of_access_types_declared.history.Mark.TheVariants as marks
-use Rattle.program_layout.specs.of_access_types_declared.kind.Claim.TheVariants.{NoAccesses, NoWrites}
-use Rattle.program_layout.specs.of_access_types_declared.kind.Kind.{Kind}
-use Rattle.program_layout.specs.of_access_types_declared.kind.Kind.TheVariants as kinds
-use Rattle.program_layout.specs.of_litmus_meaning_Assignments.{compound_kind, write_kind}
-use Rattle.program_layout.specs.of_litmus_meaning_Calls.{check_kind, checked_bytes}
-use Rattle.program_layout.specs.of_litmus_meaning_Expressions.{loading_value, pure_value}
-use Rattle.program_layout.specs.of_litmus_meaning_Loads.{exchange_kind, fetch_kind, load_in, variable_of}
-use Rattle.program_layout.specs.of_litmus_meaning_Task as meaning
-use Rattle.program_layout.specs.of_litmus_meaning_Task.{access_now, begins_at, bytes_in, has_lock}
-use Rattle.program_layout.specs.of_litmus_meaning_Values.{sign_extended}
-use Rattle.program_layout.specs.of_litmus_syntax_Limits.{AssignmentTyped, CallTyped, ExpressionTyped, FetchTyped, IsLock, IsOfSort, IsVariable, LoadingTyped, atomics, integers, locks, memory, write_takes}
-use Rattle.program_layout.specs.of_litmus_syntax_Sites.{assignment_has_access, call_has_access, expression_has_access}
-use Rattle.program_layout.specs.of_litmus_syntax_Tree.{Assignment, Expression, Fetch, Load, Loading}
-use Rattle.program_layout.specs.of_litmus_syntax_Tree as tree
-use Rattle.program_layout.specs.of_litmus_syntax_declared.program.Contents.{Contents}
-use Rattle.program_layout.specs.of_litmus_syntax_declared.program.Contents.TheVariants.{Atomic, Char, Int, Lock, Long, Short}
-use Rattle.program_layout.specs.of_litmus_syntax_declared.expression.ReadForm.TheVariants as reads
-use Rattle.program_layout.specs.of_litmus_syntax_declared.statement.Call.{Call}
-use Rattle.program_layout.specs.of_litmus_syntax_declared.statement.Call.TheVariants as calls
-use Rattle.program_layout.specs.of_litmus_syntax_declared.statement.WriteForm.{WriteForm}
-use Rattle.program_layout.specs.of_litmus_syntax_declared.statement.WriteForm.TheVariants as writes
-use Rattle.access_run.specs.of_memory_operation_declared.effect.Effect.{Effect}
-use Rattle.access_run.specs.of_memory_operation_declared.operation.Change.TheVariants as changes
-use Rattle.access_run.specs.of_memory_operation_declared.operation.Operation.{Operation}
-use Rattle.access_run.specs.of_memory_operation_declared.operation.Operation.TheVariants as operations
-use Rattle.access_run.specs.of_setup_access_Check.{Fallen}
-use Rattle.access_run.specs.of_setup_access_OwnAccesses.{AreOwn, IsOwn}
-use Rattle.access_run.specs.of_setup_access_Parts.{made}
-use Rattle.access_run.specs.of_setup_access_Records.{MakesDone}
-use Rattle.access_run.specs.of_slot_table_declared.records.Record.{Record}
-use Rattle.access_run.specs.of_slot_table_declared.step.Answer.TheVariants as answers
-use Rattle.access_run.specs.of_slot_table_declared.step.Step.TheVariants.{LockStore, LockTry}
+use Rattle.access_types.specs.Access.{proper_mask}
+use Rattle.access_types.specs.declared.history.Bytes.{Bytes}
+use Rattle.access_types.specs.declared.history.Happening.{Happening}
+use Rattle.access_types.specs.declared.history.Happening.TheVariants as happenings
+use Rattle.access_types.specs.declared.history.Mark.{Mark}
+use Rattle.access_types.specs.declared.history.Mark.TheVariants as marks
+use Rattle.access_types.specs.declared.kind.Claim.TheVariants.{NoAccesses, NoWrites}
+use Rattle.access_types.specs.declared.kind.Kind.{Kind}
+use Rattle.access_types.specs.declared.kind.Kind.TheVariants as kinds
+use Rattle.litmus_meaning.specs.Assignments.{compound_kind, write_kind}
+use Rattle.litmus_meaning.specs.Calls.{check_kind, checked_bytes}
+use Rattle.litmus_meaning.specs.Expressions.{loading_value, pure_value}
+use Rattle.litmus_meaning.specs.Loads.{exchange_kind, fetch_kind, load_in, variable_of}
+use Rattle.litmus_meaning.specs.Task as meaning
+use Rattle.litmus_meaning.specs.Task.{access_now, begins_at, bytes_in, has_lock}
+use Rattle.litmus_meaning.specs.Values.{sign_extended}
+use Rattle.litmus_syntax.specs.Limits.{AssignmentTyped, CallTyped, ExpressionTyped, FetchTyped, IsLock, IsOfSort, IsVariable, LoadingTyped, atomics, integers, locks, memory, write_takes}
+use Rattle.litmus_syntax.specs.Sites.{assignment_has_access, call_has_access, expression_has_access}
+use Rattle.litmus_syntax.specs.Tree.{Assignment, Expression, Fetch, Load, Loading}
+use Rattle.litmus_syntax.specs.Tree as tree
+use Rattle.litmus_syntax.specs.declared.program.Contents.{Contents}
+use Rattle.litmus_syntax.specs.declared.program.Contents.TheVariants.{Atomic, Char, Int, Lock, Long, Short}
+use Rattle.litmus_syntax.specs.declared.expression.ReadForm.TheVariants as reads
+use Rattle.litmus_syntax.specs.declared.statement.Call.{Call}
+use Rattle.litmus_syntax.specs.declared.statement.Call.TheVariants as calls
+use Rattle.litmus_syntax.specs.declared.statement.WriteForm.{WriteForm}
+use Rattle.litmus_syntax.specs.declared.statement.WriteForm.TheVariants as writes
+use Rattle.memory_operation.specs.declared.effect.Effect.{Effect}
+use Rattle.memory_operation.specs.declared.operation.Change.TheVariants as changes
+use Rattle.memory_operation.specs.declared.operation.Operation.{Operation}
+use Rattle.memory_operation.specs.declared.operation.Operation.TheVariants as operations
+use Rattle.setup_access.specs.Check.{Fallen}
+use Rattle.setup_access.specs.OwnAccesses.{AreOwn, IsOwn}
+use Rattle.setup_access.specs.Parts.{made}
+use Rattle.setup_access.specs.Records.{MakesDone}
+use Rattle.slot_table.specs.declared.records.Record.{Record}
+use Rattle.slot_table.specs.declared.step.Answer.TheVariants as answers
+use Rattle.slot_table.specs.declared.step.Step.TheVariants.{LockStore, LockTry}
 use Rattle.task_laws.proofs.SpelledAccesses.{Made, some_access}
 use Rattle.task_laws.proofs.Decided.{nothing_told}
 use Rattle.task_laws.proofs.Parts.{Spelled, set_at, spelled_as}
@@ -49,8 +49,8 @@ use Rattle.task_laws.specs.Begins.{one_at, own_begins}
 use Rattle.task_laws.specs.StandingButWay.{Core, begun_at, standing}
 use Rattle.task_laws.specs.Fits.{ArePlaced, HasBytes}
 use Rattle.task_plan.proofs.KeepsLemmas.{begun_still, marks_other}
-use Rattle.text_bounds.specs.of_written_order_Standing.{EndsNothing, IsLockAt, Point, Setting, Standing, checks_of, coming, counting, doing, is_lock, lock_number, registered}
-use Rattle.text_bounds.specs.of_written_order_WrittenOrder.{ChecksAt, MakesTo, Only, Steps, StepsInDataRace, StepsOfAssignment, StepsOfCall, StepsOfExpression, StepsOfLoad, fetch_operation}
+use Rattle.written_order.specs.Standing.{EndsNothing, IsLockAt, Point, Setting, Standing, checks_of, coming, counting, doing, is_lock, lock_number, registered}
+use Rattle.written_order.specs.WrittenOrder.{ChecksAt, MakesTo, Only, Steps, StepsInDataRace, StepsOfAssignment, StepsOfCall, StepsOfExpression, StepsOfLoad, fetch_operation}
 
 -- after the task has done this
 abbrev pub doing_at : Core → List Happening → Core

@@ -1,17 +1,17 @@
 -- A text that keeps its limits fits where its task begins, and is spelled by some records.
 use Rattle.std.proofs.Common.{◌≡◌, ◌≤◌, ◌+◌, ◌*◌, ◌++◌, [], ℕ, List, arith, length, subst}
 use Rattle.std.proofs.lemmas.List.{append-nil}
-use Rattle.program_layout.proofs.of_litmus_meaning_LimitLemmas.{few_sites}
-use Rattle.program_layout.specs.of_litmus_syntax_Limits.{TaskKeepsLimits}
-use Rattle.program_layout.specs.of_litmus_syntax_Tree.{Block, Task}
-use Rattle.access_run.specs.of_slot_table_declared.records.Record.{Record}
+use Rattle.litmus_meaning.proofs.LimitLemmas.{few_sites}
+use Rattle.litmus_syntax.specs.Limits.{TaskKeepsLimits}
+use Rattle.litmus_syntax.specs.Tree.{Block, Task}
+use Rattle.slot_table.specs.declared.records.Record.{Record}
 use Rattle.task_laws.proofs.SpelledBlocks.{block_spelled}
 use Rattle.task_laws.proofs.LimitLemmas.{block_few}
 use Rattle.task_laws.specs.Begins.{block_begins}
 use Rattle.task_laws.specs.StandingButWay.{begun_at, core_of, standing}
 use Rattle.task_laws.specs.Fits.{ArePlaced, Fits}
-use Rattle.text_bounds.specs.of_written_order_Standing.{Setting, Standing}
-use Rattle.text_bounds.specs.of_written_order_WrittenOrder.{SpellsAll, StepsOfBlock, WrittenOrder, at_first}
+use Rattle.written_order.specs.Standing.{Setting, Standing}
+use Rattle.written_order.specs.WrittenOrder.{SpellsAll, StepsOfBlock, WrittenOrder, at_first}
 
 pub fitting_spelled : (s : Setting) (registers site : ℕ) (body : Block) (before : Standing) (rest : List Record)
     → ArePlaced s → Fits s registers site body before

@@ -2,17 +2,17 @@
 use Rattle.std.proofs.Common.{◌++◌, ℕ, List, [], ◌∷◌, append_assoc, length, refl, subst, sym}
 use Rattle.task_laws.proofs.Ends.{AtEnd, end_open}
 use Rattle.task_laws.specs.SameStep.{IsAlike}
-use Rattle.program_layout.specs.of_litmus_syntax_Limits.{TaskKeepsLimits}
-use Rattle.program_layout.specs.of_litmus_syntax_Tree.{Block, Task}
-use Rattle.access_run.specs.of_slot_table_declared.records.Record.{Record}
+use Rattle.litmus_syntax.specs.Limits.{TaskKeepsLimits}
+use Rattle.litmus_syntax.specs.Tree.{Block, Task}
+use Rattle.slot_table.specs.declared.records.Record.{Record}
 use Rattle.task_laws.proofs.TextLemmas.{fits_first}
 use Rattle.task_laws.specs.Begins.{block_begins}
 use Rattle.task_laws.specs.StandingButWay.{core_of}
 use Rattle.task_laws.specs.Fits.{ArePlaced, Fits}
 use Rattle.task_laws.proofs.Blocks.{block_open}
 use Rattle.task_laws.proofs.Places.{StepsAreOpen}
-use Rattle.text_bounds.specs.of_written_order_Standing.{Setting}
-use Rattle.text_bounds.specs.of_written_order_WrittenOrder.{SpellsAll, StepsOfBlock, WrittenOrder, at_first}
+use Rattle.written_order.specs.Standing.{Setting}
+use Rattle.written_order.specs.WrittenOrder.{SpellsAll, StepsOfBlock, WrittenOrder, at_first}
 
 -- where the block of a text is open, another answer of a step goes on to an end of the text
 module _ (s : Setting) (registers : ℕ) (body : Block) (most : ℕ → ℕ)

@@ -1,16 +1,16 @@
 -- Waits are open: each answer ends them, or they go on.
 use Rattle.std.proofs.Common.{◌≡◌, ◌⊎◌, ◌∙◌, ◌++◌, ◌<◌, ℕ, zero, suc, true, false, List, [], ◌∷◌, MatchBool, arith, inl, inr, refl, subst}
-use Rattle.access_run.specs.of_memory_operation_Locks.{TakesLock}
-use Rattle.access_run.specs.of_setup_access_Found.{Hears}
-use Rattle.access_run.specs.of_setup_access_Parts.{made}
-use Rattle.access_run.specs.of_setup_access_Records.{OnFlag, OnHalves}
-use Rattle.access_run.specs.of_slot_Pair.{Halves}
-use Rattle.access_run.specs.of_slot_table_Answer.{Answers, IsFlag, IsHalves}
-use Rattle.access_run.specs.of_slot_table_declared.records.Record.{Record}
-use Rattle.access_run.specs.of_slot_table_declared.step.Answer.{Answer}
-use Rattle.access_run.specs.of_slot_table_declared.step.Answer.TheVariants as answers
-use Rattle.access_run.specs.of_slot_table_declared.step.Step.{Step}
-use Rattle.access_run.specs.of_slot_table_declared.step.Step.TheVariants.{LockTry, PairLoad}
+use Rattle.memory_operation.specs.Locks.{TakesLock}
+use Rattle.setup_access.specs.Found.{Hears}
+use Rattle.setup_access.specs.Parts.{made}
+use Rattle.setup_access.specs.Records.{OnFlag, OnHalves}
+use Rattle.slot.specs.Pair.{Halves}
+use Rattle.slot_table.specs.Answer.{Answers, IsFlag, IsHalves}
+use Rattle.slot_table.specs.declared.records.Record.{Record}
+use Rattle.slot_table.specs.declared.step.Answer.{Answer}
+use Rattle.slot_table.specs.declared.step.Answer.TheVariants as answers
+use Rattle.slot_table.specs.declared.step.Step.{Step}
+use Rattle.slot_table.specs.declared.step.Step.TheVariants.{LockTry, PairLoad}
 use Rattle.task_laws.proofs.Opens.{After, Begins, IsOpen, Lists, Open, SomeIs, Turns}
 
 -- a wait made of one step again and again, which some answers end

@@ -1,9 +1,9 @@
 -- How many accesses of a text begin at a site, at most.
 use Rattle.std.specs.Prelude.{◌+◌, ◌*◌, ◌==◌, ℕ, Bool, length, if◌then◌else◌}
-use Rattle.program_layout.specs.of_litmus_meaning_Meaning.{after_condition}
-use Rattle.program_layout.specs.of_litmus_syntax_Sites.{accesses_of, assignment_has_access, call_has_access, expression_has_access, sites_of}
-use Rattle.program_layout.specs.of_litmus_syntax_Tree.{Block, Statement}
-use Rattle.program_layout.specs.of_litmus_syntax_Tree as tree
+use Rattle.litmus_meaning.specs.Meaning.{after_condition}
+use Rattle.litmus_syntax.specs.Sites.{accesses_of, assignment_has_access, call_has_access, expression_has_access, sites_of}
+use Rattle.litmus_syntax.specs.Tree.{Block, Statement}
+use Rattle.litmus_syntax.specs.Tree as tree
 
 -- one access begins at the first of these sites
 abbrev pub one_at : ℕ → ℕ → ℕ

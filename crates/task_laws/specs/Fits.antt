@@ -1,16 +1,16 @@
 -- Where a text fits what is left: its accesses lie in memory, and tickets have room for them.
 use Rattle.std.specs.Prelude.{◌≡◌, ◌+◌, ◌<◌, ◌≤◌, ◌^◌, ℕ, IsSome, Some, length, slice_get}
-use Rattle.program_layout.specs.of_access_types_Access.{Access}
-use Rattle.program_layout.specs.of_litmus_meaning_Task.{bytes_in}
-use Rattle.program_layout.specs.of_litmus_syntax_Limits.{BlockTyped, IsLock, IsVariable}
-use Rattle.program_layout.specs.of_litmus_syntax_Sites.{sites_of}
-use Rattle.program_layout.specs.of_litmus_syntax_Tree.{Block}
-use Rattle.program_layout.specs.of_litmus_syntax_declared.program.Variable.{Variable}
-use Rattle.access_run.specs.of_setup_access_OwnAccesses.{AreOwn}
-use Rattle.access_run.specs.of_setup_access_Values.{source_of}
+use Rattle.access_types.specs.Access.{Access}
+use Rattle.litmus_meaning.specs.Task.{bytes_in}
+use Rattle.litmus_syntax.specs.Limits.{BlockTyped, IsLock, IsVariable}
+use Rattle.litmus_syntax.specs.Sites.{sites_of}
+use Rattle.litmus_syntax.specs.Tree.{Block}
+use Rattle.litmus_syntax.specs.declared.program.Variable.{Variable}
+use Rattle.setup_access.specs.OwnAccesses.{AreOwn}
+use Rattle.setup_access.specs.Values.{source_of}
 use Rattle.task_laws.specs.Begins.{block_begins}
 use Rattle.task_laws.specs.StandingButWay.{begun_at, core_of}
-use Rattle.text_bounds.specs.of_written_order_Standing.{Setting, Standing, checks_of}
+use Rattle.written_order.specs.Standing.{Setting, Standing, checks_of}
 
 -- the variable of a number has bytes, up to 8, of low addresses and in one cell
 pub record HasBytes (s : Setting) (number : ℕ) : Type 0 where

@@ -1,6 +1,6 @@
 -- Parts whose steps may be answered in any way.
 use Rattle.std.specs.Prelude.{◌++◌, List, [], ◌∷◌}
-use Rattle.access_run.specs.of_slot_table_declared.records.Record.{Record}
+use Rattle.slot_table.specs.declared.records.Record.{Record}
 use Rattle.task_laws.specs.SameStep.{IsAlike}
 
 -- where a record of a whole part had another answer, the records up to it and some more are the whole of one too

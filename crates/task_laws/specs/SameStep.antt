@@ -1,7 +1,7 @@
 -- Two records are of the same step of the same task, whatever each was answered.
 use Rattle.std.specs.Prelude.{◌≡◌}
-use Rattle.access_run.specs.of_slot_table_Answer.{Answers}
-use Rattle.access_run.specs.of_slot_table_declared.records.Record.{Record}
+use Rattle.slot_table.specs.Answer.{Answers}
+use Rattle.slot_table.specs.declared.records.Record.{Record}
 
 -- the other is of the same step of the same task, and its answer is one that the step may have
 pub record IsAlike (first other : Record) : Type 0 where

@@ -1,14 +1,14 @@
 //! What is true of the answers of an access's steps, and of a lock's.
 
 ghost use Rattle.std.specs.Prelude.{ℕ, Bool, List, Option};
-ghost use Rattle.program_layout.specs.of_access_types_Access as access;
+ghost use Rattle.access_types.specs.Access as access;
 ghost use Rattle.task_laws.specs.LeadsOn.{AnswersLeadOn};
-ghost use Rattle.access_run.specs.of_memory_operation_Locks.{TakesLock};
-ghost use Rattle.access_run.specs.of_memory_operation_Operations.{Operates};
-ghost use Rattle.access_run.specs.of_memory_operation_declared.operation.Operation.{Operation};
-ghost use Rattle.access_run.specs.of_setup_access_Check.{Check, Close};
-ghost use Rattle.access_run.specs.of_setup_access_Setting.{Setting};
-ghost use Rattle.access_run.specs.of_setup_access_declared.begun.Begun.{Begun};
+ghost use Rattle.memory_operation.specs.Locks.{TakesLock};
+ghost use Rattle.memory_operation.specs.Operations.{Operates};
+ghost use Rattle.memory_operation.specs.declared.operation.Operation.{Operation};
+ghost use Rattle.setup_access.specs.Check.{Check, Close};
+ghost use Rattle.setup_access.specs.Setting.{Setting};
+ghost use Rattle.setup_access.specs.declared.begun.Begun.{Begun};
 
 /// Law: whatever the steps of a check are answered, some more records complete a check.
 pub fn checks_lead_on()

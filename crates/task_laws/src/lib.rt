@@ -7,5 +7,3 @@
 pub mod answered;
 pub mod laws;
 pub mod spelled;
-
-pub use program_layout;

@@ -1,18 +1,18 @@
 //! What is true of texts that fit.
 
 ghost use Rattle.std.specs.Prelude.{◌≡◌, ◌<◌, ◌≤◌, ◌+◌, ◌++◌, [], ℕ, List, length};
-ghost use Rattle.program_layout.specs.of_litmus_meaning_RunOfProgram.{setting_of};
-ghost use Rattle.program_layout.specs.of_litmus_syntax_Limits.{KeepsLimits, TaskKeepsLimits};
-ghost use Rattle.program_layout.specs.of_litmus_syntax_Tree.{Block, Program, Task};
+ghost use Rattle.litmus_meaning.specs.RunOfProgram.{setting_of};
+ghost use Rattle.litmus_syntax.specs.Limits.{KeepsLimits, TaskKeepsLimits};
+ghost use Rattle.litmus_syntax.specs.Tree.{Block, Program, Task};
 ghost use Rattle.program_layout.specs.Aligned.{AreAligned};
 ghost use Rattle.program_layout.specs.Places.{AreFit, places_of};
 ghost use Rattle.program_layout.specs.declared.place.Place.{Place};
-ghost use Rattle.access_run.specs.of_slot_table_declared.records.Record.{Record};
+ghost use Rattle.slot_table.specs.declared.records.Record.{Record};
 ghost use Rattle.task_laws.specs.Begins.{block_begins};
 ghost use Rattle.task_laws.specs.StandingButWay.{begun_at, core_of};
 ghost use Rattle.task_laws.specs.Fits.{ArePlaced, Fits};
-ghost use Rattle.text_bounds.specs.of_written_order_Standing.{Setting, Standing};
-ghost use Rattle.text_bounds.specs.of_written_order_WrittenOrder.{SpellsAll, StepsOfBlock, WrittenOrder, at_first};
+ghost use Rattle.written_order.specs.Standing.{Setting, Standing};
+ghost use Rattle.written_order.specs.WrittenOrder.{SpellsAll, StepsOfBlock, WrittenOrder, at_first};
 
 use program_layout::variables_are_aligned;
 

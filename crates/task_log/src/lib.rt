@@ -12,4 +12,3 @@ pub mod touches;
 pub use counters::Counters;
 pub use log::TaskLog;
 pub use noted::Noted;
-pub use setup_access;

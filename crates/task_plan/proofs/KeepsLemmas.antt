@@ -11,7 +11,7 @@ use Rattle.access_types.specs.declared.history.Happening.TheVariants as happenin
 use Rattle.access_types.specs.declared.history.Mark.{Mark}
 use Rattle.litmus_meaning.specs.Task as meaning
 use Rattle.litmus_meaning.specs.Task.{access_now, begins_at, has_after, has_lock}
-use Rattle.memory_operation.specs.of_slot_table_declared.records.Record.{Record}
+use Rattle.slot_table.specs.declared.records.Record.{Record}
 use Rattle.task_plan.specs.SameProgress.{AreOther, IsOther, StandAlike}
 use Rattle.task_plan.specs.Counts.{up_to_last}
 use Rattle.task_plan.specs.Keeps.{Keeps}

@@ -3,7 +3,7 @@
 ghost use Rattle.std.specs.Prelude.{◌≡◌, ◌-◌, ◌^◌, ◌<◌, ℕ, List, count_by};
 ghost use Rattle.access_types.specs.declared.history.Happening.{Happening};
 ghost use Rattle.litmus_meaning.specs.Task.{begins_at, has_lock};
-ghost use Rattle.memory_operation.specs.of_slot_table_declared.records.Record.{Record};
+ghost use Rattle.slot_table.specs.declared.records.Record.{Record};
 ghost use Rattle.task_plan.specs.SameProgress.{AreOther, StandAlike};
 ghost use Rattle.task_plan.specs.Keeps.{Keeps};
 ghost use Rattle.task_plan.specs.Plans.{planned_access};

@@ -11,5 +11,4 @@ pub mod progress;
 pub use follow::{Taker, Then};
 pub use locks::{is_lock_at, lock_number};
 pub use plan::{Plan, Planner, load_in};
-pub use program_layout;
 pub use progress::Progress;

@@ -4,7 +4,7 @@ ghost use Rattle.std.specs.Prelude.{◌≡◌, ◌<◌, ℕ, List, [], ◌∷◌
 ghost use Rattle.access_types.specs.Access.{Access};
 ghost use Rattle.access_types.specs.declared.history.Happening.TheVariants.{Begin, Lock, Unlock};
 ghost use Rattle.litmus_meaning.specs.Task.{begins_at, has_lock};
-ghost use Rattle.memory_operation.specs.of_slot_table_declared.records.Record.{Record};
+ghost use Rattle.slot_table.specs.declared.records.Record.{Record};
 ghost use Rattle.task_plan.specs.Counts.{up_to_last};
 ghost use Rattle.task_plan.specs.Keeps.{Keeps};
 ghost use Rattle.task_plan.specs.Room.{room_of};

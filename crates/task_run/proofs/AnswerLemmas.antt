@@ -9,22 +9,22 @@ use Rattle.access_run.proofs.WholeLemmas.{none_more, whole_now}
 use Rattle.access_types.specs.Access as access
 use Rattle.access_types.specs.declared.history.Happening.{Happening}
 use Rattle.access_types.specs.declared.history.Happening.TheVariants as happenings
-use Rattle.access_run.specs.of_memory_operation_Locks.{TakesLock}
-use Rattle.access_run.specs.of_memory_operation_declared.effect.Effect.{Effect}
-use Rattle.access_run.specs.of_memory_operation_declared.operation.Operation.{Operation}
-use Rattle.access_run.specs.of_memory_operation_declared.operation.Operation.TheVariants as operations
-use Rattle.access_run.specs.of_setup_access_Check.{Check, Close, Passes}
-use Rattle.access_run.specs.of_setup_access_Checker.{Checks, Closes, Does, Doing, StageLeft}
-use Rattle.access_run.specs.of_setup_access_Fallen.{followed}
-use Rattle.access_run.specs.of_setup_access_Leads as checks
-use Rattle.access_run.specs.of_setup_access_Setting as settings
-use Rattle.access_run.specs.of_setup_access_Shown.{context_of}
-use Rattle.access_run.specs.of_setup_access_declared.begun.Begun.{Begun}
-use Rattle.access_run.specs.of_setup_access_declared.checker.Checker.{Checker}
-use Rattle.access_run.specs.of_setup_access_declared.stage.Stage.TheVariants as check_stages
+use Rattle.memory_operation.specs.Locks.{TakesLock}
+use Rattle.memory_operation.specs.declared.effect.Effect.{Effect}
+use Rattle.memory_operation.specs.declared.operation.Operation.{Operation}
+use Rattle.memory_operation.specs.declared.operation.Operation.TheVariants as operations
+use Rattle.setup_access.specs.Check.{Check, Close, Passes}
+use Rattle.setup_access.specs.Checker.{Checks, Closes, Does, Doing, StageLeft}
+use Rattle.setup_access.specs.Fallen.{followed}
+use Rattle.setup_access.specs.Leads as checks
+use Rattle.setup_access.specs.Setting as settings
+use Rattle.setup_access.specs.Shown.{context_of}
+use Rattle.setup_access.specs.declared.begun.Begun.{Begun}
+use Rattle.setup_access.specs.declared.checker.Checker.{Checker}
+use Rattle.setup_access.specs.declared.stage.Stage.TheVariants as check_stages
 use Rattle.slot_table.specs.declared.records.Record.{Record}
-use Rattle.access_run.specs.of_task_context_Context.{Context}
-use Rattle.access_run.specs.of_task_context_History.{Concerns, LeadsTo}
+use Rattle.task_context.specs.Context.{Context}
+use Rattle.task_context.specs.History.{Concerns, LeadsTo}
 use Rattle.task_plan.specs.Follow.{Follow}
 use Rattle.task_plan.specs.Keeps.{Keeps}
 use Rattle.task_plan.specs.declared.progress.Progress.{Progress}
@@ -36,8 +36,8 @@ use Rattle.task_run.specs.Stands.{Counts, IsOf, Stands}
 use Rattle.task_run.specs.declared.machine.Machine.{Machine}
 use Rattle.text_walk.specs.Left.{WalkLeft}
 use Rattle.text_walk.specs.declared.walk.Walk.{Walk}
-use Rattle.text_walk.specs.of_written_order_Access.{operated}
-use Rattle.text_walk.specs.of_written_order_Standing.{BeginsNow, IsDisabled, IsLockAt, Setting, Standing, checks_of, doing, lock_number}
+use Rattle.written_order.specs.Access.{operated}
+use Rattle.written_order.specs.Standing.{BeginsNow, IsDisabled, IsLockAt, Setting, Standing, checks_of, doing, lock_number}
 
 -- only the checker is another, and the access whose begin is the next step
 abbrev pub OtherChecker : Machine → Machine → Type 0

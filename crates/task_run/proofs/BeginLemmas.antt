@@ -18,20 +18,20 @@ use Rattle.litmus_meaning.specs.Task as meaning
 use Rattle.litmus_meaning.specs.Task.{begins_at, has_lock}
 use Rattle.litmus_syntax.specs.Tree as tree
 use Rattle.litmus_syntax.specs.declared.statement.Call.TheVariants as calls
-use Rattle.access_run.specs.of_memory_operation_LockLeads.{LockLeads}
-use Rattle.access_run.specs.of_memory_operation_declared.lock.LockWait.{LockWait}
-use Rattle.access_run.specs.of_setup_access_Check.{ChecksOnce, Close, Fallen, Pass, Passes, Rechecks, fallen_of}
-use Rattle.access_run.specs.of_setup_access_Checker.{Checks, Closes}
-use Rattle.access_run.specs.of_setup_access_Leads as checks
-use Rattle.access_run.specs.of_setup_access_OwnAccesses.{IsOwn}
-use Rattle.access_run.specs.of_setup_access_Records.{MakesWord}
-use Rattle.access_run.specs.of_setup_access_Setting as settings
-use Rattle.access_run.specs.of_setup_access_Shown.{IsDecided, IsSilenced, context_of}
-use Rattle.access_run.specs.of_setup_access_declared.begun.Begun.{Begun}
-use Rattle.access_run.specs.of_setup_access_declared.checker.Checker.{Checker}
+use Rattle.memory_operation.specs.LockLeads.{LockLeads}
+use Rattle.memory_operation.specs.declared.lock.LockWait.{LockWait}
+use Rattle.setup_access.specs.Check.{ChecksOnce, Close, Fallen, Pass, Passes, Rechecks, fallen_of}
+use Rattle.setup_access.specs.Checker.{Checks, Closes}
+use Rattle.setup_access.specs.Leads as checks
+use Rattle.setup_access.specs.OwnAccesses.{IsOwn}
+use Rattle.setup_access.specs.Records.{MakesWord}
+use Rattle.setup_access.specs.Setting as settings
+use Rattle.setup_access.specs.Shown.{IsDecided, IsSilenced, context_of}
+use Rattle.setup_access.specs.declared.begun.Begun.{Begun}
+use Rattle.setup_access.specs.declared.checker.Checker.{Checker}
 use Rattle.slot_table.specs.declared.records.Record.{Record}
 use Rattle.slot_table.specs.declared.step.Step.TheVariants.{Clock}
-use Rattle.access_run.specs.of_task_context_History.{Follows}
+use Rattle.task_context.specs.History.{Follows}
 use Rattle.task_plan.proofs.KeepsLemmas.{begun_still, marks_other}
 use Rattle.task_plan.specs.Counts.{up_to_last}
 use Rattle.task_plan.specs.Follow.{Follow, assigned, condition, goes_on, loaded_by, marks_next, nobody, so_many_off, so_often, to_register}
@@ -61,7 +61,7 @@ use Rattle.text_walk.specs.Left.{DueLeft}
 use Rattle.text_walk.specs.declared.due.Due.{Due}
 use Rattle.text_walk.specs.declared.due.Due.TheVariants as dues
 use Rattle.text_walk.specs.declared.walk.Walk.{Walk}
-use Rattle.text_walk.specs.of_written_order_Standing.{BeginsNow, Setting, Standing, checks_of, coming, counting, doing, is_lock, lock_number, moments, registered}
+use Rattle.written_order.specs.Standing.{BeginsNow, Setting, Standing, checks_of, coming, counting, doing, is_lock, lock_number, moments, registered}
 
 -- what is due is the part itself, or the text is over
 pub begins_stopped : (s : Setting) (due : Due) (machine : Machine) → Stops s (DueLeft s due machine.walk) machine

@@ -10,19 +10,19 @@ use Rattle.access_run.specs.Whole.{IsWhole, NoneWhole}
 use Rattle.access_run.specs.declared.access.AccessRun.{AccessRun}
 use Rattle.access_run.specs.declared.stage.Stage.{Stage}
 use Rattle.access_run.specs.declared.stage.Stage.TheVariants as stages
-use Rattle.access_run.specs.of_memory_operation_declared.effect.Effect.{Effect}
-use Rattle.access_run.specs.of_memory_operation_declared.operation.Operation.{Operation}
-use Rattle.access_run.proofs.of_setup_access_FallLemmas.{stage_come}
-use Rattle.access_run.proofs.of_setup_access_LeadsLemmas.{outcomes_followed}
-use Rattle.access_run.specs.of_setup_access_Check.{Check, Fallen, Passes}
-use Rattle.access_run.specs.of_setup_access_Checker.{Checks, Does, Doing}
-use Rattle.access_run.specs.of_setup_access_Fallen.{followed, outcomes_in}
-use Rattle.access_run.specs.of_setup_access_FallsAt.{AllFallIn}
-use Rattle.access_run.specs.of_setup_access_Leads as checks
-use Rattle.access_run.specs.of_setup_access_Setting.{Setting}
-use Rattle.access_run.specs.of_setup_access_Shown.{outcomes_of}
-use Rattle.access_run.specs.of_setup_access_declared.begun.Begun.{Begun}
-use Rattle.access_run.specs.of_setup_access_declared.checker.Checker.{Checker}
+use Rattle.memory_operation.specs.declared.effect.Effect.{Effect}
+use Rattle.memory_operation.specs.declared.operation.Operation.{Operation}
+use Rattle.setup_access.proofs.FallLemmas.{stage_come}
+use Rattle.setup_access.proofs.LeadsLemmas.{outcomes_followed}
+use Rattle.setup_access.specs.Check.{Check, Fallen, Passes}
+use Rattle.setup_access.specs.Checker.{Checks, Does, Doing}
+use Rattle.setup_access.specs.Fallen.{followed, outcomes_in}
+use Rattle.setup_access.specs.FallsAt.{AllFallIn}
+use Rattle.setup_access.specs.Leads as checks
+use Rattle.setup_access.specs.Setting.{Setting}
+use Rattle.setup_access.specs.Shown.{outcomes_of}
+use Rattle.setup_access.specs.declared.begun.Begun.{Begun}
+use Rattle.setup_access.specs.declared.checker.Checker.{Checker}
 use Rattle.slot_table.specs.declared.records.Record.{Record}
 use Rattle.task_run.proofs.FellLemmas.{AllShorter, HasCome}
 

@@ -8,16 +8,16 @@ use Rattle.litmus_meaning.specs.Expressions.{loading_value}
 use Rattle.litmus_meaning.specs.Meaning.{Chooses}
 use Rattle.litmus_meaning.specs.Values.{sign_extended}
 use Rattle.litmus_syntax.specs.Tree.{Block}
-use Rattle.access_run.specs.of_memory_operation_Locks.{TakesLock}
-use Rattle.access_run.specs.of_memory_operation_declared.effect.Effect.{Effect}
-use Rattle.program_sites.specs.of_program_layout_Lays.{Lays}
-use Rattle.program_sites.specs.of_program_layout_declared.layout.Layout.{Layout}
-use Rattle.access_run.proofs.of_setup_access_Copies as checker
-use Rattle.access_run.specs.of_setup_access_Checker.{Checks, Closes}
-use Rattle.access_run.specs.of_setup_access_Records.{MakesDone}
-use Rattle.access_run.specs.of_setup_access_declared.begun.Begun.{Begun}
-use Rattle.access_run.specs.of_task_context_Context.{Context}
-use Rattle.access_run.specs.of_task_context_History.{LeadsTo}
+use Rattle.memory_operation.specs.Locks.{TakesLock}
+use Rattle.memory_operation.specs.declared.effect.Effect.{Effect}
+use Rattle.program_layout.specs.Lays.{Lays}
+use Rattle.program_layout.specs.declared.layout.Layout.{Layout}
+use Rattle.setup_access.proofs.Copies as checker
+use Rattle.setup_access.specs.Checker.{Checks, Closes}
+use Rattle.setup_access.specs.Records.{MakesDone}
+use Rattle.setup_access.specs.declared.begun.Begun.{Begun}
+use Rattle.task_context.specs.Context.{Context}
+use Rattle.task_context.specs.History.{LeadsTo}
 use Rattle.slot_table.specs.declared.records.Record.{Record}
 use Rattle.slot_table.specs.declared.step.Step.TheVariants.{LockStore}
 use Rattle.task_plan.specs.Follow.{Follow, Taker, assigned, condition, goes_on, loaded_by, marks_next, nobody, so_often, to_register}
@@ -32,9 +32,9 @@ use Rattle.task_run.specs.declared.run.TaskRun.{TaskRun}
 use Rattle.task_run.specs.declared.stage.Stage.{Stage}
 use Rattle.text_walk.proofs.Copies as walk
 use Rattle.text_walk.specs.Left.{BodyLeft, ClosesNewest, WalkLeft}
-use Rattle.text_walk.specs.of_written_order_Access.{Makes}
-use Rattle.text_walk.specs.of_written_order_Standing.{IsLockAt, Setting, Standing, checks_of, doing, lock_number, moments, registered}
-use Rattle.text_walk.specs.of_written_order_WrittenOrder.{OpensScope, Steps, StepsOfBlock, at_first}
+use Rattle.written_order.specs.Access.{Makes}
+use Rattle.written_order.specs.Standing.{IsLockAt, Setting, Standing, checks_of, doing, lock_number, moments, registered}
+use Rattle.written_order.specs.WrittenOrder.{OpensScope, Steps, StepsOfBlock, at_first}
 
 module _ (machine copy : Machine) (is : IsCopy machine copy) (s : Setting) where
   walk_left : WalkLeft s machine.walk ≡ WalkLeft s copy.walk

@@ -7,21 +7,21 @@ use Rattle.access_types.specs.declared.history.Happening.{Happening}
 use Rattle.access_types.specs.declared.history.Happening.TheVariants as happenings
 use Rattle.litmus_meaning.specs.Task as meaning
 use Rattle.litmus_meaning.specs.Task.{begins_at, has_lock}
-use Rattle.access_run.specs.of_memory_operation_Effects.{moments_of, read_moments, write_moments}
-use Rattle.access_run.specs.of_memory_operation_declared.effect.Effect.{Effect}
-use Rattle.access_run.specs.of_memory_operation_declared.operation.Operation.{Operation}
-use Rattle.access_run.specs.of_memory_operation_declared.operation.Operation.TheVariants as operations
-use Rattle.access_run.specs.of_setup_access_Shown.{context_of}
+use Rattle.memory_operation.specs.Effects.{moments_of, read_moments, write_moments}
+use Rattle.memory_operation.specs.declared.effect.Effect.{Effect}
+use Rattle.memory_operation.specs.declared.operation.Operation.{Operation}
+use Rattle.memory_operation.specs.declared.operation.Operation.TheVariants as operations
+use Rattle.setup_access.specs.Shown.{context_of}
 use Rattle.slot_table.specs.declared.records.Record.{Record}
-use Rattle.access_run.specs.of_task_context_Context.{Context}
-use Rattle.access_run.specs.of_task_context_History.{Concerns, Follows, LeadsTo}
-use Rattle.access_run.proofs.of_task_context_OtherMoments.{other_moment}
+use Rattle.task_context.specs.Context.{Context}
+use Rattle.task_context.specs.History.{Concerns, Follows, LeadsTo}
+use Rattle.task_context.proofs.OtherMoments.{other_moment}
 use Rattle.task_plan.proofs.KeepsLemmas.{keeps_alike, keeps_on}
 use Rattle.task_plan.specs.SameProgress.{AreOther, IsOther}
 use Rattle.task_run.specs.Stands.{Counts}
 use Rattle.task_run.specs.declared.machine.Machine.{Machine}
-use Rattle.text_walk.specs.of_written_order_Access.{operated}
-use Rattle.text_walk.specs.of_written_order_Standing.{Setting, Standing, doing}
+use Rattle.written_order.specs.Access.{operated}
+use Rattle.written_order.specs.Standing.{Setting, Standing, doing}
 
 -- what a task did, as moments
 abbrev pub history_of : ℕ → List Happening → History

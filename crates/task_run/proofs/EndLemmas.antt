@@ -8,22 +8,22 @@ use Rattle.access_run.specs.Whole.{IsWhole}
 use Rattle.access_run.proofs.CheckFronts.{check, close, framed_checks, makes_access}
 use Rattle.access_types.specs.Access as access
 use Rattle.access_types.specs.declared.history.Happening.TheVariants.{Begin, End}
-use Rattle.access_run.specs.of_memory_operation_Locks.{TakesLock}
-use Rattle.access_run.specs.of_memory_operation_Operations.{Operates}
-use Rattle.access_run.specs.of_memory_operation_declared.effect.Effect.{Effect}
-use Rattle.access_run.specs.of_memory_operation_declared.operation.Operation.{Operation}
-use Rattle.access_run.specs.of_setup_access_Check.{Check, Close, Fallen, Passes}
-use Rattle.access_run.specs.of_setup_access_declared.begun.Begun.{Begun}
-use Rattle.access_run.specs.of_setup_access_declared.checker.Checker.{Checker}
-use Rattle.access_run.proofs.of_setup_access_LeadsLemmas.{same_ends}
+use Rattle.memory_operation.specs.Locks.{TakesLock}
+use Rattle.memory_operation.specs.Operations.{Operates}
+use Rattle.memory_operation.specs.declared.effect.Effect.{Effect}
+use Rattle.memory_operation.specs.declared.operation.Operation.{Operation}
+use Rattle.setup_access.specs.Check.{Check, Close, Fallen, Passes}
+use Rattle.setup_access.specs.declared.begun.Begun.{Begun}
+use Rattle.setup_access.specs.declared.checker.Checker.{Checker}
+use Rattle.setup_access.proofs.LeadsLemmas.{same_ends}
 use Rattle.slot_table.specs.declared.records.Record.{Record}
 use Rattle.slot_table.specs.declared.step.Answer.{Answer}
 use Rattle.slot_table.specs.declared.step.Answer.TheVariants as answers
-use Rattle.access_run.specs.of_setup_access_Records.{OnFlag}
+use Rattle.setup_access.specs.Records.{OnFlag}
 use Rattle.text_walk.specs.Left.{ClosesNewest}
-use Rattle.text_walk.specs.of_written_order_Access.{Makes, operated}
-use Rattle.text_walk.specs.of_written_order_Standing.{BeginsNow, IsDisabled, Setting, Standing, checks_of, doing}
-use Rattle.text_walk.specs.of_written_order_WrittenOrder.{OpensScope}
+use Rattle.written_order.specs.Access.{Makes, operated}
+use Rattle.written_order.specs.Standing.{BeginsNow, IsDisabled, Setting, Standing, checks_of, doing}
+use Rattle.written_order.specs.WrittenOrder.{OpensScope}
 
 abbrev pub passes_of : ℕ → List Fallen → Passes
 passes_of asked outcomes = record { outcomes = outcomes; asked = asked }

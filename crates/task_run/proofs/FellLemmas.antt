@@ -4,15 +4,15 @@ use Rattle.std.proofs.Common.{List, [], ◌∷◌, None, Option, Some, ap, arith
 use Rattle.std.proofs.lemmas.Bool.{eq-eqb, eqb-true}
 use Rattle.std.proofs.lemmas.List.{length-append}
 use Rattle.access_types.specs.Access.{Access}
-use Rattle.access_run.proofs.of_setup_access_FallLemmas.{once_comes}
-use Rattle.access_run.specs.of_setup_access_Check as cases
-use Rattle.access_run.specs.of_setup_access_Check.{Check, ChecksAll, ChecksOnce, Close, Ends, Fallen, GoesOn, NoneFound, Pass, Passes, Rechecks, fallen_of, left_to_check}
-use Rattle.access_run.specs.of_setup_access_Fallen.{followed, outcomes_in}
-use Rattle.access_run.specs.of_setup_access_Records.{OnWord}
-use Rattle.access_run.specs.of_setup_access_Setting.{Setting}
-use Rattle.access_run.specs.of_setup_access_Setup.{Frees, Judged}
-use Rattle.access_run.specs.of_setup_access_declared.begun.Begun.{Begun}
-use Rattle.access_run.specs.of_setup_access_declared.outcome.Watchpoint.{Watchpoint}
+use Rattle.setup_access.proofs.FallLemmas.{once_comes}
+use Rattle.setup_access.specs.Check as cases
+use Rattle.setup_access.specs.Check.{Check, ChecksAll, ChecksOnce, Close, Ends, Fallen, GoesOn, NoneFound, Pass, Passes, Rechecks, fallen_of, left_to_check}
+use Rattle.setup_access.specs.Fallen.{followed, outcomes_in}
+use Rattle.setup_access.specs.Records.{OnWord}
+use Rattle.setup_access.specs.Setting.{Setting}
+use Rattle.setup_access.specs.Setup.{Frees, Judged}
+use Rattle.setup_access.specs.declared.begun.Begun.{Begun}
+use Rattle.setup_access.specs.declared.outcome.Watchpoint.{Watchpoint}
 use Rattle.slot_table.specs.declared.records.Record.{Record}
 use Rattle.slot_table.specs.declared.step.Answer.{Answer}
 use Rattle.slot_table.specs.declared.step.Answer.TheVariants as answers

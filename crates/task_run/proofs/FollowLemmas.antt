@@ -6,7 +6,7 @@ use Rattle.litmus_meaning.specs.Expressions.{loading_value}
 use Rattle.litmus_meaning.specs.Meaning.{Chooses}
 use Rattle.litmus_meaning.specs.Values.{sign_extended}
 use Rattle.litmus_syntax.specs.Tree.{Loading}
-use Rattle.access_run.specs.of_memory_operation_declared.effect.Effect.{Effect}
+use Rattle.memory_operation.specs.declared.effect.Effect.{Effect}
 use Rattle.slot_table.specs.declared.records.Record.{Record}
 use Rattle.task_plan.specs.Follow.{Taker, assigned, condition, goes_on, loaded_by, marks_next, nobody, so_often, to_register}
 use Rattle.task_run.proofs.ToldLemmas.{computes_both, does_now, marks_more, marks_now, registers_more}
@@ -19,8 +19,8 @@ use Rattle.task_run.specs.declared.stage.Stage.{Stage}
 use Rattle.text_walk.proofs.StepsLemmas.{through}
 use Rattle.text_walk.specs.Left.{BodyLeft, Same, WalkLeft}
 use Rattle.text_walk.specs.declared.walk.Walk.{Walk}
-use Rattle.text_walk.specs.of_written_order_Standing.{Setting, Standing, doing, registered}
-use Rattle.text_walk.specs.of_written_order_WrittenOrder.{Steps}
+use Rattle.written_order.specs.Standing.{Setting, Standing, doing, registered}
+use Rattle.written_order.specs.WrittenOrder.{Steps}
 
 -- what is left is the same in another walk that is the same
 pub walk_as : (s : Setting) (walk other : Walk) → other ≡ walk → (before : Standing) (records : List Record) (after : Standing) (rest : List Record)

@@ -12,32 +12,32 @@ use Rattle.access_run.specs.declared.stage.Stage.TheVariants.{Check, End, Operat
 use Rattle.access_types.specs.Sites.{AccessMap, map_of}
 use Rattle.litmus_syntax.specs.Limits.{BlockScopes, block_rises}
 use Rattle.litmus_syntax.specs.Tree.{Block}
-use Rattle.access_run.proofs.of_memory_operation_LeadsLemmas as operations_lemmas
-use Rattle.access_run.proofs.of_memory_operation_LockLemmas.{only_try}
-use Rattle.access_run.specs.of_memory_operation_Leads as operations
-use Rattle.access_run.specs.of_memory_operation_Operations.{Operates}
-use Rattle.access_run.specs.of_memory_operation_Stages as operation_stages
-use Rattle.access_run.specs.of_memory_operation_Values.{new_value, with_value}
-use Rattle.access_run.specs.of_memory_operation_declared.lock.LockWait.{LockWait}
-use Rattle.access_run.specs.of_memory_operation_declared.operation.Operation.{Operation}
-use Rattle.access_run.specs.of_memory_operation_declared.run.OperationRun.{OperationRun}
-use Rattle.access_run.specs.of_memory_operation_declared.stage.Stage as operating
-use Rattle.access_run.specs.of_memory_operation_declared.stage.Stage.TheVariants as operating_stages
-use Rattle.access_run.proofs.of_setup_access_NextLemmas.{complete_at_rest, only_step}
-use Rattle.access_run.specs.of_setup_access_Checker.{Checks, Closes, Doing}
-use Rattle.access_run.specs.of_setup_access_Kept.{setting_with}
-use Rattle.access_run.specs.of_setup_access_Leads as checks
-use Rattle.access_run.specs.of_setup_access_PassLeft.{pass_step}
-use Rattle.access_run.specs.of_setup_access_Setting as settings
-use Rattle.access_run.specs.of_setup_access_Values.{value_in}
-use Rattle.access_run.specs.of_setup_access_declared.begun.Begun.{Begun}
-use Rattle.access_run.specs.of_setup_access_declared.checker.Checker.{Checker}
-use Rattle.access_run.specs.of_setup_access_declared.pass.Pass.{Pass}
-use Rattle.access_run.specs.of_setup_access_declared.pass.Pass.TheVariants as passes
-use Rattle.access_run.specs.of_setup_access_declared.setting.Setting as kept_settings
-use Rattle.access_run.specs.of_setup_access_declared.setup.Setup.TheVariants as setups
-use Rattle.access_run.specs.of_setup_access_declared.stage.Stage as check_stages
-use Rattle.access_run.specs.of_setup_access_declared.stage.Stage.TheVariants as checking
+use Rattle.memory_operation.proofs.LeadsLemmas as operations_lemmas
+use Rattle.memory_operation.proofs.LockLemmas.{only_try}
+use Rattle.memory_operation.specs.Leads as operations
+use Rattle.memory_operation.specs.Operations.{Operates}
+use Rattle.memory_operation.specs.Stages as operation_stages
+use Rattle.memory_operation.specs.Values.{new_value, with_value}
+use Rattle.memory_operation.specs.declared.lock.LockWait.{LockWait}
+use Rattle.memory_operation.specs.declared.operation.Operation.{Operation}
+use Rattle.memory_operation.specs.declared.run.OperationRun.{OperationRun}
+use Rattle.memory_operation.specs.declared.stage.Stage as operating
+use Rattle.memory_operation.specs.declared.stage.Stage.TheVariants as operating_stages
+use Rattle.setup_access.proofs.NextLemmas.{complete_at_rest, only_step}
+use Rattle.setup_access.specs.Checker.{Checks, Closes, Doing}
+use Rattle.setup_access.specs.Kept.{setting_with}
+use Rattle.setup_access.specs.Leads as checks
+use Rattle.setup_access.specs.PassLeft.{pass_step}
+use Rattle.setup_access.specs.Setting as settings
+use Rattle.setup_access.specs.Values.{value_in}
+use Rattle.setup_access.specs.declared.begun.Begun.{Begun}
+use Rattle.setup_access.specs.declared.checker.Checker.{Checker}
+use Rattle.setup_access.specs.declared.pass.Pass.{Pass}
+use Rattle.setup_access.specs.declared.pass.Pass.TheVariants as passes
+use Rattle.setup_access.specs.declared.setting.Setting as kept_settings
+use Rattle.setup_access.specs.declared.setup.Setup.TheVariants as setups
+use Rattle.setup_access.specs.declared.stage.Stage as check_stages
+use Rattle.setup_access.specs.declared.stage.Stage.TheVariants as checking
 use Rattle.slot_table.specs.declared.records.Record.{Record}
 use Rattle.slot_table.specs.declared.step.Step.{Step}
 use Rattle.slot_table.specs.declared.step.Step.TheVariants.{CellExchange, CellLoad, Clock, LockStore, LockTry}
@@ -50,10 +50,10 @@ use Rattle.task_run.specs.Says.{IsGoing, IsGoingIn, Says, StageSays}
 use Rattle.task_run.specs.declared.run.TaskRun.{TaskRun}
 use Rattle.task_run.specs.declared.stage.Stage.{Stage}
 use Rattle.task_run.specs.declared.stage.Stage.TheVariants as stages
-use Rattle.text_walk.specs.of_written_order_Standing.{Setting, Standing, checks_of, is_lock, lock_number}
-use Rattle.text_walk.specs.of_written_order_Waits as waits
-use Rattle.text_walk.specs.of_written_order_Waits.{IsTooMuch, OnlyStep}
-use Rattle.text_walk.specs.of_written_order_WrittenOrder.{SpellsAll, WrittenOrder}
+use Rattle.written_order.specs.Standing.{Setting, Standing, checks_of, is_lock, lock_number}
+use Rattle.written_order.specs.Waits as waits
+use Rattle.written_order.specs.Waits.{IsTooMuch, OnlyStep}
+use Rattle.written_order.specs.WrittenOrder.{SpellsAll, WrittenOrder}
 
 -- a check makes the same step whatever accesses the tickets name
 same_step : (kept : kept_settings.Setting) (begun : Begun) (pass : Pass) (one other : AccessMap)

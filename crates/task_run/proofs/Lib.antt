@@ -30,5 +30,3 @@ pub mod ComeLemmas
 pub mod NewsLemmas
 pub mod CopyLemmas
 pub mod Sent
-pub use Rattle.program_sites.proofs.prepared as of_program_sites_prepared
-pub use Rattle.program_sites.proofs.settings as of_program_sites_settings

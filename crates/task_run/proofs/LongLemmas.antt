@@ -1,41 +1,41 @@
 -- A wait that has had so many vain tries goes on with a step that comes after as many, by the records alone.
 use Rattle.std.proofs.Common.{◌≡◌, ◌<◌, ◌≤◌, ◌+◌, ◌∙◌, ◌++◌, ◌∷◌, [], ℕ, zero, suc, Bool, true, false, IsSomeAnd, List, MatchBool, None, Option, Some, ap, arith, eq-eqb, le_refl, refl, subst, sym, if◌then◌else◌}
 use Rattle.access_types.specs.Access.{Access}
-use Rattle.access_run.proofs.of_memory_operation_LeadsLemmas.{over_is_whole}
-use Rattle.access_run.specs.of_memory_operation_LockLeads.{LockLeads, LockLeft}
-use Rattle.access_run.specs.of_memory_operation_Leads as operations
-use Rattle.access_run.specs.of_memory_operation_Locks.{TakesLock}
-use Rattle.access_run.specs.of_memory_operation_Operations.{Exchanges, OnExchange, OperatesIn}
-use Rattle.access_run.specs.of_memory_operation_Stages as operation_stages
-use Rattle.access_run.specs.of_memory_operation_Values.{is_wanted, new_value, sum_of, with_value}
-use Rattle.access_run.specs.of_memory_operation_Waits as waits
-use Rattle.access_run.specs.of_memory_operation_declared.effect.Effect.{Effect}
-use Rattle.access_run.specs.of_memory_operation_declared.lock.LockWait.{LockWait}
-use Rattle.access_run.specs.of_memory_operation_declared.operation.Change.{Change}
-use Rattle.access_run.specs.of_memory_operation_declared.operation.Change.TheVariants as changes
-use Rattle.access_run.specs.of_memory_operation_declared.operation.Operation.{Operation}
-use Rattle.access_run.specs.of_memory_operation_declared.operation.Operation.TheVariants as kinds
-use Rattle.access_run.specs.of_memory_operation_declared.run.OperationRun.{OperationRun}
-use Rattle.access_run.specs.of_memory_operation_declared.stage.Stage as operating
-use Rattle.access_run.specs.of_memory_operation_declared.stage.Stage.TheVariants as operating_stages
-use Rattle.access_run.proofs.of_setup_access_DisciplineLemmas.{on_flag, on_word}
-use Rattle.access_run.specs.of_setup_access_Checker.{Doing}
-use Rattle.access_run.specs.of_setup_access_Leads as checks
-use Rattle.access_run.specs.of_setup_access_Parts.{made}
-use Rattle.access_run.specs.of_setup_access_Setting as settings
-use Rattle.access_run.specs.of_setup_access_Values.{value_in}
-use Rattle.access_run.specs.of_setup_access_Waiting.{capped, pass_wait, stage_wait}
-use Rattle.access_run.specs.of_setup_access_Waits.{Wait, after_half, after_load, wait_after, wait_from, wait_on}
-use Rattle.access_run.specs.of_setup_access_declared.begun.Begun.{Begun}
-use Rattle.access_run.specs.of_setup_access_declared.checker.Checker.{Checker}
-use Rattle.access_run.specs.of_setup_access_declared.found.Found.TheVariants as founds
-use Rattle.access_run.specs.of_setup_access_declared.pass.Pass.{Pass}
-use Rattle.access_run.specs.of_setup_access_declared.pass.Pass.TheVariants as passes
-use Rattle.access_run.specs.of_setup_access_PassLeft.{pass_step}
-use Rattle.access_run.specs.of_setup_access_declared.setup.Setup.TheVariants as setups
-use Rattle.access_run.specs.of_setup_access_declared.source.Source.{Source}
-use Rattle.access_run.specs.of_setup_access_declared.stage.Stage as check_stages
-use Rattle.access_run.specs.of_setup_access_declared.stage.Stage.TheVariants as checking
+use Rattle.memory_operation.proofs.LeadsLemmas.{over_is_whole}
+use Rattle.memory_operation.specs.LockLeads.{LockLeads, LockLeft}
+use Rattle.memory_operation.specs.Leads as operations
+use Rattle.memory_operation.specs.Locks.{TakesLock}
+use Rattle.memory_operation.specs.Operations.{Exchanges, OnExchange, OperatesIn}
+use Rattle.memory_operation.specs.Stages as operation_stages
+use Rattle.memory_operation.specs.Values.{is_wanted, new_value, sum_of, with_value}
+use Rattle.memory_operation.specs.Waits as waits
+use Rattle.memory_operation.specs.declared.effect.Effect.{Effect}
+use Rattle.memory_operation.specs.declared.lock.LockWait.{LockWait}
+use Rattle.memory_operation.specs.declared.operation.Change.{Change}
+use Rattle.memory_operation.specs.declared.operation.Change.TheVariants as changes
+use Rattle.memory_operation.specs.declared.operation.Operation.{Operation}
+use Rattle.memory_operation.specs.declared.operation.Operation.TheVariants as kinds
+use Rattle.memory_operation.specs.declared.run.OperationRun.{OperationRun}
+use Rattle.memory_operation.specs.declared.stage.Stage as operating
+use Rattle.memory_operation.specs.declared.stage.Stage.TheVariants as operating_stages
+use Rattle.setup_access.proofs.DisciplineLemmas.{on_flag, on_word}
+use Rattle.setup_access.specs.Checker.{Doing}
+use Rattle.setup_access.specs.Leads as checks
+use Rattle.setup_access.specs.Parts.{made}
+use Rattle.setup_access.specs.Setting as settings
+use Rattle.setup_access.specs.Values.{value_in}
+use Rattle.setup_access.specs.Waiting.{capped, pass_wait, stage_wait}
+use Rattle.setup_access.specs.Waits.{Wait, after_half, after_load, wait_after, wait_from, wait_on}
+use Rattle.setup_access.specs.declared.begun.Begun.{Begun}
+use Rattle.setup_access.specs.declared.checker.Checker.{Checker}
+use Rattle.setup_access.specs.declared.found.Found.TheVariants as founds
+use Rattle.setup_access.specs.declared.pass.Pass.{Pass}
+use Rattle.setup_access.specs.declared.pass.Pass.TheVariants as passes
+use Rattle.setup_access.specs.PassLeft.{pass_step}
+use Rattle.setup_access.specs.declared.setup.Setup.TheVariants as setups
+use Rattle.setup_access.specs.declared.source.Source.{Source}
+use Rattle.setup_access.specs.declared.stage.Stage as check_stages
+use Rattle.setup_access.specs.declared.stage.Stage.TheVariants as checking
 use Rattle.slot_table.specs.declared.records.Record.{Record}
 use Rattle.slot_table.specs.declared.step.Answer.{Answer}
 use Rattle.slot_table.specs.declared.step.Answer.TheVariants as answers
@@ -43,7 +43,7 @@ use Rattle.slot_table.specs.declared.step.Step.{Step}
 use Rattle.slot_table.specs.declared.step.Step.TheVariants.{CellExchange, CellLoad, Clear, Clock, Consume, Insert, Load, LockStore, LockTry, Name, PairLoad, Remove, Tell, TryConsume}
 use Rattle.task_run.proofs.PairLemmas.{AreOfOne, GoesOnAt, IsOfIndex, StartsAt}
 use Rattle.task_run.proofs.TriesLemmas.{exchange_ends, onto}
-use Rattle.text_walk.specs.of_written_order_Waits.{IsTooMuch, vain_tries, is_tried_again}
+use Rattle.written_order.specs.Waits.{IsTooMuch, vain_tries, is_tried_again}
 
 -- the records go on with a load of the pair at this index
 abbrev pub LoadsNext : ℕ → List Record → Type 0

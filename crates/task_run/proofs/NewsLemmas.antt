@@ -9,17 +9,17 @@ use Rattle.access_run.specs.Whole.{NoneWhole}
 use Rattle.access_run.specs.declared.access.AccessRun.{AccessRun}
 use Rattle.access_types.specs.Access as access
 use Rattle.litmus_syntax.specs.Tree.{Block}
-use Rattle.access_run.specs.of_memory_operation_Operations.{Operates}
-use Rattle.access_run.specs.of_memory_operation_declared.operation.Operation.{Operation}
-use Rattle.access_run.proofs.of_setup_access_LeadsLemmas.{same_ends}
-use Rattle.access_run.specs.of_setup_access_Check.{Check, Close, Fallen, Passes}
-use Rattle.access_run.specs.of_setup_access_Checker.{Checks, Closes, Doing}
-use Rattle.access_run.specs.of_setup_access_Fallen.{outcomes_in}
-use Rattle.access_run.specs.of_setup_access_Leads as checks
-use Rattle.access_run.specs.of_setup_access_Shown.{outcomes_of}
-use Rattle.access_run.specs.of_setup_access_declared.begun.Begun.{Begun}
-use Rattle.access_run.specs.of_setup_access_declared.checker.Checker.{Checker}
-use Rattle.access_run.specs.of_setup_access_declared.outcome.Outcome.{Outcome}
+use Rattle.memory_operation.specs.Operations.{Operates}
+use Rattle.memory_operation.specs.declared.operation.Operation.{Operation}
+use Rattle.setup_access.proofs.LeadsLemmas.{same_ends}
+use Rattle.setup_access.specs.Check.{Check, Close, Fallen, Passes}
+use Rattle.setup_access.specs.Checker.{Checks, Closes, Doing}
+use Rattle.setup_access.specs.Fallen.{outcomes_in}
+use Rattle.setup_access.specs.Leads as checks
+use Rattle.setup_access.specs.Shown.{outcomes_of}
+use Rattle.setup_access.specs.declared.begun.Begun.{Begun}
+use Rattle.setup_access.specs.declared.checker.Checker.{Checker}
+use Rattle.setup_access.specs.declared.outcome.Outcome.{Outcome}
 use Rattle.slot_table.specs.declared.records.Record.{Record}
 use Rattle.task_plan.specs.Views.{follow_of}
 use Rattle.task_plan.specs.declared.follow.Then.{Then}
@@ -34,7 +34,7 @@ use Rattle.task_run.specs.Part.{Part, closes, makes, opens}
 use Rattle.task_run.specs.declared.machine.Machine.{Machine}
 use Rattle.task_run.specs.declared.run.TaskRun.{TaskRun}
 use Rattle.task_run.specs.declared.stage.Stage.TheVariants as stages
-use Rattle.text_walk.specs.of_written_order_Standing.{Setting, Standing, checks_of}
+use Rattle.written_order.specs.Standing.{Setting, Standing, checks_of}
 
 -- the next outcome of the checker is the one that falls
 next_fell : (last : Record) (later : List Record) (limit : ℕ) (outcomes before after : List Fallen) (old new : Checker) (fell : Option Outcome)

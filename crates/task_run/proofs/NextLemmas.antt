@@ -11,27 +11,27 @@ use Rattle.access_run.specs.Moved.{FramedChecks}
 use Rattle.access_types.specs.Access as access
 use Rattle.litmus_syntax.specs.Tree.{Block}
 use Rattle.litmus_syntax.specs.declared.program.Variable.{Variable}
-use Rattle.access_run.specs.of_memory_operation_Leads as operations
-use Rattle.access_run.specs.of_memory_operation_LockLeads.{IsStuckAtLock, LockIsOver, LockLeads, LockLeft, LockSays, OnlyLockStep}
-use Rattle.access_run.specs.of_memory_operation_Locks.{TakesLock}
-use Rattle.access_run.specs.of_memory_operation_Operations.{Operates}
-use Rattle.access_run.specs.of_memory_operation_declared.lock.LockWait.{LockWait}
-use Rattle.access_run.specs.of_memory_operation_declared.operation.Operation.{Operation}
-use Rattle.access_run.specs.of_setup_access_Check.{Check, Close, Passes}
-use Rattle.access_run.specs.of_setup_access_Checker.{Checks, Closes, Doing}
-use Rattle.access_run.specs.of_setup_access_Leads as checks
-use Rattle.access_run.specs.of_setup_access_Records.{MakesDone}
-use Rattle.access_run.proofs.of_setup_access_LeadsLemmas.{same_ends}
-use Rattle.access_run.specs.of_setup_access_declared.begun.Begun.{Begun}
-use Rattle.access_run.specs.of_setup_access_declared.rules.Rules.{Rules}
+use Rattle.memory_operation.specs.Leads as operations
+use Rattle.memory_operation.specs.LockLeads.{IsStuckAtLock, LockIsOver, LockLeads, LockLeft, LockSays, OnlyLockStep}
+use Rattle.memory_operation.specs.Locks.{TakesLock}
+use Rattle.memory_operation.specs.Operations.{Operates}
+use Rattle.memory_operation.specs.declared.lock.LockWait.{LockWait}
+use Rattle.memory_operation.specs.declared.operation.Operation.{Operation}
+use Rattle.setup_access.specs.Check.{Check, Close, Passes}
+use Rattle.setup_access.specs.Checker.{Checks, Closes, Doing}
+use Rattle.setup_access.specs.Leads as checks
+use Rattle.setup_access.specs.Records.{MakesDone}
+use Rattle.setup_access.proofs.LeadsLemmas.{same_ends}
+use Rattle.setup_access.specs.declared.begun.Begun.{Begun}
+use Rattle.setup_access.specs.declared.rules.Rules.{Rules}
 use Rattle.slot_table.specs.declared.records.Record.{Record}
 use Rattle.slot_table.specs.declared.step.Step.{Step}
 use Rattle.slot_table.specs.declared.step.Answer.{Answer}
 use Rattle.slot_table.specs.declared.step.Answer.TheVariants as answers
 use Rattle.slot_table.specs.declared.step.Step.TheVariants.{LockStore, LockTry}
-use Rattle.access_run.specs.of_setup_access_Parts.{made}
-use Rattle.access_run.proofs.of_memory_operation_FrameLemmas.{lock_front}
-use Rattle.access_run.proofs.of_memory_operation_Fronts.{framed}
+use Rattle.setup_access.specs.Parts.{made}
+use Rattle.memory_operation.proofs.FrameLemmas.{lock_front}
+use Rattle.memory_operation.proofs.Fronts.{framed}
 use Rattle.task_plan.specs.Views.{follow_of}
 use Rattle.task_plan.specs.declared.follow.Then.{Then}
 use Rattle.task_run.proofs.LeadsLemmas.{agrees_in}
@@ -40,26 +40,26 @@ use Rattle.task_run.proofs.ScopeLemmas.{first_scopes, scopes_on}
 use Rattle.task_run.proofs.ToldLemmas.{first_told, told_on}
 use Rattle.task_run.proofs.TriesLemmas.{access_tried, all_onto, check_tried, lock_tried, onto}
 use Rattle.task_run.proofs.StageLemmas.{in_closing, in_locking, in_making, in_opening, in_unlocking}
-use Rattle.access_run.specs.of_setup_access_Shown.{context_of}
-use Rattle.access_run.proofs.of_task_context_Leads.{leads-nil}
-use Rattle.access_run.specs.of_task_context_Context.{Context, idle}
-use Rattle.access_run.specs.of_task_context_History.{LeadsTo}
+use Rattle.setup_access.specs.Shown.{context_of}
+use Rattle.task_context.proofs.Leads.{leads-nil}
+use Rattle.task_context.specs.Context.{Context, idle}
+use Rattle.task_context.specs.History.{LeadsTo}
 use Rattle.task_plan.specs.Keeps.{Keeps}
 use Rattle.task_run.specs.Stands.{IsOf, Stands, StandsBy}
 use Rattle.task_run.specs.declared.machine.Machine.{Machine}
 use Rattle.text_walk.proofs.StepsLemmas.{through}
 use Rattle.text_walk.specs.Left.{Same, WalkLeft}
-use Rattle.text_walk.specs.of_written_order_WrittenOrder.{SpellsAll, StepsOfBlock, at_first}
+use Rattle.written_order.specs.WrittenOrder.{SpellsAll, StepsOfBlock, at_first}
 use Rattle.task_run.specs.Agrees.{Agrees, Begins, IsIn, in_part}
 use Rattle.task_run.specs.Leads.{IsStuck, Leads, WaitsTooLong}
-use Rattle.text_walk.specs.of_written_order_Waits.{IsTooMuch, OnlyStep, WithinTurns, vain_tries}
+use Rattle.written_order.specs.Waits.{IsTooMuch, OnlyStep, WithinTurns, vain_tries}
 use Rattle.task_run.specs.Says.{IsStopped, Says, StageSays}
-use Rattle.access_run.specs.of_setup_access_Waits.{IsStuckBy}
+use Rattle.setup_access.specs.Waits.{IsStuckBy}
 use Rattle.task_run.specs.Part.{Part, PartLeft, closes, locks, makes, opens, over, stops, unlocks}
 use Rattle.task_run.specs.declared.run.TaskRun.{TaskRun}
 use Rattle.task_run.specs.declared.stage.Stage.{Stage}
 use Rattle.task_run.specs.declared.stage.Stage.TheVariants as stages
-use Rattle.text_walk.specs.of_written_order_Standing.{Setting, Standing, checks_of, is_lock, lock_number}
+use Rattle.written_order.specs.Standing.{Setting, Standing, checks_of, is_lock, lock_number}
 
 -- an access that begins leaves the registers as they are, and how many calls had nothing to end
 pub part_registers : (part : Part) (before : Standing) → (in_part part before).progress.registers ≡ before.progress.registers

@@ -2,19 +2,19 @@
 use Rattle.std.proofs.Common.{◌≡◌, ◌||◌, ◌∷◌, [], ℕ, Bool, true, false, List, MatchBool, MatchOption, None, Option, Some, inl, inr, refl, subst, sym}
 use Rattle.access_types.specs.Access.{Access}
 use Rattle.access_types.specs.Ticket.{ticket_number}
-use Rattle.access_run.proofs.of_setup_access_DisciplineLemmas.{on_flag, on_halves, on_word}
-use Rattle.access_run.specs.of_setup_access_Check.{Check, Close, ChecksOnce, Ends, GoesOn, NoneFound, Pass, Passes, Rechecks, counts_as_marked, left_to_check, skipped, unencodable, watched}
-use Rattle.access_run.specs.of_setup_access_Find.{LooksUp}
-use Rattle.access_run.specs.of_setup_access_Found.{Hears, Takes}
-use Rattle.access_run.specs.of_setup_access_Records.{MakesDone, MakesFlag, MakesWord}
-use Rattle.access_run.specs.of_setup_access_Setting.{Setting, look_order, slot_of, try_order}
-use Rattle.access_run.specs.of_setup_access_Setup.{Arms, Judged, Judges, TriesInsert, WatchesAt}
-use Rattle.access_run.specs.of_setup_access_Values.{LoadsFrom, both_values, source_of}
-use Rattle.access_run.specs.of_setup_access_declared.begun.Begun.{Begun}
-use Rattle.access_run.specs.of_setup_access_declared.outcome.Outcome.{Outcome}
-use Rattle.access_run.specs.of_setup_access_declared.outcome.Watchpoint.{Watchpoint}
-use Rattle.access_run.specs.of_setup_access_declared.source.Source.{Source}
-use Rattle.slot_table.specs.of_slot_Pair.{Halves}
+use Rattle.setup_access.proofs.DisciplineLemmas.{on_flag, on_halves, on_word}
+use Rattle.setup_access.specs.Check.{Check, Close, ChecksOnce, Ends, GoesOn, NoneFound, Pass, Passes, Rechecks, counts_as_marked, left_to_check, skipped, unencodable, watched}
+use Rattle.setup_access.specs.Find.{LooksUp}
+use Rattle.setup_access.specs.Found.{Hears, Takes}
+use Rattle.setup_access.specs.Records.{MakesDone, MakesFlag, MakesWord}
+use Rattle.setup_access.specs.Setting.{Setting, look_order, slot_of, try_order}
+use Rattle.setup_access.specs.Setup.{Arms, Judged, Judges, TriesInsert, WatchesAt}
+use Rattle.setup_access.specs.Values.{LoadsFrom, both_values, source_of}
+use Rattle.setup_access.specs.declared.begun.Begun.{Begun}
+use Rattle.setup_access.specs.declared.outcome.Outcome.{Outcome}
+use Rattle.setup_access.specs.declared.outcome.Watchpoint.{Watchpoint}
+use Rattle.setup_access.specs.declared.source.Source.{Source}
+use Rattle.slot.specs.Pair.{Halves}
 use Rattle.slot_table.specs.declared.records.Record.{Record}
 use Rattle.slot_table.specs.declared.step.Step.{Step}
 use Rattle.slot_table.specs.declared.step.Step.TheVariants.{CellExchange, CellLoad, Clear, Clock, Consume, Insert, Load, LockStore, LockTry, Name, PairLoad, Remove, Tell, TryConsume}

@@ -31,8 +31,8 @@ use Rattle.task_run.specs.declared.machine.Machine.{Machine}
 use Rattle.task_run.specs.declared.stage.Stage.{Stage}
 use Rattle.text_walk.specs.Left.{BodyLeft, WalkLeft}
 use Rattle.text_walk.specs.declared.walk.Walk.{Walk}
-use Rattle.text_walk.specs.of_written_order_Standing.{EndsNothing, Setting, Standing, counting, doing}
-use Rattle.text_walk.specs.of_written_order_WrittenOrder.{ChecksAt, Only, Steps, StepsOfCall, fetch_operation}
+use Rattle.written_order.specs.Standing.{EndsNothing, Setting, Standing, counting, doing}
+use Rattle.written_order.specs.WrittenOrder.{ChecksAt, Only, Steps, StepsOfCall, fetch_operation}
 
 -- a load reads
 fetch_fits : (registers : List ℕ) (fetch : Fetch) → Reads (Some (fetch_operation registers fetch))

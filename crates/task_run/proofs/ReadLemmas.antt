@@ -1,18 +1,18 @@
 -- In the run of a task's machine the operation of a load reads a value.
 use Rattle.std.proofs.Common.{◌≡◌, ◌∙◌, ℕ, Bool, true, false, List, [], ◌∷◌, MatchBool, None, Option, Some, ap, refl}
 use Rattle.access_types.specs.Access.{Access}
-use Rattle.access_run.specs.of_memory_operation_Effects.{changed}
-use Rattle.access_run.specs.of_memory_operation_Operations.{Ends, Exchanges, OnExchange, Operates}
-use Rattle.access_run.specs.of_memory_operation_Values.{is_wanted}
-use Rattle.access_run.specs.of_memory_operation_declared.effect.Effect.{Effect}
-use Rattle.access_run.specs.of_memory_operation_declared.operation.Change.{Change}
-use Rattle.access_run.specs.of_memory_operation_declared.operation.Change.TheVariants as changes
-use Rattle.access_run.specs.of_memory_operation_declared.operation.Operation.{Operation}
-use Rattle.access_run.specs.of_memory_operation_declared.operation.Operation.TheVariants as operations
-use Rattle.access_run.specs.of_setup_access_Records.{MakesWord, OnWord}
-use Rattle.access_run.specs.of_setup_access_Setting.{Setting}
-use Rattle.access_run.specs.of_setup_access_Values.{value_in}
-use Rattle.access_run.specs.of_setup_access_declared.source.Source.{Source}
+use Rattle.memory_operation.specs.Effects.{changed}
+use Rattle.memory_operation.specs.Operations.{Ends, Exchanges, OnExchange, Operates}
+use Rattle.memory_operation.specs.Values.{is_wanted}
+use Rattle.memory_operation.specs.declared.effect.Effect.{Effect}
+use Rattle.memory_operation.specs.declared.operation.Change.{Change}
+use Rattle.memory_operation.specs.declared.operation.Change.TheVariants as changes
+use Rattle.memory_operation.specs.declared.operation.Operation.{Operation}
+use Rattle.memory_operation.specs.declared.operation.Operation.TheVariants as operations
+use Rattle.setup_access.specs.Records.{MakesWord, OnWord}
+use Rattle.setup_access.specs.Setting.{Setting}
+use Rattle.setup_access.specs.Values.{value_in}
+use Rattle.setup_access.specs.declared.source.Source.{Source}
 use Rattle.slot_table.specs.declared.records.Record.{Record}
 use Rattle.slot_table.specs.declared.step.Answer.{Answer}
 use Rattle.slot_table.specs.declared.step.Answer.TheVariants as answers

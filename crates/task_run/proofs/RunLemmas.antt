@@ -10,26 +10,26 @@ use Rattle.access_run.specs.declared.access.AccessRun.{AccessRun}
 use Rattle.access_types.specs.Access as access
 use Rattle.access_types.specs.declared.history.Happening.TheVariants as happenings
 use Rattle.litmus_syntax.specs.Tree.{Block}
-use Rattle.access_run.specs.of_memory_operation_LockLeads.{LockLeads}
-use Rattle.access_run.specs.of_memory_operation_Locks.{TakesLock}
-use Rattle.access_run.specs.of_memory_operation_Operations.{Operates}
-use Rattle.access_run.specs.of_memory_operation_declared.effect.Effect.{Effect}
-use Rattle.access_run.specs.of_memory_operation_declared.lock.LockWait.{LockWait}
-use Rattle.access_run.specs.of_memory_operation_declared.operation.Operation.{Operation}
-use Rattle.access_run.specs.of_setup_access_Check.{Check, Close}
-use Rattle.access_run.specs.of_setup_access_Checker.{Checks, Closes, Doing}
-use Rattle.access_run.specs.of_setup_access_Leads as checks
-use Rattle.access_run.specs.of_setup_access_OwnAccesses.{IsOwn}
-use Rattle.access_run.specs.of_setup_access_Setting as settings
-use Rattle.access_run.specs.of_setup_access_Shown.{context_of}
-use Rattle.access_run.specs.of_setup_access_declared.begun.Begun.{Begun}
-use Rattle.access_run.specs.of_setup_access_declared.checker.Checker.{Checker}
+use Rattle.memory_operation.specs.LockLeads.{LockLeads}
+use Rattle.memory_operation.specs.Locks.{TakesLock}
+use Rattle.memory_operation.specs.Operations.{Operates}
+use Rattle.memory_operation.specs.declared.effect.Effect.{Effect}
+use Rattle.memory_operation.specs.declared.lock.LockWait.{LockWait}
+use Rattle.memory_operation.specs.declared.operation.Operation.{Operation}
+use Rattle.setup_access.specs.Check.{Check, Close}
+use Rattle.setup_access.specs.Checker.{Checks, Closes, Doing}
+use Rattle.setup_access.specs.Leads as checks
+use Rattle.setup_access.specs.OwnAccesses.{IsOwn}
+use Rattle.setup_access.specs.Setting as settings
+use Rattle.setup_access.specs.Shown.{context_of}
+use Rattle.setup_access.specs.declared.begun.Begun.{Begun}
+use Rattle.setup_access.specs.declared.checker.Checker.{Checker}
 use Rattle.slot_table.specs.declared.records.Record.{Record}
 use Rattle.slot_table.specs.declared.step.Answer.TheVariants.{Done}
 use Rattle.slot_table.specs.declared.step.Step.{Step}
 use Rattle.slot_table.specs.declared.step.Step.TheVariants.{LockStore, LockTry}
-use Rattle.access_run.specs.of_task_context_Context.{Context}
-use Rattle.access_run.specs.of_task_context_History.{LeadsTo}
+use Rattle.task_context.specs.Context.{Context}
+use Rattle.task_context.specs.History.{LeadsTo}
 use Rattle.task_plan.proofs.KeepsLemmas.{keeps_alike}
 use Rattle.task_plan.specs.Follow.{Follow, assigned, goes_on, loaded_by, marks_next}
 use Rattle.task_plan.specs.Keeps.{Keeps}
@@ -57,9 +57,9 @@ use Rattle.task_run.specs.declared.stage.Stage.TheVariants as stages
 use Rattle.text_walk.proofs.StepsLemmas.{through}
 use Rattle.text_walk.specs.Left.{WalkLeft}
 use Rattle.text_walk.specs.declared.walk.Walk.{Walk}
-use Rattle.text_walk.specs.of_written_order_Access.{operated}
-use Rattle.text_walk.specs.of_written_order_Standing.{Setting, Standing, checks_of, doing, lock_number}
-use Rattle.text_walk.specs.of_written_order_Waits.{is_tried_again}
+use Rattle.written_order.specs.Access.{operated}
+use Rattle.written_order.specs.Standing.{Setting, Standing, checks_of, doing, lock_number}
+use Rattle.written_order.specs.Waits.{is_tried_again}
 
 -- what is there is within the list
 pub in_list : {A : Type 0} (xs : List A) (index : ℕ) (P : A → Type 0) → IsSomeAnd (slice_get xs index) P → index < length xs

@@ -4,8 +4,8 @@ use Rattle.access_run.specs.Leads as accesses
 use Rattle.access_run.specs.declared.stage.Stage as access_stages
 use Rattle.access_run.specs.declared.stage.Stage.TheVariants.{Check, End, Operate, Over}
 use Rattle.access_types.specs.Sites.{map_of}
-use Rattle.access_run.specs.of_setup_access_Leads as checks
-use Rattle.access_run.specs.of_setup_access_declared.checker.Checker.{Checker}
+use Rattle.setup_access.specs.Leads as checks
+use Rattle.setup_access.specs.declared.checker.Checker.{Checker}
 use Rattle.slot_table.specs.declared.step.Step.{Step}
 use Rattle.task_run.specs.Says.{Says, StageSays}
 use Rattle.task_run.specs.declared.run.TaskRun.{TaskRun}

@@ -6,19 +6,19 @@ use Rattle.access_types.specs.Access as access
 use Rattle.access_types.specs.declared.history.Happening.{Happening}
 use Rattle.access_types.specs.declared.history.Happening.TheVariants as happenings
 use Rattle.litmus_meaning.specs.Task as meaning
-use Rattle.access_run.specs.of_memory_operation_Effects.{moments_of, read_moments, write_moments}
-use Rattle.access_run.specs.of_memory_operation_declared.effect.Effect.{Effect}
-use Rattle.access_run.specs.of_memory_operation_declared.operation.Operation.{Operation}
-use Rattle.access_run.specs.of_memory_operation_declared.operation.Operation.TheVariants as operations
-use Rattle.access_run.specs.of_setup_access_declared.begun.Begun.{Begun}
+use Rattle.memory_operation.specs.Effects.{moments_of, read_moments, write_moments}
+use Rattle.memory_operation.specs.declared.effect.Effect.{Effect}
+use Rattle.memory_operation.specs.declared.operation.Operation.{Operation}
+use Rattle.memory_operation.specs.declared.operation.Operation.TheVariants as operations
+use Rattle.setup_access.specs.declared.begun.Begun.{Begun}
 use Rattle.slot_table.specs.declared.records.Record.{Record}
 use Rattle.task_run.specs.Stops.{AreScoped, ScopesAreTold}
 use Rattle.task_run.specs.Told.{Computes, nothing, one_more}
 use Rattle.text_bounds.proofs.Scopes as bounds
 use Rattle.text_bounds.specs.Scopes.{AreOfNoScope, in_force, is_scoped}
-use Rattle.text_walk.specs.of_written_order_Access.{operated}
-use Rattle.text_walk.specs.of_written_order_Standing.{Standing, coming, counting}
-use Rattle.text_walk.specs.of_written_order_WrittenOrder.{at_first}
+use Rattle.written_order.specs.Access.{operated}
+use Rattle.written_order.specs.Standing.{Standing, coming, counting}
+use Rattle.written_order.specs.WrittenOrder.{at_first}
 
 -- the task did more, and no scoped assertion began or ended
 scopes_still : (before after : Standing) (does : List Happening) → after.scopes ≡ before.scopes → in_force after.progress.did ≡ in_force before.progress.did

@@ -6,24 +6,24 @@ use Rattle.access_types.specs.declared.history.Happening.{Happening}
 use Rattle.access_types.specs.declared.history.Happening.TheVariants as happenings
 use Rattle.access_types.specs.declared.history.Mark.{Mark}
 use Rattle.access_types.specs.declared.history.Mark.TheVariants as marks
-use Rattle.access_run.specs.of_setup_access_Leads as checks
-use Rattle.access_run.specs.of_setup_access_Lending.{with_context}
-use Rattle.access_run.specs.of_setup_access_Setting as settings
-use Rattle.access_run.specs.of_setup_access_Shown.{context_of}
-use Rattle.access_run.specs.of_setup_access_declared.begun.Begun.{Begun}
-use Rattle.access_run.specs.of_setup_access_declared.checker.Checker.{Checker}
+use Rattle.setup_access.specs.Leads as checks
+use Rattle.setup_access.specs.Lending.{with_context}
+use Rattle.setup_access.specs.Setting as settings
+use Rattle.setup_access.specs.Shown.{context_of}
+use Rattle.setup_access.specs.declared.begun.Begun.{Begun}
+use Rattle.setup_access.specs.declared.checker.Checker.{Checker}
 use Rattle.slot_table.specs.declared.records.Record.{Record}
-use Rattle.access_run.specs.of_task_context_Context.{Context}
-use Rattle.access_run.specs.of_task_context_History.{LeadsTo, MarkFollows}
-use Rattle.access_run.proofs.of_task_context_Surpluses.{EndsRaised-surplus, surplus-EndsRaised}
+use Rattle.task_context.specs.Context.{Context}
+use Rattle.task_context.specs.History.{LeadsTo, MarkFollows}
+use Rattle.task_context.proofs.Surpluses.{EndsRaised-surplus, surplus-EndsRaised}
 use Rattle.task_plan.proofs.KeepsLemmas.{keeps_on}
 use Rattle.task_plan.specs.Keeps.{Keeps}
 use Rattle.task_plan.specs.declared.progress.Progress.{Progress}
 use Rattle.task_run.proofs.CountsLemmas.{counts_as, history_of, history_on}
 use Rattle.task_run.specs.Stands.{AfterMark, Stands}
 use Rattle.task_run.specs.declared.machine.Machine.{Machine}
-use Rattle.text_walk.specs.of_written_order_Standing.{EndsNothing, IsDisabled, IsNested, Setting, Standing, checks_of, doing}
-use Rattle.text_walk.specs.of_written_order_WrittenOrder.{marked_so_often}
+use Rattle.written_order.specs.Standing.{EndsNothing, IsDisabled, IsNested, Setting, Standing, checks_of, doing}
+use Rattle.written_order.specs.WrittenOrder.{marked_so_often}
 
 -- a checker rests with another context too
 rests_with : (s : settings.Setting) (scopes : List Begun) (asked : ℕ) (last : Option Begun) (checker : Checker) (context : Context)

@@ -21,15 +21,15 @@ use Rattle.litmus_syntax.specs.declared.program.Variable.{Variable}
 use Rattle.litmus_meaning.specs.Loads.{load_in}
 use Rattle.litmus_syntax.specs.declared.statement.Call.{Call}
 use Rattle.litmus_syntax.specs.declared.statement.Call.TheVariants as calls
-use Rattle.access_run.specs.of_memory_operation_Operations.{Operates}
-use Rattle.access_run.specs.of_memory_operation_declared.effect.Effect.{Effect}
-use Rattle.access_run.specs.of_memory_operation_declared.operation.Operation.{Operation}
-use Rattle.access_run.specs.of_setup_access_Setting as settings
-use Rattle.access_run.specs.of_setup_access_Shown.{context_of}
-use Rattle.access_run.specs.of_setup_access_declared.begun.Begun.{Begun}
+use Rattle.memory_operation.specs.Operations.{Operates}
+use Rattle.memory_operation.specs.declared.effect.Effect.{Effect}
+use Rattle.memory_operation.specs.declared.operation.Operation.{Operation}
+use Rattle.setup_access.specs.Setting as settings
+use Rattle.setup_access.specs.Shown.{context_of}
+use Rattle.setup_access.specs.declared.begun.Begun.{Begun}
 use Rattle.slot_table.specs.declared.records.Record.{Record}
-use Rattle.access_run.proofs.of_task_context_Moments.{marks_of-append, marks_of-one}
-use Rattle.access_run.proofs.of_task_context_Surpluses.{surplus-le}
+use Rattle.task_context.proofs.Moments.{marks_of-append, marks_of-one}
+use Rattle.task_context.proofs.Surpluses.{surplus-le}
 use Rattle.task_plan.specs.Follow.{Follow, Taker, assigned, condition, goes_on, loaded_by, marks_next, nobody, so_many_off, so_often, to_register}
 use Rattle.task_plan.specs.Plans.{assignment_plan, call_plan, load_plan, planned_access}
 use Rattle.task_plan.specs.Views.{Plan}
@@ -50,9 +50,9 @@ use Rattle.task_run.proofs.GrowLemmas.{GoesOn, begins_on, choice_grows, makes_gr
 use Rattle.text_walk.specs.Left.{DueLeft}
 use Rattle.text_walk.specs.declared.due.Due.TheVariants as dues
 use Rattle.text_walk.specs.declared.walk.Walk.{Walk}
-use Rattle.text_walk.proofs.of_written_order_WayLemmas.{Begins}
-use Rattle.text_walk.specs.of_written_order_Standing.{BeginsNow, Setting, Standing, checks_of, counting, is_lock, moments}
-use Rattle.text_walk.specs.of_written_order_WrittenOrder.{Steps}
+use Rattle.written_order.proofs.WayLemmas.{Begins}
+use Rattle.written_order.specs.Standing.{BeginsNow, Setting, Standing, checks_of, counting, is_lock, moments}
+use Rattle.written_order.specs.WrittenOrder.{Steps}
 
 -- what holds anyhow holds where there is an error
 pub on_err : {T E P : Type 0} (r : Result T E) → P → OnErr r P

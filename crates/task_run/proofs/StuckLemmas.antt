@@ -13,22 +13,22 @@ use Rattle.access_run.specs.declared.stage.Stage.TheVariants as accessing
 use Rattle.access_types.specs.Access as access
 use Rattle.litmus_syntax.specs.Limits.{BlockScopes, block_rises}
 use Rattle.litmus_syntax.specs.Tree.{Block}
-use Rattle.access_run.proofs.of_memory_operation_LeadsLemmas as operations_lemmas
-use Rattle.access_run.proofs.of_memory_operation_LockLemmas.{only_try, taken_whole}
-use Rattle.access_run.specs.of_memory_operation_LockLeads.{LockLeads}
-use Rattle.access_run.specs.of_memory_operation_Leads as operations
-use Rattle.access_run.specs.of_memory_operation_Locks.{TakesLock}
-use Rattle.access_run.specs.of_memory_operation_declared.lock.LockWait.{LockWait}
-use Rattle.access_run.specs.of_memory_operation_declared.operation.Operation.{Operation}
-use Rattle.access_run.specs.of_memory_operation_declared.run.OperationRun.{OperationRun}
-use Rattle.access_run.proofs.of_setup_access_NextLemmas.{only_step}
-use Rattle.access_run.specs.of_setup_access_Check.{Check, Close, Passes}
-use Rattle.access_run.specs.of_setup_access_Checker.{Checks, Closes, Doing}
-use Rattle.access_run.specs.of_setup_access_Leads as checks
-use Rattle.access_run.specs.of_setup_access_Waits.{IsStuckBy}
-use Rattle.access_run.proofs.of_setup_access_LeadsLemmas.{same_ends}
-use Rattle.access_run.specs.of_setup_access_declared.begun.Begun.{Begun}
-use Rattle.access_run.specs.of_setup_access_declared.source.Source.{Source}
+use Rattle.memory_operation.proofs.LeadsLemmas as operations_lemmas
+use Rattle.memory_operation.proofs.LockLemmas.{only_try, taken_whole}
+use Rattle.memory_operation.specs.LockLeads.{LockLeads}
+use Rattle.memory_operation.specs.Leads as operations
+use Rattle.memory_operation.specs.Locks.{TakesLock}
+use Rattle.memory_operation.specs.declared.lock.LockWait.{LockWait}
+use Rattle.memory_operation.specs.declared.operation.Operation.{Operation}
+use Rattle.memory_operation.specs.declared.run.OperationRun.{OperationRun}
+use Rattle.setup_access.proofs.NextLemmas.{only_step}
+use Rattle.setup_access.specs.Check.{Check, Close, Passes}
+use Rattle.setup_access.specs.Checker.{Checks, Closes, Doing}
+use Rattle.setup_access.specs.Leads as checks
+use Rattle.setup_access.specs.Waits.{IsStuckBy}
+use Rattle.setup_access.proofs.LeadsLemmas.{same_ends}
+use Rattle.setup_access.specs.declared.begun.Begun.{Begun}
+use Rattle.setup_access.specs.declared.source.Source.{Source}
 use Rattle.slot_table.specs.declared.records.Record.{Record}
 use Rattle.slot_table.specs.declared.step.Step.{Step}
 use Rattle.slot_table.specs.declared.step.Step.TheVariants.{LockTry, PairLoad}
@@ -52,10 +52,10 @@ use Rattle.task_run.specs.declared.stage.Stage.TheVariants as stages
 use Rattle.text_bounds.proofs.Passes.{passes_none}
 use Rattle.text_walk.specs.Left.{DueLeft}
 use Rattle.text_walk.specs.declared.due.Due.{Due}
-use Rattle.text_walk.specs.of_written_order_Standing.{Setting, Standing, checks_of, lock_number}
-use Rattle.text_walk.specs.of_written_order_Waits as waits
-use Rattle.text_walk.specs.of_written_order_Waits.{IsTooMuch, OnlyStep}
-use Rattle.text_walk.specs.of_written_order_WrittenOrder.{SpellsAll, WrittenOrder}
+use Rattle.written_order.specs.Standing.{Setting, Standing, checks_of, lock_number}
+use Rattle.written_order.specs.Waits as waits
+use Rattle.written_order.specs.Waits.{IsTooMuch, OnlyStep}
+use Rattle.written_order.specs.WrittenOrder.{SpellsAll, WrittenOrder}
 
 loads_next : (task index : ℕ) (records : List Record) → checks.GoOn task (PairLoad index) records → LoadsNext index records
 loads_next task index [] h = h

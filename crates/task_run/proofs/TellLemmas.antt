@@ -2,8 +2,8 @@
 use Rattle.std.specs.Option.{is_some}
 use Rattle.std.proofs.Common.{◌≡◌, ◌↔◌, ◌∙◌, ℕ, Bool, IsFalse, IsTrue, List, [], ◌∷◌, None, Option, ap, false, not, refl, subst, sym, true}
 use Rattle.access_types.specs.Access as access
-use Rattle.access_run.specs.of_memory_operation_declared.operation.Operation.{Operation}
-use Rattle.access_run.specs.of_setup_access_declared.begun.Begun.{Begun}
+use Rattle.memory_operation.specs.declared.operation.Operation.{Operation}
+use Rattle.setup_access.specs.declared.begun.Begun.{Begun}
 use Rattle.slot_table.specs.declared.records.Record.{Record}
 use Rattle.task_plan.specs.Follow.{Follow}
 use Rattle.task_run.specs.Agrees.{IsIn, begins_now}
@@ -15,7 +15,7 @@ use Rattle.task_run.specs.declared.news.News.{News}
 use Rattle.task_run.specs.declared.run.TaskRun.{TaskRun}
 use Rattle.task_run.specs.declared.stage.Stage.{Stage}
 use Rattle.task_run.specs.declared.stage.Stage.TheVariants as stages
-use Rattle.text_walk.specs.of_written_order_Standing.{BeginsNow, Setting, Standing}
+use Rattle.written_order.specs.Standing.{BeginsNow, Setting, Standing}
 
 -- no access begins in this stage
 abbrev pub IsQuiet : Stage → Type 0

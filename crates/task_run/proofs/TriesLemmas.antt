@@ -9,47 +9,47 @@ use Rattle.access_run.specs.declared.stage.Stage as access_stages
 use Rattle.access_run.specs.declared.stage.Stage.TheVariants.{Check, End, Operate, Over}
 use Rattle.access_types.specs.Access.{Access}
 use Rattle.access_types.specs.Sites.{map_of}
-use Rattle.access_run.specs.of_memory_operation_LockLeads.{IsStuckAtLock, LockSays}
-use Rattle.access_run.specs.of_memory_operation_Leads as operations
-use Rattle.access_run.specs.of_memory_operation_Locks.{TakesLock}
-use Rattle.access_run.specs.of_memory_operation_Operations.{Exchanges, Operates, OperatesIn}
-use Rattle.access_run.specs.of_memory_operation_Stages as operation_stages
-use Rattle.access_run.specs.of_memory_operation_Values.{is_wanted, new_value, with_value}
-use Rattle.access_run.specs.of_memory_operation_Effects.{and_then, changed}
-use Rattle.access_run.specs.of_memory_operation_Waits as waits
-use Rattle.access_run.specs.of_memory_operation_declared.effect.Effect.{Effect}
-use Rattle.access_run.specs.of_memory_operation_declared.lock.LockWait.{LockWait}
-use Rattle.access_run.specs.of_memory_operation_declared.operation.Change.{Change}
-use Rattle.access_run.specs.of_memory_operation_declared.operation.Operation.{Operation}
-use Rattle.access_run.specs.of_memory_operation_declared.operation.Operation.TheVariants as kinds
-use Rattle.access_run.specs.of_memory_operation_declared.run.OperationRun.{OperationRun}
-use Rattle.access_run.specs.of_memory_operation_declared.stage.Stage as operating
-use Rattle.access_run.specs.of_memory_operation_declared.stage.Stage.TheVariants as operating_stages
-use Rattle.access_run.specs.of_setup_access_Checker.{Doing}
-use Rattle.access_run.specs.of_setup_access_Kept.{setting_with}
-use Rattle.access_run.specs.of_setup_access_Leads as checks
-use Rattle.access_run.specs.of_setup_access_Parts.{made}
-use Rattle.access_run.specs.of_setup_access_PassLeft.{pass_step}
-use Rattle.access_run.specs.of_setup_access_Setting as settings
-use Rattle.access_run.specs.of_setup_access_Values.{value_in}
-use Rattle.access_run.specs.of_setup_access_Waiting.{capped, pass_wait, stage_wait}
-use Rattle.access_run.specs.of_setup_access_Waits.{Wait, after_half, after_load, wait_after, wait_from, wait_on}
-use Rattle.access_run.specs.of_setup_access_declared.begun.Begun.{Begun}
-use Rattle.access_run.specs.of_setup_access_declared.checker.Checker.{Checker}
-use Rattle.access_run.specs.of_setup_access_declared.found.Found.TheVariants as founds
-use Rattle.access_run.specs.of_setup_access_declared.pass.Pass.{Pass}
-use Rattle.access_run.specs.of_setup_access_declared.pass.Pass.TheVariants as passes
-use Rattle.access_run.specs.of_setup_access_declared.setup.Setup.TheVariants as setups
-use Rattle.access_run.specs.of_setup_access_declared.source.Source.{Source}
-use Rattle.access_run.specs.of_setup_access_declared.stage.Stage as check_stages
-use Rattle.access_run.specs.of_setup_access_declared.stage.Stage.TheVariants as checking
+use Rattle.memory_operation.specs.LockLeads.{IsStuckAtLock, LockSays}
+use Rattle.memory_operation.specs.Leads as operations
+use Rattle.memory_operation.specs.Locks.{TakesLock}
+use Rattle.memory_operation.specs.Operations.{Exchanges, Operates, OperatesIn}
+use Rattle.memory_operation.specs.Stages as operation_stages
+use Rattle.memory_operation.specs.Values.{is_wanted, new_value, with_value}
+use Rattle.memory_operation.specs.Effects.{and_then, changed}
+use Rattle.memory_operation.specs.Waits as waits
+use Rattle.memory_operation.specs.declared.effect.Effect.{Effect}
+use Rattle.memory_operation.specs.declared.lock.LockWait.{LockWait}
+use Rattle.memory_operation.specs.declared.operation.Change.{Change}
+use Rattle.memory_operation.specs.declared.operation.Operation.{Operation}
+use Rattle.memory_operation.specs.declared.operation.Operation.TheVariants as kinds
+use Rattle.memory_operation.specs.declared.run.OperationRun.{OperationRun}
+use Rattle.memory_operation.specs.declared.stage.Stage as operating
+use Rattle.memory_operation.specs.declared.stage.Stage.TheVariants as operating_stages
+use Rattle.setup_access.specs.Checker.{Doing}
+use Rattle.setup_access.specs.Kept.{setting_with}
+use Rattle.setup_access.specs.Leads as checks
+use Rattle.setup_access.specs.Parts.{made}
+use Rattle.setup_access.specs.PassLeft.{pass_step}
+use Rattle.setup_access.specs.Setting as settings
+use Rattle.setup_access.specs.Values.{value_in}
+use Rattle.setup_access.specs.Waiting.{capped, pass_wait, stage_wait}
+use Rattle.setup_access.specs.Waits.{Wait, after_half, after_load, wait_after, wait_from, wait_on}
+use Rattle.setup_access.specs.declared.begun.Begun.{Begun}
+use Rattle.setup_access.specs.declared.checker.Checker.{Checker}
+use Rattle.setup_access.specs.declared.found.Found.TheVariants as founds
+use Rattle.setup_access.specs.declared.pass.Pass.{Pass}
+use Rattle.setup_access.specs.declared.pass.Pass.TheVariants as passes
+use Rattle.setup_access.specs.declared.setup.Setup.TheVariants as setups
+use Rattle.setup_access.specs.declared.source.Source.{Source}
+use Rattle.setup_access.specs.declared.stage.Stage as check_stages
+use Rattle.setup_access.specs.declared.stage.Stage.TheVariants as checking
 use Rattle.slot_table.specs.declared.records.Record.{Record}
 use Rattle.slot_table.specs.declared.step.Answer.{Answer}
 use Rattle.slot_table.specs.declared.step.Answer.TheVariants as answers
 use Rattle.slot_table.specs.declared.step.Step.{Step}
 use Rattle.slot_table.specs.declared.step.Step.TheVariants.{CellExchange, CellLoad, Clear, Clock, Consume, Insert, Load, LockStore, LockTry, Name, PairLoad, Remove, Tell, TryConsume}
 use Rattle.task_run.proofs.WaitLemmas.{check_says}
-use Rattle.text_walk.specs.of_written_order_Waits.{IsTooMuch, vain_tries, is_tried_again}
+use Rattle.written_order.specs.Waits.{IsTooMuch, vain_tries, is_tried_again}
 
 -- records, the oldest first, before others, which stand with the latest first
 abbrev pub onto : List Record → List Record → List Record

@@ -6,32 +6,32 @@ use Rattle.access_run.specs.Leads as accesses
 use Rattle.access_run.specs.declared.stage.Stage as access_stages
 use Rattle.access_run.specs.declared.stage.Stage.TheVariants.{Check, End, Operate, Over}
 use Rattle.access_types.specs.Sites.{map_of}
-use Rattle.access_run.specs.of_memory_operation_Locks.{TakesLock}
-use Rattle.access_run.specs.of_memory_operation_Stages as operation_stages
-use Rattle.access_run.specs.of_memory_operation_declared.run.OperationRun.{OperationRun}
-use Rattle.access_run.specs.of_memory_operation_declared.stage.Stage as operating
-use Rattle.access_run.specs.of_memory_operation_declared.stage.Stage.TheVariants as operating_stages
-use Rattle.access_run.proofs.of_setup_access_DisciplineLemmas.{on_flag}
-use Rattle.access_run.specs.of_setup_access_Kept.{setting_with}
-use Rattle.access_run.specs.of_setup_access_Leads as checks
-use Rattle.access_run.specs.of_setup_access_PassLeft.{pass_step}
-use Rattle.access_run.specs.of_setup_access_Records.{OnFlag}
-use Rattle.access_run.specs.of_setup_access_Setting as settings
-use Rattle.access_run.specs.of_setup_access_declared.begun.Begun.{Begun}
-use Rattle.access_run.specs.of_setup_access_declared.checker.Checker.{Checker}
-use Rattle.access_run.specs.of_setup_access_declared.found.Found.TheVariants as founds
-use Rattle.access_run.specs.of_setup_access_declared.pass.Pass.{Pass}
-use Rattle.access_run.specs.of_setup_access_declared.pass.Pass.TheVariants as passes
-use Rattle.access_run.specs.of_setup_access_declared.setup.Setup.TheVariants as setups
-use Rattle.access_run.specs.of_setup_access_declared.stage.Stage as check_stages
-use Rattle.access_run.specs.of_setup_access_declared.stage.Stage.TheVariants as checking
+use Rattle.memory_operation.specs.Locks.{TakesLock}
+use Rattle.memory_operation.specs.Stages as operation_stages
+use Rattle.memory_operation.specs.declared.run.OperationRun.{OperationRun}
+use Rattle.memory_operation.specs.declared.stage.Stage as operating
+use Rattle.memory_operation.specs.declared.stage.Stage.TheVariants as operating_stages
+use Rattle.setup_access.proofs.DisciplineLemmas.{on_flag}
+use Rattle.setup_access.specs.Kept.{setting_with}
+use Rattle.setup_access.specs.Leads as checks
+use Rattle.setup_access.specs.PassLeft.{pass_step}
+use Rattle.setup_access.specs.Records.{OnFlag}
+use Rattle.setup_access.specs.Setting as settings
+use Rattle.setup_access.specs.declared.begun.Begun.{Begun}
+use Rattle.setup_access.specs.declared.checker.Checker.{Checker}
+use Rattle.setup_access.specs.declared.found.Found.TheVariants as founds
+use Rattle.setup_access.specs.declared.pass.Pass.{Pass}
+use Rattle.setup_access.specs.declared.pass.Pass.TheVariants as passes
+use Rattle.setup_access.specs.declared.setup.Setup.TheVariants as setups
+use Rattle.setup_access.specs.declared.stage.Stage as check_stages
+use Rattle.setup_access.specs.declared.stage.Stage.TheVariants as checking
 use Rattle.slot_table.specs.declared.records.Record.{Record}
 use Rattle.slot_table.specs.declared.step.Answer.{Answer}
 use Rattle.slot_table.specs.declared.step.Answer.TheVariants as answers
 use Rattle.slot_table.specs.declared.step.Step.{Step}
 use Rattle.slot_table.specs.declared.step.Step.TheVariants.{CellExchange, CellLoad, Clear, Clock, Consume, Insert, Load, LockStore, LockTry, Name, PairLoad, Remove, Tell, TryConsume}
 use Rattle.task_run.specs.Leads.{EndInNoWait}
-use Rattle.text_walk.specs.of_written_order_Waits.{is_no, is_refused, tries_lock, vain_tries, is_tried_again}
+use Rattle.written_order.specs.Waits.{is_no, is_refused, tries_lock, vain_tries, is_tried_again}
 
 -- the step tries no lock
 abbrev pub IsNoTry : Step → Type 0

@@ -5,16 +5,16 @@ use Rattle.access_run.specs.Whole.{NoneWhole}
 use Rattle.access_run.specs.declared.access.AccessRun.{AccessRun}
 use Rattle.access_types.specs.declared.history.Happening.TheVariants.{Begin}
 use Rattle.litmus_meaning.specs.Task.{has_lock}
-use Rattle.access_run.specs.of_memory_operation_LockLeads.{LockLeads}
-use Rattle.access_run.specs.of_memory_operation_Locks.{TakesLock}
-use Rattle.access_run.specs.of_memory_operation_declared.lock.LockWait.{LockWait}
-use Rattle.access_run.specs.of_memory_operation_declared.operation.Change.TheVariants as changes
-use Rattle.access_run.specs.of_memory_operation_declared.operation.Operation.{Operation}
-use Rattle.access_run.specs.of_memory_operation_declared.operation.Operation.TheVariants as operations
-use Rattle.access_run.specs.of_setup_access_Check.{Check, Close}
-use Rattle.access_run.specs.of_setup_access_Checker.{Checks, Closes}
-use Rattle.access_run.specs.of_setup_access_Leads as checks
-use Rattle.access_run.specs.of_setup_access_declared.begun.Begun.{Begun}
+use Rattle.memory_operation.specs.LockLeads.{LockLeads}
+use Rattle.memory_operation.specs.Locks.{TakesLock}
+use Rattle.memory_operation.specs.declared.lock.LockWait.{LockWait}
+use Rattle.memory_operation.specs.declared.operation.Change.TheVariants as changes
+use Rattle.memory_operation.specs.declared.operation.Operation.{Operation}
+use Rattle.memory_operation.specs.declared.operation.Operation.TheVariants as operations
+use Rattle.setup_access.specs.Check.{Check, Close}
+use Rattle.setup_access.specs.Checker.{Checks, Closes}
+use Rattle.setup_access.specs.Leads as checks
+use Rattle.setup_access.specs.declared.begun.Begun.{Begun}
 use Rattle.slot_table.specs.declared.records.Record.{Record}
 use Rattle.task_plan.specs.Follow.{Follow, loaded_by}
 use Rattle.task_run.specs.Part.{Part, PartLeft, closes, locks, makes, opens, over, stops, unlocks}
@@ -26,10 +26,10 @@ use Rattle.task_plan.specs.declared.follow.Then.{Then}
 use Rattle.task_run.specs.declared.machine.Machine.{Machine}
 use Rattle.task_run.specs.declared.stage.Stage.{Stage}
 use Rattle.task_run.specs.declared.stage.Stage.TheVariants as stages
-use Rattle.text_walk.specs.of_written_order_Standing.{BeginsNow, IsDisabled, IsLockAt, Setting, Standing, checks_of, doing, lock_number}
+use Rattle.written_order.specs.Standing.{BeginsNow, IsDisabled, IsLockAt, Setting, Standing, checks_of, doing, lock_number}
 use Rattle.text_bounds.specs.Scopes.{is_scoped}
 use Rattle.text_walk.specs.Left.{DueLeft}
-use Rattle.text_walk.specs.of_written_order_WrittenOrder.{Steps}
+use Rattle.written_order.specs.WrittenOrder.{Steps}
 
 -- where the task stands while it is in the part: an access begins with it
 abbrev pub in_part : Part → Standing → Standing

@@ -1,11 +1,11 @@
 -- A second machine that is where a first is.
 use Rattle.std.specs.Prelude.{◌≡◌, ℕ}
 use Rattle.std.specs.Arc.{arc_value}
-use Rattle.access_run.specs.of_setup_access_Copies as checker
+use Rattle.setup_access.specs.Copies as checker
 use Rattle.task_plan.specs.Keeps.{Keeps}
 use Rattle.task_run.specs.declared.machine.Machine.{Machine}
 use Rattle.text_walk.specs.Copies as walk
-use Rattle.text_walk.specs.of_written_order_Standing.{Standing}
+use Rattle.written_order.specs.Standing.{Standing}
 
 -- a copy of a machine: it goes by the same, and is as far in its text
 pub record IsCopy (machine copy : Machine) : Type 0 where

@@ -10,8 +10,8 @@ use Rattle.task_run.specs.declared.machine.Machine.{Machine}
 use Rattle.task_run.specs.declared.stage.Stage.{Stage}
 use Rattle.text_walk.specs.Left.{BodyLeft, Then, WalkLeft}
 use Rattle.text_walk.specs.declared.walk.Walk.{Walk}
-use Rattle.text_walk.specs.of_written_order_Standing.{Setting, Standing}
-use Rattle.text_walk.specs.of_written_order_WrittenOrder.{Steps, StepsOf, StepsOfExpression}
+use Rattle.written_order.specs.Standing.{Setting, Standing}
+use Rattle.written_order.specs.WrittenOrder.{Steps, StepsOf, StepsOfExpression}
 
 -- a statement, and then what is left of the text
 abbrev pub StatementDue : Setting → Statement → ℕ → Walk → Steps

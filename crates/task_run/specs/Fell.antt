@@ -3,12 +3,12 @@ use Rattle.std.specs.Prelude.{◌≡◌, ◌==◌, ◌++◌, ℕ, List, [], ◌�
 use Rattle.std.specs.List.{filter}
 use Rattle.std.specs.Option.{option_to_list}
 use Rattle.litmus_syntax.specs.Tree.{Block}
-use Rattle.access_run.specs.of_memory_operation_declared.effect.Effect.{Effect}
-use Rattle.access_run.specs.of_setup_access_Check.{Fallen}
-use Rattle.access_run.specs.of_setup_access_Fallen.{outcomes_in}
-use Rattle.access_run.specs.of_setup_access_Parts.{made}
-use Rattle.access_run.specs.of_setup_access_declared.begun.Begun.{Begun}
-use Rattle.access_run.specs.of_setup_access_declared.outcome.Outcome.{Outcome}
+use Rattle.memory_operation.specs.declared.effect.Effect.{Effect}
+use Rattle.setup_access.specs.Check.{Fallen}
+use Rattle.setup_access.specs.Fallen.{outcomes_in}
+use Rattle.setup_access.specs.Parts.{made}
+use Rattle.setup_access.specs.declared.begun.Begun.{Begun}
+use Rattle.setup_access.specs.declared.outcome.Outcome.{Outcome}
 use Rattle.slot_table.specs.declared.records.Record.{Record}
 use Rattle.slot_table.specs.declared.step.Answer.{Answer}
 use Rattle.slot_table.specs.declared.step.Step.{Step}
@@ -16,9 +16,9 @@ use Rattle.task_run.specs.Leads.{Leads}
 use Rattle.task_run.specs.Part.{Part, closes, makes, opens}
 use Rattle.task_run.specs.Says.{Says}
 use Rattle.task_run.specs.declared.run.TaskRun.{TaskRun}
-use Rattle.text_walk.specs.of_written_order_Access.{Makes}
-use Rattle.text_walk.specs.of_written_order_Standing.{Setting, Standing}
-use Rattle.text_walk.specs.of_written_order_WrittenOrder.{ClosesScope, OpensScope}
+use Rattle.written_order.specs.Access.{Makes}
+use Rattle.written_order.specs.Standing.{Setting, Standing}
+use Rattle.written_order.specs.WrittenOrder.{ClosesScope, OpensScope}
 
 abbrev pub fell_of : TaskRun → Option Outcome
 fell_of run = run.news.fell

@@ -2,10 +2,10 @@
 use Rattle.std.specs.Prelude.{◌≡◌, ◌↔◌, ◌++◌, ℕ, List, [], ◌∷◌, Option, None, Some, reverse}
 use Rattle.litmus_syntax.specs.Tree.{Block}
 use Rattle.access_run.specs.Leads.{AccessIsStuck}
-use Rattle.access_run.specs.of_memory_operation_LockLeads.{IsStuckAtLock}
-use Rattle.access_run.specs.of_setup_access_Parts.{made}
-use Rattle.access_run.specs.of_setup_access_Waits.{IsStuckBy}
-use Rattle.access_run.specs.of_setup_access_declared.begun.Begun.{Begun}
+use Rattle.memory_operation.specs.LockLeads.{IsStuckAtLock}
+use Rattle.setup_access.specs.Parts.{made}
+use Rattle.setup_access.specs.Waits.{IsStuckBy}
+use Rattle.setup_access.specs.declared.begun.Begun.{Begun}
 use Rattle.slot_table.specs.declared.records.Record.{Record}
 use Rattle.slot_table.specs.declared.step.Answer.{Answer}
 use Rattle.slot_table.specs.declared.step.Step.{Step}
@@ -16,9 +16,9 @@ use Rattle.task_run.specs.Says.{Says}
 use Rattle.task_run.specs.Stops.{ScopesAreTold}
 use Rattle.task_run.specs.Told.{IsTold}
 use Rattle.task_run.specs.declared.run.TaskRun.{TaskRun}
-use Rattle.text_walk.specs.of_written_order_Standing.{BeginsNow, Setting, Standing, checks_of, lock_number}
-use Rattle.text_walk.specs.of_written_order_Waits.{vain_tries}
-use Rattle.text_walk.specs.of_written_order_WrittenOrder.{StepsOfBlock, at_first}
+use Rattle.written_order.specs.Standing.{BeginsNow, Setting, Standing, checks_of, lock_number}
+use Rattle.written_order.specs.Waits.{vain_tries}
+use Rattle.written_order.specs.WrittenOrder.{StepsOfBlock, at_first}
 
 -- these records, the oldest first, end in no vain try of a lock
 abbrev pub EndInNoWait : List Record → Type 0

@@ -6,20 +6,20 @@ use Rattle.access_types.specs.declared.history.Mark.TheVariants as marks
 use Rattle.litmus_meaning.specs.Expressions.{loading_value}
 use Rattle.litmus_meaning.specs.Meaning.{Chooses}
 use Rattle.litmus_meaning.specs.Values.{sign_extended}
-use Rattle.access_run.specs.of_memory_operation_Locks.{TakesLock}
-use Rattle.access_run.specs.of_memory_operation_declared.effect.Effect.{Effect}
-use Rattle.access_run.specs.of_memory_operation_declared.operation.Operation.{Operation}
-use Rattle.access_run.specs.of_setup_access_Records.{MakesDone}
-use Rattle.access_run.specs.of_setup_access_declared.begun.Begun.{Begun}
+use Rattle.memory_operation.specs.Locks.{TakesLock}
+use Rattle.memory_operation.specs.declared.effect.Effect.{Effect}
+use Rattle.memory_operation.specs.declared.operation.Operation.{Operation}
+use Rattle.setup_access.specs.Records.{MakesDone}
+use Rattle.setup_access.specs.declared.begun.Begun.{Begun}
 use Rattle.slot_table.specs.declared.records.Record.{Record}
 use Rattle.slot_table.specs.declared.step.Step.TheVariants.{LockStore}
 use Rattle.task_plan.specs.Follow.{Follow, Taker, assigned, condition, goes_on, loaded_by, marks_next, nobody, so_often, to_register}
 use Rattle.text_walk.specs.Left.{BodyLeft, ClosesNewest, DueLeft, NothingLeft, WalkLeft}
 use Rattle.text_walk.specs.declared.due.Due.{Due}
 use Rattle.text_walk.specs.declared.walk.Walk.{Walk}
-use Rattle.text_walk.specs.of_written_order_Access.{Makes}
-use Rattle.text_walk.specs.of_written_order_Standing.{IsLockAt, Setting, Standing, doing, lock_number, registered}
-use Rattle.text_walk.specs.of_written_order_WrittenOrder.{OpensScope, Steps, marked_so_often}
+use Rattle.written_order.specs.Access.{Makes}
+use Rattle.written_order.specs.Standing.{IsLockAt, Setting, Standing, doing, lock_number, registered}
+use Rattle.written_order.specs.WrittenOrder.{OpensScope, Steps, marked_so_often}
 
 -- reports are turned off, or on again, so many times over
 abbrev pub disabled : ℕ → Standing → List Record → Standing

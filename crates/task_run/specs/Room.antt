@@ -1,6 +1,6 @@
 -- What a task can hold before it takes memory.
 use Rattle.std.specs.Prelude.{◌++◌, ◌∷◌, ℕ, List}
-use Rattle.access_run.specs.of_setup_access_Shown as checker
+use Rattle.setup_access.specs.Shown as checker
 use Rattle.task_plan.specs.Room as progress
 use Rattle.task_run.specs.declared.machine.Machine.{Machine}
 use Rattle.task_run.specs.declared.run.TaskRun.{TaskRun}

@@ -1,14 +1,14 @@
 -- The step that a machine is before.
 use Rattle.std.specs.Prelude.{◌≡◌, count_by, take}
 use Rattle.access_run.specs.Leads.{AccessSays}
-use Rattle.access_run.specs.of_memory_operation_LockLeads.{LockSays}
-use Rattle.access_run.specs.of_setup_access_Leads as checks
+use Rattle.memory_operation.specs.LockLeads.{LockSays}
+use Rattle.setup_access.specs.Leads as checks
 use Rattle.slot_table.specs.declared.step.Step.{Step}
 use Rattle.slot_table.specs.declared.step.Step.TheVariants.{LockStore}
 use Rattle.task_run.specs.declared.run.TaskRun.{TaskRun}
 use Rattle.task_run.specs.declared.stage.Stage.{Stage}
 use Rattle.task_run.specs.declared.stage.Stage.TheVariants as stages
-use Rattle.text_walk.specs.of_written_order_Standing.{is_lock}
+use Rattle.written_order.specs.Standing.{is_lock}
 
 -- a task in a stage is before this step
 abbrev pub StageSays : Stage → TaskRun → Step → Type 0

@@ -3,16 +3,16 @@ use Rattle.std.specs.Prelude.{◌≡◌, ◌↔◌, List, [], ◌∷◌, Option,
 use Rattle.std.specs.Arc.{arc_value}
 use Rattle.access_types.specs.declared.history.Happening.TheVariants as happenings
 use Rattle.access_types.specs.declared.history.Mark.{Mark}
-use Rattle.program_sites.specs.of_program_layout_Lays.{Lays}
-use Rattle.access_run.specs.of_setup_access_Leads as checks
-use Rattle.access_run.specs.of_setup_access_Shown.{context_of}
-use Rattle.access_run.specs.of_setup_access_declared.begun.Begun.{Begun}
+use Rattle.program_layout.specs.Lays.{Lays}
+use Rattle.setup_access.specs.Leads as checks
+use Rattle.setup_access.specs.Shown.{context_of}
+use Rattle.setup_access.specs.declared.begun.Begun.{Begun}
 use Rattle.slot_table.specs.declared.records.Record.{Record}
-use Rattle.access_run.specs.of_task_context_History.{LeadsTo}
+use Rattle.task_context.specs.History.{LeadsTo}
 use Rattle.task_plan.specs.Keeps.{Keeps}
 use Rattle.task_run.specs.declared.machine.Machine.{Machine}
-use Rattle.text_walk.specs.of_written_order_Standing.{Setting, Standing, checks_of, doing, moments}
-use Rattle.text_walk.specs.of_written_order_WrittenOrder.{Steps}
+use Rattle.written_order.specs.Standing.{Setting, Standing, checks_of, doing, moments}
+use Rattle.written_order.specs.WrittenOrder.{Steps}
 
 -- the machine is of this task, and goes by the same
 pub record IsOf (s : Setting) (machine : Machine) : Type 0 where

@@ -1,14 +1,14 @@
 -- Why a task's machine stops.
 use Rattle.std.specs.Prelude.{◌≡◌, ◌<◌, List, [], ◌∷◌, length, true}
 use Rattle.access_types.specs.Access.{Access, IsInLimits}
-use Rattle.access_run.specs.of_setup_access_declared.begun.Begun.{Begun}
+use Rattle.setup_access.specs.declared.begun.Begun.{Begun}
 use Rattle.slot_table.specs.declared.records.Record.{Record}
 use Rattle.task_run.specs.Stands.{Stands}
 use Rattle.task_run.specs.declared.machine.Machine.{Machine}
 use Rattle.text_bounds.specs.Passes.{PassesALimit}
 use Rattle.text_bounds.specs.Scopes.{in_force, is_scoped}
-use Rattle.text_walk.specs.of_written_order_Standing.{Setting, Standing}
-use Rattle.text_walk.specs.of_written_order_WrittenOrder.{Steps}
+use Rattle.written_order.specs.Standing.{Setting, Standing}
+use Rattle.written_order.specs.WrittenOrder.{Steps}
 
 -- each of these is a scoped assertion
 abbrev pub AreScoped : List Begun → Type 0

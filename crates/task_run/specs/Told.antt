@@ -2,11 +2,11 @@
 use Rattle.std.specs.Prelude.{◌≡◌, ◌≤◌, ◌++◌, ℕ, Bool, List, [], ◌∷◌, length}
 use Rattle.access_types.specs.declared.history.Happening.{Happening}
 use Rattle.litmus_meaning.specs.Task.{Progress}
-use Rattle.access_run.specs.of_setup_access_Check.{Fallen}
+use Rattle.setup_access.specs.Check.{Fallen}
 use Rattle.slot_table.specs.declared.records.Record.{Record}
 use Rattle.text_bounds.specs.Scopes.{AreOfNoScope}
-use Rattle.text_walk.specs.of_written_order_Standing.{Point, Standing, coming, counting}
-use Rattle.text_walk.specs.of_written_order_WrittenOrder.{first_point}
+use Rattle.written_order.specs.Standing.{Point, Standing, coming, counting}
+use Rattle.written_order.specs.WrittenOrder.{first_point}
 
 -- what a task computes with these records still to come, from where it stood to where it stands then: no scoped
 -- assertion begins or ends in it

@@ -3,14 +3,14 @@
 ghost use Rattle.std.specs.Prelude.{◌≡◌, ◌+◌, ◌-◌, ◌<◌, ◌↔◌, ◌++◌, ◌∷◌, [], ℕ, List, IsTrue, None, Option, Some, length, slice_get};
 ghost use Rattle.std.specs.Arc.{arc_value};
 ghost use Rattle.access_run.specs.Leads.{AccessLeads, AccessSays};
-ghost use Rattle.access_run.specs.of_memory_operation_declared.operation.Operation.{Operation};
-ghost use Rattle.access_run.specs.of_setup_access_Checker.{Doing};
-ghost use Rattle.access_run.specs.of_setup_access_Leads as checks;
-ghost use Rattle.access_run.specs.of_setup_access_OwnAccesses.{IsOwn};
-ghost use Rattle.access_run.specs.of_setup_access_Parts.{made};
-ghost use Rattle.access_run.specs.of_setup_access_Setting as settings;
-ghost use Rattle.access_run.specs.of_setup_access_Shown.{context_of, outcomes_of};
-ghost use Rattle.access_run.specs.of_setup_access_declared.begun.Begun.{Begun};
+ghost use Rattle.memory_operation.specs.declared.operation.Operation.{Operation};
+ghost use Rattle.setup_access.specs.Checker.{Doing};
+ghost use Rattle.setup_access.specs.Leads as checks;
+ghost use Rattle.setup_access.specs.OwnAccesses.{IsOwn};
+ghost use Rattle.setup_access.specs.Parts.{made};
+ghost use Rattle.setup_access.specs.Setting as settings;
+ghost use Rattle.setup_access.specs.Shown.{context_of, outcomes_of};
+ghost use Rattle.setup_access.specs.declared.begun.Begun.{Begun};
 ghost use Rattle.slot_table.specs.Answer.{Answers};
 ghost use Rattle.slot_table.specs.declared.records.Record.{Record};
 ghost use Rattle.slot_table.specs.declared.step.Step.{Step};
@@ -18,7 +18,7 @@ ghost use Rattle.task_run.specs.Room.{room_of};
 
 use crate::machine::Machine;
 use access_run::AccessRun;
-use access_run::setup_access::Outcome;
+use setup_access::Outcome;
 use slot_table::Answer;
 
 /// What came of the answer of a check.

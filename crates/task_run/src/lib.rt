@@ -14,7 +14,5 @@ pub mod run;
 mod stage;
 
 pub use laws::{no_task_stops, one_step_is_next, too_long_a_wait_is_told_by_the_records};
-pub use program_sites;
-pub use program_sites::program_layout;
 pub use run::TaskRun;
 pub use task_points::{After, Before};

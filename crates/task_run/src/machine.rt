@@ -1,9 +1,9 @@
 //! What a task goes by, and how far it has come, between two parts of its text.
 
-use access_run::setup_access::{Begun, Checker, Rules};
 use access_types::Sites;
 use litmus_syntax::Variable;
-use program_sites::program_layout::Layout;
+use program_layout::Layout;
+use setup_access::{Begun, Checker, Rules};
 use std::sync::Arc;
 use task_plan::Progress;
 use text_walk::Walk;

@@ -5,7 +5,7 @@ ghost use Rattle.std.specs.Prelude.{Bool, IsTrue, List, OnErr, OnOk, count_by, â
 ghost use Rattle.access_types.specs.declared.history.Happening.TheVariants as happenings;
 ghost use Rattle.access_types.specs.declared.history.Mark.{Mark};
 ghost use Rattle.access_types.specs.declared.history.Mark.TheVariants.{Disable, Enable, FlatBegin, FlatEnd, NestClose, NestOpen, Next};
-ghost use Rattle.access_run.specs.of_setup_access_Shown.{context_of};
+ghost use Rattle.setup_access.specs.Shown.{context_of};
 ghost use Rattle.slot_table.specs.declared.records.Record.{Record};
 ghost use Rattle.litmus_syntax.specs.Tree as tree;
 ghost use Rattle.litmus_syntax.specs.declared.statement.Call.TheVariants as calls;
@@ -14,7 +14,7 @@ ghost use Rattle.task_run.specs.Part.{disabled, enabled};
 ghost use Rattle.task_run.specs.Room.{room_of};
 ghost use Rattle.task_run.specs.Stands.{AfterMark, Stands};
 ghost use Rattle.task_run.specs.Stops.{Stops};
-ghost use Rattle.text_walk.specs.of_written_order_Standing.{EndsNothing, Setting, Standing, counting, doing, is_lock, lock_number};
+ghost use Rattle.written_order.specs.Standing.{EndsNothing, Setting, Standing, counting, doing, is_lock, lock_number};
 
 use crate::machine::{Beyond, Machine};
 use access_types::Mark;

@@ -8,10 +8,10 @@ use crate::machine::Machine;
 use crate::news::News;
 use crate::stage::Stage;
 use access_run::AccessRun;
-use access_run::memory_operation::LockWait;
-use access_run::setup_access::{Begun, Outcome};
 use litmus_syntax::Program;
+use memory_operation::LockWait;
 use program_sites::{Prepared, RunError, Settings};
+use setup_access::{Begun, Outcome};
 use slot_table::{Answer, Step};
 use std::alloc::{AllocError, Global};
 use std::sync::Arc;
@@ -33,7 +33,7 @@ impl<'a> TaskRun<'a> {
     ghost use Rattle.litmus_syntax.specs.Limits.{BlockScopes, KeepsLimits, block_rises};
     ghost use Rattle.litmus_syntax.specs.Tree.{Block};
     ghost use Rattle.litmus_syntax.specs.Views.{block_of, program_of};
-    ghost use Rattle.program_sites.specs.of_program_layout_Places.{AreFit, places_of};
+    ghost use Rattle.program_layout.specs.Places.{AreFit, places_of};
     ghost use Rattle.litmus_syntax.specs.declared.program.Task.{Task};
     ghost use Rattle.program_sites.specs.Errors.{IsOfPreparing};
     ghost use Rattle.program_sites.specs.Prepared.{IsPrepared, IsReady, sites_in};
@@ -50,19 +50,19 @@ impl<'a> TaskRun<'a> {
     ghost use Rattle.task_run.specs.Says.{IsGoing, IsStopped, Says};
     ghost use Rattle.task_run.specs.Fell.{FellAt, fell_of};
     ghost use Rattle.std.specs.Option.{is_some};
-    ghost use Rattle.access_run.specs.of_setup_access_declared.begun.Begun.{Begun};
+    ghost use Rattle.setup_access.specs.declared.begun.Begun.{Begun};
     ghost use Rattle.task_run.specs.Points.{HasMade, Stepped, kept_by, last_was, next_is};
     ghost use Rattle.task_run.specs.Room.{room_of, task_room};
-    ghost use Rattle.text_walk.specs.of_written_order_Waits.{OnlyStep, WithinTurns};
-    ghost use Rattle.access_run.specs.of_setup_access_Parts.{made};
+    ghost use Rattle.written_order.specs.Waits.{OnlyStep, WithinTurns};
+    ghost use Rattle.setup_access.specs.Parts.{made};
     ghost use Rattle.slot_table.specs.declared.step.Answer.{Answer};
     ghost use Rattle.program_sites.specs.declared.error.RunError.TheVariants.{BadPlace, BadSlots};
     ghost use Rattle.access_run.specs.declared.access.AccessRun as accesses;
-    ghost use Rattle.access_run.specs.of_memory_operation_declared.lock.LockWait as locks;
+    ghost use Rattle.memory_operation.specs.declared.lock.LockWait as locks;
     ghost use Rattle.task_run.specs.declared.stage.Stage.TheVariants.{Closing, Locking, Making, Opening, Unlocking};
-    ghost use Rattle.text_walk.specs.of_written_order_Standing.{Setting};
-    ghost use Rattle.text_walk.specs.of_written_order_Waits as waits;
-    ghost use Rattle.text_walk.specs.of_written_order_WrittenOrder.{SpellsAll, WrittenOrder};
+    ghost use Rattle.written_order.specs.Standing.{Setting};
+    ghost use Rattle.written_order.specs.Waits as waits;
+    ghost use Rattle.written_order.specs.WrittenOrder.{SpellsAll, WrittenOrder};
 
     /// The task of this number before its first step. It takes all its room, and no call after it takes memory.
     ///

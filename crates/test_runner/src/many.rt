@@ -2,12 +2,12 @@
 
 use crate::runs::{Meeting, RACE, THOUSAND, TWO_STUCK, Unseen, has, parsed, settings, wait};
 use crate::same::same;
-use run_tally::litmus_step::Prepared;
-use run_tally::runner::{Gate, NoStall, Open, Point, RunError, Stall, Turn, run_batch};
-use run_tally::trace_replay::{Accepted, replay};
+use litmus_step::Prepared;
 use run_tally::{Hooks, Progress, Times, run_text_often, run_text_with};
+use runner::{Gate, NoStall, Open, Point, RunError, Stall, Turn, run_batch};
 use std::sync::atomic::{AtomicU64, Ordering};
 use std::test::Fail;
+use trace_replay::{Accepted, replay};
 
 /// One plain read, which is watched, beside 200 marked reads of something else, which aren't.
 const BESIDE: &str =

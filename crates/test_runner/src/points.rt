@@ -2,7 +2,7 @@
 
 use crate::runs::{RACE, parsed, settings, wait};
 use crate::same::same;
-use run_tally::runner::{Gate, NoStall, Point, Stall, run_once};
+use runner::{Gate, NoStall, Point, Stall, run_once};
 use std::sync::atomic::{AtomicU64, Ordering};
 use std::test::Fail;
 

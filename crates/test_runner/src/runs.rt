@@ -1,16 +1,16 @@
 //! Programs on real threads.
 
 ghost use Rattle.std.specs.Prelude.{◌≤◌, IfOk};
-ghost use Rattle.run_tally.specs.of_litmus_syntax_Limits.{KeepsLimits};
-ghost use Rattle.run_tally.specs.of_litmus_syntax_Views.{program_of};
+ghost use Rattle.litmus_syntax.specs.Limits.{KeepsLimits};
+ghost use Rattle.litmus_syntax.specs.Views.{program_of};
 
 use crate::same::same;
-use run_tally::litmus_parse::{ParseError, Program, parse};
-use run_tally::litmus_step::{Prepared, Settings};
-use run_tally::runner::{
+use litmus_parse::{ParseError, Program, parse};
+use litmus_step::{Prepared, Settings};
+use run_tally::{Delay, EngineError, Progress, Times, Written, run_text_often};
+use runner::{
     Gate, NoStall, Open, Point, RunError, RunResult, Stall, Turn, run_once, run_prepared,
 };
-use run_tally::{Delay, EngineError, Progress, Times, Written, run_text_often};
 use std::alloc::{AllocError, Global};
 use std::sync::Wait;
 use std::sync::atomic::{AtomicU64, Ordering};

@@ -6,7 +6,7 @@ ghost use Rattle.slot_table.specs.Answer.{Answers};
 ghost use Rattle.slot_table.specs.Records.{records_of};
 
 use crate::same::{same, same_at};
-use run_tally::shared_table::{Gathered, SharedBoard, SharedTable, TaskSeat};
+use shared_table::{Gathered, SharedBoard, SharedTable, TaskSeat};
 use slot_table::discipline::allows;
 use slot_table::{Answer, Board, BoardError, Record, Shape, Step};
 use std::alloc::{AllocError, Global};

@@ -2,7 +2,7 @@
 
 use crate::texts::Texts;
 use litmus_parse::{ParseError, parse};
-use oracle_searched::litmus_step::{RunError, Settings};
+use litmus_step::{RunError, Settings};
 use oracle_searched::searched_schedules;
 use std::alloc::{AllocError, Global};
 use thiserror::Error;

@@ -3,14 +3,14 @@
 #![tactic(auto)]
 
 ghost use Rattle.std.specs.Prelude.{IfOk};
-ghost use Rattle.litmus_parse.specs.of_litmus_syntax_Limits.{KeepsLimits};
-ghost use Rattle.litmus_parse.specs.of_litmus_syntax_Views.{program_of};
+ghost use Rattle.litmus_syntax.specs.Limits.{KeepsLimits};
+ghost use Rattle.litmus_syntax.specs.Views.{program_of};
 
 use litmus_parse::{ParseError, Program, parse};
+use program_sites::{RunError, Settings};
 use std::alloc::Global;
 use std::process::ExitCode;
 use task_run::TaskRun;
-use task_run::program_sites::{RunError, Settings};
 use watch_word::Layout;
 
 /// The status where the task's own room is refused.

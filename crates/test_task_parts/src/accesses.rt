@@ -4,11 +4,11 @@ use crate::fault::Fault;
 use crate::notation::{Phrase, cut, kind_of, push_flag, push_step, push_two};
 use crate::script::{Asked, Made, begin_word, make_other, push_made};
 use access_run::AccessRun;
-use access_run::memory_operation::Operation;
 use access_types::{Access, Kind, Sites};
+use memory_operation::Operation;
+use setup_access::{Checker, Rules};
 use slot_table::{Board, PlainBoard, Shape};
 use std::alloc::{AllocError, Global};
-use task_log::setup_access::{Checker, Rules};
 use watch_word::Layout;
 
 /// The cell of x, whose first four bytes the accesses touch.

@@ -2,10 +2,10 @@
 
 use access_types::AccessError;
 use litmus_parse::ParseError;
+use program_layout::LayoutError;
+use setup_access::CheckerError;
 use slot_table::BoardError;
 use std::alloc::{AllocError, AllocFailed};
-use task_log::setup_access::CheckerError;
-use task_plan::program_layout::LayoutError;
 
 /// Why nothing comes of a row.
 #[derive(Clone, Copy)]

@@ -5,12 +5,12 @@ use crate::notation::{Phrase, cut, kind_of, number, push_flag, push_number};
 use crate::process::SITES;
 use crate::script::{Asked, begin_word};
 use access_types::Access;
+use setup_access::Begun;
 use slot_table::{Answer, Step};
 use std::alloc::{AllocError, Global};
 use task_log::counters::Counters;
 use task_log::log::TaskLog;
 use task_log::noted::Noted;
-use task_log::setup_access::Begun;
 use task_plan::Progress;
 
 /// What a task keeps of what it did: `REGISTERS VARIABLES`.

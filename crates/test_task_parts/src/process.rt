@@ -3,8 +3,8 @@
 use crate::fault::Fault;
 use litmus_parse::{Program, parse};
 use litmus_syntax::Statement;
+use program_layout::Layout;
 use std::alloc::Global;
-use task_plan::program_layout::Layout;
 use text_walk::Walk;
 use text_walk::count::sites_in;
 

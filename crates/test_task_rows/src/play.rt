@@ -1,16 +1,16 @@
 //! Tasks of a program make their steps on plain words.
 
 ghost use Rattle.std.specs.Prelude.{IfOk};
-ghost use Rattle.place_list.specs.of_litmus_syntax_Limits.{KeepsLimits};
-ghost use Rattle.place_list.specs.of_litmus_syntax_Views.{program_of};
+ghost use Rattle.litmus_syntax.specs.Limits.{KeepsLimits};
+ghost use Rattle.litmus_syntax.specs.Views.{program_of};
 
 use crate::notation::Story;
 use litmus_parse::{ParseError, Program, parse};
+use program_sites::{Prepared, RunError, Settings};
 use slot_table::{Answer, Board, BoardError, PlainBoard, Shape, Step};
 use std::alloc::{AllocError, Global};
 use step_schedule::{Entry, Schedule};
 use task_run::TaskRun;
-use task_run::program_sites::{Prepared, RunError, Settings};
 use thiserror::Error;
 
 /// A program has so many tasks at most.

@@ -3,10 +3,10 @@
 use crate::play::{PlayError, Scene, played};
 use crate::texts::Texts;
 use place_list::parse_places;
-use place_list::program_layout::Place;
+use program_layout::Place;
+use program_sites::Settings;
 use std::alloc::{AllocError, Global};
 use step_schedule::Schedule;
-use task_run::program_sites::Settings;
 use watch_word::Layout;
 
 /// The rules and the schedule of a text of one task.

@@ -2,7 +2,7 @@
 
 use list_faults::{place_fault, schedule_fault};
 use place_list::parse_places;
-use program_sites::program_layout::Place;
+use program_layout::Place;
 use program_sites::{RunError, Settings};
 use std::alloc::{AllocError, Global};
 use test_escapes::unescaped;

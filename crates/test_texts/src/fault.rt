@@ -1,6 +1,6 @@
 //! Why nothing is shown of a row.
 
-use printed_bytes::litmus_parse::ParseError;
+use litmus_parse::ParseError;
 use std::alloc::{AllocError, AllocFailed};
 
 /// Why nothing is shown of a row.

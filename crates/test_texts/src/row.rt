@@ -3,7 +3,7 @@
 use crate::blocks::{Block, Blocks};
 use crate::fault::Fault;
 use crate::{accesses, meaning, order, sources, tokens};
-use printed_bytes::litmus_parse::{Program, parse};
+use litmus_parse::{Program, parse};
 use printed_bytes::read_back;
 use std::alloc::{AllocError, Global};
 use std::fmt::Write;

@@ -1,18 +1,18 @@
 -- What a text does counts no more than its parts, by induction on the text.
 use Rattle.std.proofs.Common.{◌≡◌, ◌≤◌, ◌+◌, ◌*◌, ◌++◌, ℕ, zero, suc, Bool, true, false, List, [], ◌∷◌, None, Option, Some, ap, arith, count_by, inl, inr, length, refl}
 use Rattle.std.proofs.Math.Nat.{suc-mul}
-use Rattle.written_order.specs.of_access_types_Access.{Access}
-use Rattle.written_order.specs.of_access_types_declared.history.Happening.{Happening}
-use Rattle.written_order.specs.of_access_types_declared.history.Happening.TheVariants.{Begin, End}
-use Rattle.written_order.specs.of_access_types_declared.history.Mark.{Mark}
-use Rattle.written_order.specs.of_litmus_meaning_Calls.{Scoped, scoped_access, scoped_assertion}
-use Rattle.written_order.specs.of_litmus_meaning_Meaning.{Chooses, InBlock, Means, MeansBlock, Turns, after_condition}
-use Rattle.written_order.specs.of_litmus_meaning_Task.{Progress, Setting, assigning, doing}
-use Rattle.written_order.specs.of_litmus_syntax_Sites.{accesses_of, sites_of}
-use Rattle.written_order.specs.of_litmus_syntax_Tree.{Assignment, Block, Expression, Load, Statement}
-use Rattle.written_order.specs.of_litmus_syntax_Tree as tree
-use Rattle.written_order.specs.of_litmus_syntax_declared.statement.Call.{Call}
-use Rattle.written_order.specs.of_litmus_syntax_declared.statement.Call.TheVariants as calls
+use Rattle.access_types.specs.Access.{Access}
+use Rattle.access_types.specs.declared.history.Happening.{Happening}
+use Rattle.access_types.specs.declared.history.Happening.TheVariants.{Begin, End}
+use Rattle.access_types.specs.declared.history.Mark.{Mark}
+use Rattle.litmus_meaning.specs.Calls.{Scoped, scoped_access, scoped_assertion}
+use Rattle.litmus_meaning.specs.Meaning.{Chooses, InBlock, Means, MeansBlock, Turns, after_condition}
+use Rattle.litmus_meaning.specs.Task.{Progress, Setting, assigning, doing}
+use Rattle.litmus_syntax.specs.Sites.{accesses_of, sites_of}
+use Rattle.litmus_syntax.specs.Tree.{Assignment, Block, Expression, Load, Statement}
+use Rattle.litmus_syntax.specs.Tree as tree
+use Rattle.litmus_syntax.specs.declared.statement.Call.{Call}
+use Rattle.litmus_syntax.specs.declared.statement.Call.TheVariants as calls
 use Rattle.text_bounds.proofs.Statements.{assign_does, assign_weight, call_does_most, call_weight, expression_does, expression_weight, load_does, load_weight}
 use Rattle.text_bounds.proofs.Weights.{DoesAtMost, Weighs, one, weight_both, weight_first}
 

@@ -1,8 +1,8 @@
 -- A text that keeps its limits passes none.
 use Rattle.std.proofs.Common.{◌≡◌, ◌≤◌, ◌^◌, ℕ, List, [], arith}
-use Rattle.written_order.specs.of_litmus_syntax_Limits.{BlockScopes, block_rises}
-use Rattle.written_order.specs.of_litmus_syntax_Tree.{Block}
-use Rattle.written_order.specs.of_slot_table_declared.records.Record.{Record}
+use Rattle.litmus_syntax.specs.Limits.{BlockScopes, block_rises}
+use Rattle.litmus_syntax.specs.Tree.{Block}
+use Rattle.slot_table.specs.declared.records.Record.{Record}
 use Rattle.text_bounds.proofs.Rises.{disables_grow, nest_opens_grow}
 use Rattle.text_bounds.proofs.Scopes.{few_in_force}
 use Rattle.text_bounds.specs.Passes.{PassesALimit, disables, nest_opens, scopes}

@@ -1,19 +1,19 @@
 -- The marks of a text raise the counts of its task's context no more often than the text says.
 use Rattle.std.proofs.Common.{◌≡◌, ◌≤◌, ◌+◌, ◌*◌, ◌==◌, ℕ, Bool, true, false, List, [], ◌∷◌, arith, count_by, eq-eqb, le_refl, map, refl, if◌then◌else◌}
 use Rattle.std.proofs.lemmas.List.Sums.{sum_by-cons}
-use Rattle.written_order.specs.of_access_types_Marked.{is_disable, is_nest_open, mark_before, marks_of}
-use Rattle.written_order.specs.of_access_types_declared.history.Happening.{Happening}
-use Rattle.written_order.specs.of_access_types_declared.history.Happening.TheVariants.{Begin, End, Lock, Read, Unlock, Write}
-use Rattle.written_order.specs.of_access_types_declared.history.Happening.TheVariants as happenings
-use Rattle.written_order.specs.of_access_types_declared.history.Mark.{Mark}
-use Rattle.written_order.specs.of_access_types_declared.history.Mark.TheVariants.{Disable, Enable, FlatBegin, FlatEnd, NestClose, NestOpen, Next}
-use Rattle.written_order.specs.of_litmus_meaning_Loads.{load_in}
-use Rattle.written_order.specs.of_litmus_syntax_Limits.{assignment_rises, block_rises, call_rises, expression_rises, loading_rises, mark_rises, statement_rises}
-use Rattle.written_order.specs.of_litmus_syntax_Tree.{Assignment, Block, Expression, Loading, Statement}
-use Rattle.written_order.specs.of_litmus_syntax_Tree as tree
-use Rattle.written_order.specs.of_litmus_syntax_declared.statement.Call.{Call}
-use Rattle.written_order.specs.of_litmus_syntax_declared.statement.Call.TheVariants as calls
-use Rattle.written_order.specs.of_slot_table_declared.records.Record.{Record}
+use Rattle.access_types.specs.Marked.{is_disable, is_nest_open, mark_before, marks_of}
+use Rattle.access_types.specs.declared.history.Happening.{Happening}
+use Rattle.access_types.specs.declared.history.Happening.TheVariants.{Begin, End, Lock, Read, Unlock, Write}
+use Rattle.access_types.specs.declared.history.Happening.TheVariants as happenings
+use Rattle.access_types.specs.declared.history.Mark.{Mark}
+use Rattle.access_types.specs.declared.history.Mark.TheVariants.{Disable, Enable, FlatBegin, FlatEnd, NestClose, NestOpen, Next}
+use Rattle.litmus_meaning.specs.Loads.{load_in}
+use Rattle.litmus_syntax.specs.Limits.{assignment_rises, block_rises, call_rises, expression_rises, loading_rises, mark_rises, statement_rises}
+use Rattle.litmus_syntax.specs.Tree.{Assignment, Block, Expression, Loading, Statement}
+use Rattle.litmus_syntax.specs.Tree as tree
+use Rattle.litmus_syntax.specs.declared.statement.Call.{Call}
+use Rattle.litmus_syntax.specs.declared.statement.Call.TheVariants as calls
+use Rattle.slot_table.specs.declared.records.Record.{Record}
 use Rattle.text_bounds.proofs.Counts.{Bounds, block_grows}
 use Rattle.text_bounds.proofs.Statements.{assignment_weight, call_weight, expression_weight}
 use Rattle.text_bounds.proofs.Weights.{Weighs, none_or_none, one, weight_first}

@@ -1,27 +1,27 @@
 -- What each statement without a block does, at most.
 use Rattle.std.proofs.Common.{◌≡◌, ◌≤◌, ◌∙◌, ◌+◌, ◌*◌, ◌==◌, ◌++◌, ℕ, Bool, true, false, List, [], ◌∷◌, None, Some, ap, arith, count_by, refl, replicate, sym, if◌then◌else◌}
-use Rattle.written_order.specs.of_access_types_Access.{Access, proper_mask}
-use Rattle.written_order.specs.of_access_types_Race.{bytes_of}
-use Rattle.written_order.specs.of_access_types_declared.history.Happening.{Happening}
-use Rattle.written_order.specs.of_access_types_declared.history.Happening.TheVariants.{Begin, End, Lock, Read, Unlock, Write}
-use Rattle.written_order.specs.of_access_types_declared.history.Happening.TheVariants as happenings
-use Rattle.written_order.specs.of_access_types_declared.history.Mark.{Mark}
-use Rattle.written_order.specs.of_access_types_declared.history.Mark.TheVariants.{Disable, Enable, Next}
-use Rattle.written_order.specs.of_access_types_declared.kind.Claim.TheVariants.{NoAccesses, NoWrites}
-use Rattle.written_order.specs.of_access_types_declared.kind.Kind.TheVariants as kinds
-use Rattle.written_order.specs.of_litmus_meaning_Assignments.{Assigns, AssignsIn, compound_kind, write_kind, writing}
-use Rattle.written_order.specs.of_litmus_meaning_Calls.{call_does, check_kind, checked_bytes, checking}
-use Rattle.written_order.specs.of_litmus_meaning_Loads.{Evaluates, Fetches, Loads, exchange_kind, in_data_races, load_in, read_kind, reading, updating}
-use Rattle.written_order.specs.of_litmus_meaning_Loads.ComparesAndWrites.{other, same}
-use Rattle.written_order.specs.of_litmus_meaning_Task.{Progress, Setting, access_now, bytes_in, doing, has_lock}
-use Rattle.written_order.specs.of_litmus_syntax_Tree.{Assignment, Expression, Fetch, Load}
-use Rattle.written_order.specs.of_litmus_syntax_Tree as tree
-use Rattle.written_order.specs.of_litmus_syntax_declared.expression.ReadForm.{ReadForm}
-use Rattle.written_order.specs.of_litmus_syntax_declared.expression.ReadForm.TheVariants as forms
-use Rattle.written_order.specs.of_litmus_syntax_declared.statement.Call.{Call}
-use Rattle.written_order.specs.of_litmus_syntax_declared.statement.Call.TheVariants as calls
-use Rattle.written_order.specs.of_litmus_syntax_declared.statement.WriteForm.{WriteForm}
-use Rattle.written_order.specs.of_litmus_syntax_declared.statement.WriteForm.TheVariants as write_forms
+use Rattle.access_types.specs.Access.{Access, proper_mask}
+use Rattle.access_types.specs.Race.{bytes_of}
+use Rattle.access_types.specs.declared.history.Happening.{Happening}
+use Rattle.access_types.specs.declared.history.Happening.TheVariants.{Begin, End, Lock, Read, Unlock, Write}
+use Rattle.access_types.specs.declared.history.Happening.TheVariants as happenings
+use Rattle.access_types.specs.declared.history.Mark.{Mark}
+use Rattle.access_types.specs.declared.history.Mark.TheVariants.{Disable, Enable, Next}
+use Rattle.access_types.specs.declared.kind.Claim.TheVariants.{NoAccesses, NoWrites}
+use Rattle.access_types.specs.declared.kind.Kind.TheVariants as kinds
+use Rattle.litmus_meaning.specs.Assignments.{Assigns, AssignsIn, compound_kind, write_kind, writing}
+use Rattle.litmus_meaning.specs.Calls.{call_does, check_kind, checked_bytes, checking}
+use Rattle.litmus_meaning.specs.Loads.{Evaluates, Fetches, Loads, exchange_kind, in_data_races, load_in, read_kind, reading, updating}
+use Rattle.litmus_meaning.specs.Loads.ComparesAndWrites.{other, same}
+use Rattle.litmus_meaning.specs.Task.{Progress, Setting, access_now, bytes_in, doing, has_lock}
+use Rattle.litmus_syntax.specs.Tree.{Assignment, Expression, Fetch, Load}
+use Rattle.litmus_syntax.specs.Tree as tree
+use Rattle.litmus_syntax.specs.declared.expression.ReadForm.{ReadForm}
+use Rattle.litmus_syntax.specs.declared.expression.ReadForm.TheVariants as forms
+use Rattle.litmus_syntax.specs.declared.statement.Call.{Call}
+use Rattle.litmus_syntax.specs.declared.statement.Call.TheVariants as calls
+use Rattle.litmus_syntax.specs.declared.statement.WriteForm.{WriteForm}
+use Rattle.litmus_syntax.specs.declared.statement.WriteForm.TheVariants as write_forms
 use Rattle.text_bounds.proofs.Weights.{DoesAtMost, Weighs, does_both, does_marks, does_nothing, marks_weight, one, weight_both, weight_first, weightless}
 use Rattle.text_bounds.specs.Scopes.{is_scoped}
 

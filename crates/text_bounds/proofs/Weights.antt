@@ -3,14 +3,14 @@ use Rattle.std.proofs.Common.{◌≡◌, ◌≤◌, ◌∙◌, ◌+◌, ◌*◌,
 use Rattle.std.proofs.lemmas.List.{append-nil}
 use Rattle.std.proofs.lemmas.List.Sums.{sum_by-append, sum_by-cons}
 use Rattle.std.proofs.Math.Nat.{suc-mul}
-use Rattle.written_order.specs.of_access_types_Access.{Access}
-use Rattle.written_order.specs.of_access_types_declared.history.Bytes.{Bytes}
-use Rattle.written_order.specs.of_access_types_declared.history.Happening.{Happening}
-use Rattle.written_order.specs.of_access_types_declared.history.Happening.TheVariants.{Begin, End, Lock, Read, Unlock, Write}
-use Rattle.written_order.specs.of_access_types_declared.history.Happening.TheVariants as happenings
-use Rattle.written_order.specs.of_access_types_declared.history.Mark.{Mark}
-use Rattle.written_order.specs.of_access_types_declared.history.Mark.TheVariants.{Enable, Next}
-use Rattle.written_order.specs.of_litmus_meaning_Task.{Progress}
+use Rattle.access_types.specs.Access.{Access}
+use Rattle.access_types.specs.declared.history.Bytes.{Bytes}
+use Rattle.access_types.specs.declared.history.Happening.{Happening}
+use Rattle.access_types.specs.declared.history.Happening.TheVariants.{Begin, End, Lock, Read, Unlock, Write}
+use Rattle.access_types.specs.declared.history.Happening.TheVariants as happenings
+use Rattle.access_types.specs.declared.history.Mark.{Mark}
+use Rattle.access_types.specs.declared.history.Mark.TheVariants.{Enable, Next}
+use Rattle.litmus_meaning.specs.Task.{Progress}
 use Rattle.text_bounds.specs.Scopes.{is_scoped}
 
 -- a happening counts once, or not

@@ -1,5 +1,2 @@
 pub mod Scopes
 pub mod Passes
-pub use Rattle.written_order.specs.Access as of_written_order_Access
-pub use Rattle.written_order.specs.Standing as of_written_order_Standing
-pub use Rattle.written_order.specs.WrittenOrder as of_written_order_WrittenOrder

@@ -1,8 +1,8 @@
 -- When a task did more than a text may have it do.
 use Rattle.std.specs.Prelude.{◌≡◌, ◌++◌, ◌<◌, ◌^◌, List, count_by}
-use Rattle.written_order.specs.of_access_types_Marked.{is_disable, is_nest_open, marks_of}
-use Rattle.written_order.specs.of_access_types_declared.history.Happening.{Happening}
-use Rattle.written_order.specs.of_litmus_syntax_Limits.{scoped_limit}
+use Rattle.access_types.specs.Marked.{is_disable, is_nest_open, marks_of}
+use Rattle.access_types.specs.declared.history.Happening.{Happening}
+use Rattle.litmus_syntax.specs.Limits.{scoped_limit}
 use Rattle.text_bounds.specs.Scopes.{in_force}
 use Rattle.written_order.specs.Standing.{Setting, Standing, moments}
 

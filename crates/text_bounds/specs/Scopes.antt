@@ -1,9 +1,9 @@
 -- How many scoped assertions are in force, by what a task did.
 use Rattle.std.specs.Prelude.{◌≡◌, ◌+◌, ◌-◌, ℕ, Bool, true, false, List, [], ◌∷◌, fold, if◌then◌else◌}
-use Rattle.written_order.specs.of_access_types_declared.history.Happening.{Happening}
-use Rattle.written_order.specs.of_access_types_declared.history.Happening.TheVariants.{Begin, End, Lock, Mark, Read, Unlock, Write}
-use Rattle.written_order.specs.of_access_types_declared.kind.Kind.{Kind}
-use Rattle.written_order.specs.of_access_types_declared.kind.Kind.TheVariants.{Assert, AssertScoped, Marked, Plain}
+use Rattle.access_types.specs.declared.history.Happening.{Happening}
+use Rattle.access_types.specs.declared.history.Happening.TheVariants.{Begin, End, Lock, Mark, Read, Unlock, Write}
+use Rattle.access_types.specs.declared.kind.Kind.{Kind}
+use Rattle.access_types.specs.declared.kind.Kind.TheVariants.{Assert, AssertScoped, Marked, Plain}
 
 -- it is a scoped assertion
 abbrev pub is_scoped : Kind → Bool

@@ -1,13 +1,13 @@
 //! What each run of a text keeps.
 
 ghost use Rattle.std.specs.Prelude.{◌≡◌, ◌+◌, ◌-◌, ◌^◌, ◌++◌, ◌<◌, ◌≤◌, [], ◌∷◌, ℕ, List, count_by, true};
-ghost use Rattle.written_order.specs.of_access_types_Access as access;
-ghost use Rattle.written_order.specs.of_access_types_Marked.{is_disable, is_nest_open, marks_of};
-ghost use Rattle.written_order.specs.of_access_types_declared.history.Happening.{Happening};
-ghost use Rattle.written_order.specs.of_access_types_declared.history.Happening.TheVariants.{Begin, End};
-ghost use Rattle.written_order.specs.of_litmus_syntax_Limits.{BlockScopes, block_rises, scoped_limit};
-ghost use Rattle.written_order.specs.of_litmus_syntax_Tree.{Block};
-ghost use Rattle.written_order.specs.of_slot_table_declared.records.Record.{Record};
+ghost use Rattle.access_types.specs.Access as access;
+ghost use Rattle.access_types.specs.Marked.{is_disable, is_nest_open, marks_of};
+ghost use Rattle.access_types.specs.declared.history.Happening.{Happening};
+ghost use Rattle.access_types.specs.declared.history.Happening.TheVariants.{Begin, End};
+ghost use Rattle.litmus_syntax.specs.Limits.{BlockScopes, block_rises, scoped_limit};
+ghost use Rattle.litmus_syntax.specs.Tree.{Block};
+ghost use Rattle.slot_table.specs.declared.records.Record.{Record};
 ghost use Rattle.text_bounds.specs.Passes.{PassesALimit};
 ghost use Rattle.text_bounds.specs.Scopes.{AreOfNoScope, in_force, is_scoped};
 ghost use Rattle.written_order.specs.Standing.{Setting, Standing, moments};

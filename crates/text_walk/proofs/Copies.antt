@@ -1,10 +1,10 @@
 -- What is so of a walk is so of its copy.
 use Rattle.std.proofs.Common.{◌≡◌, ◌+◌, ℕ, List, MatchOption, Option, refl, subst, sym}
 use Rattle.litmus_syntax.specs.Views.{expression_of, statement_of}
-use Rattle.written_order.specs.of_litmus_meaning_Calls.{scoped_access}
-use Rattle.written_order.specs.of_litmus_meaning_Meaning.{Chooses}
-use Rattle.written_order.specs.of_setup_access_declared.begun.Begun.{Begun}
-use Rattle.written_order.specs.of_slot_table_declared.records.Record.{Record}
+use Rattle.litmus_meaning.specs.Calls.{scoped_access}
+use Rattle.litmus_meaning.specs.Meaning.{Chooses}
+use Rattle.setup_access.specs.declared.begun.Begun.{Begun}
+use Rattle.slot_table.specs.declared.records.Record.{Record}
 use Rattle.text_walk.specs.Capacity.{room_of}
 use Rattle.text_walk.specs.Copies.{IsCopy}
 use Rattle.text_walk.specs.Cost.{blocks_cost, choice_cost, walk_cost}

@@ -5,6 +5,4 @@ pub mod StepsLemmas
 pub mod LeftLemmas
 pub mod BeginsLemmas
 pub mod Copies
-pub use Rattle.written_order.proofs.Induction as of_written_order_Induction
-pub use Rattle.written_order.proofs.WayLemmas as of_written_order_WayLemmas
 pub mod Sent

@@ -3,10 +3,10 @@ use Rattle.std.specs.Prelude.{◌≡◌, ◌↔◌, ◌+◌, ◌-◌, ◌++◌, 
 use Rattle.litmus_syntax.specs.Sites.{sites_of}
 use Rattle.litmus_syntax.specs.Tree.{Block, Expression, Statement}
 use Rattle.litmus_syntax.specs.Views.{block_of, expression_of, statement_of}
-use Rattle.written_order.specs.of_litmus_meaning_Calls.{Scoped, scoped_access, scoped_assertion}
-use Rattle.written_order.specs.of_litmus_meaning_Meaning.{Chooses, after_condition}
-use Rattle.written_order.specs.of_setup_access_declared.begun.Begun.{Begun}
-use Rattle.written_order.specs.of_slot_table_declared.records.Record.{Record}
+use Rattle.litmus_meaning.specs.Calls.{Scoped, scoped_access, scoped_assertion}
+use Rattle.litmus_meaning.specs.Meaning.{Chooses, after_condition}
+use Rattle.setup_access.specs.declared.begun.Begun.{Begun}
+use Rattle.slot_table.specs.declared.records.Record.{Record}
 use Rattle.text_walk.specs.declared.block.AtEnd.{AtEnd}
 use Rattle.text_walk.specs.declared.block.AtEnd.TheVariants as ends
 use Rattle.text_walk.specs.declared.due.Due.{Due}

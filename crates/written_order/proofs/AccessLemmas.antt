@@ -1,16 +1,16 @@
 -- What an access did: it began, its operation happened, and it ended.
 use Rattle.std.proofs.Common.{◌≡◌, ◌∙◌, ◌++◌, ℕ, Bool, true, false, List, [], ◌∷◌, None, Option, Some, ap, drop, refl, sym}
 use Rattle.std.proofs.lemmas.List.{append-nil, append_assoc}
-use Rattle.setup_access.specs.of_access_types_Access as access
-use Rattle.setup_access.specs.of_access_types_declared.history.Happening.{Happening}
-use Rattle.setup_access.specs.of_access_types_declared.history.Happening.TheVariants as happenings
-use Rattle.memory_operation.specs.of_litmus_meaning_Task as meaning
+use Rattle.access_types.specs.Access as access
+use Rattle.access_types.specs.declared.history.Happening.{Happening}
+use Rattle.access_types.specs.declared.history.Happening.TheVariants as happenings
+use Rattle.litmus_meaning.specs.Task as meaning
 use Rattle.memory_operation.specs.Effects.{moments_of, read_moments, write_moments}
 use Rattle.memory_operation.specs.Operations.{Operates}
 use Rattle.memory_operation.specs.declared.effect.Effect.{Effect}
 use Rattle.memory_operation.specs.declared.operation.Operation.{Operation}
 use Rattle.memory_operation.specs.declared.operation.Operation.TheVariants as operations
-use Rattle.setup_access.specs.of_slot_table_declared.records.Record.{Record}
+use Rattle.slot_table.specs.declared.records.Record.{Record}
 use Rattle.written_order.specs.Access.{Makes, operated}
 use Rattle.written_order.specs.Standing.{Setting, Standing, checks_of, counting, doing}
 use Rattle.written_order.proofs.HeldLocks.{AreQuiet}

@@ -1,11 +1,11 @@
 -- The steps of a text are checks one after the other, with steps of memory and of locks between them, and free only locks that the task holds.
 use Rattle.std.proofs.Common.{◌≡◌, ◌∙◌, ◌++◌, ℕ, Bool, true, false, List, [], ◌∷◌, IsTrue, None, Option, Some, MatchBool, ap, refl, replicate, subst, sym}
-use Rattle.setup_access.specs.of_access_types_Access as access
-use Rattle.setup_access.specs.of_access_types_declared.history.Happening.{Happening}
-use Rattle.setup_access.specs.of_access_types_declared.history.Happening.TheVariants as happenings
-use Rattle.memory_operation.specs.of_litmus_meaning_Task.{has_lock}
-use Rattle.memory_operation.specs.of_litmus_meaning_Task as meaning
-use Rattle.memory_operation.specs.of_litmus_syntax_Tree.{Block}
+use Rattle.access_types.specs.Access as access
+use Rattle.access_types.specs.declared.history.Happening.{Happening}
+use Rattle.access_types.specs.declared.history.Happening.TheVariants as happenings
+use Rattle.litmus_meaning.specs.Task.{has_lock}
+use Rattle.litmus_meaning.specs.Task as meaning
+use Rattle.litmus_syntax.specs.Tree.{Block}
 use Rattle.memory_operation.specs.Locks.{TakesLock}
 use Rattle.memory_operation.specs.Operations.{Changes, Exchanges, OnExchange, Operates, OperatesIn}
 use Rattle.memory_operation.specs.Values.{is_wanted, new_value, sum_of, with_value}
@@ -23,12 +23,12 @@ use Rattle.setup_access.specs.OwnAccesses.{AreOwn, IsOwn}
 use Rattle.setup_access.specs.Records.{MakesDone, MakesWord, OnFlag, OnWord}
 use Rattle.setup_access.specs.declared.begun.Begun.{Begun}
 use Rattle.setup_access.specs.declared.source.Source.{Source}
-use Rattle.setup_access.specs.of_slot_table_Discipline.{holds}
-use Rattle.setup_access.specs.of_slot_table_declared.records.Record.{Record}
-use Rattle.setup_access.specs.of_slot_table_declared.step.Answer.{Answer}
-use Rattle.setup_access.specs.of_slot_table_declared.step.Answer.TheVariants as answers
-use Rattle.setup_access.specs.of_slot_table_declared.step.Step.{Step}
-use Rattle.setup_access.specs.of_slot_table_declared.step.Step.TheVariants.{CellExchange, CellLoad, Clear, Clock, Consume, Insert, Load, LockStore, LockTry, Name, PairLoad, Remove, Tell, TryConsume}
+use Rattle.slot_table.specs.Discipline.{holds}
+use Rattle.slot_table.specs.declared.records.Record.{Record}
+use Rattle.slot_table.specs.declared.step.Answer.{Answer}
+use Rattle.slot_table.specs.declared.step.Answer.TheVariants as answers
+use Rattle.slot_table.specs.declared.step.Step.{Step}
+use Rattle.slot_table.specs.declared.step.Step.TheVariants.{CellExchange, CellLoad, Clear, Clock, Consume, Insert, Load, LockStore, LockTry, Name, PairLoad, Remove, Tell, TryConsume}
 use Rattle.written_order.specs.Access.{Makes}
 use Rattle.written_order.specs.Standing.{IsLockAt, Setting, Standing, checks_of, lock_number}
 use Rattle.written_order.specs.WrittenOrder.{ClosesScope, OpensScope, SpellsAll, at_first}

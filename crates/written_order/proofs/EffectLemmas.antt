@@ -1,6 +1,6 @@
 -- What comes of an operation on memory.
 use Rattle.std.proofs.Common.{◌≡◌, ◌⊎◌, ◌∙◌, ℕ, Bool, true, false, List, [], ◌∷◌, MatchBool, None, Some, ap, inl, inr, refl}
-use Rattle.setup_access.specs.of_access_types_Access.{Access}
+use Rattle.access_types.specs.Access.{Access}
 use Rattle.memory_operation.specs.Effects.{and_then, changed, only_read}
 use Rattle.memory_operation.specs.Operations.{Changes, Exchanges, OnExchange, Operates, OperatesIn}
 use Rattle.memory_operation.specs.Values.{is_wanted, sum_of}
@@ -9,15 +9,15 @@ use Rattle.memory_operation.specs.declared.operation.Change.{Change}
 use Rattle.memory_operation.specs.declared.operation.Change.TheVariants as changes
 use Rattle.memory_operation.specs.declared.operation.Operation.{Operation}
 use Rattle.memory_operation.specs.declared.operation.Operation.TheVariants as operations
-use Rattle.memory_operation.specs.of_litmus_meaning_Values.{cut}
+use Rattle.litmus_meaning.specs.Values.{cut}
 use Rattle.setup_access.specs.Records.{MakesWord, OnWord}
 use Rattle.setup_access.specs.Setting.{Setting}
 use Rattle.setup_access.specs.Values.{value_in}
 use Rattle.setup_access.specs.declared.source.Source.{Source}
-use Rattle.setup_access.specs.of_slot_table_declared.records.Record.{Record}
-use Rattle.setup_access.specs.of_slot_table_declared.step.Answer.{Answer}
-use Rattle.setup_access.specs.of_slot_table_declared.step.Answer.TheVariants as answers
-use Rattle.setup_access.specs.of_slot_table_declared.step.Step.{Step}
+use Rattle.slot_table.specs.declared.records.Record.{Record}
+use Rattle.slot_table.specs.declared.step.Answer.{Answer}
+use Rattle.slot_table.specs.declared.step.Answer.TheVariants as answers
+use Rattle.slot_table.specs.declared.step.Step.{Step}
 
 -- a change was made where the bytes held a wanted value, or read another one
 abbrev pub ChangeGives : ℕ → Change → Effect → Type 0

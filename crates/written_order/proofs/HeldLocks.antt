@@ -3,17 +3,17 @@ use Rattle.std.proofs.Common.{◌≡◌, ◌≢◌, ◌⊎◌, ◌∙◌, ◌+�
 use Rattle.std.proofs.lemmas.Bool.{eq-eqb}
 use Rattle.std.proofs.lemmas.Bool.Decides.{eqb_tells}
 use Rattle.std.proofs.lemmas.List.Sums.{fold-append, sum_by-cons}
-use Rattle.setup_access.specs.of_access_types_declared.history.Happening.{Happening}
-use Rattle.setup_access.specs.of_access_types_declared.history.Happening.TheVariants as happenings
-use Rattle.memory_operation.specs.of_litmus_meaning_Task.{has_after, has_lock}
-use Rattle.memory_operation.specs.of_litmus_syntax_declared.program.Variable.{Variable}
+use Rattle.access_types.specs.declared.history.Happening.{Happening}
+use Rattle.access_types.specs.declared.history.Happening.TheVariants as happenings
+use Rattle.litmus_meaning.specs.Task.{has_after, has_lock}
+use Rattle.litmus_syntax.specs.declared.program.Variable.{Variable}
 use Rattle.setup_access.proofs.LocksLemmas.{TouchesNoLock}
-use Rattle.setup_access.specs.of_slot_table_Discipline.{holds, holds_after}
-use Rattle.setup_access.specs.of_slot_table_declared.records.Record.{Record}
-use Rattle.setup_access.specs.of_slot_table_declared.step.Answer.{Answer}
-use Rattle.setup_access.specs.of_slot_table_declared.step.Answer.TheVariants as answers
-use Rattle.setup_access.specs.of_slot_table_declared.step.Step.{Step}
-use Rattle.setup_access.specs.of_slot_table_declared.step.Step.TheVariants.{CellExchange, CellLoad, Clear, Clock, Consume, Insert, Load, LockStore, LockTry, Name, PairLoad, Remove, Tell, TryConsume}
+use Rattle.slot_table.specs.Discipline.{holds, holds_after}
+use Rattle.slot_table.specs.declared.records.Record.{Record}
+use Rattle.slot_table.specs.declared.step.Answer.{Answer}
+use Rattle.slot_table.specs.declared.step.Answer.TheVariants as answers
+use Rattle.slot_table.specs.declared.step.Step.{Step}
+use Rattle.slot_table.specs.declared.step.Step.TheVariants.{CellExchange, CellLoad, Clear, Clock, Consume, Insert, Load, LockStore, LockTry, Name, PairLoad, Remove, Tell, TryConsume}
 use Rattle.written_order.specs.Standing.{IsLockAt, Setting, is_lock, lock_number}
 
 -- none of these takes or frees a lock

@@ -1,30 +1,30 @@
 -- What each part of a text keeps, the whole text keeps; a scoped assertion is known to be one.
 use Rattle.std.proofs.Common.{◌≡◌, ◌+◌, ℕ, zero, suc, Bool, true, false, List, [], ◌∷◌, IsTrue, Option, None, Some, MatchBool, inl, inr, length, replicate, refl, subst, sym, if◌then◌else◌}
-use Rattle.setup_access.specs.of_access_types_Access as access
-use Rattle.setup_access.specs.of_access_types_declared.history.Bytes.{Bytes}
-use Rattle.setup_access.specs.of_access_types_declared.history.Happening.TheVariants as happenings
-use Rattle.setup_access.specs.of_access_types_declared.history.Mark.{Mark}
-use Rattle.setup_access.specs.of_access_types_declared.history.Mark.TheVariants as marks
-use Rattle.setup_access.specs.of_access_types_Kind.{is_scoped}
-use Rattle.setup_access.specs.of_access_types_declared.kind.Claim.TheVariants.{NoAccesses, NoWrites}
-use Rattle.setup_access.specs.of_access_types_declared.kind.Kind.{Kind}
-use Rattle.setup_access.specs.of_access_types_declared.kind.Kind.TheVariants as kinds
-use Rattle.memory_operation.specs.of_litmus_syntax_Sites.{accesses_of, sites_of}
-use Rattle.memory_operation.specs.of_litmus_syntax_Tree.{Assignment, Block, Expression, Load, Statement}
-use Rattle.memory_operation.specs.of_litmus_syntax_Tree as tree
-use Rattle.memory_operation.specs.of_litmus_syntax_declared.statement.Call.{Call}
-use Rattle.memory_operation.specs.of_litmus_syntax_declared.statement.Call.TheVariants as calls
-use Rattle.memory_operation.specs.of_litmus_meaning_Calls.{Scoped, check_kind, checked_bytes, scoped_access, scoped_assertion, scoped_by, scoped_call}
-use Rattle.memory_operation.specs.of_litmus_meaning_Loads.{load_in}
-use Rattle.memory_operation.specs.of_litmus_meaning_Meaning.{Chooses, after_condition}
-use Rattle.memory_operation.specs.of_litmus_meaning_Task.{has_lock}
+use Rattle.access_types.specs.Access as access
+use Rattle.access_types.specs.declared.history.Bytes.{Bytes}
+use Rattle.access_types.specs.declared.history.Happening.TheVariants as happenings
+use Rattle.access_types.specs.declared.history.Mark.{Mark}
+use Rattle.access_types.specs.declared.history.Mark.TheVariants as marks
+use Rattle.access_types.specs.Kind.{is_scoped}
+use Rattle.access_types.specs.declared.kind.Claim.TheVariants.{NoAccesses, NoWrites}
+use Rattle.access_types.specs.declared.kind.Kind.{Kind}
+use Rattle.access_types.specs.declared.kind.Kind.TheVariants as kinds
+use Rattle.litmus_syntax.specs.Sites.{accesses_of, sites_of}
+use Rattle.litmus_syntax.specs.Tree.{Assignment, Block, Expression, Load, Statement}
+use Rattle.litmus_syntax.specs.Tree as tree
+use Rattle.litmus_syntax.specs.declared.statement.Call.{Call}
+use Rattle.litmus_syntax.specs.declared.statement.Call.TheVariants as calls
+use Rattle.litmus_meaning.specs.Calls.{Scoped, check_kind, checked_bytes, scoped_access, scoped_assertion, scoped_by, scoped_call}
+use Rattle.litmus_meaning.specs.Loads.{load_in}
+use Rattle.litmus_meaning.specs.Meaning.{Chooses, after_condition}
+use Rattle.litmus_meaning.specs.Task.{has_lock}
 use Rattle.memory_operation.specs.Locks.{TakesLock}
 use Rattle.memory_operation.specs.declared.effect.Effect.{Effect}
 use Rattle.memory_operation.specs.declared.operation.Operation.{Operation}
 use Rattle.setup_access.specs.Records.{MakesDone}
 use Rattle.setup_access.specs.declared.begun.Begun.{Begun}
-use Rattle.setup_access.specs.of_slot_table_declared.records.Record.{Record}
-use Rattle.setup_access.specs.of_slot_table_declared.step.Step.TheVariants.{LockStore}
+use Rattle.slot_table.specs.declared.records.Record.{Record}
+use Rattle.slot_table.specs.declared.step.Step.TheVariants.{LockStore}
 use Rattle.written_order.specs.Access.{Makes}
 use Rattle.written_order.specs.Standing.{IsLockAt, Setting, Standing, coming, counting, doing, lock_number, registered}
 use Rattle.written_order.specs.WrittenOrder.{ChecksAt, ClosesScope, MakesMark, Only, OpensScope, StepsInBlock, StepsInDataRace, StepsOf, StepsOfAssignment, StepsOfBlock, StepsOfCall, StepsOfExpression, StepsOfLoad, StepsOfTurns}

@@ -3,29 +3,29 @@ use Rattle.std.proofs.Common.{◌≡◌, ◌∙◌, ◌+◌, ◌++◌, ◌-◌, 
 use Rattle.std.proofs.lemmas.Bool.{eqb-true, eq-eqb}
 use Rattle.std.proofs.lemmas.List.{append-nil, append_assoc}
 use Rattle.std.proofs.lemmas.List.Sums.{sum_by-append}
-use Rattle.setup_access.specs.of_access_types_Access as access
-use Rattle.setup_access.specs.of_access_types_Access.{proper_mask}
-use Rattle.setup_access.specs.of_access_types_declared.history.Bytes.{Bytes}
-use Rattle.setup_access.specs.of_access_types_declared.history.Happening.{Happening}
-use Rattle.setup_access.specs.of_access_types_declared.history.Happening.TheVariants as happenings
-use Rattle.setup_access.specs.of_access_types_declared.history.Mark.{Mark}
-use Rattle.setup_access.specs.of_access_types_declared.history.Mark.TheVariants as marks
-use Rattle.setup_access.specs.of_access_types_declared.kind.Claim.TheVariants.{NoAccesses, NoWrites}
-use Rattle.setup_access.specs.of_access_types_declared.kind.Kind.{Kind}
-use Rattle.setup_access.specs.of_access_types_declared.kind.Kind.TheVariants as kinds
-use Rattle.memory_operation.specs.of_litmus_syntax_Sites.{accesses_of, sites_of}
-use Rattle.memory_operation.specs.of_litmus_syntax_Tree.{Assignment, Block, Expression, Fetch, Load, Pure, Statement}
-use Rattle.memory_operation.specs.of_litmus_syntax_Tree as tree
-use Rattle.memory_operation.specs.of_litmus_syntax_declared.statement.Call.{Call}
-use Rattle.memory_operation.specs.of_litmus_syntax_declared.statement.Call.TheVariants as calls
-use Rattle.memory_operation.specs.of_litmus_meaning_Assignments.{Adds, Assigns, AssignsIn, Writes, compound_kind, write_kind}
-use Rattle.memory_operation.specs.of_litmus_meaning_Calls.{Scoped, call_does, check_kind, checked_bytes, checking, scoped_access, scoped_assertion}
-use Rattle.memory_operation.specs.of_litmus_meaning_Expressions.{pure_value}
-use Rattle.memory_operation.specs.of_litmus_meaning_Loads.{ComparesAndWrites, Evaluates, Fetches, Loads, exchange_kind, fetch_kind, in_data_races, load_in, other, reading, same, updating, variable_of}
-use Rattle.memory_operation.specs.of_litmus_meaning_Meaning.{Chooses, InBlock, Means, MeansBlock, Turns, after_condition}
-use Rattle.memory_operation.specs.of_litmus_meaning_Task as meaning
-use Rattle.memory_operation.specs.of_litmus_meaning_Task.{Progress, access_now, assigning, begins_at, bytes_in, has_lock}
-use Rattle.memory_operation.specs.of_litmus_meaning_Values.{cut}
+use Rattle.access_types.specs.Access as access
+use Rattle.access_types.specs.Access.{proper_mask}
+use Rattle.access_types.specs.declared.history.Bytes.{Bytes}
+use Rattle.access_types.specs.declared.history.Happening.{Happening}
+use Rattle.access_types.specs.declared.history.Happening.TheVariants as happenings
+use Rattle.access_types.specs.declared.history.Mark.{Mark}
+use Rattle.access_types.specs.declared.history.Mark.TheVariants as marks
+use Rattle.access_types.specs.declared.kind.Claim.TheVariants.{NoAccesses, NoWrites}
+use Rattle.access_types.specs.declared.kind.Kind.{Kind}
+use Rattle.access_types.specs.declared.kind.Kind.TheVariants as kinds
+use Rattle.litmus_syntax.specs.Sites.{accesses_of, sites_of}
+use Rattle.litmus_syntax.specs.Tree.{Assignment, Block, Expression, Fetch, Load, Pure, Statement}
+use Rattle.litmus_syntax.specs.Tree as tree
+use Rattle.litmus_syntax.specs.declared.statement.Call.{Call}
+use Rattle.litmus_syntax.specs.declared.statement.Call.TheVariants as calls
+use Rattle.litmus_meaning.specs.Assignments.{Adds, Assigns, AssignsIn, Writes, compound_kind, write_kind}
+use Rattle.litmus_meaning.specs.Calls.{Scoped, call_does, check_kind, checked_bytes, checking, scoped_access, scoped_assertion}
+use Rattle.litmus_meaning.specs.Expressions.{pure_value}
+use Rattle.litmus_meaning.specs.Loads.{ComparesAndWrites, Evaluates, Fetches, Loads, exchange_kind, fetch_kind, in_data_races, load_in, other, reading, same, updating, variable_of}
+use Rattle.litmus_meaning.specs.Meaning.{Chooses, InBlock, Means, MeansBlock, Turns, after_condition}
+use Rattle.litmus_meaning.specs.Task as meaning
+use Rattle.litmus_meaning.specs.Task.{Progress, access_now, assigning, begins_at, bytes_in, has_lock}
+use Rattle.litmus_meaning.specs.Values.{cut}
 use Rattle.memory_operation.specs.Effects.{nothing}
 use Rattle.memory_operation.specs.Operations.{Operates}
 use Rattle.memory_operation.specs.declared.effect.Effect.{Effect}
@@ -33,8 +33,8 @@ use Rattle.memory_operation.specs.declared.operation.Change.TheVariants as chang
 use Rattle.memory_operation.specs.declared.operation.Operation.{Operation}
 use Rattle.memory_operation.specs.declared.operation.Operation.TheVariants as operations
 use Rattle.setup_access.specs.Records.{MakesDone}
-use Rattle.setup_access.specs.of_slot_table_declared.records.Record.{Record}
-use Rattle.setup_access.specs.of_slot_table_declared.step.Step.TheVariants.{LockStore}
+use Rattle.slot_table.specs.declared.records.Record.{Record}
+use Rattle.slot_table.specs.declared.step.Step.TheVariants.{LockStore}
 use Rattle.written_order.specs.Access.{Makes}
 use Rattle.written_order.specs.Standing.{Setting, Standing, checks_of, coming, counting, doing, lock_number, registered}
 use Rattle.written_order.specs.WrittenOrder.{ChecksAt, Only, SpellsAll, StepsInBlock, StepsInDataRace, StepsOf, StepsOfAssignment, StepsOfBlock, StepsOfCall, StepsOfExpression, StepsOfLoad, StepsOfTurns, at_first, fetch_operation}

@@ -1,12 +1,12 @@
 -- A part of a text leaves the scoped assertions in force as they were.
 use Rattle.std.proofs.Common.{◌≡◌, ◌∙◌, ℕ, Bool, true, false, List, [], ◌∷◌, None, Option, Some, ap, drop, refl}
-use Rattle.setup_access.specs.of_access_types_Access as access
-use Rattle.setup_access.specs.of_access_types_declared.history.Happening.TheVariants as happenings
-use Rattle.memory_operation.specs.of_litmus_syntax_Tree.{Block}
+use Rattle.access_types.specs.Access as access
+use Rattle.access_types.specs.declared.history.Happening.TheVariants as happenings
+use Rattle.litmus_syntax.specs.Tree.{Block}
 use Rattle.memory_operation.specs.declared.effect.Effect.{Effect}
 use Rattle.memory_operation.specs.declared.operation.Operation.{Operation}
 use Rattle.memory_operation.specs.declared.operation.Operation.TheVariants as operations
-use Rattle.setup_access.specs.of_slot_table_declared.records.Record.{Record}
+use Rattle.slot_table.specs.declared.records.Record.{Record}
 use Rattle.written_order.specs.Access.{operated}
 use Rattle.written_order.specs.Standing.{Setting, Standing, counting, doing}
 use Rattle.written_order.specs.WrittenOrder.{StepsOfBlock}

@@ -1,17 +1,17 @@
 -- The records of small texts, for given answers.
 use Rattle.std.proofs.Common.{◌≡◌, ◌<◌, ◌≤◌, ℕ, Bool, true, false, List, [], ◌∷◌, arith, lit<, lit≤, pos, refl}
-use Rattle.setup_access.specs.of_access_types_Sites.{map_of}
-use Rattle.setup_access.specs.of_access_types_declared.history.Happening.TheVariants as happenings
-use Rattle.memory_operation.specs.of_litmus_syntax_Tree.{Block, Statement}
-use Rattle.memory_operation.specs.of_litmus_syntax_Tree as tree
-use Rattle.memory_operation.specs.of_litmus_syntax_declared.program.Contents.TheVariants.{Int, Lock}
-use Rattle.memory_operation.specs.of_litmus_syntax_declared.statement.Call.TheVariants as calls
+use Rattle.access_types.specs.Sites.{map_of}
+use Rattle.access_types.specs.declared.history.Happening.TheVariants as happenings
+use Rattle.litmus_syntax.specs.Tree.{Block, Statement}
+use Rattle.litmus_syntax.specs.Tree as tree
+use Rattle.litmus_syntax.specs.declared.program.Contents.TheVariants.{Int, Lock}
+use Rattle.litmus_syntax.specs.declared.statement.Call.TheVariants as calls
 use Rattle.setup_access.specs.declared.rules.Rules.{Rules}
-use Rattle.setup_access.specs.of_slot_table_declared.records.Record.{Record}
-use Rattle.setup_access.specs.of_slot_table_declared.step.Answer.{Answer}
-use Rattle.setup_access.specs.of_slot_table_declared.step.Answer.TheVariants as answers
-use Rattle.setup_access.specs.of_slot_table_declared.step.Step.{Step}
-use Rattle.setup_access.specs.of_slot_table_declared.step.Step.TheVariants as steps
+use Rattle.slot_table.specs.declared.records.Record.{Record}
+use Rattle.slot_table.specs.declared.step.Answer.{Answer}
+use Rattle.slot_table.specs.declared.step.Answer.TheVariants as answers
+use Rattle.slot_table.specs.declared.step.Step.{Step}
+use Rattle.slot_table.specs.declared.step.Step.TheVariants as steps
 use Rattle.written_order.specs.Standing.{Setting, Standing, doing}
 use Rattle.written_order.specs.Waits.{IsTooMuch, WithinTurns}
 use Rattle.written_order.specs.WrittenOrder.{WrittenOrder, at_first, stands_after}

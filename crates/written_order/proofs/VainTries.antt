@@ -2,8 +2,8 @@
 use Rattle.std.proofs.Common.{◌≡◌, ◌↔◌, ◌≤◌, ◌+◌, ◌&&◌, ◌∙◌, ◌++◌, ℕ, suc, Bool, true, false, List}
 use Rattle.std.proofs.Common.{[], ◌∷◌, None, Option, Some, MatchBool, ap, arith, eq-eqb, refl, reverse, subst, sym, if◌then◌else◌}
 use Rattle.std.proofs.lemmas.List.{append-nil, append_assoc, reverse-append}
-use Rattle.setup_access.specs.of_access_types_Access as access
-use Rattle.memory_operation.specs.of_litmus_syntax_Tree.{Block}
+use Rattle.access_types.specs.Access as access
+use Rattle.litmus_syntax.specs.Tree.{Block}
 use Rattle.memory_operation.specs.Leads.{GoesOn}
 use Rattle.memory_operation.specs.Locks.{TakesLock}
 use Rattle.memory_operation.specs.Operations.{Changes, Exchanges, OnExchange, Operates, OperatesIn}
@@ -16,15 +16,15 @@ use Rattle.memory_operation.specs.declared.operation.Operation.TheVariants as op
 use Rattle.setup_access.specs.Values.{value_in}
 use Rattle.setup_access.specs.Waits.{awaited, is_vain, is_word, vain_from}
 use Rattle.setup_access.specs.Waits as checks
-use Rattle.setup_access.specs.of_slot_Pair.{Halves}
+use Rattle.slot.specs.Pair.{Halves}
 use Rattle.setup_access.specs.Records.{OnFlag}
 use Rattle.setup_access.specs.declared.source.Source.{Source}
 use Rattle.setup_access.proofs.VainLemmas.{AgainInVain, Both, InVain, LoadsNext, LoadsPair, SameNext, Tries, TriesNext, TriesSame, as_rest, by_done, by_word, check_in_vain, close_in_vain, try_step}
-use Rattle.setup_access.specs.of_slot_table_declared.records.Record.{Record}
-use Rattle.setup_access.specs.of_slot_table_declared.step.Answer.{Answer}
-use Rattle.setup_access.specs.of_slot_table_declared.step.Answer.TheVariants as answers
-use Rattle.setup_access.specs.of_slot_table_declared.step.Step.{Step}
-use Rattle.setup_access.specs.of_slot_table_declared.step.Step.TheVariants.{CellExchange, CellLoad, Clear, Clock, Consume, Insert, Load, LockStore, LockTry, Name, PairLoad, Remove, Tell, TryConsume}
+use Rattle.slot_table.specs.declared.records.Record.{Record}
+use Rattle.slot_table.specs.declared.step.Answer.{Answer}
+use Rattle.slot_table.specs.declared.step.Answer.TheVariants as answers
+use Rattle.slot_table.specs.declared.step.Step.{Step}
+use Rattle.slot_table.specs.declared.step.Step.TheVariants.{CellExchange, CellLoad, Clear, Clock, Consume, Insert, Load, LockStore, LockTry, Name, PairLoad, Remove, Tell, TryConsume}
 use Rattle.written_order.specs.Standing.{Setting, Standing, checks_of, lock_number}
 use Rattle.written_order.specs.Waits.{IsStuck, IsStuckInVain, IsTry, OnlyStep, exchanges_in, loads_pair, tries_lock, vain_tries, is_tried_again}
 use Rattle.written_order.specs.WrittenOrder.{SpellsAll, WrittenOrder, at_first}

@@ -1,16 +1,16 @@
 -- What a task had done at each point on its way is a beginning of what it has done.
 use Rattle.std.proofs.Common.{◌≡◌, ◌∙◌, ◌++◌, ℕ, Bool, true, false, List, [], ◌∷◌, None, Option, Some, ap, drop, length, nat_le, refl, replicate, subst, sym, if◌then◌else◌}
 use Rattle.std.proofs.lemmas.List.{append-nil, append_assoc}
-use Rattle.setup_access.specs.of_access_types_Access as access
-use Rattle.setup_access.specs.of_access_types_declared.history.Happening.{Happening}
-use Rattle.setup_access.specs.of_access_types_declared.history.Happening.TheVariants as happenings
-use Rattle.memory_operation.specs.of_litmus_meaning_Task as meaning
-use Rattle.memory_operation.specs.of_litmus_syntax_Tree.{Block}
+use Rattle.access_types.specs.Access as access
+use Rattle.access_types.specs.declared.history.Happening.{Happening}
+use Rattle.access_types.specs.declared.history.Happening.TheVariants as happenings
+use Rattle.litmus_meaning.specs.Task as meaning
+use Rattle.litmus_syntax.specs.Tree.{Block}
 use Rattle.memory_operation.specs.Effects.{moments_of, read_moments, write_moments}
 use Rattle.memory_operation.specs.declared.effect.Effect.{Effect}
 use Rattle.memory_operation.specs.declared.operation.Operation.{Operation}
 use Rattle.memory_operation.specs.declared.operation.Operation.TheVariants as operations
-use Rattle.setup_access.specs.of_slot_table_declared.records.Record.{Record}
+use Rattle.slot_table.specs.declared.records.Record.{Record}
 use Rattle.written_order.specs.Access.{operated}
 use Rattle.written_order.specs.Standing.{Point, Setting, Standing, coming, counting, doing, point_by}
 use Rattle.written_order.specs.WrittenOrder.{WrittenOrder, at_first, first_point, stands_after}

@@ -1,14 +1,14 @@
 -- The steps of an access: its check, its operation on memory, and its end.
 use Rattle.std.specs.Prelude.{◌≡◌, ◌++◌, List, [], ◌∷◌, Option, None, Some, drop}
-use Rattle.setup_access.specs.of_access_types_Access as access
-use Rattle.setup_access.specs.of_access_types_declared.history.Happening.TheVariants.{Begin, End}
+use Rattle.access_types.specs.Access as access
+use Rattle.access_types.specs.declared.history.Happening.TheVariants.{Begin, End}
 use Rattle.memory_operation.specs.Effects.{moments_of, read_moments, write_moments}
 use Rattle.memory_operation.specs.Operations.{Operates}
 use Rattle.memory_operation.specs.declared.effect.Effect.{Effect}
 use Rattle.memory_operation.specs.declared.operation.Operation.{Operation}
 use Rattle.memory_operation.specs.declared.operation.Operation.TheVariants as operations
-use Rattle.setup_access.specs.of_slot_table_declared.records.Record.{Record}
-use Rattle.setup_access.specs.of_slot_table_declared.step.Step.TheVariants.{Clock}
+use Rattle.slot_table.specs.declared.records.Record.{Record}
+use Rattle.slot_table.specs.declared.step.Step.TheVariants.{Clock}
 use Rattle.setup_access.specs.Check.{Check, Passes}
 use Rattle.setup_access.specs.Records.{MakesWord}
 use Rattle.setup_access.specs.declared.begun.Begun.{Begun}

@@ -1,22 +1,22 @@
 -- What a task goes by, and how far it has come in its text, with its checks.
 use Rattle.std.specs.Prelude.{◌↔◌, ◌≡◌, ◌+◌, ◌++◌, ℕ, Bool, List, [], ◌∷◌, IsSomeAnd, IsTrue, false, true, count_by, length, map, nat_le, slice_get, take, if◌then◌else◌}
-use Rattle.setup_access.specs.of_access_types_Access.{Access}
-use Rattle.memory_operation.specs.of_access_types_History.{History}
-use Rattle.memory_operation.specs.of_access_types_Marked.{CountsAfter, EndsRaised, is_disable, is_enable, is_nest_close, is_nest_open, marks_of}
-use Rattle.setup_access.specs.of_access_types_Sites.{AccessMap}
-use Rattle.setup_access.specs.of_access_types_declared.history.Happening.{Happening}
-use Rattle.setup_access.specs.of_access_types_declared.history.Mark.{Mark}
-use Rattle.setup_access.specs.of_access_types_declared.history.Mark.TheVariants.{Disable, Enable, FlatBegin, FlatEnd, NestClose, NestOpen, Next}
-use Rattle.memory_operation.specs.of_litmus_meaning_Layout.{cells_of}
-use Rattle.memory_operation.specs.of_litmus_meaning_Task as meaning
-use Rattle.memory_operation.specs.of_litmus_syntax_declared.program.Contents.{Contents}
-use Rattle.memory_operation.specs.of_litmus_syntax_declared.program.Contents.TheVariants.{Lock}
+use Rattle.access_types.specs.Access.{Access}
+use Rattle.access_types.specs.History.{History}
+use Rattle.access_types.specs.Marked.{CountsAfter, EndsRaised, is_disable, is_enable, is_nest_close, is_nest_open, marks_of}
+use Rattle.access_types.specs.Sites.{AccessMap}
+use Rattle.access_types.specs.declared.history.Happening.{Happening}
+use Rattle.access_types.specs.declared.history.Mark.{Mark}
+use Rattle.access_types.specs.declared.history.Mark.TheVariants.{Disable, Enable, FlatBegin, FlatEnd, NestClose, NestOpen, Next}
+use Rattle.litmus_meaning.specs.Layout.{cells_of}
+use Rattle.litmus_meaning.specs.Task as meaning
+use Rattle.litmus_syntax.specs.declared.program.Contents.{Contents}
+use Rattle.litmus_syntax.specs.declared.program.Contents.TheVariants.{Lock}
 use Rattle.setup_access.specs.OwnAccesses.{IsOwn}
 use Rattle.setup_access.specs.Setting as checks
 use Rattle.setup_access.specs.declared.begun.Begun.{Begun}
 use Rattle.setup_access.specs.Check.{Fallen}
 use Rattle.setup_access.specs.declared.rules.Rules.{Rules}
-use Rattle.setup_access.specs.of_slot_table_declared.records.Record.{Record}
+use Rattle.slot_table.specs.declared.records.Record.{Record}
 
 -- what a task goes by: whose text it is and where its variables stand, the rules of the run, and
 -- the accesses that tickets name

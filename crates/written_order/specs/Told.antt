@@ -2,12 +2,12 @@
 -- still do is as it completes its records in the written order.
 use Rattle.std.specs.Prelude.{◌+◌, ◌-◌, ◌++◌, ◌==◌, ℕ, List, drop, length}
 use Rattle.std.specs.List.{filter}
-use Rattle.setup_access.specs.of_access_types_Access.{Access}
-use Rattle.setup_access.specs.of_access_types_declared.history.Happening.{Happening}
-use Rattle.memory_operation.specs.of_litmus_syntax_Tree.{Block}
+use Rattle.access_types.specs.Access.{Access}
+use Rattle.access_types.specs.declared.history.Happening.{Happening}
+use Rattle.litmus_syntax.specs.Tree.{Block}
 use Rattle.setup_access.specs.Check.{Fallen}
 use Rattle.setup_access.specs.declared.outcome.Outcome.{Outcome}
-use Rattle.setup_access.specs.of_slot_table_declared.records.Record.{Record}
+use Rattle.slot_table.specs.declared.records.Record.{Record}
 use Rattle.written_order.specs.Standing.{Point, Setting, point_by}
 use Rattle.written_order.specs.WrittenOrder.{WrittenOrder, first_point}
 

@@ -1,11 +1,11 @@
 -- How often a task tries in vain, and when it is stuck.
 use Rattle.std.specs.Prelude.{◌==◌, ◌&&◌, ◌++◌, ◌<◌, ◌≤◌, ℕ, suc, Bool, false, List, [], ◌∷◌, None, if◌then◌else◌, reverse}
-use Rattle.memory_operation.specs.of_litmus_syntax_Tree.{Block}
+use Rattle.litmus_syntax.specs.Tree.{Block}
 use Rattle.memory_operation.specs.Leads.{GoesOn}
-use Rattle.setup_access.specs.of_slot_table_declared.records.Record.{Record}
-use Rattle.setup_access.specs.of_slot_table_declared.step.Answer.{Answer}
-use Rattle.setup_access.specs.of_slot_table_declared.step.Step.{Step}
-use Rattle.setup_access.specs.of_slot_table_declared.step.Step.TheVariants.{CellExchange, LockTry, PairLoad}
+use Rattle.slot_table.specs.declared.records.Record.{Record}
+use Rattle.slot_table.specs.declared.step.Answer.{Answer}
+use Rattle.slot_table.specs.declared.step.Step.{Step}
+use Rattle.slot_table.specs.declared.step.Step.TheVariants.{CellExchange, LockTry, PairLoad}
 use Rattle.setup_access.specs.Waits as checks
 use Rattle.setup_access.specs.Waits.{is_vain}
 use Rattle.written_order.specs.Standing.{Setting}

@@ -1,28 +1,28 @@
 -- The order in which a task makes its steps, by cases over its text. Answers are free in it: what
 -- they are is a matter of the words that the steps are made on.
 use Rattle.std.specs.Prelude.{◌≡◌, ◌↔◌, ◌++◌, ◌+◌, ◌-◌, ◌^◌, ◌==◌, ℕ, zero, suc, Bool, List, [], ◌∷◌, IsTrue, Option, None, Some, MatchBool, drop, length, replicate, true, if◌then◌else◌}
-use Rattle.setup_access.specs.of_access_types_Access as access
-use Rattle.setup_access.specs.of_access_types_Access.{proper_mask}
-use Rattle.setup_access.specs.of_access_types_declared.history.Bytes.{Bytes}
-use Rattle.setup_access.specs.of_access_types_declared.history.Happening.{Happening}
-use Rattle.setup_access.specs.of_access_types_declared.history.Happening.TheVariants as happenings
-use Rattle.setup_access.specs.of_access_types_declared.history.Mark.{Mark}
-use Rattle.setup_access.specs.of_access_types_declared.history.Mark.TheVariants as marks
-use Rattle.setup_access.specs.of_access_types_declared.kind.Claim.TheVariants.{NoAccesses, NoWrites}
-use Rattle.setup_access.specs.of_access_types_declared.kind.Kind.{Kind}
-use Rattle.setup_access.specs.of_access_types_declared.kind.Kind.TheVariants as kinds
-use Rattle.memory_operation.specs.of_litmus_syntax_Sites.{accesses_of, sites_of}
-use Rattle.memory_operation.specs.of_litmus_syntax_Tree.{Assignment, Block, Expression, Fetch, Load, Statement}
-use Rattle.memory_operation.specs.of_litmus_syntax_Tree as tree
-use Rattle.memory_operation.specs.of_litmus_syntax_declared.statement.Call.{Call}
-use Rattle.memory_operation.specs.of_litmus_syntax_declared.statement.Call.TheVariants as calls
-use Rattle.memory_operation.specs.of_litmus_meaning_Assignments.{compound_kind, write_kind}
-use Rattle.memory_operation.specs.of_litmus_meaning_Calls.{Scoped, check_kind, checked_bytes, scoped_access, scoped_assertion}
-use Rattle.memory_operation.specs.of_litmus_meaning_Expressions.{loading_value, pure_value}
-use Rattle.memory_operation.specs.of_litmus_meaning_Loads.{exchange_kind, fetch_kind, load_in, variable_of}
-use Rattle.memory_operation.specs.of_litmus_meaning_Meaning.{Chooses, after_condition}
-use Rattle.memory_operation.specs.of_litmus_meaning_Task.{access_now, bytes_in, has_lock}
-use Rattle.memory_operation.specs.of_litmus_meaning_Values.{sign_extended}
+use Rattle.access_types.specs.Access as access
+use Rattle.access_types.specs.Access.{proper_mask}
+use Rattle.access_types.specs.declared.history.Bytes.{Bytes}
+use Rattle.access_types.specs.declared.history.Happening.{Happening}
+use Rattle.access_types.specs.declared.history.Happening.TheVariants as happenings
+use Rattle.access_types.specs.declared.history.Mark.{Mark}
+use Rattle.access_types.specs.declared.history.Mark.TheVariants as marks
+use Rattle.access_types.specs.declared.kind.Claim.TheVariants.{NoAccesses, NoWrites}
+use Rattle.access_types.specs.declared.kind.Kind.{Kind}
+use Rattle.access_types.specs.declared.kind.Kind.TheVariants as kinds
+use Rattle.litmus_syntax.specs.Sites.{accesses_of, sites_of}
+use Rattle.litmus_syntax.specs.Tree.{Assignment, Block, Expression, Fetch, Load, Statement}
+use Rattle.litmus_syntax.specs.Tree as tree
+use Rattle.litmus_syntax.specs.declared.statement.Call.{Call}
+use Rattle.litmus_syntax.specs.declared.statement.Call.TheVariants as calls
+use Rattle.litmus_meaning.specs.Assignments.{compound_kind, write_kind}
+use Rattle.litmus_meaning.specs.Calls.{Scoped, check_kind, checked_bytes, scoped_access, scoped_assertion}
+use Rattle.litmus_meaning.specs.Expressions.{loading_value, pure_value}
+use Rattle.litmus_meaning.specs.Loads.{exchange_kind, fetch_kind, load_in, variable_of}
+use Rattle.litmus_meaning.specs.Meaning.{Chooses, after_condition}
+use Rattle.litmus_meaning.specs.Task.{access_now, bytes_in, has_lock}
+use Rattle.litmus_meaning.specs.Values.{sign_extended}
 use Rattle.memory_operation.specs.Locks.{TakesLock}
 use Rattle.memory_operation.specs.declared.effect.Effect.{Effect}
 use Rattle.memory_operation.specs.declared.operation.Change.TheVariants as changes
@@ -31,8 +31,8 @@ use Rattle.memory_operation.specs.declared.operation.Operation.TheVariants as op
 use Rattle.setup_access.specs.Check.{Check, Close, Passes}
 use Rattle.setup_access.specs.Records.{MakesDone}
 use Rattle.setup_access.specs.declared.begun.Begun.{Begun}
-use Rattle.setup_access.specs.of_slot_table_declared.records.Record.{Record}
-use Rattle.setup_access.specs.of_slot_table_declared.step.Step.TheVariants.{LockStore}
+use Rattle.slot_table.specs.declared.records.Record.{Record}
+use Rattle.slot_table.specs.declared.step.Step.TheVariants.{LockStore}
 use Rattle.written_order.specs.Access.{Makes}
 use Rattle.written_order.specs.Standing.{BeginsNow, EndsNothing, IsDisabled, IsLockAt, Point, Setting, Standing, checks_of, coming, counting, doing, lock_number, point_by, registered}
 

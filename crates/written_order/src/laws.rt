@@ -1,12 +1,12 @@
 //! What is true of the written order.
 
 ghost use Rattle.std.specs.Prelude.{◌++◌, ◌≡◌, ◌↔◌, ℕ, List, reverse};
-ghost use Rattle.setup_access.specs.of_access_types_declared.history.Happening.{Happening};
-ghost use Rattle.memory_operation.specs.of_litmus_meaning_Meaning.{MeansBlock};
-ghost use Rattle.memory_operation.specs.of_litmus_syntax_Tree.{Block};
-ghost use Rattle.setup_access.specs.of_slot_table_Discipline.{Discipline, IsFinished};
-ghost use Rattle.setup_access.specs.of_slot_table_declared.records.Record.{Record};
-ghost use Rattle.setup_access.specs.of_slot_table_declared.step.Step.{Step};
+ghost use Rattle.access_types.specs.declared.history.Happening.{Happening};
+ghost use Rattle.litmus_meaning.specs.Meaning.{MeansBlock};
+ghost use Rattle.litmus_syntax.specs.Tree.{Block};
+ghost use Rattle.slot_table.specs.Discipline.{Discipline, IsFinished};
+ghost use Rattle.slot_table.specs.declared.records.Record.{Record};
+ghost use Rattle.slot_table.specs.declared.step.Step.{Step};
 ghost use Rattle.setup_access.specs.Waits.{vain_tries};
 ghost use Rattle.written_order.specs.Standing.{Setting, Standing};
 ghost use Rattle.written_order.specs.Waits as waits;

@@ -4,24 +4,24 @@ use Rattle.std.proofs.Common.{cond, inl, inr, length, not, refl, replicate, subs
 use Rattle.std.proofs.Math.Nat.{mul-one, mul-zero, mul_assoc, one-mul, suc-mul, zero-mul}
 use Rattle.std.proofs.lemmas.List.Sums.{sum_by-append}
 use native.Mathlib.Nat.{mul-add}
-use Rattle.watch_word.specs.of_access_types_Access.{Access}
-use Rattle.watch_word.specs.of_access_types_declared.history.Happening.{Happening}
-use Rattle.watch_word.specs.of_access_types_declared.history.Happening.TheVariants as happenings
-use Rattle.watch_word.specs.of_access_types_declared.history.Mark.{Mark}
-use Rattle.watch_word.specs.of_access_types_declared.history.Mark.TheVariants as marks
-use Rattle.written_order.specs.of_litmus_meaning_Assignments.{Assigns, AssignsIn}
-use Rattle.written_order.specs.of_litmus_meaning_Calls.{Scoped, call_does, scoped_access, scoped_assertion}
-use Rattle.written_order.specs.of_litmus_meaning_Loads as loads
-use Rattle.written_order.specs.of_litmus_meaning_Loads.{ComparesAndWrites, Evaluates, Fetches, Loads, in_data_races, load_in}
-use Rattle.written_order.specs.of_litmus_meaning_Meaning.{Chooses, InBlock, Means, MeansBlock, Turns, after_condition}
-use Rattle.written_order.specs.of_litmus_meaning_Task.{Progress, Setting, assigning, doing, has_lock}
-use Rattle.written_order.specs.of_litmus_syntax_Limits.{block_repeats, own_repeats, statement_repeats}
-use Rattle.written_order.specs.of_litmus_syntax_Sites.{accesses_of, assignment_has_access, call_has_access, expression_has_access, sites_of}
-use Rattle.written_order.specs.of_litmus_syntax_Tree.{Assignment, Block, Expression, Fetch, Load, Statement}
-use Rattle.written_order.specs.of_litmus_syntax_Tree as tree
-use Rattle.written_order.specs.of_litmus_syntax_declared.statement.Call.{Call}
-use Rattle.written_order.specs.of_litmus_syntax_declared.statement.Call.TheVariants as calls
-use Rattle.written_order.specs.of_slot_table_declared.records.Record.{Record}
+use Rattle.access_types.specs.Access.{Access}
+use Rattle.access_types.specs.declared.history.Happening.{Happening}
+use Rattle.access_types.specs.declared.history.Happening.TheVariants as happenings
+use Rattle.access_types.specs.declared.history.Mark.{Mark}
+use Rattle.access_types.specs.declared.history.Mark.TheVariants as marks
+use Rattle.litmus_meaning.specs.Assignments.{Assigns, AssignsIn}
+use Rattle.litmus_meaning.specs.Calls.{Scoped, call_does, scoped_access, scoped_assertion}
+use Rattle.litmus_meaning.specs.Loads as loads
+use Rattle.litmus_meaning.specs.Loads.{ComparesAndWrites, Evaluates, Fetches, Loads, in_data_races, load_in}
+use Rattle.litmus_meaning.specs.Meaning.{Chooses, InBlock, Means, MeansBlock, Turns, after_condition}
+use Rattle.litmus_meaning.specs.Task.{Progress, Setting, assigning, doing, has_lock}
+use Rattle.litmus_syntax.specs.Limits.{block_repeats, own_repeats, statement_repeats}
+use Rattle.litmus_syntax.specs.Sites.{accesses_of, assignment_has_access, call_has_access, expression_has_access, sites_of}
+use Rattle.litmus_syntax.specs.Tree.{Assignment, Block, Expression, Fetch, Load, Statement}
+use Rattle.litmus_syntax.specs.Tree as tree
+use Rattle.litmus_syntax.specs.declared.statement.Call.{Call}
+use Rattle.litmus_syntax.specs.declared.statement.Call.TheVariants as calls
+use Rattle.slot_table.specs.declared.records.Record.{Record}
 use Rattle.written_order.specs.Standing as order
 use Rattle.written_order.specs.WrittenOrder.{SpellsAll, WrittenOrder, at_first, stands_after}
 use Rattle.written_order.proofs.WayLemmas.{did_by_then}

@@ -1,14 +1,14 @@
 -- Two checks whose records begin alike have the same outcomes, as far as what is shared.
 use Rattle.std.proofs.Common.{◌≡◌, ◌∙◌, ◌<◌, ◌≤◌, ◌||◌, ◌++◌, ◌∷◌, [], ℕ, Bool, true, false, List, MatchBool, ap, arith, inl, inr, length, subst, sym}
-use Rattle.watch_word.specs.of_access_types_Access.{Access}
-use Rattle.written_order.specs.of_setup_access_Check.{Check, ChecksAll, ChecksBegun, ChecksOnce, Close, Fallen, Pass, Passes, Rechecks, asked_silenced, fallen_of, left_to_check}
-use Rattle.written_order.specs.of_setup_access_Records.{MakesWord}
-use Rattle.written_order.specs.of_setup_access_Setting.{Setting}
-use Rattle.written_order.specs.of_setup_access_declared.begun.Begun.{Begun}
-use Rattle.written_order.specs.of_setup_access_declared.outcome.Outcome.{Outcome}
-use Rattle.written_order.proofs.of_setup_access_DisciplineLemmas.{on_word}
-use Rattle.written_order.specs.of_slot_table_declared.records.Record.{Record}
-use Rattle.written_order.specs.of_slot_table_declared.step.Step.TheVariants.{Clock}
+use Rattle.access_types.specs.Access.{Access}
+use Rattle.setup_access.specs.Check.{Check, ChecksAll, ChecksBegun, ChecksOnce, Close, Fallen, Pass, Passes, Rechecks, asked_silenced, fallen_of, left_to_check}
+use Rattle.setup_access.specs.Records.{MakesWord}
+use Rattle.setup_access.specs.Setting.{Setting}
+use Rattle.setup_access.specs.declared.begun.Begun.{Begun}
+use Rattle.setup_access.specs.declared.outcome.Outcome.{Outcome}
+use Rattle.setup_access.proofs.DisciplineLemmas.{on_word}
+use Rattle.slot_table.specs.declared.records.Record.{Record}
+use Rattle.slot_table.specs.declared.step.Step.TheVariants.{Clock}
 use Rattle.written_tellings.proofs.Cuts.{FellAlike, cut_fell, fell_append, fell_low, fell_together, fell_with}
 use Rattle.written_tellings.proofs.Sure.{Goes, same_length}
 use Rattle.written_tellings.proofs.SureChecks.{GivesBack, Judging, gives_back, in_two, up_to}

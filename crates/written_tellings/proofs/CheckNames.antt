@@ -4,40 +4,40 @@ use Rattle.std.proofs.Common.{arith, inl, inr, length, refl, subst, sym, if◌th
 use Rattle.std.proofs.lemmas.List.Quantifiers.{position-Some}
 use Rattle.std.specs.Prelude.{position}
 use Rattle.std.specs.Option.{option_map}
-use Rattle.watch_word.specs.of_access_types_Access.{Access}
-use Rattle.watch_word.specs.of_access_types_Ticket.{ticket_number}
-use Rattle.written_order.specs.of_memory_operation_Operations.{Changes, Exchanges, OnExchange, Operates, OperatesIn}
-use Rattle.written_order.specs.of_memory_operation_Values.{is_wanted, new_value, sum_of, with_value}
-use Rattle.written_order.specs.of_memory_operation_Locks.{TakesLock}
-use Rattle.written_order.specs.of_memory_operation_declared.effect.Effect.{Effect}
-use Rattle.written_order.specs.of_memory_operation_declared.operation.Change.{Change}
-use Rattle.written_order.specs.of_memory_operation_declared.operation.Change.TheVariants as changes
-use Rattle.written_order.specs.of_memory_operation_declared.operation.Operation.{Operation}
-use Rattle.written_order.specs.of_memory_operation_declared.operation.Operation.TheVariants as operations
-use Rattle.written_order.specs.of_setup_access_Check as cases
-use Rattle.written_order.specs.of_setup_access_Check.{Check, ChecksAll, ChecksBegun, ChecksOnce, Close, Ends, Fallen, GoesOn, NoneFound, Pass, Passes, Rechecks, fallen_of}
-use Rattle.written_order.specs.of_setup_access_Check.{left_to_check}
-use Rattle.written_order.specs.of_setup_access_Find.{LooksUp}
-use Rattle.written_order.specs.of_setup_access_Found.{Hears, Takes, Tells, setter_half, finder_half}
-use Rattle.written_order.specs.of_setup_access_Records.{MakesDone, MakesFlag, MakesWord}
-use Rattle.written_order.specs.of_setup_access_Setting.{Setting, look_order, slot_of, try_order}
-use Rattle.written_order.specs.of_setup_access_Setup.{Judged, Judges, TriesInsert, Watches, WatchesAt}
-use Rattle.written_order.specs.of_setup_access_Values.{LoadsFrom, both_values, has_value, lies_in, source_in, source_of, value_in}
-use Rattle.written_order.specs.of_setup_access_declared.begun.Begun.{Begun}
-use Rattle.written_order.specs.of_setup_access_declared.outcome.Outcome.{Outcome}
-use Rattle.written_order.specs.of_setup_access_declared.outcome.Outcome.TheVariants.{Nothing}
-use Rattle.written_order.specs.of_setup_access_declared.outcome.Watchpoint.{Watchpoint}
-use Rattle.written_order.specs.of_setup_access_declared.source.Source.{Source}
-use Rattle.written_order.proofs.of_setup_access_DisciplineLemmas.{on_flag, on_halves, on_word}
-use Rattle.written_order.specs.of_slot_Pair.{Halves}
-use Rattle.written_order.specs.of_slot_table_StepLine.{Names}
-use Rattle.written_order.specs.of_slot_table_Words.{Words}
-use Rattle.written_order.specs.of_slot_table_declared.records.Record.{Record}
-use Rattle.written_order.specs.of_slot_table_declared.step.Answer.{Answer}
-use Rattle.written_order.specs.of_slot_table_declared.step.Answer.TheVariants as answers
-use Rattle.written_order.specs.of_slot_table_declared.step.Step.{Step}
-use Rattle.written_order.specs.of_slot_table_declared.step.Step.TheVariants.{CellExchange, CellLoad, Clear, Clock, Consume, Insert, Load, LockTry, Name, PairLoad}
-use Rattle.written_order.specs.of_slot_table_declared.step.Step.TheVariants.{Remove, Tell, TryConsume}
+use Rattle.access_types.specs.Access.{Access}
+use Rattle.access_types.specs.Ticket.{ticket_number}
+use Rattle.memory_operation.specs.Operations.{Changes, Exchanges, OnExchange, Operates, OperatesIn}
+use Rattle.memory_operation.specs.Values.{is_wanted, new_value, sum_of, with_value}
+use Rattle.memory_operation.specs.Locks.{TakesLock}
+use Rattle.memory_operation.specs.declared.effect.Effect.{Effect}
+use Rattle.memory_operation.specs.declared.operation.Change.{Change}
+use Rattle.memory_operation.specs.declared.operation.Change.TheVariants as changes
+use Rattle.memory_operation.specs.declared.operation.Operation.{Operation}
+use Rattle.memory_operation.specs.declared.operation.Operation.TheVariants as operations
+use Rattle.setup_access.specs.Check as cases
+use Rattle.setup_access.specs.Check.{Check, ChecksAll, ChecksBegun, ChecksOnce, Close, Ends, Fallen, GoesOn, NoneFound, Pass, Passes, Rechecks, fallen_of}
+use Rattle.setup_access.specs.Check.{left_to_check}
+use Rattle.setup_access.specs.Find.{LooksUp}
+use Rattle.setup_access.specs.Found.{Hears, Takes, Tells, setter_half, finder_half}
+use Rattle.setup_access.specs.Records.{MakesDone, MakesFlag, MakesWord}
+use Rattle.setup_access.specs.Setting.{Setting, look_order, slot_of, try_order}
+use Rattle.setup_access.specs.Setup.{Judged, Judges, TriesInsert, Watches, WatchesAt}
+use Rattle.setup_access.specs.Values.{LoadsFrom, both_values, has_value, lies_in, source_in, source_of, value_in}
+use Rattle.setup_access.specs.declared.begun.Begun.{Begun}
+use Rattle.setup_access.specs.declared.outcome.Outcome.{Outcome}
+use Rattle.setup_access.specs.declared.outcome.Outcome.TheVariants.{Nothing}
+use Rattle.setup_access.specs.declared.outcome.Watchpoint.{Watchpoint}
+use Rattle.setup_access.specs.declared.source.Source.{Source}
+use Rattle.setup_access.proofs.DisciplineLemmas.{on_flag, on_halves, on_word}
+use Rattle.slot.specs.Pair.{Halves}
+use Rattle.slot_table.specs.StepLine.{Names}
+use Rattle.slot_table.specs.Words.{Words}
+use Rattle.slot_table.specs.declared.records.Record.{Record}
+use Rattle.slot_table.specs.declared.step.Answer.{Answer}
+use Rattle.slot_table.specs.declared.step.Answer.TheVariants as answers
+use Rattle.slot_table.specs.declared.step.Step.{Step}
+use Rattle.slot_table.specs.declared.step.Step.TheVariants.{CellExchange, CellLoad, Clear, Clock, Consume, Insert, Load, LockTry, Name, PairLoad}
+use Rattle.slot_table.specs.declared.step.Step.TheVariants.{Remove, Tell, TryConsume}
 use Rattle.watch_word.specs.Layout.{word_span}
 use Rattle.watch_word.specs.Word.{WordOf, word_of}
 use Rattle.watch_word.specs.declared.layout.Layout.{Layout}

@@ -1,16 +1,16 @@
 -- The points of a task's way come in order: ever fewer records are to come.
 use Rattle.std.proofs.Common.{◌≡◌, ◌<◌, ◌≤◌, ◌++◌, ◌∷◌, [], ℕ, suc, Bool, true, false, List, Option, None, Some, ap, arith, drop, length, replicate, subst, sym}
-use Rattle.watch_word.specs.of_access_types_Access as access
-use Rattle.watch_word.specs.of_access_types_declared.history.Happening.TheVariants as happenings
-use Rattle.written_order.specs.of_litmus_meaning_Task as meaning
-use Rattle.written_order.specs.of_litmus_syntax_Tree.{Block}
-use Rattle.written_order.specs.of_memory_operation_Effects.{moments_of, read_moments, write_moments}
-use Rattle.written_order.specs.of_memory_operation_Operations.{Operates}
-use Rattle.written_order.specs.of_memory_operation_declared.effect.Effect.{Effect}
-use Rattle.written_order.specs.of_memory_operation_declared.operation.Operation.{Operation}
-use Rattle.written_order.specs.of_memory_operation_declared.operation.Operation.TheVariants as operations
-use Rattle.written_order.specs.of_slot_table_declared.records.Record.{Record}
-use Rattle.written_order.specs.of_slot_table_declared.step.Step.TheVariants.{LockStore}
+use Rattle.access_types.specs.Access as access
+use Rattle.access_types.specs.declared.history.Happening.TheVariants as happenings
+use Rattle.litmus_meaning.specs.Task as meaning
+use Rattle.litmus_syntax.specs.Tree.{Block}
+use Rattle.memory_operation.specs.Effects.{moments_of, read_moments, write_moments}
+use Rattle.memory_operation.specs.Operations.{Operates}
+use Rattle.memory_operation.specs.declared.effect.Effect.{Effect}
+use Rattle.memory_operation.specs.declared.operation.Operation.{Operation}
+use Rattle.memory_operation.specs.declared.operation.Operation.TheVariants as operations
+use Rattle.slot_table.specs.declared.records.Record.{Record}
+use Rattle.slot_table.specs.declared.step.Step.TheVariants.{LockStore}
 use Rattle.written_order.specs.Access.{Makes, operated}
 use Rattle.written_order.specs.Standing.{Point, Setting, Standing, checks_of, coming, counting, doing, lock_number}
 use Rattle.written_order.specs.WrittenOrder.{SpellsAll, at_first}

@@ -13,19 +13,3 @@ pub mod OneOutcome
 pub mod CheckNames
 pub mod StepNames
 pub mod BeginsBound
-pub use Rattle.written_order.proofs.of_setup_access_DisciplineLemmas as of_setup_access_DisciplineLemmas
-pub use Rattle.written_order.proofs.of_setup_access_LeadsLemmas as of_setup_access_LeadsLemmas
-pub use Rattle.written_order.proofs.of_setup_access_NextLemmas as of_setup_access_NextLemmas
-pub use Rattle.written_order.proofs.of_setup_access_QuietSteps as of_setup_access_QuietSteps
-pub use Rattle.written_order.proofs.of_setup_access_VainLemmas as of_setup_access_VainLemmas
-pub use Rattle.written_order.proofs.of_litmus_meaning_TextSitesLemmas as of_litmus_meaning_TextSitesLemmas
-pub use Rattle.written_order.proofs.of_litmus_meaning_TicketLemmas as of_litmus_meaning_TicketLemmas
-pub use Rattle.written_order.proofs.of_memory_operation_FrameLemmas as of_memory_operation_FrameLemmas
-pub use Rattle.written_order.proofs.of_memory_operation_Fronts as of_memory_operation_Fronts
-pub use Rattle.written_order.proofs.of_memory_operation_LeadsLemmas as of_memory_operation_LeadsLemmas
-pub use Rattle.written_order.proofs.of_memory_operation_WordLemmas as of_memory_operation_WordLemmas
-pub use Rattle.written_order.proofs.AccessLemmas as of_written_order_AccessLemmas
-pub use Rattle.written_order.proofs.Induction as of_written_order_Induction
-pub use Rattle.written_order.proofs.MeaningLemmas as of_written_order_MeaningLemmas
-pub use Rattle.written_order.proofs.ScopesLemmas as of_written_order_ScopesLemmas
-pub use Rattle.written_order.proofs.WayLemmas as of_written_order_WayLemmas

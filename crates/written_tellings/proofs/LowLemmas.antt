@@ -1,10 +1,10 @@
 -- What follows on some records tells nothing of those before them.
 use Rattle.std.proofs.Common.{◌<◌, ◌≤◌, ◌∷◌, [], ℕ, zero, suc, Bool, true, List, arith, length, replicate, subst, sym}
-use Rattle.watch_word.specs.of_access_types_declared.history.Happening.TheVariants as happenings
-use Rattle.written_order.specs.of_litmus_meaning_Task as meaning
-use Rattle.written_order.specs.of_litmus_syntax_Tree.{Block}
-use Rattle.written_order.specs.of_slot_table_declared.records.Record.{Record}
-use Rattle.written_order.specs.of_slot_table_declared.step.Step.TheVariants.{LockStore}
+use Rattle.access_types.specs.declared.history.Happening.TheVariants as happenings
+use Rattle.litmus_meaning.specs.Task as meaning
+use Rattle.litmus_syntax.specs.Tree.{Block}
+use Rattle.slot_table.specs.declared.records.Record.{Record}
+use Rattle.slot_table.specs.declared.step.Step.TheVariants.{LockStore}
 use Rattle.written_order.specs.Standing.{Setting, Standing, coming, counting, lock_number, registered}
 use Rattle.written_order.specs.WrittenOrder.{StepsOfBlock, StepsOfTurns}
 use Rattle.written_order.proofs.Induction.{Kept, by_block}

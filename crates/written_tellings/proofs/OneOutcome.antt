@@ -5,15 +5,15 @@ use Rattle.std.proofs.lemmas.Bool.{ne_eqb}
 use Rattle.std.proofs.lemmas.Bool.Decides.{eqb_tells}
 use Rattle.std.proofs.lemmas.List.{length-append}
 use Rattle.std.specs.List.{filter}
-use Rattle.watch_word.specs.of_access_types_Access.{Access}
-use Rattle.written_order.specs.of_litmus_syntax_Tree.{Block}
-use Rattle.written_order.specs.of_setup_access_Check.{Check, ChecksAll, ChecksBegun, ChecksOnce, Close, Fallen, Pass, Passes, Rechecks, fallen_of, left_to_check}
-use Rattle.written_order.specs.of_setup_access_Setting as checks
-use Rattle.written_order.specs.of_setup_access_declared.begun.Begun.{Begun}
-use Rattle.written_order.proofs.of_setup_access_DisciplineLemmas.{on_word}
-use Rattle.written_order.proofs.of_setup_access_FallLemmas.{once_comes}
-use Rattle.written_order.specs.of_slot_table_declared.records.Record.{Record}
-use Rattle.written_order.specs.of_slot_table_declared.step.Step.TheVariants.{LockStore}
+use Rattle.access_types.specs.Access.{Access}
+use Rattle.litmus_syntax.specs.Tree.{Block}
+use Rattle.setup_access.specs.Check.{Check, ChecksAll, ChecksBegun, ChecksOnce, Close, Fallen, Pass, Passes, Rechecks, fallen_of, left_to_check}
+use Rattle.setup_access.specs.Setting as checks
+use Rattle.setup_access.specs.declared.begun.Begun.{Begun}
+use Rattle.setup_access.proofs.DisciplineLemmas.{on_word}
+use Rattle.setup_access.proofs.FallLemmas.{once_comes}
+use Rattle.slot_table.specs.declared.records.Record.{Record}
+use Rattle.slot_table.specs.declared.step.Step.TheVariants.{LockStore}
 use Rattle.written_order.specs.Standing.{Setting, Standing, checks_of, counting, lock_number}
 use Rattle.written_order.specs.Told.{fell_next, to_come}
 use Rattle.written_order.specs.WrittenOrder.{WrittenOrder, at_first}

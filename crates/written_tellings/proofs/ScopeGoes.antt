@@ -1,12 +1,12 @@
 -- Two scoped assertions whose records begin alike: what is shared is told the same.
 use Rattle.std.proofs.Common.{◌≡◌, ◌↔◌, ◌∙◌, ◌<◌, ◌≤◌, ◌++◌, ◌∷◌, [], ℕ, suc, Bool, IsTrue, List, ap, arith, drop, inl, inr, length, refl, subst, sym}
 use Rattle.std.proofs.lemmas.List.{append-nil}
-use Rattle.watch_word.specs.of_access_types_Access as access
-use Rattle.watch_word.specs.of_access_types_declared.history.Happening.TheVariants.{Begin, End}
-use Rattle.written_order.specs.of_litmus_meaning_Task as meaning
-use Rattle.written_order.specs.of_setup_access_Check.{Check, Close}
-use Rattle.written_order.specs.of_setup_access_declared.begun.Begun.{Begun}
-use Rattle.written_order.specs.of_slot_table_declared.records.Record.{Record}
+use Rattle.access_types.specs.Access as access
+use Rattle.access_types.specs.declared.history.Happening.TheVariants.{Begin, End}
+use Rattle.litmus_meaning.specs.Task as meaning
+use Rattle.setup_access.specs.Check.{Check, Close}
+use Rattle.setup_access.specs.declared.begun.Begun.{Begun}
+use Rattle.slot_table.specs.declared.records.Record.{Record}
 use Rattle.written_order.specs.Standing.{IsDisabled, Setting, Standing, checks_of, doing}
 use Rattle.written_order.specs.WrittenOrder.{ClosesScope, OpensScope}
 use Rattle.written_tellings.proofs.AccessGoes.{Meets, begins_one, near_doing, one_answer}

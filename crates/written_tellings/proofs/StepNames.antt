@@ -4,17 +4,17 @@ use Rattle.std.proofs.Common.{ap, arith, cond, count_by, inl, inr, length, repli
 use Rattle.std.proofs.lemmas.Bool.Decides.{eqb_tells}
 use Rattle.std.proofs.lemmas.List.{length-map, length-replicate}
 use Rattle.std.proofs.lemmas.List.Sums.{sum_by-cons}
-use Rattle.watch_word.specs.of_access_types_declared.history.Happening.{Happening}
-use Rattle.watch_word.specs.of_access_types_declared.history.Happening.TheVariants as happenings
-use Rattle.written_order.specs.of_litmus_meaning_Layout.{cells_at_first, cells_of}
-use Rattle.written_order.specs.of_litmus_meaning_Task.{has_lock}
-use Rattle.written_order.specs.of_litmus_syntax_Tree.{Block}
-use Rattle.written_order.specs.of_litmus_syntax_declared.program.Variable.{Variable}
-use Rattle.written_order.specs.of_slot_Pair.{unnamed}
-use Rattle.written_order.specs.of_slot_table_StepLine.{Names}
-use Rattle.written_order.specs.of_slot_table_Words.{Words, words_at_first}
-use Rattle.written_order.specs.of_slot_table_declared.records.Record.{Record}
-use Rattle.written_order.specs.of_slot_table_declared.step.Step.TheVariants.{LockStore}
+use Rattle.access_types.specs.declared.history.Happening.{Happening}
+use Rattle.access_types.specs.declared.history.Happening.TheVariants as happenings
+use Rattle.litmus_meaning.specs.Layout.{cells_at_first, cells_of}
+use Rattle.litmus_meaning.specs.Task.{has_lock}
+use Rattle.litmus_syntax.specs.Tree.{Block}
+use Rattle.litmus_syntax.specs.declared.program.Variable.{Variable}
+use Rattle.slot.specs.Pair.{unnamed}
+use Rattle.slot_table.specs.StepLine.{Names}
+use Rattle.slot_table.specs.Words.{Words, words_at_first}
+use Rattle.slot_table.specs.declared.records.Record.{Record}
+use Rattle.slot_table.specs.declared.step.Step.TheVariants.{LockStore}
 use Rattle.written_order.specs.Standing.{IsLockAt, Setting, Standing, checks_of, counting, is_lock, lock_number}
 use Rattle.written_order.specs.WrittenOrder.{WrittenOrder, at_first}
 use Rattle.written_order.proofs.AccessLemmas.{access_does, access_quiet, counting_progress, makes_did}

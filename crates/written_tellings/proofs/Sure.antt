@@ -1,10 +1,10 @@
 -- Two readings of lists of records that begin alike go together for as long as the lists do.
 use Rattle.std.proofs.Common.{◌≡◌, ◌∙◌, ◌<◌, ◌≤◌, ◌⊎◌, ◌++◌, ◌∷◌, [], ℕ, Bool, true, false, List, MatchBool, ap, arith, inl, inr, length, subst, sym}
-use Rattle.written_order.specs.of_setup_access_Records.{Makes, MakesDone, MakesFlag, MakesWord, OnFlag, OnWord}
-use Rattle.written_order.specs.of_slot_table_declared.records.Record.{Record}
-use Rattle.written_order.specs.of_slot_table_declared.step.Answer.{Answer}
-use Rattle.written_order.specs.of_slot_table_declared.step.Answer.TheVariants as answers
-use Rattle.written_order.specs.of_slot_table_declared.step.Step.{Step}
+use Rattle.setup_access.specs.Records.{Makes, MakesDone, MakesFlag, MakesWord, OnFlag, OnWord}
+use Rattle.slot_table.specs.declared.records.Record.{Record}
+use Rattle.slot_table.specs.declared.step.Answer.{Answer}
+use Rattle.slot_table.specs.declared.step.Answer.TheVariants as answers
+use Rattle.slot_table.specs.declared.step.Step.{Step}
 
 -- Of two lists the one ends with X and the other with Y, after one beginning. Of the beginning so much is left to both, and this
 -- holds; or both have come into their own ends, and that holds.

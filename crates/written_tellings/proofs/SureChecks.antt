@@ -1,29 +1,29 @@
 -- The parts of a check, up to its outcome, are told by their records.
 use Rattle.std.proofs.Common.{◌≡◌, ◌∙◌, ◌<◌, ◌≤◌, ◌⊎◌, ◌+◌, ◌++◌, ◌∷◌, [], ℕ, Bool, true, false, List, Option, None, Some, MatchBool, MatchOption, ap, arith}
 use Rattle.std.proofs.Common.{inl, inr, length, refl, subst, sym}
-use Rattle.watch_word.specs.of_access_types_Access.{Access}
-use Rattle.watch_word.specs.of_access_types_Ticket.{ticket_number}
-use Rattle.written_order.specs.of_slot_Pair.{Halves}
-use Rattle.written_order.specs.of_slot_table_declared.records.Record.{Record}
-use Rattle.written_order.specs.of_slot_table_declared.step.Answer.{Answer}
-use Rattle.written_order.specs.of_slot_table_declared.step.Step.TheVariants.{CellLoad, Clear, Consume, Insert, Load, Name, Remove, Tell, TryConsume}
+use Rattle.access_types.specs.Access.{Access}
+use Rattle.access_types.specs.Ticket.{ticket_number}
+use Rattle.slot.specs.Pair.{Halves}
+use Rattle.slot_table.specs.declared.records.Record.{Record}
+use Rattle.slot_table.specs.declared.step.Answer.{Answer}
+use Rattle.slot_table.specs.declared.step.Step.TheVariants.{CellLoad, Clear, Consume, Insert, Load, Name, Remove, Tell, TryConsume}
 use Rattle.watch_word.specs.Word.{Encodable, word_of}
-use Rattle.written_order.specs.of_setup_access_Check as cases
-use Rattle.written_order.specs.of_setup_access_Check.{ChecksOnce, Ends, GoesOn, NoneFound, Pass}
-use Rattle.written_order.specs.of_setup_access_Find.{Finds, LooksUp}
-use Rattle.written_order.specs.of_setup_access_Found.{FoundWatchpoint, Hears, Takes, Tells, TellsTo, finder_half, setter_half}
-use Rattle.written_order.specs.of_setup_access_Hits.{Hits}
-use Rattle.written_order.specs.of_setup_access_Records.{MakesDone, OnHalves}
-use Rattle.written_order.specs.of_setup_access_Setting.{IsWatched, Setting, look_order, slot_of, try_order}
-use Rattle.written_order.specs.of_setup_access_Setup.{Arms, Frees, Inserts, Judged, Judges, JudgesHit, SetsUp, TriesInsert, Watches, WatchesAt}
-use Rattle.written_order.specs.of_setup_access_Values.{LoadsFrom, LoadsValue, both_values, source_of, value_in}
-use Rattle.written_order.specs.of_setup_access_Verdicts.{HitOutcome, UntouchedOutcome}
-use Rattle.written_order.specs.of_setup_access_declared.outcome.Outcome.{Outcome}
-use Rattle.written_order.specs.of_setup_access_declared.outcome.Outcome.TheVariants.{Capacity, Lost, Nothing, Told, Unencodable}
-use Rattle.written_order.specs.of_setup_access_declared.outcome.Watchpoint.{Watchpoint}
-use Rattle.written_order.specs.of_setup_access_declared.source.Source.{Source}
-use Rattle.written_order.proofs.of_setup_access_DisciplineLemmas.{on_halves}
-use Rattle.written_order.proofs.of_setup_access_VerdictsUnique.{hit_unique, untouched_unique}
+use Rattle.setup_access.specs.Check as cases
+use Rattle.setup_access.specs.Check.{ChecksOnce, Ends, GoesOn, NoneFound, Pass}
+use Rattle.setup_access.specs.Find.{Finds, LooksUp}
+use Rattle.setup_access.specs.Found.{FoundWatchpoint, Hears, Takes, Tells, TellsTo, finder_half, setter_half}
+use Rattle.setup_access.specs.Hits.{Hits}
+use Rattle.setup_access.specs.Records.{MakesDone, OnHalves}
+use Rattle.setup_access.specs.Setting.{IsWatched, Setting, look_order, slot_of, try_order}
+use Rattle.setup_access.specs.Setup.{Arms, Frees, Inserts, Judged, Judges, JudgesHit, SetsUp, TriesInsert, Watches, WatchesAt}
+use Rattle.setup_access.specs.Values.{LoadsFrom, LoadsValue, both_values, source_of, value_in}
+use Rattle.setup_access.specs.Verdicts.{HitOutcome, UntouchedOutcome}
+use Rattle.setup_access.specs.declared.outcome.Outcome.{Outcome}
+use Rattle.setup_access.specs.declared.outcome.Outcome.TheVariants.{Capacity, Lost, Nothing, Told, Unencodable}
+use Rattle.setup_access.specs.declared.outcome.Watchpoint.{Watchpoint}
+use Rattle.setup_access.specs.declared.source.Source.{Source}
+use Rattle.setup_access.proofs.DisciplineLemmas.{on_halves}
+use Rattle.setup_access.proofs.VerdictsUnique.{hit_unique, untouched_unique}
 use Rattle.written_tellings.proofs.Sure.{Goes, Sure, same_length, sure_bool, sure_by, sure_choice, sure_done, sure_flag, sure_gives, sure_then, sure_unique}
 use Rattle.written_tellings.proofs.Sure.{sure_word}
 

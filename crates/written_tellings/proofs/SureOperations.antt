@@ -1,26 +1,26 @@
 -- Operations on memory, tries of a lock and single steps are told by their records.
 use Rattle.std.proofs.Common.{◌≡◌, ◌∙◌, ◌<◌, ◌≤◌, ◌++◌, ◌∷◌, [], ℕ, Bool, true, false, List, Option, None, Some, MatchBool, ap, arith, inl, inr, length, refl}
 use Rattle.std.proofs.Common.{subst, sym}
-use Rattle.watch_word.specs.of_access_types_Access.{Access}
-use Rattle.written_order.specs.of_memory_operation_Effects.{and_then, changed, nothing, only_read}
-use Rattle.written_order.specs.of_memory_operation_Locks.{TakesLock}
-use Rattle.written_order.specs.of_memory_operation_Operations.{Changes, Ends, Exchanges, IsExchange, OnExchange, Operates, OperatesIn}
-use Rattle.written_order.specs.of_memory_operation_Values.{is_wanted, sum_of}
-use Rattle.written_order.specs.of_memory_operation_declared.effect.Effect.{Effect}
-use Rattle.written_order.specs.of_memory_operation_declared.operation.Change.{Change}
-use Rattle.written_order.specs.of_memory_operation_declared.operation.Change.TheVariants as changes
-use Rattle.written_order.specs.of_memory_operation_declared.operation.Operation.{Operation}
-use Rattle.written_order.specs.of_memory_operation_declared.operation.Operation.TheVariants as operations
-use Rattle.written_order.specs.of_setup_access_Records.{MakesDone, MakesWord, OnFlag, OnWord}
-use Rattle.written_order.specs.of_setup_access_Setting.{Setting}
-use Rattle.written_order.specs.of_setup_access_Values.{source_of, value_in}
-use Rattle.written_order.specs.of_setup_access_declared.source.Source.{Source}
-use Rattle.written_order.proofs.of_setup_access_DisciplineLemmas.{on_flag, on_word}
-use Rattle.written_order.specs.of_slot_table_declared.records.Record.{Record}
-use Rattle.written_order.specs.of_slot_table_declared.step.Answer.{Answer}
-use Rattle.written_order.specs.of_slot_table_declared.step.Answer.TheVariants as answers
-use Rattle.written_order.specs.of_slot_table_declared.step.Step.{Step}
-use Rattle.written_order.specs.of_slot_table_declared.step.Step.TheVariants.{CellLoad, Clock}
+use Rattle.access_types.specs.Access.{Access}
+use Rattle.memory_operation.specs.Effects.{and_then, changed, nothing, only_read}
+use Rattle.memory_operation.specs.Locks.{TakesLock}
+use Rattle.memory_operation.specs.Operations.{Changes, Ends, Exchanges, IsExchange, OnExchange, Operates, OperatesIn}
+use Rattle.memory_operation.specs.Values.{is_wanted, sum_of}
+use Rattle.memory_operation.specs.declared.effect.Effect.{Effect}
+use Rattle.memory_operation.specs.declared.operation.Change.{Change}
+use Rattle.memory_operation.specs.declared.operation.Change.TheVariants as changes
+use Rattle.memory_operation.specs.declared.operation.Operation.{Operation}
+use Rattle.memory_operation.specs.declared.operation.Operation.TheVariants as operations
+use Rattle.setup_access.specs.Records.{MakesDone, MakesWord, OnFlag, OnWord}
+use Rattle.setup_access.specs.Setting.{Setting}
+use Rattle.setup_access.specs.Values.{source_of, value_in}
+use Rattle.setup_access.specs.declared.source.Source.{Source}
+use Rattle.setup_access.proofs.DisciplineLemmas.{on_flag, on_word}
+use Rattle.slot_table.specs.declared.records.Record.{Record}
+use Rattle.slot_table.specs.declared.step.Answer.{Answer}
+use Rattle.slot_table.specs.declared.step.Answer.TheVariants as answers
+use Rattle.slot_table.specs.declared.step.Step.{Step}
+use Rattle.slot_table.specs.declared.step.Step.TheVariants.{CellLoad, Clock}
 use Rattle.written_tellings.proofs.Sure.{Goes, Sure, same_length, sure_by, sure_done, sure_gives, sure_then, sure_unique, sure_word}
 
 by_bool : (b : Bool) (A B R : Type 0) → MatchBool b A B → (A → R) → (B → R) → R

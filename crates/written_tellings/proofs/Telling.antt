@@ -5,11 +5,11 @@ use Rattle.std.proofs.lemmas.Bool.{eq-eqb, le-leb, lt-leb, ne_eqb}
 use Rattle.std.proofs.lemmas.Bool.Decides.{eqb_tells, leb_tells}
 use Rattle.std.proofs.lemmas.List.{append-nil, length-append}
 use Rattle.std.specs.List.{filter}
-use Rattle.watch_word.specs.of_access_types_declared.history.Happening.{Happening}
-use Rattle.written_order.specs.of_litmus_meaning_Task as meaning
-use Rattle.written_order.specs.of_litmus_syntax_Tree.{Block}
-use Rattle.written_order.specs.of_setup_access_Check.{Fallen}
-use Rattle.written_order.specs.of_slot_table_declared.records.Record.{Record}
+use Rattle.access_types.specs.declared.history.Happening.{Happening}
+use Rattle.litmus_meaning.specs.Task as meaning
+use Rattle.litmus_syntax.specs.Tree.{Block}
+use Rattle.setup_access.specs.Check.{Fallen}
+use Rattle.slot_table.specs.declared.records.Record.{Record}
 use Rattle.written_order.specs.Standing.{Point, Setting, Standing, point_by}
 use Rattle.written_order.specs.Told.{Came, came_of, did_by, fell_next, stands_by, to_come}
 use Rattle.written_order.specs.WrittenOrder.{SpellsAll, StepsOfBlock, WrittenOrder, at_first, first_point, stands_after}

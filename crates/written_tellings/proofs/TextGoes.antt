@@ -1,37 +1,37 @@
 -- Two readings of a text whose records begin alike: what is shared is told the same.
 use Rattle.std.proofs.Common.{◌≡◌, ◌≢◌, ◌↔◌, ◌∙◌, ◌≤◌, ◌+◌, ◌-◌, ◌^◌, ◌++◌, ◌∷◌, [], ℕ, zero, suc, Bool, true, false, IsTrue, List, Option, None, Some}
 use Rattle.std.proofs.Common.{MatchBool, ap, arith, inl, inr, length, refl, replicate, subst, sym, if◌then◌else◌}
-use Rattle.watch_word.specs.of_access_types_Access as access
-use Rattle.watch_word.specs.of_access_types_Access.{proper_mask}
-use Rattle.watch_word.specs.of_access_types_declared.history.Bytes.{Bytes}
-use Rattle.watch_word.specs.of_access_types_declared.history.Happening.{Happening}
-use Rattle.watch_word.specs.of_access_types_declared.history.Happening.TheVariants as happenings
-use Rattle.watch_word.specs.of_access_types_declared.history.Mark.{Mark}
-use Rattle.watch_word.specs.of_access_types_declared.history.Mark.TheVariants as marks
-use Rattle.watch_word.specs.of_access_types_declared.kind.Claim.TheVariants.{NoAccesses, NoWrites}
-use Rattle.watch_word.specs.of_access_types_declared.kind.Kind.{Kind}
-use Rattle.watch_word.specs.of_access_types_declared.kind.Kind.TheVariants as kinds
-use Rattle.written_order.specs.of_litmus_meaning_Assignments.{compound_kind, write_kind}
-use Rattle.written_order.specs.of_litmus_meaning_Calls.{Scoped, check_kind, checked_bytes, scoped_access, scoped_assertion}
-use Rattle.written_order.specs.of_litmus_meaning_Expressions.{loading_value, pure_value}
-use Rattle.written_order.specs.of_litmus_meaning_Loads.{exchange_kind, fetch_kind, load_in, variable_of}
-use Rattle.written_order.specs.of_litmus_meaning_Meaning.{Chooses, after_condition}
-use Rattle.written_order.specs.of_litmus_meaning_Task as meaning
-use Rattle.written_order.specs.of_litmus_meaning_Task.{access_now, bytes_in, has_lock}
-use Rattle.written_order.specs.of_litmus_meaning_Values.{sign_extended}
-use Rattle.written_order.specs.of_litmus_syntax_Sites.{accesses_of, sites_of}
-use Rattle.written_order.specs.of_litmus_syntax_Tree.{Assignment, Block, Expression, Load, Statement}
-use Rattle.written_order.specs.of_litmus_syntax_Tree as tree
-use Rattle.written_order.specs.of_litmus_syntax_declared.statement.Call.{Call}
-use Rattle.written_order.specs.of_litmus_syntax_declared.statement.Call.TheVariants as calls
-use Rattle.written_order.specs.of_memory_operation_declared.effect.Effect.{Effect}
-use Rattle.written_order.specs.of_memory_operation_declared.operation.Change.TheVariants as changes
-use Rattle.written_order.specs.of_memory_operation_declared.operation.Operation.{Operation}
-use Rattle.written_order.specs.of_memory_operation_declared.operation.Operation.TheVariants as operations
-use Rattle.written_order.specs.of_setup_access_Records.{MakesDone}
-use Rattle.written_order.specs.of_setup_access_declared.begun.Begun.{Begun}
-use Rattle.written_order.specs.of_slot_table_declared.records.Record.{Record}
-use Rattle.written_order.specs.of_slot_table_declared.step.Step.TheVariants.{LockStore}
+use Rattle.access_types.specs.Access as access
+use Rattle.access_types.specs.Access.{proper_mask}
+use Rattle.access_types.specs.declared.history.Bytes.{Bytes}
+use Rattle.access_types.specs.declared.history.Happening.{Happening}
+use Rattle.access_types.specs.declared.history.Happening.TheVariants as happenings
+use Rattle.access_types.specs.declared.history.Mark.{Mark}
+use Rattle.access_types.specs.declared.history.Mark.TheVariants as marks
+use Rattle.access_types.specs.declared.kind.Claim.TheVariants.{NoAccesses, NoWrites}
+use Rattle.access_types.specs.declared.kind.Kind.{Kind}
+use Rattle.access_types.specs.declared.kind.Kind.TheVariants as kinds
+use Rattle.litmus_meaning.specs.Assignments.{compound_kind, write_kind}
+use Rattle.litmus_meaning.specs.Calls.{Scoped, check_kind, checked_bytes, scoped_access, scoped_assertion}
+use Rattle.litmus_meaning.specs.Expressions.{loading_value, pure_value}
+use Rattle.litmus_meaning.specs.Loads.{exchange_kind, fetch_kind, load_in, variable_of}
+use Rattle.litmus_meaning.specs.Meaning.{Chooses, after_condition}
+use Rattle.litmus_meaning.specs.Task as meaning
+use Rattle.litmus_meaning.specs.Task.{access_now, bytes_in, has_lock}
+use Rattle.litmus_meaning.specs.Values.{sign_extended}
+use Rattle.litmus_syntax.specs.Sites.{accesses_of, sites_of}
+use Rattle.litmus_syntax.specs.Tree.{Assignment, Block, Expression, Load, Statement}
+use Rattle.litmus_syntax.specs.Tree as tree
+use Rattle.litmus_syntax.specs.declared.statement.Call.{Call}
+use Rattle.litmus_syntax.specs.declared.statement.Call.TheVariants as calls
+use Rattle.memory_operation.specs.declared.effect.Effect.{Effect}
+use Rattle.memory_operation.specs.declared.operation.Change.TheVariants as changes
+use Rattle.memory_operation.specs.declared.operation.Operation.{Operation}
+use Rattle.memory_operation.specs.declared.operation.Operation.TheVariants as operations
+use Rattle.setup_access.specs.Records.{MakesDone}
+use Rattle.setup_access.specs.declared.begun.Begun.{Begun}
+use Rattle.slot_table.specs.declared.records.Record.{Record}
+use Rattle.slot_table.specs.declared.step.Step.TheVariants.{LockStore}
 use Rattle.written_order.specs.Access.{Makes}
 use Rattle.written_order.specs.Standing.{EndsNothing, IsDisabled, IsNested, Setting, Standing, coming, counting, doing, lock_number, registered}
 use Rattle.written_order.specs.WrittenOrder.{ChecksAt, ClosesScope, MakesMark, MakesTo, Only, OpensScope, Steps, StepsInBlock, StepsInDataRace, StepsOf}

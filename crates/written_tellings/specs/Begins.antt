@@ -1,7 +1,7 @@
 -- How many accesses a task began.
 use Rattle.std.specs.Prelude.{ℕ, Bool, List, count_by, false, true}
-use Rattle.watch_word.specs.of_access_types_declared.history.Happening.{Happening}
-use Rattle.watch_word.specs.of_access_types_declared.history.Happening.TheVariants.{Begin}
+use Rattle.access_types.specs.declared.history.Happening.{Happening}
+use Rattle.access_types.specs.declared.history.Happening.TheVariants.{Begin}
 
 abbrev pub is_begin : Happening → Bool
 is_begin (Begin a) = true

@@ -1,7 +1,7 @@
 -- What records tell, whatever completes them.
 use Rattle.std.specs.Prelude.{◌≡◌, ◌<◌, ◌≤◌, ℕ, List, map}
-use Rattle.written_order.specs.of_litmus_syntax_Tree.{Block}
-use Rattle.written_order.specs.of_slot_table_declared.records.Record.{Record}
+use Rattle.litmus_syntax.specs.Tree.{Block}
+use Rattle.slot_table.specs.declared.records.Record.{Record}
 use Rattle.written_order.specs.Standing.{Point, Setting}
 use Rattle.written_order.specs.Told.{came_of, did_next, fell_next, stands_by}
 use Rattle.written_order.specs.WrittenOrder.{WrittenOrder}

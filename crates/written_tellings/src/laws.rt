@@ -1,12 +1,12 @@
 //! What is true of what records tell.
 
 ghost use Rattle.std.specs.Prelude.{◌++◌, ◌≡◌, ◌<◌, ◌≤◌, ℕ, All, List, [], count_by, length};
-ghost use Rattle.written_order.specs.of_litmus_meaning_Layout.{cells_at_first};
-ghost use Rattle.written_order.specs.of_litmus_syntax_Limits.{BodyKeepsLimits, block_repeats};
-ghost use Rattle.written_order.specs.of_litmus_syntax_Tree.{Block};
-ghost use Rattle.written_order.specs.of_slot_table_StepLine.{Names};
-ghost use Rattle.written_order.specs.of_slot_table_Words.{words_at_first};
-ghost use Rattle.written_order.specs.of_slot_table_declared.records.Record.{Record};
+ghost use Rattle.litmus_meaning.specs.Layout.{cells_at_first};
+ghost use Rattle.litmus_syntax.specs.Limits.{BodyKeepsLimits, block_repeats};
+ghost use Rattle.litmus_syntax.specs.Tree.{Block};
+ghost use Rattle.slot_table.specs.StepLine.{Names};
+ghost use Rattle.slot_table.specs.Words.{words_at_first};
+ghost use Rattle.slot_table.specs.declared.records.Record.{Record};
 ghost use Rattle.written_order.specs.Standing.{Setting, is_lock};
 ghost use Rattle.written_order.specs.Told.{fell_next, stands_by};
 ghost use Rattle.written_order.specs.WrittenOrder.{SpellsAll, WrittenOrder, stands_after};

@@ -7,4 +7,3 @@ pub mod laws;
 pub use laws::{
     few_accesses_begin, one_outcome_a_record, one_telling, steps_name_words_of_the_run,
 };
-pub use written_order;

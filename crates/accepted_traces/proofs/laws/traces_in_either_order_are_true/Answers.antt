@@ -6,10 +6,10 @@ use Rattle.accepted_traces.proofs.Sections.{hold_all}
 use Rattle.accepted_traces.proofs.laws.traces_in_either_order_are_true.Goals as goal
 use Rattle.accepted_traces.specs.Parts.{AreParts, ReportFits}
 use Rattle.run_kept.specs.Setters.{AreReports}
-use Rattle.run_kept.specs.of_run_lists_Reports.{reports_of}
-use Rattle.trace_replay.specs.of_report_text_TraceText.{second, written_lines}
-use Rattle.trace_replay.specs.of_report_text_Truth.{is_pair, race_in, unknown_in}
-use Rattle.watch_word.specs.of_access_types_declared.report.Report.{Report}
+use Rattle.run_lists.specs.Reports.{reports_of}
+use Rattle.report_text.specs.TraceText.{second, written_lines}
+use Rattle.report_text.specs.Truth.{is_pair, race_in, unknown_in}
+use Rattle.access_types.specs.declared.report.Report.{Report}
 
 pub returns-clause-parts : goal.returns-clause-parts
 returns-clause-parts c = λ run records list limits slots few ended accesses arms takes are all of.

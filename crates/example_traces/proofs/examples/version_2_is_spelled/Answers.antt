@@ -1,6 +1,6 @@
 use Rattle.std.proofs.Common.{refl}
 use Rattle.std.specs.Fmt.{char_count, digits, padded_integral}
-use Rattle.report_text.specs.of_access_types_ReportText.{hex}
+use Rattle.access_types.specs.ReportText.{hex}
 use Rattle.report_text.specs.Line.{spell_access, spell_arm, spell_origin, spell_race, spell_take}
 use Rattle.report_text.specs.TraceText.{end_line, first_version, second_version, shape_line}
 use Rattle.example_traces.proofs.examples.version_2_is_spelled.Goals as goal

@@ -7,7 +7,7 @@ use Rattle.litmus_command.specs.Told.{heard}
 use Rattle.report_text.specs.Sink.{CountsFailure}
 use Rattle.litmus_command.specs.Files as events
 use Rattle.litmus_command.specs.declared.complaint.Complaint.{Complaint}
-use Rattle.run_tally.specs.of_litmus_parse_Text.{file_bytes}
+use Rattle.litmus_parse.specs.Text.{file_bytes}
 use Rattle.text_check.specs.Check.{IsCheckOf}
 use Rattle.litmus_command.proofs.check.check_file.Goals as goal
 

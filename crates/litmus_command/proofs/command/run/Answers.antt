@@ -8,8 +8,8 @@ use Rattle.litmus_command.specs.Command.{FileIsRefused, AreLeft, RunRefuses, onc
 use Rattle.litmus_command.specs.declared.command.Failure.TheVariants.{Engine}
 use Rattle.litmus_command.specs.declared.desk.ReadFault.TheVariants as fault
 use Rattle.report_text.specs.Sink.{CountsFailure}
-use Rattle.run_tally.specs.of_litmus_parse_Text.{file_bytes}
-use Rattle.run_tally.specs.of_program_sites_declared.settings.Settings.{Settings}
+use Rattle.litmus_parse.specs.Text.{file_bytes}
+use Rattle.program_sites.specs.declared.settings.Settings.{Settings}
 use Rattle.run_tally.specs.Errors.{IsRefused}
 use Rattle.run_tally.specs.Output.{TextLeaves}
 use Rattle.run_tally.specs.declared.times.Times.{Times}

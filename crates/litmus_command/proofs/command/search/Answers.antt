@@ -9,8 +9,8 @@ use Rattle.litmus_command.specs.Command.{FileIsRefused, IsFound, IsSearchedFor, 
 use Rattle.litmus_command.specs.declared.command.Failure.TheVariants.{Engine}
 use Rattle.litmus_command.specs.declared.desk.ReadFault.TheVariants as fault
 use Rattle.report_text.specs.Sink.{CountsFailure}
-use Rattle.run_tally.specs.of_litmus_parse_Text.{file_bytes}
-use Rattle.run_tally.specs.of_program_sites_declared.settings.Settings.{Settings}
+use Rattle.litmus_parse.specs.Text.{file_bytes}
+use Rattle.program_sites.specs.declared.settings.Settings.{Settings}
 use Rattle.search_run.specs.Texts.{IsRefused}
 
 -- what is found in what was read is found in this text

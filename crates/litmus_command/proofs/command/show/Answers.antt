@@ -9,7 +9,7 @@ use Rattle.litmus_command.specs.Show.{IsDrawn}
 use Rattle.litmus_command.specs.declared.command.Failure.TheVariants.{Picture}
 use Rattle.litmus_command.specs.declared.desk.ReadFault.TheVariants as fault
 use Rattle.picture_text.specs.declared.cells.Style.{Style}
-use Rattle.picture_text.specs.of_picture_Drawn.{IsUndrawn}
+use Rattle.picture.specs.Drawn.{IsUndrawn}
 use Rattle.report_text.specs.Faults.{size_limit}
 use Rattle.report_text.specs.Sink.{CountsFailure}
 

@@ -8,7 +8,7 @@ use Rattle.litmus_command.specs.Command.{FileIsRefused, IsLeft, StepRefuses, onc
 use Rattle.litmus_command.specs.declared.command.Failure.TheVariants.{Engine}
 use Rattle.litmus_command.specs.declared.desk.ReadFault.TheVariants as fault
 use Rattle.report_text.specs.Sink.{CountsFailure}
-use Rattle.run_tally.specs.of_litmus_parse_Text.{file_bytes}
+use Rattle.litmus_parse.specs.Text.{file_bytes}
 use Rattle.litmus_command.specs.Engine.{IsRefused, TextLeaves}
 use Rattle.step_schedule.specs.Schedule.{entries_of}
 

@@ -1,12 +1,12 @@
 -- by what is found of the world
 use Rattle.std.proofs.Common.{◌≡◌, ◌∙◌, ◌&&◌, Bool, IfSome, List, None, Option, Some, Vec, false, refl, subst, sym, true, ℕ}
 use Rattle.std.specs.Global.{Global}
-use Rattle.litmus_syntax.specs.of_access_types_declared.report.Report.{Report}
+use Rattle.access_types.specs.declared.report.Report.{Report}
 use Rattle.litmus_command.proofs.engine.left_of.Goals as goal
-use Rattle.run_tally.specs.of_litmus_step_Runs.{run_of}
-use Rattle.run_tally.specs.of_program_sites_Prepared.{sites_in}
-use Rattle.run_tally.specs.of_run_output_Output.{IsOutput}
-use Rattle.run_tally.specs.of_run_output_Traces.{IsTraceOf}
+use Rattle.litmus_step.specs.Runs.{run_of}
+use Rattle.program_sites.specs.Prepared.{sites_in}
+use Rattle.run_output.specs.Output.{IsOutput}
+use Rattle.run_output.specs.Traces.{IsTraceOf}
 
 -- what is so of reports is so of these
 if_some_same : (P : List Report → List ℕ → Type 0) (one other : List Report) (trace : Option (Vec ℕ Global)) → one ≡ other

@@ -3,9 +3,9 @@ use Rattle.std.proofs.Common.{[], Err, ap, subst}
 use Rattle.litmus_command.proofs.ResultLemmas.{err_holds, map_err, preparing_stops, ready_stops}
 use Rattle.litmus_command.proofs.engine.run_program.Goals as goal
 use Rattle.litmus_command.specs.Engine.{Stops}
-use Rattle.run_tally.specs.of_litmus_step_Runs.{run_of}
-use Rattle.run_tally.specs.of_litmus_step_Steps.{LeadsTo}
-use Rattle.run_tally.specs.of_run_output_declared.error.EngineError.TheVariants.{Run}
+use Rattle.litmus_step.specs.Runs.{run_of}
+use Rattle.litmus_step.specs.Steps.{LeadsTo}
+use Rattle.run_output.specs.declared.error.EngineError.TheVariants.{Run}
 use Rattle.step_schedule.specs.Schedule.{entries_of}
 
 pub run_ready-requires-clause-begins : goal.run_ready-requires-clause-begins

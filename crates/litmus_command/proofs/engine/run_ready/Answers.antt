@@ -5,13 +5,13 @@ use Rattle.litmus_command.proofs.AskedLemmas.{seen_so}
 use Rattle.litmus_command.proofs.ResultLemmas.{err_holds, items_if_some, no_error, stuck_is_other}
 use Rattle.litmus_command.proofs.engine.run_ready.Goals as goal
 use Rattle.litmus_command.specs.Engine.{ComesToEnd, GetsStuck, StopsReady, tasks_known}
-use Rattle.run_tally.specs.of_litmus_step_Runs.{run_of, tasks_of}
-use Rattle.run_tally.specs.of_litmus_step_Steps.{tasks_in}
-use Rattle.run_tally.specs.of_litmus_step_Turns.{known_of, point}
+use Rattle.litmus_step.specs.Runs.{run_of, tasks_of}
+use Rattle.litmus_step.specs.Steps.{tasks_in}
+use Rattle.litmus_step.specs.Turns.{known_of, point}
 use Rattle.litmus_syntax.specs.Views.{task_of}
-use Rattle.run_tally.specs.of_program_sites_Prepared.{sites_in}
-use Rattle.run_tally.specs.of_program_sites_declared.error.RunError.TheVariants.{BadSchedule, OutOfMemory, Stuck}
-use Rattle.run_tally.specs.of_run_output_declared.error.EngineError.TheVariants.{Run}
+use Rattle.program_sites.specs.Prepared.{sites_in}
+use Rattle.program_sites.specs.declared.error.RunError.TheVariants.{BadSchedule, OutOfMemory, Stuck}
+use Rattle.run_output.specs.declared.error.EngineError.TheVariants.{Run}
 use Rattle.step_schedule.specs.Order.{IsOrder}
 use Rattle.step_schedule.specs.Schedule.{entries_of, names_stranger}
 

@@ -1,9 +1,9 @@
 -- what is left of the program is left of its text
 use Rattle.litmus_command.proofs.ResultLemmas.{err_holds, map_ok, no_sink_stops, refused_of}
 use Rattle.litmus_command.specs.Engine.{IsRefused}
-use Rattle.run_tally.specs.of_run_output_declared.error.EngineError.TheVariants.{Text}
+use Rattle.run_output.specs.declared.error.EngineError.TheVariants.{Text}
 use Rattle.step_schedule.specs.Schedule.{entries_of}
-use Rattle.run_tally.specs.of_litmus_parse_Read.{IsReadAs}
+use Rattle.litmus_parse.specs.Read.{IsReadAs}
 use Rattle.litmus_command.proofs.engine.run_text.Goals as goal
 
 pub returns-clause-leaves : goal.returns-clause-leaves

@@ -6,8 +6,8 @@ use Rattle.command_words.specs.declared.request.Switches.{Switches}
 use Rattle.command_words.specs.declared.request.Switches.TheVariants as switches
 use Rattle.litmus_command.proofs.search.search_for.Goals as goal
 use Rattle.litmus_command.specs.Command.{IsSearchedFor}
-use Rattle.run_tally.specs.of_program_sites_declared.settings.Settings.{Settings}
-use Rattle.run_tally.specs.of_run_output_declared.error.EngineError.{EngineError}
+use Rattle.program_sites.specs.declared.settings.Settings.{Settings}
+use Rattle.run_output.specs.declared.error.EngineError.{EngineError}
 use Rattle.search_all.specs.Texts.{AllIsSearched}
 use Rattle.search_all.specs.declared.wanted.AllWanted.{AllWanted}
 use Rattle.search_run.specs.Texts.{TextIsSearched}

@@ -2,8 +2,8 @@
 use Rattle.std.proofs.Common.{◌≡◌, ◌∙◌, ◌*◌, [], ℕ, List, Some, arith, length, slice_get, slice_index_or, subst, sym}
 use Rattle.litmus_step.proofs.FirstLemmas.{each_push}
 use Rattle.litmus_step.proofs.first.first_logs.Goals as goal
-use Rattle.run_kept.specs.of_task_log_Keeps.{Keeps}
-use Rattle.run_kept.specs.of_task_log_declared.log.TaskLog.{TaskLog}
+use Rattle.task_log.specs.Keeps.{Keeps}
+use Rattle.task_log.specs.declared.log.TaskLog.{TaskLog}
 
 -- there is room for so many accesses as the list has of a task
 abbrev HasRoom : List ℕ → ℕ → TaskLog → Type 0

@@ -1,8 +1,8 @@
 -- Each log so far is of no step, and there is room for the rest.
 use Rattle.std.proofs.Common.{◌≡◌, ◌≤◌, ◌*◌, [], ℕ, Some, length, slice_get, slice_index_or, vec_capacity, vec_len}
 use Rattle.litmus_step.proofs.first.first_logs.Given as goal
-use Rattle.run_kept.specs.of_task_log_Keeps.{Keeps}
-use Rattle.run_kept.specs.of_task_log_declared.log.TaskLog.{TaskLog}
+use Rattle.task_log.specs.Keeps.{Keeps}
+use Rattle.task_log.specs.declared.log.TaskLog.{TaskLog}
 
 abbrev pub invariant-loop-one : goal.invariant-loop-one
 invariant-loop-one l = record {

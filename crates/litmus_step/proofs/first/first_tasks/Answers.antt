@@ -5,10 +5,10 @@ use Rattle.litmus_syntax.specs.Views.{task_of}
 use Rattle.litmus_step.proofs.FirstLemmas.{each_push}
 use Rattle.litmus_step.proofs.first.first_tasks.Goals as goal
 use Rattle.litmus_step.specs.Leads.{LeadsTask}
-use Rattle.run_kept.specs.of_program_sites_Prepared.{sites_in}
+use Rattle.program_sites.specs.Prepared.{sites_in}
 use Rattle.litmus_step.specs.Runs.{run_of}
-use Rattle.run_kept.specs.of_task_run_Points.{HasMade}
-use Rattle.run_kept.specs.of_task_run_declared.run.TaskRun.{TaskRun}
+use Rattle.task_run.specs.Points.{HasMade}
+use Rattle.task_run.specs.declared.run.TaskRun.{TaskRun}
 
 pub loop-number-preserved : goal.loop-number-preserved
 loop-number-preserved c =

@@ -2,11 +2,11 @@
 use Rattle.std.proofs.Common.{◌≡◌, ◌≤◌, [], ℕ, Some, slice_get, vec_capacity, vec_len}
 use Rattle.litmus_step.proofs.first.first_tasks.Given as goal
 use Rattle.litmus_step.specs.Leads.{LeadsTask}
-use Rattle.run_kept.specs.of_program_sites_Prepared.{IsPrepared, sites_in}
+use Rattle.program_sites.specs.Prepared.{IsPrepared, sites_in}
 use Rattle.litmus_step.specs.Runs.{run_of}
-use Rattle.run_kept.specs.of_program_sites_declared.settings.Settings.{Settings}
-use Rattle.run_kept.specs.of_task_run_Points.{HasMade}
-use Rattle.run_kept.specs.of_task_run_declared.run.TaskRun.{TaskRun}
+use Rattle.program_sites.specs.declared.settings.Settings.{Settings}
+use Rattle.task_run.specs.Points.{HasMade}
+use Rattle.task_run.specs.declared.run.TaskRun.{TaskRun}
 
 abbrev pub invariant-loop-number : goal.invariant-loop-number
 invariant-loop-number l = record {

@@ -1,5 +1,5 @@
 -- By what a machine says and what logs report.
-use Rattle.step_bounds.specs.of_setup_access_Parts.{made}
+use Rattle.setup_access.specs.Parts.{made}
 use Rattle.litmus_step.proofs.KeptLemmas.{kept_more}
 use Rattle.litmus_step.proofs.PointLemmas.{points_more}
 use Rattle.litmus_step.proofs.laws.steps_are_kept.Goals as goal

@@ -3,8 +3,8 @@ use Rattle.std.proofs.Common.{List}
 use Rattle.litmus_step.proofs.logs.accesses_of.Given as goal
 use Rattle.litmus_step.specs.Kept.{AreLogs}
 use Rattle.litmus_syntax.specs.Limits.{KeepsLimits}
-use Rattle.step_bounds.specs.of_run_lists_Run.{Run}
-use Rattle.step_bounds.specs.of_run_lists_RunList.{RunList}
+use Rattle.run_lists.specs.Run.{Run}
+use Rattle.run_lists.specs.RunList.{RunList}
 use Rattle.run_kept.specs.Lists.{AreAccessesOf, ByTask}
 use Rattle.slot_table.specs.declared.records.Record.{Record}
 

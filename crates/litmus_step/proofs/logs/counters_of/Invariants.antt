@@ -2,8 +2,8 @@
 use Rattle.std.proofs.Common.{List}
 use Rattle.litmus_step.proofs.logs.counters_of.Given as goal
 use Rattle.litmus_step.specs.Kept.{AreLogs}
-use Rattle.step_bounds.specs.of_run_lists_Run.{Run}
-use Rattle.step_bounds.specs.of_run_lists_RunList.{RunList}
+use Rattle.run_lists.specs.Run.{Run}
+use Rattle.run_lists.specs.RunList.{RunList}
 use Rattle.run_kept.specs.Totals.{CountsTasks}
 use Rattle.slot_table.specs.declared.records.Record.{Record}
 

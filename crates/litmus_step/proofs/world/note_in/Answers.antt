@@ -4,8 +4,8 @@ use Rattle.std.proofs.lemmas.Option.{slice_get_read}
 use Rattle.litmus_step.proofs.world.note_in.Goals as goal
 use Rattle.litmus_step.proofs.RoomLemmas.{same_mapped}
 use Rattle.litmus_step.specs.Kept.{IsNotedIn}
-use Rattle.run_kept.specs.of_task_log_Keeps.{room_in}
-use Rattle.run_kept.specs.of_task_log_declared.log.TaskLog.{TaskLog}
+use Rattle.task_log.specs.Keeps.{room_in}
+use Rattle.task_log.specs.declared.log.TaskLog.{TaskLog}
 
 same_some : (one other : TaskLog) → Some one ≡ Some other → one ≡ other
 same_some one other same = cc

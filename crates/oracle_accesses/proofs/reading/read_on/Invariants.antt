@@ -4,8 +4,8 @@ use Rattle.litmus_syntax.specs.Limits.{TaskKeepsLimits}
 use Rattle.litmus_syntax.specs.Tree.{Task}
 use Rattle.task_laws.specs.Fits.{ArePlaced}
 use Rattle.task_run.specs.Leads.{Leads}
-use Rattle.written_tellings.specs.of_written_order_Standing.{Setting}
-use Rattle.written_tellings.specs.of_written_order_WrittenOrder.{WrittenOrder}
+use Rattle.written_order.specs.Standing.{Setting}
+use Rattle.written_order.specs.WrittenOrder.{WrittenOrder}
 use Rattle.oracle_accesses.proofs.reading.read_on.Given as goal
 
 abbrev pub invariant-loop-latest : goal.invariant-loop-latest

@@ -1,7 +1,7 @@
 -- A new machine reads the records of the task, whose variables are placed.
 use Rattle.std.proofs.Common.{refl}
 use Rattle.litmus_syntax.specs.Views.{program_of, task_of}
-use Rattle.task_run.specs.of_program_sites_Prepared.{sites_in}
+use Rattle.program_sites.specs.Prepared.{sites_in}
 use Rattle.task_run.specs.First.{setting_of}
 use Rattle.oracle_accesses.proofs.TextLemmas.{is_below, keeps_limits}
 use Rattle.oracle_accesses.proofs.reading.read_text.Goals as goal

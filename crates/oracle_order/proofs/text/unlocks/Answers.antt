@@ -5,7 +5,7 @@ use Rattle.litmus_meaning.specs.Task as meaning
 use Rattle.litmus_meaning.specs.Task.{Progress, has_lock}
 use Rattle.oracle_order.proofs.OrderLemmas.{held, not_held}
 use Rattle.oracle_order.specs.Walks.{stands}
-use Rattle.written_order.specs.of_setup_access_Records.{MakesDone}
+use Rattle.setup_access.specs.Records.{MakesDone}
 use Rattle.slot_table.specs.declared.records.Record.{Record}
 use Rattle.slot_table.specs.declared.step.Step.TheVariants.{LockStore}
 use Rattle.written_order.specs.Standing.{coming, counting, doing, lock_number}

@@ -2,7 +2,7 @@
 use Rattle.std.proofs.Common.{◌∙◌, ℕ, ap, sym}
 use Rattle.picture.specs.Ordered.{rows_before}
 use Rattle.picture.specs.declared.rows.Mark.{Mark}
-use Rattle.picture.proofs.of_report_text_SinkSteps.{writes_same}
+use Rattle.report_text.proofs.SinkSteps.{writes_same}
 use Rattle.picture_svg.specs.Bars.{bar}
 use Rattle.picture_svg.specs.Marks.{mark_text}
 use Rattle.picture_svg.proofs.marks.write_row.Goals as goal

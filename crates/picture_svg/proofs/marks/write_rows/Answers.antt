@@ -1,5 +1,5 @@
 -- one row more, or a failure within it
-use Rattle.picture.proofs.of_report_text_SinkSteps.{writes_error}
+use Rattle.report_text.proofs.SinkSteps.{writes_error}
 use Rattle.picture_svg.proofs.Drawn.{fails_row, takes_row}
 use Rattle.picture_svg.proofs.marks.write_rows.Goals as goal
 

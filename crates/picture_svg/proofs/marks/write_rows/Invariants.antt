@@ -1,6 +1,6 @@
 -- those so far are drawn
 use Rattle.std.proofs.Common.{take}
-use Rattle.picture.specs.of_report_text_Sink.{Takes}
+use Rattle.report_text.specs.Sink.{Takes}
 use Rattle.picture_svg.specs.Marks.{rows_marks}
 use Rattle.picture_svg.proofs.marks.write_rows.Given as goal
 

@@ -1,7 +1,7 @@
 -- the pieces spell the report
 use Rattle.std.proofs.Common.{◌∙◌, ap}
-use Rattle.picture.proofs.of_report_text_SinkSteps.{writes_same}
-use Rattle.picture.specs.of_access_types_Kind.{is_assertion}
+use Rattle.report_text.proofs.SinkSteps.{writes_same}
+use Rattle.access_types.specs.Kind.{is_assertion}
 use Rattle.picture_svg.specs.Bars.{lane}
 use Rattle.picture_svg.specs.Reports.{race_name}
 use Rattle.picture_svg.proofs.Spelled.{origin_is}

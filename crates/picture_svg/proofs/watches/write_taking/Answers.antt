@@ -1,6 +1,6 @@
 -- the pieces spell the taking
 use Rattle.std.proofs.Common.{◌∙◌, ap}
-use Rattle.picture.proofs.of_report_text_SinkSteps.{writes_same}
+use Rattle.report_text.proofs.SinkSteps.{writes_same}
 use Rattle.picture_svg.specs.Bars.{lane}
 use Rattle.picture_svg.proofs.Spelled.{taking_is}
 use Rattle.picture_svg.proofs.watches.write_taking.Goals as goal

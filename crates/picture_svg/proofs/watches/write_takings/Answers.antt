@@ -2,10 +2,10 @@
 use Rattle.std.proofs.Common.{List, arith, take}
 use Rattle.std.specs.List.{flat_map}
 use Rattle.picture_svg.specs.Watches.{taking_text}
-use Rattle.picture.specs.of_report_text_Sink.{Takes}
+use Rattle.report_text.specs.Sink.{Takes}
 use Rattle.picture.specs.declared.watches.Taking.{Taking}
 use Rattle.picture.proofs.Steps.{next_too}
-use Rattle.picture.proofs.of_report_text_SinkSteps.{fails_item, takes_more, writes_error}
+use Rattle.report_text.proofs.SinkSteps.{fails_item, takes_more, writes_error}
 use Rattle.picture_svg.proofs.watches.write_takings.Goals as goal
 
 pub loop-taking-preserved : goal.loop-taking-preserved

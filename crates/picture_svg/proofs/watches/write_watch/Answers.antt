@@ -1,6 +1,6 @@
 -- the pieces spell the watchpoint
 use Rattle.std.proofs.Common.{◌∙◌, ap}
-use Rattle.picture.proofs.of_report_text_SinkSteps.{writes_same}
+use Rattle.report_text.proofs.SinkSteps.{writes_same}
 use Rattle.picture.specs.Ordered.{rows_before}
 use Rattle.picture.specs.Words.{outcome_words}
 use Rattle.picture_svg.specs.Bars.{lane}

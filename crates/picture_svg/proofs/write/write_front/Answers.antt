@@ -1,6 +1,6 @@
 -- the pieces spell the text
 use Rattle.std.proofs.Common.{append_assoc, append-nil}
-use Rattle.picture.proofs.of_report_text_SinkSteps.{writes_same}
+use Rattle.report_text.proofs.SinkSteps.{writes_same}
 use Rattle.picture_svg.proofs.Spelled.{looks_are}
 use Rattle.picture_svg.proofs.write.write_front.Goals as goal
 

@@ -1,8 +1,8 @@
 -- a task with accesses has a lane, and one without has none
 use Rattle.std.proofs.Common.{◌≡◌, ◌==◌, ℕ, List, false, subst, true}
 use Rattle.std.specs.Prelude.{vec_len}
-use Rattle.picture.specs.of_report_text_Sink.{Takes}
-use Rattle.picture.proofs.of_report_text_SinkSteps.{takes_nothing, writes_same}
+use Rattle.report_text.specs.Sink.{Takes}
+use Rattle.report_text.proofs.SinkSteps.{takes_nothing, writes_same}
 use Rattle.picture_svg.proofs.Spelled.{heading_is, heading_none}
 use Rattle.picture_svg.proofs.write.write_heading.Goals as goal
 

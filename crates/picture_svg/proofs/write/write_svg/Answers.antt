@@ -2,7 +2,7 @@
 use Rattle.std.proofs.Common.{◌≡◌, List, subst, sym}
 use Rattle.std.specs.List.Sorted.{IsNonDecreasingBy}
 use Rattle.picture.specs.declared.rows.Row.{Row}
-use Rattle.picture.proofs.of_report_text_SinkSteps.{fails_first, fails_second, writes_after, writes_error}
+use Rattle.report_text.proofs.SinkSteps.{fails_first, fails_second, writes_after, writes_error}
 use Rattle.picture_svg.proofs.write.write_svg.Goals as goal
 
 -- rows that are passed on still rise

@@ -2,7 +2,7 @@
 use Rattle.std.proofs.Common.{arith, subst, sym}
 use Rattle.picture.specs.Running.{IsInOrder}
 use Rattle.picture_text.specs.Lines.{column_text}
-use Rattle.picture.proofs.of_report_text_SinkSteps.{fails_item, writes_error}
+use Rattle.report_text.proofs.SinkSteps.{fails_item, writes_error}
 use Rattle.picture_text.proofs.lines.write_cells.Goals as goal
 
 pub write_column-requires : goal.write_column-requires

@@ -1,5 +1,5 @@
 -- each part is what its call left, up to the one that failed
-use Rattle.picture.proofs.of_report_text_SinkSteps.{fails_first, fails_second, writes_after, writes_error}
+use Rattle.report_text.proofs.SinkSteps.{fails_first, fails_second, writes_after, writes_error}
 use Rattle.picture_text.proofs.lines.write_line.Goals as goal
 
 pub returns-in_err-write_margin : goal.returns-in_err-write_margin

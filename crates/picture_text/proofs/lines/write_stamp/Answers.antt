@@ -1,6 +1,6 @@
 -- the pieces spell the stamp
 use Rattle.std.proofs.Common.{append_assoc, append-nil}
-use Rattle.picture.proofs.of_report_text_SinkSteps.{writes_same}
+use Rattle.report_text.proofs.SinkSteps.{writes_same}
 use Rattle.picture_text.proofs.lines.write_stamp.Goals as goal
 
 pub returns : goal.returns

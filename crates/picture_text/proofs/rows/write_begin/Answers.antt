@@ -1,5 +1,5 @@
 -- each line is what its call left, up to the one that failed
-use Rattle.picture.proofs.of_report_text_SinkSteps.{fails_first, fails_second, writes_after, writes_error, writes_same}
+use Rattle.report_text.proofs.SinkSteps.{fails_first, fails_second, writes_after, writes_error, writes_same}
 use Rattle.picture_text.proofs.LongText.{long_is}
 use Rattle.picture_text.proofs.rows.write_begin.Goals as goal
 

@@ -1,5 +1,5 @@
 -- the pieces spell the line
-use Rattle.picture.proofs.of_report_text_SinkSteps.{writes_same}
+use Rattle.report_text.proofs.SinkSteps.{writes_same}
 use Rattle.picture_text.proofs.Spelled.{changed_line_is}
 use Rattle.picture_text.proofs.rows.write_changed.Goals as goal
 

@@ -1,5 +1,5 @@
 -- each part is what its call left, up to the one that failed
-use Rattle.picture.proofs.of_report_text_SinkSteps.{fails_first, writes_after, writes_error}
+use Rattle.report_text.proofs.SinkSteps.{fails_first, writes_after, writes_error}
 use Rattle.picture_text.proofs.rows.write_origin.Goals as goal
 
 pub returns-in_err-write_changed : goal.returns-in_err-write_changed

@@ -1,6 +1,6 @@
 -- the pieces spell the line
 use Rattle.std.proofs.Common.{◌∙◌}
-use Rattle.picture.proofs.of_report_text_SinkSteps.{writes_same}
+use Rattle.report_text.proofs.SinkSteps.{writes_same}
 use Rattle.picture_text.proofs.Spelled.{race_line_is}
 use Rattle.picture_text.proofs.rows.write_race.Goals as goal
 

@@ -1,7 +1,7 @@
 -- those so far are written
 use Rattle.std.proofs.Common.{take}
 use Rattle.std.specs.List.{flat_map}
-use Rattle.picture.specs.of_report_text_Sink.{Takes}
+use Rattle.report_text.specs.Sink.{Takes}
 use Rattle.picture_text.specs.Rows.{row_text}
 use Rattle.picture_text.proofs.rows.write_rows.Given as goal
 

@@ -1,7 +1,7 @@
 -- the pieces spell the line
 use Rattle.std.proofs.Common.{◌∙◌, ap}
 use Rattle.picture.specs.Words.{outcome_words}
-use Rattle.picture.proofs.of_report_text_SinkSteps.{writes_same}
+use Rattle.report_text.proofs.SinkSteps.{writes_same}
 use Rattle.picture_text.proofs.Spelled.{watch_is}
 use Rattle.picture_text.proofs.watches.write_watch.Goals as goal
 

@@ -1,5 +1,5 @@
 -- each part is what its call left, up to the one that failed
-use Rattle.picture.proofs.of_report_text_SinkSteps.{fails_first, fails_second, writes_after, writes_error}
+use Rattle.report_text.proofs.SinkSteps.{fails_first, fails_second, writes_after, writes_error}
 use Rattle.picture_text.proofs.write.write_head.Goals as goal
 
 pub returns-in_err-write_all : goal.returns-in_err-write_all

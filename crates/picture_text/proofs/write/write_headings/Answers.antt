@@ -1,7 +1,7 @@
 -- one item more, or a failure within it
 use Rattle.std.proofs.Common.{arith}
 use Rattle.picture_text.specs.Text.{heading}
-use Rattle.picture.proofs.of_report_text_SinkSteps.{fails_item, writes_error}
+use Rattle.report_text.proofs.SinkSteps.{fails_item, writes_error}
 use Rattle.picture_text.proofs.write.write_headings.Goals as goal
 
 pub returns-in_err-write_heading : goal.returns-in_err-write_heading

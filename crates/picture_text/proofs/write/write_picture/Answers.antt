@@ -3,7 +3,7 @@ use Rattle.std.proofs.Common.{List, subst, sym}
 use Rattle.std.specs.Prelude.{All}
 use Rattle.picture.specs.Running.{IsInOrder}
 use Rattle.picture.specs.declared.columns.Column.{Column}
-use Rattle.picture.proofs.of_report_text_SinkSteps.{fails_first, fails_second, writes_after, writes_error}
+use Rattle.report_text.proofs.SinkSteps.{fails_first, fails_second, writes_after, writes_error}
 use Rattle.picture_text.proofs.write.write_picture.Goals as goal
 
 pub write_rows-requires : goal.write_rows-requires

@@ -1,9 +1,9 @@
 -- What is read is what the bytes of the printed form spell, and the printed form of a program that a text spells spells it.
 use Rattle.std.proofs.Common.{◌≡◌, ◌∙◌, ℕ, List, sym, subst}
 use Rattle.std.specs.Prelude.{IfOk}
-use Rattle.litmus_parse.specs.of_litmus_syntax_PrintedForm.{printed}
-use Rattle.litmus_parse.specs.of_litmus_syntax_Tree as tree
-use Rattle.litmus_parse.specs.of_litmus_syntax_Views.{program_of}
+use Rattle.litmus_syntax.specs.PrintedForm.{printed}
+use Rattle.litmus_syntax.specs.Tree as tree
+use Rattle.litmus_syntax.specs.Views.{program_of}
 use Rattle.litmus_parse.specs.Grammar.{SpellsProgram}
 use Rattle.printed_bytes.proofs.back.read_back.Goals as goal
 

@@ -1,7 +1,7 @@
 -- Part by part.
 use Rattle.std.proofs.Common.{sym, subst}
-use Rattle.litmus_parse.specs.of_litmus_expression_Followed.{Differ}
-use Rattle.litmus_parse.specs.of_litmus_expression_Names.{Names}
+use Rattle.litmus_expression.specs.Followed.{Differ}
+use Rattle.litmus_expression.specs.Names.{Names}
 use Rattle.printed_texts.proofs.Programs.{program_printed}
 use Rattle.printed_texts.proofs.Wholes.{names_are, own_names}
 use Rattle.printed_texts.proofs.laws.printed_programs_are_spelled.Goals as goal

@@ -2,7 +2,7 @@
 use Rattle.std.proofs.Common.{All}
 use Rattle.std.proofs.lemmas.List.Sorted.{All-permutation}
 use Rattle.run_kept.proofs.OneBags.{all_of, origins, races, takings}
-use Rattle.run_headline.specs.of_run_lists_Run.{first_cells, locks_of}
+use Rattle.run_lists.specs.Run.{first_cells, locks_of}
 use Rattle.run_headline.specs.Takings.{HasOneAnswer}
 use Rattle.slot_table.specs.Meetings.{Meeting, finders_told, setters_heard}
 use Rattle.run_kept.proofs.bags.the_bags_are_equal.Goals as goal

@@ -1,17 +1,17 @@
 -- Each arming that is over has its verdict, and each taking its telling.
 use Rattle.std.proofs.Common.{◌≡◌, ◌∙◌, ◌+◌, ◌++◌, ℕ, [], List, arith, length, reverse, subst, sym}
 use Rattle.std.proofs.lemmas.List.{length-append, length-reverse}
-use Rattle.written_tellings.specs.of_litmus_syntax_Tree.{Block}
+use Rattle.litmus_syntax.specs.Tree.{Block}
 use Rattle.run_kept.proofs.Fallen.{few_fell, few_reported_in, so_many_arms, so_many_takes}
 use Rattle.run_kept.proofs.Watches.{count_reverse, few_removes, few_tells, is_remove, is_tell}
-use Rattle.run_headline.proofs.of_run_lists_CheckFacts.{back}
+use Rattle.run_lists.proofs.CheckFacts.{back}
 use Rattle.run_kept.proofs.Naming.{back_is}
 use Rattle.run_kept.proofs.Sums.{counted_both, of_record, steps_noted}
 use Rattle.run_headline.proofs.Texts.{whole_falls}
 use Rattle.slot_table.specs.Discipline.{Discipline}
 use Rattle.slot_table.specs.declared.records.Record.{Record}
-use Rattle.written_tellings.specs.of_written_order_Standing.{Setting}
-use Rattle.written_tellings.specs.of_written_order_WrittenOrder.{SpellsAll, WrittenOrder}
+use Rattle.written_order.specs.Standing.{Setting}
+use Rattle.written_order.specs.WrittenOrder.{SpellsAll, WrittenOrder}
 use Rattle.std.proofs.lemmas.List.{append-nil}
 use Rattle.run_kept.proofs.bounds.few_watches_are_over.Goals as goal
 

@@ -2,12 +2,12 @@
 use Rattle.std.proofs.Common.{ℕ, List, arith, reverse, subst, sym}
 use Rattle.std.proofs.lemmas.List.{reverse-reverse}
 use Rattle.run_kept.proofs.Lists.{keeps_body}
-use Rattle.run_headline.specs.of_run_lists_Run.{Run}
-use Rattle.run_headline.specs.of_run_lists_RunList.{RunList}
+use Rattle.run_lists.specs.Run.{Run}
+use Rattle.run_lists.specs.RunList.{RunList}
 use Rattle.run_kept.specs.Noted.{AreNoted, Notes}
 use Rattle.slot_table.specs.Records.{records_of}
 use Rattle.slot_table.specs.declared.records.Record.{Record}
-use Rattle.run_headline.specs.of_task_log_declared.noted.Noted.{Noted}
+use Rattle.task_log.specs.declared.noted.Noted.{Noted}
 use Rattle.run_kept.proofs.bounds.few_watches_of_each_task_are_over.Goals as goal
 
 turned : (run : Run) (records : List Record) (list : RunList run records) (task : ℕ) (noted : List Noted) → Notes list task noted

@@ -1,13 +1,13 @@
 -- Task by task.
 use Rattle.std.proofs.Common.{◌≡◌, ◌∙◌, ◌++◌, ℕ, [], List, ap, arith, length, reverse, subst, sym}
 use Rattle.std.proofs.lemmas.List.{append-nil, length-reverse}
-use Rattle.written_tellings.specs.of_litmus_syntax_Tree.{Block}
+use Rattle.litmus_syntax.specs.Tree.{Block}
 use Rattle.run_kept.proofs.Lists.{keeps_body}
 use Rattle.run_kept.proofs.Watches.{count_reverse, few_removes, few_tells, is_remove, is_tell}
 use Rattle.run_kept.proofs.FewKept.{by_tasks, few_ended, so_many_arms, so_many_takes}
-use Rattle.run_headline.specs.of_run_lists_Run.{task_setting}
-use Rattle.run_headline.specs.of_run_lists_Told.{made_by}
-use Rattle.run_headline.proofs.of_run_lists_CheckFacts.{back}
+use Rattle.run_lists.specs.Run.{task_setting}
+use Rattle.run_lists.specs.Told.{made_by}
+use Rattle.run_lists.proofs.CheckFacts.{back}
 use Rattle.run_kept.specs.Lists.{AreAccessesOf, AreArmsOf, AreTakesOf, takes_by}
 use Rattle.run_kept.proofs.Naming.{back_is}
 use Rattle.run_kept.proofs.Sums.{counted_both, of_record}
@@ -15,9 +15,9 @@ use Rattle.run_headline.proofs.Texts.{whole_falls}
 use Rattle.slot_table.specs.Discipline.{Discipline}
 use Rattle.slot_table.specs.Records.{records_of}
 use Rattle.slot_table.specs.declared.records.Record.{Record}
-use Rattle.written_tellings.specs.of_written_order_Standing.{Point, Setting}
-use Rattle.written_tellings.specs.of_written_order_Told.{did_by}
-use Rattle.written_tellings.specs.of_written_order_WrittenOrder.{SpellsAll, WrittenOrder}
+use Rattle.written_order.specs.Standing.{Point, Setting}
+use Rattle.written_order.specs.Told.{did_by}
+use Rattle.written_order.specs.WrittenOrder.{SpellsAll, WrittenOrder}
 use Rattle.written_tellings.specs.Begins.{begins_in}
 use Rattle.run_kept.proofs.lengths.few_are_kept.Goals as goal
 

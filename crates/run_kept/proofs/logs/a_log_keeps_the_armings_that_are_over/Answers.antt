@@ -1,5 +1,5 @@
 -- By the discipline: what a task has last set up and named is of the arming in its hand.
-use Rattle.run_headline.specs.of_run_lists_Run.{first_cells, locks_of}
+use Rattle.run_lists.specs.Run.{first_cells, locks_of}
 use Rattle.run_kept.proofs.Numbering.{all_numbered}
 use Rattle.run_kept.proofs.Removals.{kept_arms}
 use Rattle.run_kept.proofs.logs.a_log_keeps_the_armings_that_are_over.Goals as goal

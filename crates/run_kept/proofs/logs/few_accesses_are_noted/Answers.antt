@@ -1,15 +1,15 @@
 -- By what the task has begun.
 use Rattle.std.proofs.Common.{◌≡◌, ◌∙◌, ◌≤◌, ℕ, List, ap, arith, length, reverse, sym}
 use Rattle.std.proofs.lemmas.List.{length-reverse}
-use Rattle.written_tellings.specs.of_litmus_syntax_Tree.{Block}
+use Rattle.litmus_syntax.specs.Tree.{Block}
 use Rattle.run_kept.specs.Noted.{AreNoted}
 use Rattle.run_kept.proofs.Rooms.{few_noted}
 use Rattle.slot_table.specs.declared.records.Record.{Record}
-use Rattle.run_headline.specs.of_task_log_Touches.{touches_of}
-use Rattle.run_headline.specs.of_task_log_declared.noted.Noted.{Noted}
-use Rattle.written_tellings.specs.of_written_order_Standing.{Point, Setting}
-use Rattle.written_tellings.specs.of_written_order_Told.{did_by, stands_by}
-use Rattle.written_tellings.specs.of_written_order_WrittenOrder.{WrittenOrder, stands_after}
+use Rattle.task_log.specs.Touches.{touches_of}
+use Rattle.task_log.specs.declared.noted.Noted.{Noted}
+use Rattle.written_order.specs.Standing.{Point, Setting}
+use Rattle.written_order.specs.Told.{did_by, stands_by}
+use Rattle.written_order.specs.WrittenOrder.{WrittenOrder, stands_after}
 use Rattle.written_tellings.specs.Begins.{begins_in}
 use Rattle.run_kept.proofs.logs.few_accesses_are_noted.Goals as goal
 

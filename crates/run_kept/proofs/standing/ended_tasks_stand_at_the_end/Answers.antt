@@ -1,9 +1,9 @@
 -- Nothing completes the records, and the last point of a way is where the task stands.
 use Rattle.std.proofs.Common.{subst, sym}
-use Rattle.written_tellings.specs.of_litmus_meaning_Meaning.{MeansBlock}
-use Rattle.written_tellings.specs.of_litmus_meaning_Task.{Progress}
+use Rattle.litmus_meaning.specs.Meaning.{MeansBlock}
+use Rattle.litmus_meaning.specs.Task.{Progress}
 use Rattle.run_kept.proofs.Ended.{alone, end_progress, end_unbalanced}
-use Rattle.written_tellings.specs.of_written_order_WrittenOrder.{at_first}
+use Rattle.written_order.specs.WrittenOrder.{at_first}
 use Rattle.run_kept.proofs.standing.ended_tasks_stand_at_the_end.Goals as goal
 
 pub returns-clause-end : goal.returns-clause-end

@@ -1,6 +1,6 @@
 -- the clock goes on by one at each of its steps, of which a task makes two for each access
 use Rattle.std.proofs.Common.{◌<◌, ◌^◌, refl, subst}
-use Rattle.run_headline.specs.of_run_lists_Run.{first_words}
+use Rattle.run_lists.specs.Run.{first_words}
 use Rattle.run_headline.proofs.Watches.{is_below}
 use Rattle.slot_table.specs.Records.{Legal}
 use Rattle.run_kept.specs.Stamps.{stamps_in}

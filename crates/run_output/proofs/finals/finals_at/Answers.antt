@@ -1,10 +1,10 @@
 -- a variable's value in the cells is the content of its bytes
 use Rattle.std.proofs.Common.{◌∙◌, [], List, ℕ, refl, subst, sym}
-use Rattle.accepted_traces.specs.of_program_layout_Places.{places_of}
+use Rattle.program_layout.specs.Places.{places_of}
 use Rattle.litmus_step.specs.Runs.{run_of}
-use Rattle.accepted_traces.proofs.of_run_headline_CellBlocks.{cells_are_blocks}
-use Rattle.accepted_traces.specs.of_run_headline_Cells.{CellsHold, memory_after, run_cells}
-use Rattle.accepted_traces.specs.of_run_lists_Told.{history_of}
+use Rattle.run_headline.proofs.CellBlocks.{cells_are_blocks}
+use Rattle.run_headline.specs.Cells.{CellsHold, memory_after, run_cells}
+use Rattle.run_lists.specs.Told.{history_of}
 use Rattle.run_output.proofs.CellValues.{variable_told}
 use Rattle.run_output.proofs.finals.finals_at.Goals as goal
 

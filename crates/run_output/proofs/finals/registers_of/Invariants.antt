@@ -1,9 +1,9 @@
 -- The registers of the tasks so far.
 use Rattle.std.proofs.Common.{◌≡◌, List, length, map}
-use Rattle.accepted_traces.specs.of_run_lists_Run.{Run}
+use Rattle.run_lists.specs.Run.{Run}
 use Rattle.run_output.proofs.finals.registers_of.Given as goal
 use Rattle.run_output.specs.Finals.{AreRegistersFrom}
-use Rattle.accepted_traces.specs.of_slot_table_declared.records.Record.{Record}
+use Rattle.slot_table.specs.declared.records.Record.{Record}
 
 abbrev pub invariant-loop-task : goal.invariant-loop-task
 invariant-loop-task g l =

@@ -1,11 +1,11 @@
 -- What the run has of the list is written, and it is to be accepted where all tasks have ended.
 use Rattle.std.proofs.Common.{◌≡◌, ◌≤◌, ◌∙◌, ℕ, All, List, ap, length, rules, subst, sym}
 use Rattle.accepted_traces.specs.Parts.{HasLowMask}
-use Rattle.accepted_traces.specs.of_trace_replay_Answer.{IsAccepted}
-use Rattle.accepted_traces.specs.of_trace_replay_declared.accepted.Accepted.TheVariants as accepted
+use Rattle.trace_replay.specs.Answer.{IsAccepted}
+use Rattle.trace_replay.specs.declared.accepted.Accepted.TheVariants as accepted
 use Rattle.report_text.specs.TraceText.{written_trace}
 use Rattle.run_output.proofs.trace.trace_of.Goals as goal
-use Rattle.report_text.specs.of_watch_word_declared.layout.Layout.{Layout}
+use Rattle.watch_word.specs.declared.layout.Layout.{Layout}
 
 pub returns-in-Ok-clause-accepted : goal.returns-in-Ok-clause-accepted
 returns-in-Ok-clause-accepted g c = λ run records comes ended same_slots same_layout few.

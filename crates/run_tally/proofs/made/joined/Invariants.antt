@@ -2,7 +2,7 @@
 use Rattle.std.proofs.Common.{◌≡◌, ◌++◌, ◌*◌, ℕ, length}
 use Rattle.std.specs.Vec.Iter.{into_iter_items}
 use Rattle.litmus_syntax.specs.declared.program.Program.{Program}
-use Rattle.run_output.specs.of_program_sites_declared.settings.Settings.{Settings}
+use Rattle.program_sites.specs.declared.settings.Settings.{Settings}
 use Rattle.run_tally.proofs.made.joined.Given as goal
 use Rattle.run_tally.specs.Runs.{AreBatches, ComeFrom}
 

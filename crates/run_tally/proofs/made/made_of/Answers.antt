@@ -1,10 +1,10 @@
 -- each turn adds one run
 use Rattle.std.proofs.Common.{◌≡◌, ◌<◌, ◌++◌, ◌∷◌, ◌∙◌, [], arith, false, inl, inr, length, refl, subst, sym, true, Ok, Result}
 use Rattle.std.proofs.lemmas.List.{length-append}
-use Rattle.run_output.specs.of_program_sites_Prepared.{sites_in}
+use Rattle.program_sites.specs.Prepared.{sites_in}
 use Rattle.run_tally.proofs.MadeLemmas.{more_apart, more_below, none_before_none, none_of, quiet_before, still_below}
 use Rattle.run_tally.specs.Runs.{IsNumbered, OneRun}
-use Rattle.run_output.specs.of_program_sites_declared.error.RunError.{RunError}
+use Rattle.program_sites.specs.declared.error.RunError.{RunError}
 use Rattle.runner.specs.declared.result.RunResult.{RunResult}
 use Rattle.run_tally.specs.Output.{reports_in}
 use Rattle.run_tally.proofs.made.made_of.Goals as goal

@@ -1,6 +1,6 @@
 -- What is kept is of the runs so far, and what is ready comes of runs of the program.
 use Rattle.std.proofs.Common.{All}
-use Rattle.run_output.specs.of_program_sites_Prepared.{sites_in}
+use Rattle.program_sites.specs.Prepared.{sites_in}
 use Rattle.run_tally.specs.Made.{AreMadeSoFar}
 use Rattle.run_tally.specs.Runs.{AreNumberedFrom, Comes}
 use Rattle.run_tally.proofs.made.made_of.Given as goal

@@ -14,10 +14,10 @@ use denote.Struct.Field.{shr_ref_field, u64-field, usize-field}
 use denote.Struct.Struct.{Struct}
 use denote.Struct.Tuple.{type_at}
 use mir.Syntax.{named}
-use Rattle.run_output.proofs.of_program_sites_prepared.Prepared.TheSendSync as prepared
-use Rattle.run_output.proofs.of_program_sites_settings.Settings.TheSendSync as settings
-use Rattle.run_output.specs.of_program_sites_contracts.prepared.Prepared as prepared_row
-use Rattle.run_output.specs.of_program_sites_contracts.settings.Settings as settings_row
+use Rattle.program_sites.proofs.prepared.Prepared.TheSendSync as prepared
+use Rattle.program_sites.proofs.settings.Settings.TheSendSync as settings
+use Rattle.program_sites.specs.contracts.prepared.Prepared as prepared_row
+use Rattle.program_sites.specs.contracts.settings.Settings as settings_row
 use Rattle.litmus_syntax.specs.contracts.program.Program as program_row
 use Rattle.litmus_syntax.proofs.Shared.{program_shared}
 use Rattle.run_tally.proofs.starters.Starters.TheSendSync as starters

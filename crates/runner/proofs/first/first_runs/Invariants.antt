@@ -1,8 +1,8 @@
 -- Each run so far has its words and its tasks, and there is room for the rest.
 use Rattle.std.proofs.Common.{◌≡◌, ◌≤◌, [], map, vec_capacity, vec_len}
-use Rattle.accepted_traces.specs.of_program_sites_Prepared.{IsPrepared, sites_in}
-use Rattle.accepted_traces.specs.of_program_sites_declared.settings.Settings.{Settings}
-use Rattle.accepted_traces.specs.of_run_lists_RunList.{RunList}
+use Rattle.program_sites.specs.Prepared.{IsPrepared, sites_in}
+use Rattle.program_sites.specs.declared.settings.Settings.{Settings}
+use Rattle.run_lists.specs.RunList.{RunList}
 use Rattle.litmus_step.specs.Runs.{CanBeMade, run_of}
 use Rattle.runner.proofs.first.first_runs.Given as goal
 use Rattle.runner.specs.Starts.{AreStartsOfEach}

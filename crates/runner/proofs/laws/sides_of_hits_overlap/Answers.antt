@@ -2,7 +2,7 @@
 use Rattle.std.proofs.Common.{drop, get_or, suc, take}
 use Rattle.std.proofs.Math.Seq.{split_at}
 use Rattle.accepted_traces.proofs.Final.{arm_fits}
-use Rattle.accepted_traces.specs.of_run_lists_Run.{first_cells, idle, locks_of, task_of}
+use Rattle.run_lists.specs.Run.{first_cells, idle, locks_of, task_of}
 use Rattle.litmus_meaning.specs.RunOfProgram.{setting_of}
 use Rattle.runner.proofs.HitLemmas.{arm_overlaps}
 use Rattle.runner.proofs.laws.sides_of_hits_overlap.Goals as goal

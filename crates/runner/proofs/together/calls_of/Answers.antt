@@ -3,7 +3,7 @@ use Rattle.std.proofs.Common.{◌≡◌, ◌+◌, ◌∙◌, ℕ, suc, ap, arith
 use Rattle.std.proofs.lemmas.Option.{slice_get_read}
 use Rattle.runner.proofs.together.calls_of.Goals as goal
 use Rattle.runner.specs.Found.{calls_below, calls_of}
-use Rattle.accepted_traces.specs.of_task_log_Counters.{together}
+use Rattle.task_log.specs.Counters.{together}
 
 pub loop-one-preserved : goal.loop-one-preserved
 loop-one-preserved c =

@@ -3,7 +3,7 @@ use Rattle.std.proofs.Common.{◌≡◌, ◌∙◌, [], ℕ, suc, IfOk, List, Re
 use Rattle.std.proofs.lemmas.List.{length-map}
 use Rattle.std.proofs.lemmas.Option.{get_or_from_slice_get}
 use Rattle.std.specs.Vec.Iter.{into_iter_items}
-use Rattle.accepted_traces.specs.of_program_sites_declared.error.RunError.{RunError}
+use Rattle.program_sites.specs.declared.error.RunError.{RunError}
 use Rattle.litmus_step.proofs.FirstLemmas.{each_push}
 use Rattle.runner.proofs.together.results_of.Goals as goal
 use Rattle.runner.specs.Result.{IsResultOf}

@@ -1,7 +1,7 @@
 -- Each result so far is of its turn, and there is a row of outcomes for each table that is left.
 use Rattle.std.proofs.Common.{◌≡◌, ◌≤◌, ◌+◌, ℕ, List, Result, Some, map, slice_get, vec_capacity, vec_len}
 use Rattle.std.specs.Vec.Iter.{into_iter_items, into_iter_len}
-use Rattle.accepted_traces.specs.of_program_sites_declared.error.RunError.{RunError}
+use Rattle.program_sites.specs.declared.error.RunError.{RunError}
 use Rattle.runner.proofs.together.results_of.Given as goal
 use Rattle.runner.specs.Result.{IsResultOf}
 use Rattle.runner.specs.declared.result.RunResult.{RunResult}

@@ -1,7 +1,7 @@
 -- Its variables have names of their own, so places that fit lay each at a multiple of its size.
 use Rattle.std.proofs.Common.{◌<◌, ◌≡◌, arith, length, subst, sym}
-use Rattle.program_layout.specs.of_litmus_meaning_RunOfProgram.{setting_of}
-use Rattle.program_layout.specs.of_litmus_meaning_Task as meaning
+use Rattle.litmus_meaning.specs.RunOfProgram.{setting_of}
+use Rattle.litmus_meaning.specs.Task as meaning
 use Rattle.program_layout.specs.Aligned.{AreAligned}
 use Rattle.program_layout.specs.Places.{places_of}
 use Rattle.task_laws.proofs.PlacedLemmas.{aligned_placed}

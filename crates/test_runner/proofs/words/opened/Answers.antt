@@ -3,7 +3,7 @@ use Rattle.std.proofs.Common.{◌≡◌, ℕ, List, [], All, refl}
 use Rattle.std.specs.List.{range_with_len}
 use Rattle.std.proofs.lemmas.List.Elements.{All-map, All-same}
 use Rattle.std.proofs.lemmas.Result.{IfOk-weaker}
-use Rattle.run_tally.specs.of_shared_table_Seats.{Opened, Sitting, new_seats}
+use Rattle.shared_table.specs.Seats.{Opened, Sitting, new_seats}
 use Rattle.test_runner.proofs.words.opened.Goals as goal
 
 all_new : (opened : Opened) (tasks : ℕ) (seats : List Sitting) → seats ≡ new_seats opened tasks

@@ -1,6 +1,6 @@
 -- What completes the longer list completes the shorter one behind what that lacks.
 use Rattle.std.proofs.Common.{List, ◌++◌, append_assoc, subst}
-use Rattle.setup_access.specs.of_slot_table_declared.records.Record.{Record}
+use Rattle.slot_table.specs.declared.records.Record.{Record}
 use Rattle.written_order.specs.WrittenOrder.{SpellsAll}
 use Rattle.written_order.proofs.laws.beginnings_are_in_the_written_order.Goals as goal
 

@@ -1,6 +1,6 @@
 -- By what a text means.
 use Rattle.std.proofs.Common.{◌≤◌, ◌++◌, arith}
-use Rattle.written_order.specs.of_litmus_syntax_Limits.{block_repeats}
+use Rattle.litmus_syntax.specs.Limits.{block_repeats}
 use Rattle.written_order.specs.WrittenOrder.{stands_after}
 use Rattle.written_tellings.specs.Begins.{begins_in}
 use Rattle.written_tellings.proofs.BeginsBound.{few_begin}

@@ -5,9 +5,9 @@ use Rattle.litmus_step.proofs.TurnLemmas.{machine_at}
 use Rattle.litmus_step.proofs.world.World.after.Goals as goal
 use Rattle.litmus_step.specs.Leads.{steps_noted}
 use Rattle.litmus_step.specs.Readers.{steps_told}
-use Rattle.step_bounds.specs.of_run_lists_Run.{task_of, task_setting}
+use Rattle.run_lists.specs.Run.{task_of, task_setting}
 use Rattle.slot_table.specs.Records.{records_of}
-use Rattle.run_kept.specs.of_task_run_Points.{Stepped, last_was}
+use Rattle.task_run.specs.Points.{Stepped, last_was}
 
 pub returns : goal.returns
 returns c = λ run records leads.

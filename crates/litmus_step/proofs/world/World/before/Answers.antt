@@ -3,8 +3,8 @@ use Rattle.std.proofs.Common.{inl, inr, refl, subst, sym}
 use Rattle.litmus_step.proofs.PointLemmas.{TellsBefore, next_told}
 use Rattle.litmus_step.proofs.TurnLemmas.{machine_at, reaches, same_machine}
 use Rattle.litmus_step.proofs.world.World.before.Goals as goal
-use Rattle.run_kept.specs.of_task_run_Says.{Says}
-use Rattle.run_kept.specs.of_task_run_declared.run.TaskRun.{TaskRun}
+use Rattle.task_run.specs.Says.{Says}
+use Rattle.task_run.specs.declared.run.TaskRun.{TaskRun}
 
 pub before-requires : goal.before-requires
 before-requires c =

@@ -3,7 +3,7 @@ use Rattle.std.proofs.Common.{arith, map, vec_capacity, ◌∷◌, ◌∙◌, �
 use Rattle.std.proofs.Math.Logic.{∥∥₁_map}
 use Rattle.std.proofs.Props.{props}
 use mathlib.Core.Logic.{∥∥₁_elim}
-use Rattle.step_bounds.specs.of_setup_access_Parts.{made}
+use Rattle.setup_access.specs.Parts.{made}
 use Rattle.std.proofs.lemmas.Option.{slice_get_within}
 use Rattle.litmus_step.proofs.MakeLemmas.{SaysBegin, fell_in, noted_more, world_leads}
 use Rattle.litmus_step.proofs.NameLemmas.{names_prop}
@@ -14,10 +14,10 @@ use Rattle.litmus_step.proofs.TurnLemmas.{same_machine}
 use Rattle.litmus_step.proofs.world.World.make.Goals as goal
 use Rattle.litmus_step.specs.Kept.{rooms_of}
 use Rattle.litmus_step.specs.Steps.{Room}
-use Rattle.run_kept.specs.of_task_log_Keeps as task_log
-use Rattle.run_kept.specs.of_task_run_Room.{task_room}
-use Rattle.run_kept.specs.of_task_run_Says.{Says}
-use Rattle.run_kept.specs.of_task_run_declared.run.TaskRun.{TaskRun}
+use Rattle.task_log.specs.Keeps as task_log
+use Rattle.task_run.specs.Room.{task_room}
+use Rattle.task_run.specs.Says.{Says}
+use Rattle.task_run.specs.declared.run.TaskRun.{TaskRun}
 
 pub step-answer-requires : goal.step-answer-requires
 step-answer-requires c =

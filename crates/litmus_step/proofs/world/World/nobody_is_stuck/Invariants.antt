@@ -2,7 +2,7 @@
 use Rattle.std.proofs.Common.{ℕ, ◌<◌}
 use Rattle.litmus_step.proofs.world.World.nobody_is_stuck.Given as goal
 use Rattle.litmus_step.specs.Steps.{IsFree, IsMachine}
-use Rattle.run_kept.specs.of_task_run_declared.run.TaskRun.{TaskRun}
+use Rattle.task_run.specs.declared.run.TaskRun.{TaskRun}
 
 abbrev pub invariant-loop-task : goal.invariant-loop-task
 invariant-loop-task l = (task : ℕ) (machine : TaskRun) → task < l.task → IsMachine l.self task machine → IsFree machine

@@ -4,7 +4,7 @@ use Rattle.std.specs.List.{range_with_len}
 use Rattle.litmus_step.proofs.world.World.round.Given as goal
 use Rattle.litmus_step.specs.Steps.{IsMachine, IsOver, room_in, tasks_in}
 use Rattle.litmus_step.specs.Turns.{Asked, LeadsFurther, NobodyIsStuck}
-use Rattle.run_kept.specs.of_task_run_declared.run.TaskRun.{TaskRun}
+use Rattle.task_run.specs.declared.run.TaskRun.{TaskRun}
 
 abbrev pub invariant-loop-task : goal.invariant-loop-task
 invariant-loop-task l = record {

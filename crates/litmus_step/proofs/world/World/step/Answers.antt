@@ -3,7 +3,7 @@ use Rattle.std.proofs.Common.{◌<◌, ap, arith, inl, inr, is_some, refl}
 use Rattle.litmus_step.proofs.TurnLemmas.{machine_at, reaches, some_machine, tells_ended, tells_stuck}
 use Rattle.litmus_step.proofs.world.World.step.Goals as goal
 use Rattle.litmus_step.specs.Steps.{tasks_in}
-use Rattle.step_bounds.specs.of_setup_access_Parts.{made}
+use Rattle.setup_access.specs.Parts.{made}
 
 pub returns-in_default-clause-steps : goal.returns-in_default-clause-steps
 returns-in_default-clause-steps c = λ run records leads.

@@ -4,7 +4,7 @@ use Rattle.std.proofs.lemmas.Option.{slice_get_read}
 use Rattle.litmus_step.proofs.ReaderLemmas.{unbalanced_more}
 use Rattle.litmus_step.proofs.world.World.unbalanced.Goals as goal
 use Rattle.run_kept.specs.Totals.{unbalanced_below}
-use Rattle.run_kept.specs.of_task_run_declared.run.TaskRun.{TaskRun}
+use Rattle.task_run.specs.declared.run.TaskRun.{TaskRun}
 
 pub loop-run-preserved : goal.loop-run-preserved
 loop-run-preserved c = λ run records leads.

@@ -2,7 +2,7 @@
 use Rattle.std.proofs.Common.{◌≡◌, List}
 use Rattle.litmus_step.proofs.world.World.unbalanced.Given as goal
 use Rattle.litmus_step.specs.Steps.{LeadsTo}
-use Rattle.step_bounds.specs.of_run_lists_Run.{Run}
+use Rattle.run_lists.specs.Run.{Run}
 use Rattle.run_kept.specs.Totals.{unbalanced_below}
 use Rattle.slot_table.specs.declared.records.Record.{Record}
 

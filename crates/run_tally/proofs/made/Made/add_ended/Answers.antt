@@ -1,7 +1,7 @@
 -- one run more is kept
 use Rattle.std.proofs.Common.{◌∷◌, [], arith, refl}
 use Rattle.std.proofs.lemmas.List.{length-append}
-use Rattle.run_output.specs.of_program_sites_Prepared.{sites_in}
+use Rattle.program_sites.specs.Prepared.{sites_in}
 use Rattle.run_tally.proofs.NameLemmas.{reports_are_named}
 use Rattle.run_tally.proofs.made.Made.add_ended.Goals as goal
 

@@ -4,7 +4,7 @@ use Rattle.std.proofs.lemmas.List.Sums.{count_by-le-length}
 use Rattle.report_text.specs.Groups.{AreGroupsOf, Group}
 use Rattle.report_text.specs.ReportOf.{report_text}
 use Rattle.run_tally.specs.Output.{found_text, held_in, reports_in, stuck_text, unbalanced_in}
-use Rattle.run_output.specs.of_task_log_Counters.{resting}
+use Rattle.task_log.specs.Counters.{resting}
 use Rattle.run_tally.proofs.made.Made.output.Goals as goal
 
 pub returns-in-Ok : goal.returns-in-Ok

@@ -5,11 +5,11 @@ use Rattle.report_text.specs.Groups.{counted}
 use Rattle.report_text.specs.ReportOf.{report_text}
 use Rattle.run_tally.proofs.TallyLemmas.{counted_on, groups_on, raced_on, rested, sums_go_on}
 use Rattle.access_types.specs.Sites.{AccessMap}
-use Rattle.run_output.specs.of_litmus_step_Runs.{run_of}
-use Rattle.run_output.specs.of_program_sites_Prepared.{sites_in}
+use Rattle.litmus_step.specs.Runs.{run_of}
+use Rattle.program_sites.specs.Prepared.{sites_in}
 use Rattle.run_tally.specs.Output.{AreSums}
 use Rattle.run_tally.specs.Runs.{OneRun}
-use Rattle.run_output.specs.of_task_log_declared.counters.Counters.{Counters}
+use Rattle.task_log.specs.declared.counters.Counters.{Counters}
 use Rattle.run_tally.proofs.tally.Tally.add.Goals as goal
 use Rattle.run_tally.proofs.tally.Tally.add.Goals.{then-self, else-self}
 

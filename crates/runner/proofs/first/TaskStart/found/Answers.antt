@@ -12,7 +12,7 @@ use Rattle.runner.proofs.first.TaskStart.found.Goals as goal
 use Rattle.runner.specs.Led.{IsLed}
 use Rattle.runner.specs.Terms.{run_by}
 use Rattle.slot_table.specs.declared.records.Record.{Record}
-use Rattle.accepted_traces.specs.of_task_log_Keeps.{Keeps}
+use Rattle.task_log.specs.Keeps.{Keeps}
 
 pub first_task-requires-clause-limits : goal.first_task-requires-clause-limits
 first_task-requires-clause-limits g c = c.requires.terms.can.limits

@@ -1,6 +1,6 @@
 -- One small step of the walk more, and what is due there.
 use Rattle.std.proofs.Common.{◌∙◌, ◌++◌, ◌∷◌, ap, refl}
-use Rattle.access_run.specs.of_setup_access_Shown as checker
+use Rattle.setup_access.specs.Shown as checker
 use Rattle.task_plan.specs.Room as progress
 use Rattle.task_run.proofs.BeginsLemmas.{begins_then, ends_then, to_end, walked}
 use Rattle.task_run.proofs.machine.Machine.advance.Goals as goal

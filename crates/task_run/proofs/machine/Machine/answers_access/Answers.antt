@@ -1,7 +1,7 @@
 -- The accesses are those that the tasks share.
 use Rattle.std.proofs.Common.{◌∙◌, ◌++◌, ◌∷◌, [], subst, sym}
 use Rattle.access_run.specs.Leads.{AccessLeads}
-use Rattle.access_run.specs.of_setup_access_Parts.{made}
+use Rattle.setup_access.specs.Parts.{made}
 use Rattle.task_run.specs.declared.machine.Machine.{Machine}
 use Rattle.task_run.proofs.machine.Machine.answers_access.Goals as goal
 

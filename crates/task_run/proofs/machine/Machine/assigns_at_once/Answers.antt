@@ -15,11 +15,11 @@ use Rattle.task_run.specs.Due.{StatementDue}
 use Rattle.task_run.specs.Part.{disabled, enabled}
 use Rattle.task_run.specs.Stands.{Stands}
 use Rattle.std.proofs.Common.{◌+◌, ◌<◌, ◌^◌}
-use Rattle.access_run.specs.of_setup_access_Shown.{context_of}
+use Rattle.setup_access.specs.Shown.{context_of}
 use Rattle.task_run.proofs.StopLemmas.{at_once_stops}
 use Rattle.task_run.proofs.machine.Machine.assigns_at_once.Goals as goal
 use Rattle.text_walk.specs.Left.{WalkLeft}
-use Rattle.text_walk.specs.of_written_order_Standing.{Standing, registered}
+use Rattle.written_order.specs.Standing.{Standing, registered}
 
 pub returns-clause-begins : goal.returns-clause-begins
 returns-clause-begins c = λ s site before stands.

@@ -1,14 +1,14 @@
 -- The context decides it as the marks so far do, and stays as it is.
 use Rattle.std.proofs.Common.{◌↔◌, IsTrue, ap, refl, subst, sym}
 use Rattle.access_types.specs.Marked.{CountsAfter}
-use Rattle.access_run.specs.of_setup_access_Lending.{with_context}
-use Rattle.access_run.specs.of_setup_access_declared.rules.Rules.{Rules}
+use Rattle.setup_access.specs.Lending.{with_context}
+use Rattle.setup_access.specs.declared.rules.Rules.{Rules}
 use Rattle.std.specs.Prelude.{ℕ}
-use Rattle.access_run.specs.of_task_context_Context.{Context}
-use Rattle.access_run.specs.of_task_context_History.{LeadsTo}
+use Rattle.task_context.specs.Context.{Context}
+use Rattle.task_context.specs.History.{LeadsTo}
 use Rattle.task_run.proofs.TellLemmas.{not_heard}
 use Rattle.task_run.proofs.machine.Machine.begun.Goals as goal
-use Rattle.text_walk.specs.of_written_order_Standing.{moments}
+use Rattle.written_order.specs.Standing.{moments}
 
 pub returns-clause-begins : goal.returns-clause-begins
 returns-clause-begins c = λ s before stands own.

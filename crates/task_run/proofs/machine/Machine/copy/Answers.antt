@@ -1,6 +1,6 @@
 -- What it goes by is shared, and the rest is copied.
 use Rattle.std.proofs.Common.{◌≡◌, ◌++◌, ◌∷◌, ℕ, List, ap, refl}
-use Rattle.access_run.specs.of_setup_access_Shown as checker
+use Rattle.setup_access.specs.Shown as checker
 use Rattle.task_plan.specs.Room as progress
 use Rattle.task_run.proofs.machine.Machine.copy.Goals as goal
 

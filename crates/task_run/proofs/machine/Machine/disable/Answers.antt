@@ -1,6 +1,6 @@
 -- One mark more each time round.
 use Rattle.std.proofs.Common.{◌≡◌, ◌∙◌, ◌+◌, ◌-◌, ◌^◌, ◌≤◌, ap, arith, subst, sym}
-use Rattle.access_run.specs.of_setup_access_Shown.{context_of}
+use Rattle.setup_access.specs.Shown.{context_of}
 use Rattle.access_types.specs.declared.history.Happening.TheVariants as happenings
 use Rattle.access_types.specs.declared.history.Mark.TheVariants as marks
 use Rattle.task_run.proofs.StandsLemmas.{stands_more, stands_still}

@@ -1,12 +1,12 @@
 -- Reports were turned off so often as the loop went round, and the count has room for what is left.
 use Rattle.std.proofs.Common.{◌≡◌, ◌+◌, ◌-◌, ◌^◌, ◌≤◌, ◌<◌, List}
-use Rattle.access_run.specs.of_setup_access_Shown.{context_of}
+use Rattle.setup_access.specs.Shown.{context_of}
 use Rattle.slot_table.specs.declared.records.Record.{Record}
 use Rattle.task_run.specs.Part.{disabled}
 use Rattle.task_run.specs.Room.{room_of}
 use Rattle.task_run.specs.Stands.{Stands}
 use Rattle.task_run.proofs.machine.Machine.disable.Given as goal
-use Rattle.text_walk.specs.of_written_order_Standing.{Setting, Standing}
+use Rattle.written_order.specs.Standing.{Setting, Standing}
 
 abbrev pub invariant-loop : goal.invariant-loop
 invariant-loop l = record {

@@ -1,6 +1,6 @@
 -- Nothing changes.
 use Rattle.std.proofs.Common.{ap}
-use Rattle.access_run.specs.of_setup_access_Lending.{with_context}
+use Rattle.setup_access.specs.Lending.{with_context}
 use Rattle.task_run.proofs.machine.Machine.disable_room.Goals as goal
 
 pub returns-clause-unchanged : goal.returns-clause-unchanged

@@ -5,12 +5,12 @@ use Rattle.task_plan.specs.Views.{plan_of}
 use Rattle.task_run.proofs.BeginLemmas.{begins_making}
 use Rattle.access_run.specs.Leads.{HasCell}
 use Rattle.access_types.specs.Access.{Access}
-use Rattle.access_run.specs.of_setup_access_Shown.{context_of}
+use Rattle.setup_access.specs.Shown.{context_of}
 use Rattle.task_run.proofs.StopLemmas.{plan_stops, plan_stops_off}
 use Rattle.task_run.specs.Part.{disabled}
 use Rattle.task_run.specs.Stands.{Stands}
 use Rattle.task_run.proofs.machine.Machine.makes.Goals as goal
-use Rattle.text_walk.specs.of_written_order_Standing.{checks_of}
+use Rattle.written_order.specs.Standing.{checks_of}
 
 pub returns-clause-begins : goal.returns-clause-begins
 returns-clause-begins c = λ s fit before stands.

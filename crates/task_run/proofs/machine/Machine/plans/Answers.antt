@@ -2,7 +2,7 @@
 use Rattle.std.proofs.Common.{◌∙◌, ap, subst, sym}
 use Rattle.std.proofs.lemmas.Result.{IfOk-weaker}
 use Rattle.std.specs.Option.{option_map}
-use Rattle.program_sites.specs.of_program_layout_Lays.{Lays}
+use Rattle.program_layout.specs.Lays.{Lays}
 use Rattle.task_plan.specs.Views.{plan_of}
 use Rattle.task_run.proofs.PlanLemmas.{begins_call}
 use Rattle.std.proofs.lemmas.Result.{IfErr-weaker}

@@ -8,7 +8,7 @@ use Rattle.task_run.proofs.StandsLemmas.{stands_keeping}
 use Rattle.task_run.specs.Part.{enabled}
 use Rattle.task_run.specs.Stands.{Stands}
 use Rattle.task_run.proofs.machine.Machine.takes.Goals as goal
-use Rattle.text_walk.specs.of_written_order_Standing.{registered}
+use Rattle.written_order.specs.Standing.{registered}
 
 pub returns-in-Nobody-clause-stands : goal.returns-in-Nobody-clause-stands
 returns-in-Nobody-clause-stands c = λ s before stands. rw c.in-Nobody.is (takes_nobody s c.args.self.now.walk before c.args.self.now c.args.loaded refl stands)

@@ -1,7 +1,7 @@
 -- The context goes on with the mark.
 use Rattle.std.proofs.Common.{subst}
 use Rattle.access_types.specs.declared.history.Mark.TheVariants as marks
-use Rattle.access_run.specs.of_task_context_History.{MarkFollows}
+use Rattle.task_context.specs.History.{MarkFollows}
 use Rattle.task_run.proofs.StandsLemmas.{stands_marked}
 use Rattle.task_run.proofs.machine.Machine.turns_off.Goals as goal
 

@@ -1,7 +1,7 @@
 -- One record more leads on, whatever is kept of the last steps.
 use Rattle.std.proofs.Common.{◌≡◌, ◌∙◌, ◌++◌, ◌∷◌, [], None, Option, refl, subst, sym}
-use Rattle.access_run.specs.of_setup_access_Parts.{made}
-use Rattle.access_run.specs.of_setup_access_declared.outcome.Outcome.{Outcome}
+use Rattle.setup_access.specs.Parts.{made}
+use Rattle.setup_access.specs.declared.outcome.Outcome.{Outcome}
 use Rattle.slot_table.specs.Answer.{Answers}
 use Rattle.slot_table.specs.declared.step.Answer.TheVariants.{Done}
 use Rattle.task_run.proofs.StageLemmas.{in_locking, in_unlocking}

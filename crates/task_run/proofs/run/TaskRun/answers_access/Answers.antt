@@ -1,9 +1,9 @@
 -- The access goes on, or is over, and what follows on it and is left of the text follows.
 use Rattle.std.proofs.Common.{◌≡◌, ◌∙◌, ◌++◌, ◌∷◌, [], List, ap, false, slice_get, subst, sym, true}
-use Rattle.access_run.specs.of_setup_access_Shown.{outcomes_of}
+use Rattle.setup_access.specs.Shown.{outcomes_of}
 use Rattle.task_run.proofs.NewsLemmas.{making_fell}
-use Rattle.access_run.specs.of_setup_access_Parts.{made}
-use Rattle.access_run.specs.of_setup_access_declared.outcome.Outcome.{Outcome}
+use Rattle.setup_access.specs.Parts.{made}
+use Rattle.setup_access.specs.declared.outcome.Outcome.{Outcome}
 use Rattle.task_run.proofs.RunLemmas.{access_ended, access_inside}
 use Rattle.task_run.proofs.TellLemmas.{keeping}
 use Rattle.task_run.proofs.WaitLemmas.{access_no_try, no_try_no_wait}
@@ -11,7 +11,7 @@ use Rattle.task_plan.specs.declared.follow.Then.{Then}
 use Rattle.task_run.specs.Says.{StageSays}
 use Rattle.task_run.specs.declared.stage.Stage.TheVariants as stages
 use Rattle.task_run.proofs.run.TaskRun.answers_access.Goals as goal
-use Rattle.text_walk.specs.of_written_order_Standing.{checks_of}
+use Rattle.written_order.specs.Standing.{checks_of}
 
 pub returns-in-Making-stage-clause-leads : goal.returns-in-Making-stage-clause-leads
 returns-in-Making-stage-clause-leads c = λ s registers body records step leads says.

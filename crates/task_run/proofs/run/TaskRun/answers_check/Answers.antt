@@ -1,6 +1,6 @@
 -- The check goes on, or is over, and what is left of the text follows.
 use Rattle.std.proofs.Common.{◌≡◌, ◌∙◌, ◌⊎◌, ◌++◌, ◌∷◌, [], List, ap, false, inl, inr, subst, sym, true}
-use Rattle.access_run.specs.of_setup_access_Parts.{made}
+use Rattle.setup_access.specs.Parts.{made}
 use Rattle.slot_table.specs.declared.records.Record.{Record}
 use Rattle.task_run.proofs.NewsLemmas.{closing_fell, opening_fell}
 use Rattle.task_run.proofs.RunLemmas.{closing_ended, closing_inside, opening_ended, opening_inside}
@@ -16,7 +16,7 @@ use Rattle.task_run.specs.declared.run.TaskRun.{TaskRun}
 use Rattle.task_run.specs.declared.stage.Stage.{Stage}
 use Rattle.task_run.specs.declared.stage.Stage.TheVariants as stages
 use Rattle.text_walk.specs.Left.{WalkLeft}
-use Rattle.text_walk.specs.of_written_order_Standing.{Setting, Standing, checks_of}
+use Rattle.written_order.specs.Standing.{Setting, Standing, checks_of}
 
 closes_else : (stage : Stage) → (stage ≡ stages.Opening) ⊎ (stage ≡ stages.Closing) → ¬ (stage ≡ stages.Opening) → stage ≡ stages.Closing
 closes_else stage (inl is) not = absurd (not is)

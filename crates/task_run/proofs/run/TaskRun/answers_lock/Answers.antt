@@ -1,6 +1,6 @@
 -- The tries go on, or the lock is taken and what is left of the text follows.
 use Rattle.std.proofs.Common.{◌≡◌, ◌∙◌, false, subst, sym, true}
-use Rattle.access_run.specs.of_setup_access_Parts.{made}
+use Rattle.setup_access.specs.Parts.{made}
 use Rattle.task_run.proofs.RunLemmas.{lock_ended, lock_inside}
 use Rattle.task_run.specs.Says.{StageSays}
 use Rattle.task_run.proofs.run.TaskRun.answers_lock.Goals as goal

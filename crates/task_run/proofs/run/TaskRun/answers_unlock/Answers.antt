@@ -1,12 +1,12 @@
 -- What is left of the text follows.
 use Rattle.std.proofs.Common.{◌∙◌, ap, count_by, refl, subst, take}
-use Rattle.access_run.specs.of_setup_access_Parts.{made}
+use Rattle.setup_access.specs.Parts.{made}
 use Rattle.slot_table.specs.declared.step.Answer.TheVariants.{Done}
 use Rattle.slot_table.specs.declared.step.Step.TheVariants.{LockStore}
 use Rattle.task_run.proofs.RunLemmas.{unlock_ended}
 use Rattle.task_run.specs.Says.{StageSays}
 use Rattle.task_run.proofs.run.TaskRun.answers_unlock.Goals as goal
-use Rattle.text_walk.specs.of_written_order_Standing.{is_lock}
+use Rattle.written_order.specs.Standing.{is_lock}
 
 pub returns-clause-leads : goal.returns-clause-leads
 returns-clause-leads c = λ is s registers body records step leads says.

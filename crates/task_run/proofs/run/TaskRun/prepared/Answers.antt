@@ -3,9 +3,9 @@ use Rattle.std.proofs.Common.{◌≡◌, ◌<◌, ◌∙◌, [], List, None, Som
 use Rattle.std.proofs.lemmas.Option.{slice_get_read}
 use Rattle.litmus_syntax.specs.Views.{block_of}
 use Rattle.litmus_syntax.specs.declared.program.Task.{Task}
-use Rattle.program_sites.specs.of_program_layout_Lays.{Lays}
-use Rattle.program_sites.specs.of_program_layout_Places.{places_of}
-use Rattle.program_sites.specs.of_program_layout_declared.layout.Layout.{Layout}
+use Rattle.program_layout.specs.Lays.{Lays}
+use Rattle.program_layout.specs.Places.{places_of}
+use Rattle.program_layout.specs.declared.layout.Layout.{Layout}
 use Rattle.program_sites.specs.Prepared.{sites_in}
 use Rattle.task_run.proofs.LimitLemmas.{few_task_sites, few_tasks}
 use Rattle.task_run.proofs.NextLemmas.{first_stands, starts}
@@ -15,7 +15,7 @@ use Rattle.task_run.specs.Leads.{Leads}
 use Rattle.task_run.specs.declared.machine.Machine.{Machine}
 use Rattle.task_points.specs.declared.points.Latest.TheVariants.{Other}
 use Rattle.task_run.specs.declared.run.TaskRun.{TaskRun}
-use Rattle.text_walk.specs.of_written_order_Standing.{Setting}
+use Rattle.written_order.specs.Standing.{Setting}
 
 some_same : {X : Type 0} (one other : X) → Some one ≡ Some other → one ≡ other
 some_same one other same = cc
