@@ -4,6 +4,3 @@
 pub mod condition;
 
 pub use condition::{Finals, holds};
-
-#[cfg(test)]
-mod tests;

@@ -12,7 +12,7 @@ pub struct Armed {
 }
 
 /// What came of checking an access once, and the arming that its task has in hand since then.
-#[derive(Clone, Copy, Debug, PartialEq, Eq)]
+#[derive(Clone, Copy, PartialEq, Eq)]
 pub struct Came {
     pub access: Access,
     pub outcome: Outcome,

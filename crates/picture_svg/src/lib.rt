@@ -4,8 +4,6 @@
 mod bars;
 mod marks;
 mod reports;
-#[cfg(test)]
-mod tests;
 mod watches;
 mod write;
 

@@ -4,8 +4,6 @@
 mod cells;
 mod lines;
 mod rows;
-#[cfg(test)]
-mod tests;
 mod watches;
 mod write;
 

@@ -4,6 +4,3 @@
 pub mod places;
 
 pub use places::parse_places;
-
-#[cfg(test)]
-mod tests;

@@ -4,6 +4,3 @@
 pub mod schedule;
 
 pub use schedule::{Entry, Schedule};
-
-#[cfg(test)]
-mod tests;

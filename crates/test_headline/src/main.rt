@@ -7,8 +7,6 @@ mod lists;
 mod orders;
 mod refusal;
 mod row;
-#[cfg(test)]
-mod searches;
 mod trial;
 mod wanted;
 

@@ -5,7 +5,7 @@ use slot_table::BoardError;
 use std::alloc::{AllocError, AllocFailed};
 
 /// Why nothing comes of a row.
-#[derive(Clone, Copy, Debug)]
+#[derive(Clone, Copy)]
 pub enum Refusal {
     OutOfMemory,
     /// Its words say nothing.

@@ -5,6 +5,7 @@ use place_list::parse_places;
 use program_layout::Place;
 use program_sites::{RunError, Settings};
 use std::alloc::{AllocError, Global};
+use step_schedule::{Entry, Schedule};
 use test_escapes::unescaped;
 use text_check::{Check, calls, check_text};
 use watch_word::Layout;
@@ -14,10 +15,14 @@ use watch_word::Layout;
 enum Kind {
     /// A litmus text, under watch words of this layout.
     Text(Layout),
-    /// A place list.
+    /// What is said of a place list.
     Places,
-    /// A schedule.
+    /// What is said of a schedule.
     Schedule,
+    /// The places that a place list spells.
+    PlacesRead,
+    /// The entries that a schedule spells, in a program of so many tasks.
+    EntriesRead(u64),
 }
 
 /// A text, what it is checked with, and what is to be said of it.
@@ -31,8 +36,8 @@ pub struct Row {
 }
 
 impl Row {
-    /// The row of a line: the bits of a watch word, `places` or `schedule`; the number of page slots; a place list or
-    /// `-`; a text, `=>`, and what is said of it.
+    /// The row of a line: the bits of a watch word, `places`, `schedule`, `places_read` or `entries_read`; the number
+    /// of page slots, or of tasks for `entries_read`; a place list or `-`; a text, `=>`, and what is said of it.
     pub fn read(alloc: Global, line: &str) -> Result<Option<Row>, AllocError> {
         let Some((word, rest)) = line.split_once(' ') else {
             return Ok(None);
@@ -51,7 +56,10 @@ impl Row {
             "32" => Kind::Text(Layout::W32),
             "64" => Kind::Text(Layout::W64),
             "places" => Kind::Places,
-            _ => Kind::Schedule,
+            "schedule" => Kind::Schedule,
+            "places_read" => Kind::PlacesRead,
+            "entries_read" => Kind::EntriesRead(slots as u64),
+            _ => return Ok(None),
         };
         let places = if places == "-" { "" } else { places };
         Ok(Some(Row {
@@ -95,12 +103,43 @@ fn fault_of(alloc: Global, fault: Option<Vec<u8>>) -> Result<String, AllocError>
     }
 }
 
+/// The places that a place list spells, each with a blank before it.
+fn places_read(alloc: Global, text: &str) -> Result<String, AllocError> {
+    let Some(places) = parse_places(alloc, text)? else {
+        return String::from_str(alloc, "no place list");
+    };
+    let mut shown = String::from_str(alloc, "places:")?;
+    for Place { name, addr } in &places {
+        let name = name.as_str();
+        shown.push_str(format!(in alloc; " {name}={addr}")?.as_str())?;
+    }
+    Ok(shown)
+}
+
+/// The entries that a schedule spells, each with a blank before it, and whether one is of a task that isn't among so
+/// many.
+fn entries_read(alloc: Global, text: &str, tasks: u64) -> Result<String, AllocError> {
+    let Some(schedule) = Schedule::parse(alloc, text)? else {
+        return String::from_str(alloc, "no schedule");
+    };
+    let mut shown = String::from_str(alloc, "entries:")?;
+    for Entry { task, steps } in schedule.entries() {
+        shown.push_str(format!(in alloc; " {task}x{steps}")?.as_str())?;
+    }
+    if schedule.names_stranger(tasks) {
+        shown.push_str(", of a task that isn't there")?;
+    }
+    Ok(shown)
+}
+
 /// What comes of a row.
 pub fn outcome(alloc: Global, row: &Row) -> Result<String, AllocError> {
     match row.kind {
         Kind::Text(layout) => check_of(alloc, row, layout),
         Kind::Places => fault_of(alloc, place_fault(alloc, &row.text)?),
         Kind::Schedule => fault_of(alloc, schedule_fault(alloc, &row.text)?),
+        Kind::PlacesRead => places_read(alloc, &row.text),
+        Kind::EntriesRead(tasks) => entries_read(alloc, &row.text, tasks),
     }
 }
 
