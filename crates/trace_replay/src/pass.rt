@@ -53,18 +53,30 @@ fn replay_lines(alloc: Global, head: Head, bytes: &[u8]) -> Result<Accepted, Tra
     ensures accepted { IfOk result (IsAccepted (head_text (head_of head) ++ bytes.now)) }
     ensures refused { IfErr result (IsRefused (head_text (head_of head) ++ bytes.now)) }
 {
-    plain_lines_stand();
     let mut story = Story::new(alloc, bytes.len() as u64);
+    read_lines(&mut story, head, bytes)
+}
+
+/// Reads the lines behind a head, to the end, into a story of no line. The story is lent: a loop is cheaper to prove
+/// where it owns nothing that each way out of it would have to let go.
+fn read_lines(story: &mut Story, head: Head, bytes: &[u8]) -> Result<Accepted, TraceError>
+    requires empty { Tells [] story.old }
+    requires stands { HeadStands (head_of head) }
+    requires within { length (head_text (head_of head) ++ bytes.now) ≤ size_limit }
+    ensures accepted { IfOk result (IsAccepted (head_text (head_of head) ++ bytes.now)) }
+    ensures refused { IfErr result (IsRefused (head_text (head_of head) ++ bytes.now)) }
+{
+    plain_lines_stand();
     let mut rest = bytes;
     let mut number = first_number(head);
     while let Some((next, more)) = read_line(rest) {
-        if let Err(error) = take_in(&mut story, head, &next, number) {
+        if let Err(error) = take_in(story, head, &next, number) {
             return Err(error);
         }
         rest = more;
         number += 1;
     }
-    end(&story, head, rest, number)
+    end(story, head, rest, number)
 }
 
 /// The number of the line behind the head.

@@ -5,7 +5,7 @@ use Rattle.report_text.specs.TraceText.{head_text}
 use Rattle.report_text.specs.declared.line.Line.{Line}
 use Rattle.trace_lines.specs.HeadReading.{head_of}
 use Rattle.trace_replay.specs.Story.{Tells}
-use Rattle.trace_replay.proofs.pass.replay_lines.Given as goal
+use Rattle.trace_replay.proofs.pass.read_lines.Given as goal
 
 abbrev pub invariant-loop-next : goal.invariant-loop-next
 invariant-loop-next l = (all : List Line)

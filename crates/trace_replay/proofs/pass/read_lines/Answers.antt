@@ -5,10 +5,10 @@ use Rattle.trace_lines.specs.HeadReading.{head_of}
 use Rattle.trace_lines.proofs.TrueBegins.{few_lines}
 use Rattle.trace_replay.specs.Answer.{GoesOn}
 use Rattle.trace_replay.proofs.FirstFailingLine.{begun, low_number, next_number, none_begins, one_line_more, refused, shorter}
-use Rattle.trace_replay.proofs.pass.replay_lines.Goals as goal
+use Rattle.trace_replay.proofs.pass.read_lines.Goals as goal
 
 pub loop-next-init : goal.loop-next-init
-loop-next-init c = ([], begun (head_of c.args.head) c.args.bytes.now c.requires.within c.requires.stands, c.new-story.ensures, c.first_number-number.ensures)
+loop-next-init c = ([], begun (head_of c.args.head) c.args.bytes.now c.requires.within c.requires.stands, c.requires.empty, c.first_number-number.ensures)
 
 pub take_in-requires-clause-plain : goal.take_in-requires-clause-plain
 take_in-requires-clause-plain c = ((c.in-Some.ensures c.in-Some.next c.in-Some.more.now).1 refl).plain
