@@ -1,12 +1,12 @@
 //! What the words ask for.
 
-ghost use Rattle.std.specs.Prelude.{◌≡◌, ◌≢◌, ◌↔◌, ◌≤◌, ◌<◌, ℕ, IfErr, IfOk, IfSome, IsSome, IsTrue, Some, [], codes, length, map};
+ghost use Rattle.std.specs.Prelude.{◌≡◌, ◌≢◌, ◌↔◌, ◌≤◌, ◌<◌, ℕ, IfErr, IfOk, IfSome, IsSome, IsTrue, Some, [], codes, length, map, true};
 ghost use Rattle.command_words.specs.Bounds.{KeepsBounds, KeepsCheckBounds, KeepsRunBounds, KeepsSearchBounds, KeepsSwitches, MayBeAsked};
 ghost use Rattle.command_words.specs.Words.{AreSizes, Ask, AskCheck, AskOptions, AskRun, AskSearch, AskShow, AskStep, AskSwitches};
 ghost use Rattle.command_words.specs.Words.{IsArg, IsAskedBy, IsAskedOf, IsGiven, IsLayout, IsNumber, IsProgram, MayFail, words_of};
 ghost use Rattle.command_words.specs.Words.{check_app, default_rule, flag_rule, name_rule, number_rule, replay_app, run_app, search_app, show_app, step_app};
 ghost use Rattle.command_words.specs.Words.{text_rule, with_options, word_rule, words_rule};
-ghost use Rattle.clap.specs.Words.{app_of, first_of, found_of, kind_of, rows_of, subcommand_rows_of};
+ghost use Rattle.clap.specs.Words.{App, Rule, app_of, first_of, found_of, kind_of, new_app, rows_of, subcommand_rows_of, with_rule, with_subcommand};
 
 use crate::help;
 use clap::builder::ValueParser;
@@ -439,38 +439,62 @@ fn program<'a>(alloc: Global) -> Result<Command<'a>, AllocError>
     ensures { IfOk result IsProgram }
 {
     let sizes = BITS.as_slice();
-    Command::new(alloc, "kcsan_litmus")
-        .about(help::PROGRAM)
-        .after_help(help::AFTER_PROGRAM)
-        .subcommand_required(true)
-        .subcommand(step_command(alloc, sizes)?)?
-        .subcommand(run_command(alloc, sizes)?)?
-        .subcommand(search_command(alloc, sizes)?)?
-        .subcommand(replay_command(alloc)?)?
-        .subcommand(show_command(alloc)?)?
-        .subcommand(check_command(alloc, sizes)?)
+    let top = named(alloc, "kcsan_litmus", help::PROGRAM, help::AFTER_PROGRAM);
+    let command = Ok(top.subcommand_required(true));
+    let command = with_subcommand(command, step_command(alloc, sizes));
+    let command = with_subcommand(command, run_command(alloc, sizes));
+    let command = with_subcommand(command, search_command(alloc, sizes));
+    let command = with_subcommand(command, replay_command(alloc));
+    let command = with_subcommand(command, show_command(alloc));
+    with_subcommand(command, check_command(alloc, sizes))
+}
+
+/// A command of this name, with what help says of it and behind its options.
+fn named<'a>(alloc: Global, name: &'a str, about: &'a str, after: &'a str) -> Command<'a>
+    ensures { app_of result ≡ new_app name.entry.now }
+{
+    Command::new(alloc, name).about(about).after_help(after)
+}
+
+/// A command with one more argument. Want of memory is passed on, so that functions that add many arguments have one
+/// way out: many ways out, each with a command to drop, are dear to prove.
+fn with_argument<'a>(
+    command: Result<Command<'a>, AllocError>,
+    argument: Arg<'a>,
+) -> Result<Command<'a>, AllocError>
+    ensures { (app : App) (rule : Rule) → IfOk command.entry (λ before. app_of before ≡ app) → IsArg rule argument.entry
+        → IfOk result (λ more. app_of more ≡ with_rule app rule) }
+{
+    command?.arg(argument)
+}
+
+/// A command with one more subcommand. Want of memory is passed on.
+fn with_subcommand<'a>(
+    command: Result<Command<'a>, AllocError>,
+    subcommand: Result<Command<'a>, AllocError>,
+) -> Result<Command<'a>, AllocError>
+    ensures { (app sub : App) → IfOk command.entry (λ before. app_of before ≡ app) → IfOk subcommand.entry (λ one. app_of one ≡ sub)
+        → sub.top.is_plain ≡ true → IfOk result (λ more. app_of more ≡ with_subcommand app sub.top) }
+{
+    command?.subcommand(subcommand?)
 }
 
 /// `replay`, with its file.
 fn replay_command<'a>(alloc: Global) -> Result<Command<'a>, AllocError>
     ensures { IfOk result (λ command. app_of command ≡ replay_app) }
 {
-    Command::new(alloc, "replay")
-        .about(help::REPLAY)
-        .after_help(help::AFTER_REPLAY)
-        .arg(file(alloc, "TRACE", help::REPLAYED))
+    let command = named(alloc, "replay", help::REPLAY, help::AFTER_REPLAY);
+    with_argument(Ok(command), file(alloc, "TRACE", help::REPLAYED))
 }
 
 /// `show`, with its file and its options.
 fn show_command<'a>(alloc: Global) -> Result<Command<'a>, AllocError>
     ensures { IfOk result (λ command. app_of command ≡ show_app) }
 {
-    Command::new(alloc, "show")
-        .about(help::SHOW)
-        .after_help(help::AFTER_SHOW)
-        .arg(file(alloc, "TRACE", help::REPLAYED))?
-        .arg(text_option(alloc, "svg", "PATH", help::SVG))?
-        .arg(flag(alloc, "ascii", help::ASCII))
+    let command = Ok(named(alloc, "show", help::SHOW, help::AFTER_SHOW));
+    let command = with_argument(command, file(alloc, "TRACE", help::REPLAYED));
+    let command = with_argument(command, text_option(alloc, "svg", "PATH", help::SVG));
+    with_argument(command, flag(alloc, "ascii", help::ASCII))
 }
 
 /// `check`, with its files and its options; its `--word` takes one of these names.
@@ -480,16 +504,16 @@ fn check_command<'a>(
 ) -> Result<Command<'a>, AllocError>
     ensures { IfOk result (λ command. app_of command ≡ check_app sizes.entry) }
 {
-    Command::new(alloc, "check")
-        .about(help::CHECK)
-        .after_help(help::AFTER_CHECK)
-        .arg(files(alloc, "FILE", help::FILES))?
-        .arg(flag(alloc, "print", help::PRINT))?
-        .arg(flag(alloc, "calls", help::CALLS))?
-        .arg(list_option(alloc, "schedule", "S", help::CHECK_SCHEDULE))?
-        .arg(list_option(alloc, "place", "LIST", help::PLACE))?
-        .arg(number_option(alloc, "slots", help::SLOTS, SLOTS, "64"))?
-        .arg(word_option(alloc, sizes))
+    let command = Ok(named(alloc, "check", help::CHECK, help::AFTER_CHECK));
+    let command = with_argument(command, files(alloc, "FILE", help::FILES));
+    let command = with_argument(command, flag(alloc, "print", help::PRINT));
+    let command = with_argument(command, flag(alloc, "calls", help::CALLS));
+    let schedule = list_option(alloc, "schedule", "S", help::CHECK_SCHEDULE);
+    let command = with_argument(command, schedule);
+    let command = with_argument(command, list_option(alloc, "place", "LIST", help::PLACE));
+    let slots = number_option(alloc, "slots", help::SLOTS, SLOTS, "64");
+    let command = with_argument(command, slots);
+    with_argument(command, word_option(alloc, sizes))
 }
 
 /// The files that a command is about, where it may be about none.
@@ -516,11 +540,9 @@ fn step_command<'a>(
 ) -> Result<Command<'a>, AllocError>
     ensures { IfOk result (λ command. app_of command ≡ step_app sizes.entry) }
 {
-    let command = Command::new(alloc, "step")
-        .about(help::STEP)
-        .after_help(help::AFTER_STEP)
-        .arg(file(alloc, "FILE", help::FILE))?
-        .arg(list_option(alloc, "schedule", "S", help::SCHEDULE))?;
+    let command = Ok(named(alloc, "step", help::STEP, help::AFTER_STEP));
+    let command = with_argument(command, file(alloc, "FILE", help::FILE));
+    let command = with_argument(command, list_option(alloc, "schedule", "S", help::SCHEDULE));
     with_shared(alloc, command, sizes)
 }
 
@@ -528,15 +550,16 @@ fn step_command<'a>(
 fn run_command<'a>(alloc: Global, sizes: &'static [&'static str]) -> Result<Command<'a>, AllocError>
     ensures { IfOk result (λ command. app_of command ≡ run_app sizes.entry) }
 {
-    let command = Command::new(alloc, "run")
-        .about(help::RUN)
-        .after_help(help::AFTER_RUN)
-        .arg(file(alloc, "FILE", help::FILE))?
-        .arg(number_option(alloc, "runs", help::RUNS, RUNS, "100"))?
-        .arg(number_option(alloc, "delay", help::DELAY, DELAY, "64"))?
-        .arg(number_option(alloc, "jobs", help::JOBS, JOBS, "1"))?
-        .arg(flag(alloc, "stop-at-first", help::STOP_AT_FIRST))?
-        .arg(flag(alloc, "keep-going", help::KEEP_GOING))?;
+    let command = Ok(named(alloc, "run", help::RUN, help::AFTER_RUN));
+    let command = with_argument(command, file(alloc, "FILE", help::FILE));
+    let runs = number_option(alloc, "runs", help::RUNS, RUNS, "100");
+    let command = with_argument(command, runs);
+    let delay = number_option(alloc, "delay", help::DELAY, DELAY, "64");
+    let command = with_argument(command, delay);
+    let jobs = number_option(alloc, "jobs", help::JOBS, JOBS, "1");
+    let command = with_argument(command, jobs);
+    let command = with_argument(command, flag(alloc, "stop-at-first", help::STOP_AT_FIRST));
+    let command = with_argument(command, flag(alloc, "keep-going", help::KEEP_GOING));
     with_shared(alloc, command, sizes)
 }
 
@@ -547,34 +570,39 @@ fn search_command<'a>(
 ) -> Result<Command<'a>, AllocError>
     ensures { IfOk result (λ command. app_of command ≡ search_app sizes.entry) }
 {
-    let command = Command::new(alloc, "search")
-        .about(help::SEARCH)
-        .after_help(help::AFTER_SEARCH)
-        .arg(file(alloc, "FILE", help::FILE))?
-        .arg(default_option(alloc, "switches", "N", help::SWITCHES, "2"))?
-        .arg(number_option(alloc, "limit", help::LIMIT, LIMIT, "1000000"))?
-        .arg(number_option(alloc, "jobs", help::SEARCH_JOBS, JOBS, "1"))?;
+    let command = Ok(named(alloc, "search", help::SEARCH, help::AFTER_SEARCH));
+    let command = with_argument(command, file(alloc, "FILE", help::FILE));
+    let switches = default_option(alloc, "switches", "N", help::SWITCHES, "2");
+    let command = with_argument(command, switches);
+    let limit = number_option(alloc, "limit", help::LIMIT, LIMIT, "1000000");
+    let command = with_argument(command, limit);
+    let jobs = number_option(alloc, "jobs", help::SEARCH_JOBS, JOBS, "1");
+    let command = with_argument(command, jobs);
     with_shared(alloc, command, sizes)
 }
 
-/// A command with the options that `step`, `run` and `search` all have.
+/// A command with the options that `step`, `run` and `search` all have. Want of memory is passed on.
 fn with_shared<'a>(
     alloc: Global,
-    command: Command<'a>,
+    command: Result<Command<'a>, AllocError>,
     sizes: &'static [&'static str],
 ) -> Result<Command<'a>, AllocError>
-    ensures { IfOk result (λ more. app_of more ≡ with_options (app_of command.entry) sizes.entry) }
+    ensures { (app : App) → IfOk command.entry (λ before. app_of before ≡ app)
+        → IfOk result (λ more. app_of more ≡ with_options app sizes.entry) }
 {
-    command
-        .arg(list_option(alloc, "place", "LIST", help::PLACE))?
-        .arg(text_option(alloc, "trace", "PATH", help::TRACE))?
-        .arg(number_option(alloc, "slots", help::SLOTS, SLOTS, "64"))?
-        .arg(number_option(alloc, "skip", help::SKIP, SKIP, "0"))?
-        .arg(flag(alloc, "randomize", help::RANDOMIZE))?
-        .arg(number_option(alloc, "seed", help::SEED, (0, u64::MAX), "1"))?
-        .arg(flag(alloc, "strict", help::STRICT))?
-        .arg(word_option(alloc, sizes))?
-        .arg(number_option(alloc, "turns", help::TURNS, TURNS, "1000000"))
+    let command = with_argument(command, list_option(alloc, "place", "LIST", help::PLACE));
+    let command = with_argument(command, text_option(alloc, "trace", "PATH", help::TRACE));
+    let slots = number_option(alloc, "slots", help::SLOTS, SLOTS, "64");
+    let command = with_argument(command, slots);
+    let skip = number_option(alloc, "skip", help::SKIP, SKIP, "0");
+    let command = with_argument(command, skip);
+    let command = with_argument(command, flag(alloc, "randomize", help::RANDOMIZE));
+    let seed = number_option(alloc, "seed", help::SEED, (0, u64::MAX), "1");
+    let command = with_argument(command, seed);
+    let command = with_argument(command, flag(alloc, "strict", help::STRICT));
+    let command = with_argument(command, word_option(alloc, sizes));
+    let turns = number_option(alloc, "turns", help::TURNS, TURNS, "1000000");
+    with_argument(command, turns)
 }
 
 /// An option that takes a text.

@@ -1,21 +1,12 @@
 -- each argument adds its rule
-use Rattle.std.proofs.Common.{◌≡◌, ◌∙◌, ap, ap₂, codes}
-use Rattle.std.proofs.lemmas.Result.{IfOk-weaker}
-use Rattle.clap.specs.Words.{app_of, new_app, with_rule}
-use Rattle.clap.specs.Simple.{app_of_fields}
 use Rattle.command_words.proofs.request.check_command.Goals as goal
 
 pub returns : goal.returns
 returns c =
-    let first : app_of c.after_help.result ≡ new_app (codes "check") =
-    ap app_of_fields c.after_help.ensures ∙ (ap app_of_fields c.about.ensures ∙ c.new.ensures.app) in
-    let before = c.in_ok-arg-6.ensures.shape c.number_option.ensures.own
-    ∙ ap₂ with_rule (c.in_ok-arg-5.ensures.shape c.list_option-2.ensures.own
-    ∙ ap₂ with_rule (c.in_ok-arg-4.ensures.shape c.list_option.ensures.own
-    ∙ ap₂ with_rule (c.in_ok-arg-3.ensures.shape c.flag-2.ensures.own
-    ∙ ap₂ with_rule (c.in_ok-arg-2.ensures.shape c.flag.ensures.own
-    ∙ ap₂ with_rule (c.in_ok-arg.ensures.shape c.files.ensures.own ∙ ap₂ with_rule first c.files.ensures.rule_is)
-    c.flag.ensures.rule_is) c.flag-2.ensures.rule_is) c.list_option.ensures.rule_is)
-    c.list_option-2.ensures.rule_is) c.number_option.ensures.rule_is in
-    IfOk-weaker c.arg-7.result _ _
-    (λ command adds. adds.shape c.word_option.ensures.own ∙ ap₂ with_rule before c.word_option.ensures.rule_is) c.arg-7.ensures
+    let e1 = c.with_argument-command.ensures _ _ c.named.ensures c.files.ensures in
+    let e2 = c.with_argument-command-2.ensures _ _ e1 c.flag.ensures in
+    let e3 = c.with_argument-command-3.ensures _ _ e2 c.flag-2.ensures in
+    let e4 = c.with_argument-command-4.ensures _ _ e3 c.list_option-schedule.ensures in
+    let e5 = c.with_argument-command-5.ensures _ _ e4 c.list_option.ensures in
+    let e6 = c.with_argument-command-6.ensures _ _ e5 c.number_option-slots.ensures in
+    c.with_argument.ensures _ _ e6 c.word_option.ensures

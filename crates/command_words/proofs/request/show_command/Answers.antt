@@ -1,16 +1,8 @@
 -- each argument adds its rule
-use Rattle.std.proofs.Common.{◌≡◌, ◌∙◌, ap, ap₂, codes}
-use Rattle.std.proofs.lemmas.Result.{IfOk-weaker}
-use Rattle.clap.specs.Words.{app_of, new_app, with_rule}
-use Rattle.clap.specs.Simple.{app_of_fields}
 use Rattle.command_words.proofs.request.show_command.Goals as goal
 
 pub returns : goal.returns
 returns c =
-    let first : app_of c.after_help.result ≡ new_app (codes "show") =
-    ap app_of_fields c.after_help.ensures ∙ (ap app_of_fields c.about.ensures ∙ c.new.ensures.app) in
-    let before = c.in_ok-arg-2.ensures.shape c.text_option.ensures.own
-    ∙ ap₂ with_rule (c.in_ok-arg.ensures.shape c.file.ensures.own ∙ ap₂ with_rule first c.file.ensures.rule_is)
-    c.text_option.ensures.rule_is in
-    IfOk-weaker c.arg-3.result _ _ (λ command adds. adds.shape c.flag.ensures.own ∙ ap₂ with_rule before c.flag.ensures.rule_is)
-    c.arg-3.ensures
+    let e1 = c.with_argument-command.ensures _ _ c.named.ensures c.file.ensures in
+    let e2 = c.with_argument-command-2.ensures _ _ e1 c.text_option.ensures in
+    c.with_argument.ensures _ _ e2 c.flag.ensures
