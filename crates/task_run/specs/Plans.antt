@@ -1,6 +1,8 @@
 -- The part of a text that is an access of a statement.
-use Rattle.std.specs.Prelude.{ℕ}
+use Rattle.std.specs.Prelude.{◌≡◌, ℕ, Bool}
 use Rattle.litmus_syntax.specs.Tree.{Load}
+use Rattle.litmus_syntax.specs.declared.statement.Call.{Call}
+use Rattle.litmus_syntax.specs.declared.statement.Call.TheVariants.{Check}
 use Rattle.task_plan.specs.Follow.{Taker}
 use Rattle.task_plan.specs.Plans.{load_plan, planned_access}
 use Rattle.task_plan.specs.Views.{Plan}
@@ -24,3 +26,7 @@ PlanLeft s walk site plan before records after rest =
 abbrev pub LoadLeft : Setting → Walk → ℕ → Load → Taker → Steps
 LoadLeft s walk site load taker before records after rest =
     PlanLeft s walk site (load_plan s.text before.progress.registers load taker) before records after rest
+
+-- the call is a check of no byte, which makes no access
+abbrev pub ChecksNoByte : Call → Type 0
+ChecksNoByte call = (write : Bool) × (variable : ℕ) × (call ≡ Check write variable 0)

@@ -14,7 +14,7 @@ ghost use Rattle.task_run.specs.Due.{ConditionDue, PartBegins, StatementDue};
 ghost use Rattle.litmus_meaning.specs.Task as meaning;
 ghost use Rattle.task_plan.specs.Plans.{call_plan, planned_access};
 ghost use Rattle.task_plan.specs.Keeps.{Keeps};
-ghost use Rattle.task_run.specs.Plans.{LoadLeft, PlanLeft};
+ghost use Rattle.task_run.specs.Plans.{ChecksNoByte, LoadLeft, PlanLeft};
 ghost use Rattle.task_run.specs.Room.{room_of};
 ghost use Rattle.task_run.specs.Stands.{Stands, StandsBy};
 ghost use Rattle.task_run.specs.Stops.{CanBegin, Stops};
@@ -296,21 +296,16 @@ impl<'a> Machine<'a> {
                 Ok(None)
             }
             Call::Barrier(_) => Ok(None),
-            Call::Check { size, .. } => {
-                if size == 0 {
-                    return Ok(None);
-                }
-                self.plans(call, site)
-            }
-            Call::AssertWriter { .. } => self.plans(call, site),
-            Call::AssertAccess { .. } => self.plans(call, site),
-            Call::AssertBits { .. } => self.plans(call, site),
+            Call::Check { .. }
+            | Call::AssertWriter { .. }
+            | Call::AssertAccess { .. }
+            | Call::AssertBits { .. } => self.plans(call, site),
         }
     }
 
-    /// The access of a call begins.
+    /// The access of a check or an assertion begins. A check of no byte has none, and is over at once.
     fn plans(&mut self, call: Call, site: usize) -> Result<Option<Stage<'a>>, Beyond>
-        requires planned { (text : meaning.Setting) → call_plan text call ≢ None }
+        requires planned { (text : meaning.Setting) → call_plan text call ≡ None → ChecksNoByte call }
         ensures begins { IfOk result (λ stage. (s : Setting)
             → PartBegins s (StatementDue s (tree.call call) site self.old.walk) self.old self.new stage) }
         ensures unchanged { OnErr result (self.new ≡ self.old) }
@@ -320,7 +315,7 @@ impl<'a> Machine<'a> {
     {
         match self.planner().call(call) {
             Some(plan) => self.makes(plan, site),
-            None => Err(Beyond),
+            None => Ok(None),
         }
     }
 

@@ -36,13 +36,6 @@ impl<'a> Machine<'a> {
         self.checker.outcomes().len()
     }
 
-    /// The outcome that came next after so many.
-    pub(crate) fn came_after(&self, count: usize) -> Option<Outcome>
-        ensures { result ≡ slice_get (outcomes_of self.now.checker) count }
-    {
-        self.checker.outcomes().get(count).copied()
-    }
-
     /// The begin of the newest access is behind the task. Where it was before, nothing is written.
     fn has_begun(&mut self)
         ensures { self.new ≡ record self.old { begins = None } }
@@ -92,7 +85,7 @@ impl<'a> Machine<'a> {
         self.has_begun();
         Came {
             over: self.checker.is_over(),
-            fell: self.came_after(came),
+            fell: self.checker.outcomes().get(came).copied(),
         }
     }
 
