@@ -1,4 +1,7 @@
 //! Simple statements of a process: loads and assignments, which `data_race( )` may enclose.
+//!
+//! Where a refusal leaves a value or an assignment behind, a call of `drop` drops it: at a `?` each of its forms would
+//! be a path of the proof.
 
 ghost use Rattle.std.specs.Prelude.{◌≡◌, ◌≤◌, ◌<◌, ◌+◌, ◌^◌, ◌-◌, IfOk, OnOk};
 ghost use Rattle.litmus_cursor.specs.Cursor.{count_left};
@@ -163,8 +166,13 @@ fn read_store(
     process.cursor.advance();
     process.cursor.take(Sign::OpenParen)?;
     let assignment = store_of_word(process, word, around)?;
-    process.cursor.take(Sign::CloseParen)?;
-    Ok(assignment)
+    match process.cursor.take(Sign::CloseParen) {
+        Ok(()) => Ok(assignment),
+        Err(refusal) => {
+            drop(assignment);
+            Err(refusal)
+        }
+    }
 }
 
 /// What stands between the parentheses of a call that changes a variable.
@@ -182,9 +190,17 @@ fn store_of_word(
         StoreWord::Write(form) => read_write(process, form, around),
         StoreWord::Add => {
             let value = process.pure(around)?;
-            process.cursor.take(Sign::Comma)?;
-            let variable = process.take_variable(Takes::Atomics)?;
-            Ok(Assignment::AtomicAdd { value, variable })
+            if let Err(refusal) = process.cursor.take(Sign::Comma) {
+                drop(value);
+                return Err(refusal);
+            }
+            match process.take_variable(Takes::Atomics) {
+                Ok(variable) => Ok(Assignment::AtomicAdd { value, variable }),
+                Err(refusal) => {
+                    drop(value);
+                    Err(refusal)
+                }
+            }
         }
         StoreWord::Increment => {
             let variable = process.take_variable(Takes::Atomics)?;

@@ -1,4 +1,7 @@
 //! Statements and blocks of a process.
+//!
+//! Where a refusal leaves a statement or an expression behind, a call of `drop` drops it: at a `?` each of its forms
+//! would be a path of the proof.
 
 ghost use Rattle.std.specs.Prelude.{◌≡◌, ◌≤◌, ◌<◌, ◌+◌, ◌^◌, IfOk, IsTrue, OnOk, option_map};
 ghost use Rattle.litmus_syntax.specs.Limits.{registers_limit, turns_limit};
@@ -65,6 +68,21 @@ fn begins_scope(statement: &Statement) -> bool
     }
 }
 
+/// What stands round what is behind the statement in its block.
+fn behind(
+    process: &Process<'_>,
+    around: Surroundings,
+    statement: &Statement,
+) -> Result<Surroundings, Refusal>
+    ensures { Answers result place_of (reader.behind (place_of around) (Some (statement_of statement.now))) }
+{
+    if begins_scope(statement) {
+        // As in the kernel it holds to the end of its block: what follows in this block has it in force.
+        return around.asserting(process.cursor.at());
+    }
+    Ok(around)
+}
+
 /// Whether `else` is next.
 fn is_at_else(cursor: &Cursor<'_>) -> bool
     ensures exact { result ≡ reader.is_else (first (symbols_left cursor.now)) }
@@ -92,11 +110,16 @@ pub fn read_block(
     let mut statements = Vec::new(process.alloc);
     while !process.cursor.accept(Sign::CloseBrace) {
         if let Some(statement) = read_statement(process, inside)? {
-            if begins_scope(&statement) {
-                // As in the kernel it holds to the end of its block: what follows in this block has it in force.
-                inside = inside.asserting(process.cursor.at())?;
+            match behind(process, inside, &statement) {
+                Ok(later) => {
+                    inside = later;
+                    statements.push(statement)?;
+                }
+                Err(refusal) => {
+                    drop(statement);
+                    return Err(refusal);
+                }
             }
-            statements.push(statement)?;
         }
     }
     Ok(statements)
@@ -197,8 +220,13 @@ fn read_counted(
         }
         Counted::Simple => {
             let simple = read_simple(process, &around)?;
-            process.cursor.take(Sign::Semicolon)?;
-            Ok(simple.into_statement())
+            match process.cursor.take(Sign::Semicolon) {
+                Ok(()) => Ok(simple.into_statement()),
+                Err(refusal) => {
+                    drop(simple);
+                    Err(refusal)
+                }
+            }
         }
     }
 }
@@ -220,7 +248,10 @@ fn read_declaration(
         process.count_statement()?;
         process.cursor.advance();
         let value = process.expression(around)?;
-        process.cursor.take(Sign::Semicolon)?;
+        if let Err(refusal) = process.cursor.take(Sign::Semicolon) {
+            drop(value);
+            return Err(refusal);
+        }
         let assignment = Assignment::Register { register, value };
         return Ok(Some(Statement::Assign {
             data_race: false,
@@ -271,9 +302,17 @@ fn read_data_race(process: &mut Process<'_>, around: &Surroundings) -> Result<St
     process.cursor.advance();
     process.cursor.take(Sign::OpenParen)?;
     let simple = read_simple(process, around)?;
-    process.cursor.take(Sign::CloseParen)?;
-    process.cursor.take(Sign::Semicolon)?;
-    Ok(simple.into_data_race())
+    if let Err(refusal) = process.cursor.take(Sign::CloseParen) {
+        drop(simple);
+        return Err(refusal);
+    }
+    match process.cursor.take(Sign::Semicolon) {
+        Ok(()) => Ok(simple.into_data_race()),
+        Err(refusal) => {
+            drop(simple);
+            Err(refusal)
+        }
+    }
 }
 
 /// `if ( expr ) body`, and `else body` or not.
@@ -287,19 +326,34 @@ fn read_branch(process: &mut Process<'_>, around: Surroundings) -> Result<Statem
     process.cursor.advance();
     process.cursor.take(Sign::OpenParen)?;
     let condition = process.expression(&around)?;
-    process.cursor.take(Sign::CloseParen)?;
-    let body = read_body(process, around)?;
+    if let Err(refusal) = process.cursor.take(Sign::CloseParen) {
+        drop(condition);
+        return Err(refusal);
+    }
+    let body = match read_body(process, around) {
+        Ok(body) => body,
+        Err(refusal) => {
+            drop(condition);
+            return Err(refusal);
+        }
+    };
     // The body was read first, so an `else` behind it belonged to the nearest `if`, as in C.
     if !is_at_else(&process.cursor) {
         return Ok(Statement::If { condition, body });
     }
     process.cursor.advance();
-    let otherwise = read_body(process, around)?;
-    Ok(Statement::IfElse {
-        condition,
-        body,
-        otherwise,
-    })
+    match read_body(process, around) {
+        Ok(otherwise) => Ok(Statement::IfElse {
+            condition,
+            body,
+            otherwise,
+        }),
+        Err(refusal) => {
+            drop(condition);
+            drop(body);
+            Err(refusal)
+        }
+    }
 }
 
 /// `for ( REG = 0 ; REG < NUMBER ; REG ++ ) body`, over one register.

@@ -1,4 +1,7 @@
 //! Expressions of a process: operators by strength, operands, and the one load.
+//!
+//! Where a refusal leaves an expression behind, a call of `drop` drops it: at a `?` each of its forms would be a path
+//! of the proof.
 
 ghost use Rattle.std.specs.Prelude.{◌≡◌, ◌≤◌, ◌<◌, ◌+◌, false, IfOk, IsSome, OnErr, OnOk, IsTrue, option_map};
 ghost use Rattle.litmus_syntax.specs.Views.{expression_of, fetch_of, load_of, pure_of};
@@ -131,6 +134,18 @@ fn applied(
     }
 }
 
+/// The value on the heap, and the other.
+fn boxed_beside<T: Drop, U: Drop>(
+    alloc: Global,
+    value: T,
+    other: U,
+) -> Result<(Box<T>, U), AllocError>
+    ensures boxed { IfOk result (λ both. both.0.value ≡ value) }
+    ensures beside { IfOk result (λ both. both.1 ≡ other) }
+{
+    Ok((Box::new(alloc, value)?, other))
+}
+
 /// An operator between two operands. None: both hold a load.
 fn combined(
     alloc: Global,
@@ -144,12 +159,12 @@ fn combined(
         Expression::Pure(left) => {
             let combined = match right {
                 Expression::Pure(right) => {
-                    let left = Box::new(alloc, left)?;
-                    let right = Box::new(alloc, right)?;
+                    let (left, right) = boxed_beside(alloc, left, right)?;
+                    let (right, left) = boxed_beside(alloc, right, left)?;
                     Expression::Pure(Pure::Binary(operator, left, right))
                 }
                 Expression::Loading(right) => {
-                    let right = Box::new(alloc, right)?;
+                    let (right, left) = boxed_beside(alloc, right, left)?;
                     Expression::Loading(Loading::Right(operator, left, right))
                 }
             };
@@ -157,11 +172,15 @@ fn combined(
         }
         Expression::Loading(left) => match right {
             Expression::Pure(right) => {
-                let left = Box::new(alloc, left)?;
+                let (left, right) = boxed_beside(alloc, left, right)?;
                 Ok(Some(Expression::Loading(Loading::Left(operator, left, right))))
             }
             // Two loads would be two accesses at one site, so an expression has one at most.
-            Expression::Loading(_) => Ok(None),
+            Expression::Loading(right) => {
+                drop(left);
+                drop(right);
+                Ok(None)
+            }
         },
     }
 }
@@ -229,7 +248,10 @@ impl<'a> Process<'a> {
         };
         match self.level(WEAKEST, around, &mut rest)? {
             Expression::Pure(pure) => Ok(pure),
-            Expression::Loading(_) => Err(unsupported),
+            Expression::Loading(loading) => {
+                drop(loading);
+                Err(unsupported)
+            }
         }
     }
 
@@ -272,10 +294,20 @@ impl<'a> Process<'a> {
         let mut left = operand;
         while let Some(operator) = operator_at(self.cursor.token(), level) {
             let unsupported = self.cursor.unsupported(Unread::Load, Expected::Pure);
-            rest.take_operator(self.cursor.at())?;
+            if let Err(refusal) = rest.take_operator(self.cursor.at()) {
+                drop(left);
+                return Err(refusal);
+            }
             self.cursor.advance();
-            let right = self.level(level - 1, around, rest)?;
-            left = combined(self.alloc, left, operator, right)?.ok_or(unsupported)?;
+            match self.level(level - 1, around, rest) {
+                Ok(right) => {
+                    left = combined(self.alloc, left, operator, right)?.ok_or(unsupported)?;
+                }
+                Err(refusal) => {
+                    drop(left);
+                    return Err(refusal);
+                }
+            }
         }
         Ok(left)
     }
@@ -290,8 +322,13 @@ impl<'a> Process<'a> {
         let Some(operator) = unary_operator(self.cursor.token()) else {
             let operand = self.operand(around, rest)?;
             // Another operator may stand here.
-            self.refuse_foreign_operator(Expected::Operator)?;
-            return Ok(operand);
+            return match self.refuse_foreign_operator(Expected::Operator) {
+                Ok(()) => Ok(operand),
+                Err(refusal) => {
+                    drop(operand);
+                    Err(refusal)
+                }
+            };
         };
         rest.take_operator(self.cursor.at())?;
         self.cursor.advance();
@@ -315,8 +352,13 @@ impl<'a> Process<'a> {
                 let inside = around.deeper(self.cursor.at())?;
                 self.cursor.advance();
                 let expression = self.level(WEAKEST, &inside, rest)?;
-                self.cursor.take(Sign::CloseParen)?;
-                Ok(expression)
+                match self.cursor.take(Sign::CloseParen) {
+                    Ok(()) => Ok(expression),
+                    Err(refusal) => {
+                        drop(expression);
+                        Err(refusal)
+                    }
+                }
             }
             Token::Sign(Sign::Star) => self.loading(around, rest),
             Token::Name(_) => match self.cursor.word() {
@@ -369,8 +411,13 @@ impl<'a> Process<'a> {
         let at = self.cursor.at();
         self.note_access(at)?;
         let fetch = self.fetch(around)?;
-        close_data_races(&mut self.cursor, data_races)?;
-        Ok(Load { data_races, fetch })
+        match close_data_races(&mut self.cursor, data_races) {
+            Ok(()) => Ok(Load { data_races, fetch }),
+            Err(refusal) => {
+                drop(fetch);
+                Err(refusal)
+            }
+        }
     }
 
     /// A load without `data_race`.
@@ -388,8 +435,13 @@ impl<'a> Process<'a> {
                 self.cursor.advance();
                 self.cursor.take(Sign::OpenParen)?;
                 let fetch = self.fetch_of_word(word, around)?;
-                self.cursor.take(Sign::CloseParen)?;
-                Ok(fetch)
+                match self.cursor.take(Sign::CloseParen) {
+                    Ok(()) => Ok(fetch),
+                    Err(refusal) => {
+                        drop(fetch);
+                        Err(refusal)
+                    }
+                }
             }
             Some(_) => Err(self.cursor.offence(Expected::Load)),
             None => {
@@ -425,13 +477,21 @@ impl<'a> Process<'a> {
                 let variable = self.take_variable(Takes::Integers)?;
                 self.cursor.take(Sign::Comma)?;
                 let expected = self.pure(around)?;
-                self.cursor.take(Sign::Comma)?;
-                let replacement = self.pure(around)?;
-                Ok(Fetch::CompareExchange {
-                    variable,
-                    expected,
-                    replacement,
-                })
+                if let Err(refusal) = self.cursor.take(Sign::Comma) {
+                    drop(expected);
+                    return Err(refusal);
+                }
+                match self.pure(around) {
+                    Ok(replacement) => Ok(Fetch::CompareExchange {
+                        variable,
+                        expected,
+                        replacement,
+                    }),
+                    Err(refusal) => {
+                        drop(expected);
+                        Err(refusal)
+                    }
+                }
             }
         }
     }
