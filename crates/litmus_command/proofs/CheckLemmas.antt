@@ -88,12 +88,12 @@ told_refused files name text (Refused other why) error lines before after made t
   told = told ∙ ap (λ (e : ParseError). heard before (complaint.Explained (failure.Engine (engine.Text e)) (record { bytes = lines }))) made.0;
 }
 
--- the line on a list's first item that doesn't read is told, if there is one
+-- the line on a list's first item that doesn't read is told, as there is one
 pub list_fault : (error : Failure) (IsFault : List ℕ → Type 0) (AllRead : Type 0) (line : Option (Vec ℕ Global)) (said : Complaint)
-    → IfSome line (λ found. IsFault found.items) → IfNone line AllRead → said ≡ list_complaint error line
-    → IsListFault error IsFault AllRead said
-list_fault error IsFault AllRead None said found none is = inr (none, is)
-list_fault error IsFault AllRead (Some line) said found none is = inl (record { bytes = line }, found, is)
+    → (AllRead → ⊥) → IfSome line (λ found. IsFault found.items) → IfNone line AllRead → said ≡ list_complaint error line
+    → IsListFault error IsFault said
+list_fault error IsFault AllRead None said some found none is = absurd (some none)
+list_fault error IsFault AllRead (Some line) said some found none is = record { lines = record { bytes = line }; fault = found; said_is = is }
 
 -- what isn't missing is there
 pub is_there : {X : Type 0} (it : Option X) (none : Bool) → is_some it ≡ not none → none ≡ false → (x : X) × (it ≡ Some x)

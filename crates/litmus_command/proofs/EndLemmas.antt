@@ -129,15 +129,12 @@ faults_alone several middle stopped one (inl same) = same
 faults_alone several middle stopped one (inr many) = absurd (let is = many.0 in let no : false ≡ true = sym one ∙ is in cc)
 
 -- what is told of a list that doesn't read has the status of that failure
-fault_status : (IsFault : List ℕ → Type 0) (AllRead : Type 0) (error : Failure) (said : Complaint) → status_of error ≡ 64
-    → IsListFault error IsFault AllRead said → complaint_status_of said ≡ 64
-fault_status IsFault AllRead error said is (inl explained) = ap complaint_status_of explained.2 ∙ is
-fault_status IsFault AllRead error said is (inr plain) = ap complaint_status_of plain.1 ∙ is
+fault_status : (IsFault : List ℕ → Type 0) (error : Failure) (said : Complaint) → status_of error ≡ 64 → IsListFault error IsFault said
+    → complaint_status_of said ≡ 64
+fault_status IsFault error said is at_fault = ap complaint_status_of at_fault.said_is ∙ is
 
-fault_alone : (IsFault : List ℕ → Type 0) (AllRead : Type 0) (error : Failure) (said : Complaint)
-    → IsListFault error IsFault AllRead said → IsOfNoOverwrite said
-fault_alone IsFault AllRead error said (inl explained) = subst IsOfNoOverwrite (sym explained.2) tt
-fault_alone IsFault AllRead error said (inr plain) = subst IsOfNoOverwrite (sym plain.1) tt
+fault_alone : (IsFault : List ℕ → Type 0) (error : Failure) (said : Complaint) → IsListFault error IsFault said → IsOfNoOverwrite said
+fault_alone IsFault error said at_fault = subst IsOfNoOverwrite (sym at_fault.said_is) tt
 
 -- the end of the check of one file that has no tables: that was told, and nothing is printed
 told_one : (output : List ℕ) (status ends : ℕ) (before middle after : Whole) (said : Complaint) → IsTold status
@@ -227,12 +224,12 @@ one_left request (found ∷ more) status before middle stopped after one (inr ma
 
 -- a list that doesn't read has the status of a mistake in the words
 list_status : (request : CheckRequest) (said : Complaint) → AreListsAtFault request said → complaint_status_of said ≡ 64
-list_status request said (inl schedule) = fault_status _ _ failure.BadSchedule said refl schedule.1
-list_status request said (inr place) = fault_status _ _ failure.BadPlace said refl place.2
+list_status request said (inl schedule) = fault_status _ failure.BadSchedule said refl schedule.1
+list_status request said (inr place) = fault_status _ failure.BadPlace said refl place.2
 
 list_alone : (request : CheckRequest) (said : Complaint) → AreListsAtFault request said → IsOfNoOverwrite said
-list_alone request said (inl schedule) = fault_alone _ _ failure.BadSchedule said schedule.1
-list_alone request said (inr place) = fault_alone _ _ failure.BadPlace said place.2
+list_alone request said (inl schedule) = fault_alone _ failure.BadSchedule said schedule.1
+list_alone request said (inr place) = fault_alone _ failure.BadPlace said place.2
 
 -- how the check of one file ends
 pub one_ends : (request : CheckRequest) (status : ℕ) (before after : Whole) → length request.files.items ≡ 1

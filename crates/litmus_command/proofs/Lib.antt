@@ -2,5 +2,7 @@ mod AskedLemmas
 mod ResultLemmas
 mod CheckLemmas
 mod EndLemmas
-mod ToldLemmas
 mod OverwriteLemmas
+mod CommandLemmas
+mod CarryLemmas
+mod ListLemmas

@@ -1,39 +1,32 @@
 -- What holds where a command succeeds, and with which status it ends where it fails.
-use Rattle.std.proofs.Common.{◌<◌, Bool, OnErr, OnOk, ap, ◌≢◌, ◌≤◌, ◌⊎◌, arith, inl, inr, ◌≡◌, ◌∙◌, ℕ, List, Option, None, Some, Result, Ok, Err, IfOk, IfErr, IfSome, MatchResult, is_some}
-use Rattle.std.proofs.Common.{false, refl, subst, sym, true, Vec}
+use Rattle.std.proofs.Common.{◌<◌, Bool, ap, ◌≤◌, ◌⊎◌, arith, inl, inr, ◌≡◌, ◌∙◌, ℕ, List, Option, None, Some, Result, Ok, Err, IfOk, IfErr, IfSome, MatchResult, is_some}
+use Rattle.std.proofs.Common.{refl, subst, sym, Vec}
 use Rattle.std.specs.Global.{Global}
 use Rattle.std.specs.Prelude.{IsErrAnd}
-use Rattle.litmus_command.specs.Command.{EndsAs, IsOfFile, NothingIsWritten, Reads, SpellsNone, State, engine_status_of, read_failure, run_status_of, status_of, text_status_of, trace_status_of}
+use Rattle.litmus_command.specs.Command.{SpellsNone, engine_status_of, run_status_of, status_of, text_status_of, trace_status_of}
 use Rattle.litmus_command.specs.declared.command.Failure.{Failure}
 use Rattle.litmus_command.specs.declared.command.Failure.TheVariants as failure
-use Rattle.litmus_command.specs.declared.desk.ReadFault.{ReadFault}
-use Rattle.litmus_command.specs.declared.desk.ReadFault.TheVariants as fault
 use Rattle.run_output.specs.declared.error.EngineError.{EngineError}
 use Rattle.run_output.specs.declared.error.EngineError.TheVariants as engine
 use Rattle.std.specs.Option.{option_map}
 use Rattle.program_sites.specs.declared.error.RunError.{RunError}
 use Rattle.litmus_syntax.specs.declared.error.ParseError.{ParseError}
 use Rattle.litmus_syntax.specs.declared.error.ParseError.TheVariants as parse
-use Rattle.report_text.specs.Sink.{CountsFailure}
 use Rattle.program_sites.specs.declared.error.RunError.TheVariants as run
 use Rattle.trace_replay.specs.declared.accepted.TraceError.{TraceError}
 use Rattle.trace_replay.specs.declared.accepted.TraceError.TheVariants as trace
 use Rattle.picture.specs.declared.error.PictureError.{PictureError}
 use Rattle.picture.specs.declared.error.PictureError.TheVariants as picture
 use Rattle.litmus_command.specs.Command.{picture_status_of}
-use Rattle.litmus_command.specs.Command.{FileIsRun, FileIsRunInPart, IsGiven, IsGivenInPart, once_read, trace_path}
 use Rattle.litmus_command.specs.Engine.{IsRefused, Stops, StopsReady, StopsRun}
 use Rattle.run_tally.specs.Errors as tally
-use Rattle.search_run.specs.Texts as search
-use Rattle.command_words.specs.declared.request.SearchRequest.{SearchRequest}
-use Rattle.litmus_command.specs.Command.{IsFound, SearchEnds, SearchIsDone, Tells, search_status_of}
+use Rattle.search_output.specs.Texts as search
+use Rattle.litmus_command.specs.Command.{Tells}
 use Rattle.litmus_command.specs.Told.{heard}
 use Rattle.litmus_command.specs.declared.complaint.Complaint.{Complaint}
 use Rattle.litmus_command.specs.declared.complaint.Complaint.TheVariants as complaint
 use Rattle.run_tally.specs.Errors.{IsNotRead}
-use Rattle.litmus_command.specs.Files.{FileEvent, Gave, noted}
 use Rattle.litmus_parse.specs.Read.{IsReadAs}
-use Rattle.litmus_parse.specs.Text.{file_bytes}
 use Rattle.litmus_syntax.specs.declared.program.Program.{Program}
 use Rattle.program_layout.specs.Places.{AreFit}
 use Rattle.program_sites.specs.Errors.{IsOfPreparing}
@@ -145,14 +138,26 @@ writes_no_sink (engine.Text error) other is = text_is_no_sink error is
 writes_no_sink (engine.Run error) other is = run_is_no_sink error is
 writes_no_sink engine.SinkFailed other is = other refl
 
-pub reads_no_sink : (fault : ReadFault) → status_of (read_failure fault) ≡ 74 → ⊥
-reads_no_sink fault.OutOfMemory is = omega (arith, is)
-reads_no_sink fault.CannotRead is = omega (arith, is)
+-- nor that of a file that can't be read
+text_is_no_read : (error : ParseError) → text_status_of error ≡ 66 → ⊥
+text_is_no_read parse.OutOfMemory is = omega (arith, is)
+text_is_no_read (parse.Syntax line) is = omega (arith, is)
+text_is_no_read (parse.Unsupported line) is = omega (arith, is)
+text_is_no_read (parse.Limit limit) is = omega (arith, is)
+text_is_no_read parse.NotAscii is = omega (arith, is)
 
--- what can't be read is no mistake in the words
-pub reads_no_usage : (fault : ReadFault) → status_of (read_failure fault) ≡ 64 → ⊥
-reads_no_usage fault.OutOfMemory is = omega (arith, is)
-reads_no_usage fault.CannotRead is = omega (arith, is)
+run_is_no_read : (error : RunError) → run_status_of error ≡ 66 → ⊥
+run_is_no_read run.BadSlots is = omega (arith, is)
+run_is_no_read run.BadPlace is = omega (arith, is)
+run_is_no_read run.OutOfMemory is = omega (arith, is)
+run_is_no_read (run.Stuck task) is = omega (arith, is)
+run_is_no_read run.BadSchedule is = omega (arith, is)
+run_is_no_read run.NoThread is = omega (arith, is)
+
+pub engine_no_read : (error : EngineError) → engine_status_of error ≡ 66 → ⊥
+engine_no_read (engine.Text error) is = text_is_no_read error is
+engine_no_read (engine.Run error) is = run_is_no_read error is
+engine_no_read engine.SinkFailed is = omega (arith, is)
 
 -- a failure ends with one of these statuses
 text_known : (error : ParseError) → IsKnown (text_status_of error)
@@ -212,84 +217,14 @@ known_below status (inr (inl is)) = omega (arith, is)
 known_below status (inr (inr (inl is))) = omega (arith, is)
 known_below status (inr (inr (inr is))) = omega (arith, is)
 
--- what standard error is told where there is a failure
-pub tells_so : (failure : Failure) (status : ℕ) (before after : Option (List Complaint)) → status ≡ status_of failure → IsKnown status
-    → after ≡ heard before (complaint.Failure failure) → Tells status before after
-tells_so failure status before after is known told = record {
+-- what standard error is told where there is a failure, of which nothing was told before
+pub tells_so : (failure : Failure) (status : ℕ) (before middle : Option (List Complaint)) → IsKnown status → status_of failure ≡ status
+    → middle ≡ before → Tells status before (heard middle (complaint.Failure failure))
+tells_so failure status before middle known is same = record {
   quiet = λ low. let above = known_above status known in absurd (omega (arith, low, above));
   stopped = λ stops. let below = known_below status known in absurd (omega (arith, stops, below));
-  told = λ from to. (complaint.Failure failure, sym is, tt, told);
+  told = λ from to. (complaint.Failure failure, is, tt, ap (λ (all : Option (List Complaint)). heard all (complaint.Failure failure)) same);
 }
-
--- how a search ends: by a status that no failure has
-pub ends_at : (raced stopped : Bool) → (search_status_of raced stopped ≡ 0) ⊎ ((search_status_of raced stopped ≡ 2) ⊎ (search_status_of raced stopped ≡ 75))
-ends_at true stopped = inr (inl refl)
-ends_at false true = inr (inr refl)
-ends_at false false = inl refl
-
-pub ends_reported : (request : SearchRequest) (status : ℕ) (before after : State) → SearchEnds request status before after → status ≡ 2
-    → (stopped : Bool) × SearchIsDone request true stopped before after
-ends_reported request status before after ends is = go ends.raced ends.stopped (sym ends.status_is ∙ is) ends.done
-  where
-    go : (raced stopped : Bool) → search_status_of raced stopped ≡ 2 → SearchIsDone request raced stopped before after
-        → (stopped : Bool) × SearchIsDone request true stopped before after
-    go true stopped is done = (stopped, done)
-    go false true is done = absurd (omega (arith, is))
-    go false false is done = absurd (omega (arith, is))
-
-pub ends_unreported : (request : SearchRequest) (status : ℕ) (before after : State) → SearchEnds request status before after → status ≡ 0
-    → SearchIsDone request false false before after
-ends_unreported request status before after ends is = go ends.raced ends.stopped (sym ends.status_is ∙ is) ends.done
-  where
-    go : (raced stopped : Bool) → search_status_of raced stopped ≡ 0 → SearchIsDone request raced stopped before after
-        → SearchIsDone request false false before after
-    go true stopped is done = absurd (omega (arith, is))
-    go false true is done = absurd (omega (arith, is))
-    go false false is done = done
-
-pub ends_stopped : (request : SearchRequest) (status : ℕ) (before after : State) → SearchEnds request status before after → status ≡ 75
-    → SearchIsDone request false true before after
-ends_stopped request status before after ends is = go ends.raced ends.stopped (sym ends.status_is ∙ is) ends.done
-  where
-    go : (raced stopped : Bool) → search_status_of raced stopped ≡ 75 → SearchIsDone request raced stopped before after
-        → SearchIsDone request false true before after
-    go true stopped is done = absurd (omega (arith, is))
-    go false true is done = done
-    go false false is done = absurd (omega (arith, is))
-
--- that is none of the others
-pub ends_beside : (status other : ℕ) → (status ≡ 0) ⊎ ((status ≡ 2) ⊎ (status ≡ 75)) → status ≡ other → 64 ≤ other → other ≤ 74 → ⊥
-ends_beside status other (inl end) is from to = omega (arith, end, is, from, to)
-ends_beside status other (inr (inl end)) is from to = omega (arith, end, is, from, to)
-ends_beside status other (inr (inr end)) is from to = omega (arith, end, is, from, to)
-
-pub end_known : (status : ℕ) → (status ≡ 0) ⊎ ((status ≡ 2) ⊎ (status ≡ 75)) → (status ≡ 0) ⊎ (status ≡ 2)
-    ⊎ ((64 ≤ status) × (status ≤ 66)) ⊎ (status ≡ 70) ⊎ (status ≡ 71) ⊎ (status ≡ 74) ⊎ (status ≡ 75)
-end_known status (inl end) = inl end
-end_known status (inr (inl end)) = inr (inl end)
-end_known status (inr (inr end)) = inr (inr (inr (inr (inr (inr end)))))
-
--- what holds of the error of a call holds of this one, if it is the error
-pub err_at : {X : Type 0} (P : Failure → Type 0) (result : Result X Failure) (failure : Failure) → result ≡ Err failure → IfErr result P
-    → P failure
-err_at P (Ok x) failure is holds = absurd (cc)
-err_at P (Err found) failure is holds = subst P (let same : found ≡ failure = cc in same) holds
-
--- a failure ends as its status says
-pub ends_so : (failure : Failure) (status : ℕ) (before middle after : State) → status ≡ status_of failure → IsKnown status → after ≡ middle
-    → (status_of failure ≢ 74 → NothingIsWritten before middle) → (status_of failure ≡ 74 → CountsFailure before.failures middle.failures)
-    → EndsAs status before after
-ends_so failure status before middle after is known same silent failed = record {
-  silent = λ from to. subst (λ (state : State). NothingIsWritten before state) (sym same)
-      (silent (λ unwritten. let other : status ≡ 74 = is ∙ unwritten in omega (arith, other, to)));
-  failed = λ unwritten. subst (λ (state : State). CountsFailure before.failures state.failures) (sym same) (failed (sym is ∙ unwritten));
-  known = known_so status known;
-}
-
--- nor is it that of a refused file
-pub no_file : (status : ℕ) → status ≡ 74 → IsOfFile status → ⊥
-no_file status unwritten (inl is) = omega (arith, unwritten, is)
-no_file status unwritten (inr is) = omega (arith, unwritten, is)
 
 -- why a program can't be made ready
 pub preparing_stops : (program : Program) (settings : Settings) (entries : List Entry) (error : RunError) → IsOfPreparing error
@@ -328,128 +263,21 @@ pub no_sink_stops : {X : Type 0} (program : Program) (settings : Settings) (entr
 no_sink_stops {X} program settings entries result stops is =
     subst (λ (r : Result X EngineError). IfErr r (Stops program settings entries)) is stops
 
--- the state of a desk that a file was read from
-pub is_once_read : (written other : Option (List ℕ)) (failures more : ℕ) (files later : Option (List FileEvent)) (file : List ℕ) (limit : ℕ)
-    (text : List ℕ) → other ≡ written → more ≡ failures → later ≡ noted files (Gave file limit text)
-    → let before : State = record { written = written; failures = failures; files = files } in
-    let after : State = record { written = other; failures = more; files = later } in after ≡ once_read file limit text before
-is_once_read written other failures more files later file limit text same_written same_failures gave =
-    let State_of : Option (List ℕ) → ℕ → Option (List FileEvent) → State = λ w n f. record { written = w; failures = n; files = f } in
-    ap (λ w. State_of w more later) same_written
-    ∙ (ap (λ n. State_of written n later) same_failures ∙ ap (λ f. State_of written failures f) gave)
+-- no trace is refused for want of a sink, nor for a file that can't be read
+pub replays_no_sink : (error : TraceError) → trace_status_of error ≡ 74 → ⊥
+replays_no_sink trace.OutOfMemory is = omega (arith, is)
+replays_no_sink (trace.BadTrace line) is = omega (arith, is)
+replays_no_sink (trace.FalseReport line) is = omega (arith, is)
 
--- what is left of a file's run is given, where it was read so
-module _ (file : List ℕ) (limit : ℕ) (path : Option (List ℕ)) (Left : List ℕ → Bool → List ℕ → Option (List ℕ) → Type 0)
-    (text output : List ℕ) (raced : Bool) (trace : Option (List ℕ)) (left : Left text raced output trace) (result : Result Bool Failure) (before middle after : State)
-    (is_read : middle ≡ once_read file limit text before) where
-  pub given_done : IfOk result (λ found. found ≡ raced) → OnOk result (IsGiven path output trace middle after)
-      → IfOk result (λ found. FileIsRun file limit path Left found before after)
-  given_done told given = both result told given
-    where
-      both : (r : Result Bool Failure) → IfOk r (λ found. found ≡ raced) → OnOk r (IsGiven path output trace middle after)
-          → IfOk r (λ found. FileIsRun file limit path Left found before after)
-      both (Ok found) same given = record {
-        text = text;
-        output = output;
-        trace = trace;
-        left = subst (λ b. Left text b output trace) (sym same) left;
-        given = subst (λ m. IsGiven path output trace m after) is_read given;
-      }
-      both (Err failure) same given = tt
+pub replays_no_read : (error : TraceError) → trace_status_of error ≡ 66 → ⊥
+replays_no_read trace.OutOfMemory is = omega (arith, is)
+replays_no_read (trace.BadTrace line) is = omega (arith, is)
+replays_no_read (trace.FalseReport line) is = omega (arith, is)
 
-  pub given_in_part : OnErr result (IsGivenInPart path output trace middle after)
-      → IfErr result (λ failure. status_of failure ≡ 74 → FileIsRunInPart file limit path Left before after)
-  given_in_part part = both result part
-    where
-      both : (r : Result Bool Failure) → OnErr r (IsGivenInPart path output trace middle after)
-          → IfErr r (λ failure. status_of failure ≡ 74 → FileIsRunInPart file limit path Left before after)
-      both (Ok found) part = tt
-      both (Err failure) part = λ unwritten. record {
-        text = text;
-        raced = raced;
-        output = output;
-        trace = trace;
-        left = left;
-        given = subst (λ m. IsGivenInPart path output trace m after) is_read part;
-      }
-
--- what fails there is a write
-pub failed_silent : {X : Type 0} (result : Result X Failure) (Counts : Type 0) (before after : State)
-    → IfErr result (λ failure. (status_of failure ≡ 74) × Counts)
-    → IfErr result (λ failure. status_of failure ≢ 74 → NothingIsWritten before after)
-failed_silent (Ok found) Counts before after failed = tt
-failed_silent (Err failure) Counts before after failed = λ other. absurd (other failed.0)
-
-pub failed_counts : {X : Type 0} (result : Result X Failure) (first middle last : ℕ) → middle ≡ first
-    → IfErr result (λ failure. (status_of failure ≡ 74) × CountsFailure middle last)
-    → IfErr result (λ failure. status_of failure ≡ 74 → CountsFailure first last)
-failed_counts (Ok found) first middle last same failed = tt
-failed_counts (Err failure) first middle last same failed = λ unwritten. subst (λ n. CountsFailure n last) same failed.1
-
-pub failed_of_no_file : {X : Type 0} (result : Result X Failure) (Counts : Type 0) (Refused : ℕ → Type 0)
-    → IfErr result (λ failure. (status_of failure ≡ 74) × Counts)
-    → IfErr result (λ failure. IsOfFile (status_of failure) → Refused (status_of failure))
-failed_of_no_file (Ok found) Counts Refused failed = tt
-failed_of_no_file (Err failure) Counts Refused failed = λ of_file. absurd (no_file (status_of failure) failed.0 of_file)
-
-pub failed_reads : {X : Type 0} (result : Result X Failure) (Counts : Type 0) (first middle last : ℕ) → middle ≡ first → last ≡ middle
-    → IfErr result (λ failure. (status_of failure ≡ 74) × Counts)
-    → IfErr result (λ failure. Reads (status_of failure) first last)
-failed_reads (Ok found) Counts first middle last read given failed = tt
-failed_reads (Err failure) Counts first middle last read given failed = record {
-  fails = λ unread. absurd (let no : 74 ≡ 66 = sym failed.0 ∙ unread in omega (arith, no));
-  works = λ readable. given ∙ read;
-}
-
--- what a search leaves is given, where its file was read so
-module _ (request : SearchRequest) (text output : List ℕ) (raced stopped : Bool) (trace : Option (List ℕ))
-    (found : IsFound request stopped text raced output trace) (result : Result ℕ Failure) (before middle after : State)
-    (is_read : middle ≡ once_read request.file.now file_bytes text before) where
-  pub found_done : IfOk result (λ status. status ≡ search_status_of raced stopped)
-      → OnOk result (IsGiven (trace_path request.options) output trace middle after)
-      → IfOk result (λ status. SearchEnds request status before after)
-  found_done told given = both result told given
-    where
-      both : (r : Result ℕ Failure) → IfOk r (λ status. status ≡ search_status_of raced stopped)
-          → OnOk r (IsGiven (trace_path request.options) output trace middle after) → IfOk r (λ status. SearchEnds request status before after)
-      both (Ok status) is given = record {
-        raced = raced;
-        stopped = stopped;
-        status_is = is;
-        done = record {
-          text = text;
-          output = output;
-          trace = trace;
-          left = found;
-          given = subst (λ m. IsGiven (trace_path request.options) output trace m after) is_read given;
-        };
-      }
-      both (Err failure) is given = tt
-
-  pub found_in_part : OnErr result (IsGivenInPart (trace_path request.options) output trace middle after)
-      → IfErr result (λ failure. status_of failure ≡ 74
-      → (stopped : Bool) × FileIsRunInPart request.file.now file_bytes (trace_path request.options) (IsFound request stopped) before after)
-  found_in_part part = both result part
-    where
-      both : (r : Result ℕ Failure) → OnErr r (IsGivenInPart (trace_path request.options) output trace middle after)
-          → IfErr r (λ failure. status_of failure ≡ 74
-          → (stopped : Bool) × FileIsRunInPart request.file.now file_bytes (trace_path request.options) (IsFound request stopped) before after)
-      both (Ok status) part = tt
-      both (Err failure) part = λ unwritten. (
-        stopped,
-        record {
-          text = text;
-          raced = raced;
-          output = output;
-          trace = trace;
-          left = found;
-          given = subst (λ m. IsGivenInPart (trace_path request.options) output trace m after) is_read part;
-        },
-      )
-
--- no trace is undrawn for want of a sink, nor for its words
 pub draws_no_sink : (error : PictureError) → picture_status_of error ≡ 74 → ⊥
-draws_no_sink (picture.Trace trace.OutOfMemory) is = omega (arith, is)
-draws_no_sink (picture.Trace (trace.BadTrace line)) is = omega (arith, is)
-draws_no_sink (picture.Trace (trace.FalseReport line)) is = omega (arith, is)
+draws_no_sink (picture.Trace error) is = replays_no_sink error is
 draws_no_sink picture.TooLong is = omega (arith, is)
+
+pub draws_no_read : (error : PictureError) → picture_status_of error ≡ 66 → ⊥
+draws_no_read (picture.Trace error) is = replays_no_read error is
+draws_no_read picture.TooLong is = omega (arith, is)

@@ -179,18 +179,18 @@ abbrev pub list_complaint : Failure → Option (Vec ℕ Global) → Complaint
 list_complaint error None = complaint.Failure error
 list_complaint error (Some line) = complaint.Explained error (record { bytes = line })
 
--- a list doesn't read, and its first item that doesn't was told of, if there is one
-abbrev pub IsListFault : Failure → (IsFault : List ℕ → Type 0) → (AllRead : Type 0) → Complaint → Type 0
-IsListFault error IsFault AllRead said = ((lines : Lines) × IsFault lines.bytes.items × (said ≡ complaint.Explained error lines))
-    ⊎ (AllRead × (said ≡ complaint.Failure error))
+-- a list doesn't read, and its first item that doesn't was told of
+pub record IsListFault (error : Failure) (IsFault : List ℕ → Type 0) (said : Complaint) : Type 0 where
+  pub lines : Lines
+  pub fault : IsFault lines.bytes.items
+  pub said_is : said ≡ complaint.Explained error lines
 
 -- so it is of the schedule that is asked for, or, where that reads, of the place list
 abbrev pub AreListsAtFault : CheckRequest → Complaint → Type 0
 AreListsAtFault request said =
-    (SpellsNoSchedule request.schedule.now × IsListFault failure.BadSchedule (schedule_items.IsFault request.schedule.now)
-    (schedule_items.AllRead request.schedule.now) said)
-    ⊎ (SpellsSchedule request.schedule.now × SpellsNoPlaces request.places.now × IsListFault failure.BadPlace (places.IsFault request.places.now)
-    (places.AllRead request.places.now) said)
+    (SpellsNoSchedule request.schedule.now × IsListFault failure.BadSchedule (schedule_items.IsFault request.schedule.now) said)
+    ⊎ (SpellsSchedule request.schedule.now × SpellsNoPlaces request.places.now
+    × IsListFault failure.BadPlace (places.IsFault request.places.now) said)
 
 -- the schedule doesn't read, or the place list doesn't: that was told, and no file was asked for
 pub record ListsDoNotRead (request : CheckRequest) (status : ℕ) (before after : Whole) : Type 0 where

@@ -1,8 +1,7 @@
 -- What the program does for what it is asked, and what each status says.
-use Rattle.std.specs.Global.{Global}
-use Rattle.std.specs.Prelude.{◌≡◌, ◌≢◌, ◌<◌, ◌≤◌, ◌⊎◌, ℕ, List, Option, Some, None, Vec, Bool, true, false, is_some, not}
+use Rattle.std.specs.Prelude.{◌≡◌, ◌≢◌, ◌<◌, ◌≤◌, ◌⊎◌, ℕ, List, Option, Some, None, Bool, true, false, is_some}
 use Rattle.std.specs.Option.{option_map}
-use Rattle.command_words.specs.Bounds.{KeepsBounds, MayBeAsked}
+use Rattle.command_words.specs.Bounds.{MayBeAsked}
 use Rattle.clap.specs.Words.{kind_of}
 use Rattle.clap.specs.declared.error.Error.{Error}
 use Rattle.clap.specs.declared.error.kind.ErrorKind.{ErrorKind}
@@ -23,7 +22,6 @@ use Rattle.litmus_parse.specs.Grammar.{SpellsProgram}
 use Rattle.litmus_parse.specs.Text.{file_bytes}
 use Rattle.litmus_syntax.specs.Tree as tree
 use Rattle.place_list.specs.Spelling as places
-use Rattle.program_layout.specs.declared.place.Place.{Place}
 use Rattle.report_text.specs.Faults.{size_limit}
 use Rattle.report_text.specs.Sink.{CountsFailure, HoldsBeginning, appended}
 use Rattle.litmus_syntax.specs.declared.error.ParseError.{ParseError}
@@ -38,6 +36,7 @@ use Rattle.step_schedule.specs.declared.schedule.Entry.{Entry}
 use Rattle.program_sites.specs.declared.settings.Settings.{Settings}
 use Rattle.search_all.specs.Texts.{AllIsSearched}
 use Rattle.search_all.specs.declared.wanted.AllWanted.{AllWanted}
+use Rattle.search_output.specs.Texts as searched
 use Rattle.search_run.specs.Texts as search
 use Rattle.search_run.specs.declared.wanted.Wanted.{Wanted}
 use Rattle.trace_replay.specs.Answer as answers
@@ -279,7 +278,7 @@ pub record RunRefuses (request : RunRequest) (text : List ℕ) (error : EngineEr
 pub record SearchRefuses (request : SearchRequest) (text : List ℕ) (error : EngineError) : Type 0 where
   pub settings : Settings
   pub asks : AskSettings request.options settings
-  pub refused : search.IsRefused text settings error
+  pub refused : searched.IsRefused text settings error
 
 -- the file that is asked for was read, and is no true trace, for a reason that ends with this status
 pub record ReplayIsRefused (request : ReplayRequest) (status : ℕ) (before after : State) : Type 0 where
@@ -328,18 +327,11 @@ pub record ShowIsRefused (request : ShowRequest) (status : ℕ) (before after : 
 abbrev pub SearchIsDone : SearchRequest → (raced stopped : Bool) → State → State → Type 0
 SearchIsDone request raced stopped before after = FileIsRun request.file.now file_bytes (trace_path request.options) (IsFound request stopped) raced before after
 
--- the status that a search ends with
-abbrev pub search_status_of : (raced stopped : Bool) → ℕ
-search_status_of true stopped = 2
-search_status_of false true = 75
-search_status_of false false = 0
-
--- a search was done, and this is its status
-pub record SearchEnds (request : SearchRequest) (status : ℕ) (before after : State) : Type 0 where
-  pub raced : Bool
-  pub stopped : Bool
-  pub status_is : status ≡ search_status_of raced stopped
-  pub done : SearchIsDone request raced stopped before after
+-- the status that ends what was done: whether there was a report, and whether a search was stopped at its limit
+abbrev pub end_status_of : (raced stopped : Bool) → ℕ
+end_status_of true stopped = 2
+end_status_of false true = 75
+end_status_of false false = 0
 
 -- `check` ended so, whatever standard error was told and however often a read failed
 abbrev pub CheckIsEnded : CheckRequest → (status : ℕ) → State → State → Type 0

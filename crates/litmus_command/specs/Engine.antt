@@ -1,5 +1,5 @@
 -- What is left of the run of a litmus text, and why there is none.
-use Rattle.std.specs.Prelude.{◌≡◌, ◌<◌, ◌==◌, ◌↔◌, ◌⊎◌, ◌∷◌, ℕ, List, [], Option, Bool, IfSome, IsTrue, false, length, not}
+use Rattle.std.specs.Prelude.{◌≡◌, ◌<◌, ◌==◌, ◌⊎◌, ℕ, List, [], Option, Bool, IfSome, IsTrue, false, length, not}
 use Rattle.access_types.specs.Sites.{AccessMap}
 use Rattle.litmus_parse.specs.Read.{IsReadAs}
 use Rattle.program_sites.specs.declared.error.RunError.{RunError}
@@ -9,7 +9,7 @@ use Rattle.run_output.specs.Traces.{IsToBeAccepted, IsTraceOf}
 use Rattle.run_tally.specs.Errors.{IsNotRead}
 use Rattle.run_output.specs.declared.error.EngineError.{EngineError}
 use Rattle.run_output.specs.declared.error.EngineError.TheVariants.{Run, SinkFailed, Text}
-use Rattle.litmus_step.specs.Runs.{HasEnded, IsStuck, run_of, tasks_of}
+use Rattle.litmus_step.specs.Runs.{IsStuck, run_of, tasks_of}
 use Rattle.program_sites.specs.declared.settings.Settings.{Settings}
 use Rattle.litmus_syntax.specs.declared.program.Program.{Program}
 use Rattle.program_layout.specs.Places.{AreFit}
@@ -18,19 +18,10 @@ use Rattle.run_lists.specs.Reports.{reports_of}
 use Rattle.run_lists.specs.Run as lists
 use Rattle.run_lists.specs.RunList.{AllHaveEnded, RunList}
 use Rattle.slot_table.specs.declared.records.Record.{Record}
-use Rattle.step_schedule.specs.Order.{AreAsked, IsOrder, Tasks}
+use Rattle.schedule_search.specs.Again.{tasks_known}
+use Rattle.step_schedule.specs.Order.{AreAsked, IsOrder}
 use Rattle.step_schedule.specs.Schedule.{names_stranger}
 use Rattle.step_schedule.specs.declared.schedule.Entry.{Entry}
-use Rattle.task_log.specs.declared.counters.Counters.{Counters}
-
--- a task of the run that moves makes one step more; which tasks have ended, and which are stuck, is so by their steps. The latest step
--- stands first.
-abbrev pub tasks_known : lists.Run → Tasks (List Record)
-tasks_known run = record {
-  Moves = λ task before after. (made : Record) × (made.task ≡ task) × (after ≡ made ∷ before) × RunList run after;
-  HasEnded = λ task records. HasEnded run task records;
-  IsStuck = λ task records. IsStuck run task records;
-}
 
 -- from the first step on the tasks of the run were asked in the order of the schedule, and these are the steps that they made
 pub record AreStepped (run : lists.Run) (entries : List Entry) (records : List Record) : Type 0 where

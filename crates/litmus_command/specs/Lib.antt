@@ -8,3 +8,4 @@ pub mod Show
 pub mod Check
 pub mod Overwrite
 pub mod Command
+pub mod Ends

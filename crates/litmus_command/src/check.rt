@@ -8,10 +8,10 @@ ghost use Rattle.command_words.specs.Bounds.{KeepsCheckBounds};
 ghost use Rattle.litmus_command.specs.Check as spec;
 ghost use Rattle.litmus_command.specs.Check.{AreChecked, AreLeft, AreListsAtFault, CheckAsksFor, CheckEnds, IsEndOf, IsGoneOver, IsLeftOver, IsPrinted, IsToldOf};
 ghost use Rattle.litmus_command.specs.Check.{once_told, options_of, whole_of};
-ghost use Rattle.litmus_command.specs.Command.{CallsAreCut, CallsAreGiven, complaint_status_of, state_of};
+ghost use Rattle.litmus_command.specs.Command.{complaint_status_of};
+ghost use Rattle.litmus_command.specs.Ends.{CommandEnds};
 ghost use Rattle.litmus_command.specs.Told.{heard};
 ghost use Rattle.litmus_command.specs.declared.complaint.Complaint.{Complaint};
-ghost use Rattle.report_text.specs.Sink.{CountsFailure};
 ghost use Rattle.program_sites.specs.declared.settings.Settings.{Settings};
 ghost use Rattle.text_check.specs.Check.{IsCheckOf};
 ghost use Rattle.text_check.specs.declared.checked.Check.{Check};
@@ -20,7 +20,7 @@ use crate::command::{Failure, NO_REPORT, settings};
 use crate::complaint::Complaint;
 use crate::desk::{Desk, ReadFault};
 use check_output::{Comes, Files, Lines, file_comes, last_line, unread_line};
-use command_words::{CheckRequest, RunOptions};
+use command_words::{CheckRequest, Request, RunOptions};
 use list_faults::{place_fault, schedule_fault};
 use litmus_parse::FILE_BYTES;
 use litmus_step::Settings;
@@ -236,17 +236,12 @@ pub(crate) fn carry_check<D: Desk>(alloc: Global, request: &CheckRequest<'_>, de
 }
 
 /// Prints the calls that are read.
-pub(crate) fn list_calls<D: Desk>(desk: &mut D) -> Result<bool, Failure>
-    ensures done { IfOk result (λ raced. (raced ≡ false) × CallsAreGiven (state_of D.written D.failures D.files desk.old)
-        (state_of D.written D.failures D.files desk.new)) }
-    ensures cut { IfErr result (λ failure. (failure ≡ Failure.CannotWrite)
-        × CountsFailure (D.failures desk.old) (D.failures desk.new)
-        × CallsAreCut (state_of D.written D.failures D.files desk.old) (state_of D.written D.failures D.files desk.new)) }
-    ensures told { D.told desk.new ≡ D.told desk.old }
-    ensures faults { D.faults desk.new ≡ D.faults desk.old }
+pub(crate) fn list_calls<D: Desk>(desk: &mut D) -> Result<u8, Failure>
+    ensures { CommandEnds Request.Calls result (whole_of D.written D.failures D.files D.told D.faults desk.old)
+        (whole_of D.written D.failures D.files D.told D.faults desk.new) }
 {
     match desk.print(calls().as_bytes()) {
-        Ok(()) => Ok(false),
+        Ok(()) => Ok(NO_REPORT),
         Err(_) => Err(Failure::CannotWrite),
     }
 }

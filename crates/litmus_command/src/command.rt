@@ -3,20 +3,19 @@
 ghost use Rattle.std.specs.Prelude.{◌≡◌, ◌≢◌, ◌≤◌, ◌⊎◌, ℕ, List, IfErr, IfOk, OnErr, OnOk, is_some, true, false, map};
 ghost use Rattle.command_words.specs.Bounds.{KeepsBounds, KeepsRunBounds, KeepsSearchBounds, MayBeAsked};
 ghost use Rattle.command_words.specs.Words.{AskForHelp, MayFail};
+ghost use Rattle.command_words.specs.declared.request.Request as spec;
 ghost use Rattle.clap.specs.Words.{kind_of};
-ghost use Rattle.litmus_command.specs.Command.{AreLeft, AskForOne, AskSettings, AsksFor, EndsAs, FileIsRefused, FileIsRun, FileIsRunInPart};
-ghost use Rattle.litmus_command.specs.Command.{HelpIsCut, HelpIsGiven, IsCut, IsDone, IsGiven, IsGivenInPart, IsLeft, IsOfFile, IsRefusedOf, IsStopped};
-ghost use Rattle.litmus_command.specs.Command.{DoesNotRead, DoesRead, IsFault, IsMisused, NothingIsWritten, Reads, ReplayIsCut, ReplayIsRefused, RunRefuses};
-ghost use Rattle.litmus_command.specs.Command.{SearchEnds, SearchRefuses, ShowIsRefused, SpellsNoPlaces, StepRefuses, Tells, UsageIsTold};
-ghost use Rattle.litmus_command.specs.Command.{engine_status_of, read_failure, run_status_of, settings_of, state_of, status_of, text_status_of};
-ghost use Rattle.litmus_command.specs.Command.{picture_status_of, search_status_of, times_of, trace_path, trace_status_of, with_trace};
-ghost use Rattle.litmus_command.specs.Check.{IsOutOfMemory, once_told, whole_of};
-ghost use Rattle.litmus_command.specs.Command.{IsChecked, IsOfSeveral, IsToldApart, OfAsked};
+ghost use Rattle.litmus_command.specs.Check.{IsOutOfMemory, Whole, once_told, whole_of};
+ghost use Rattle.litmus_command.specs.Command.{AskForOne, AskSettings, AsksFor, EndsAs, HelpIsCut, HelpIsGiven, IsCut, IsDone, IsGiven, IsGivenInPart};
+ghost use Rattle.litmus_command.specs.Command.{IsChecked, IsOfFile, IsOfSeveral, IsRefusedOf, IsStopped, IsToldApart, OfAsked};
+ghost use Rattle.litmus_command.specs.Command.{DoesNotRead, DoesRead, IsFault, IsMisused, Reads, SpellsNoPlaces, Tells, UsageIsTold};
+ghost use Rattle.litmus_command.specs.Command.{end_status_of, engine_status_of, picture_status_of, read_failure, run_status_of, settings_of, state_of};
+ghost use Rattle.litmus_command.specs.Command.{status_of, text_status_of, times_of, trace_status_of, with_trace};
+ghost use Rattle.litmus_command.specs.Ends.{CommandEnds, IsCarriedOut, IsNoCheck};
 ghost use Rattle.litmus_command.specs.Overwrite.{IsKept, Overwrites};
 ghost use Rattle.litmus_command.specs.Told.{heard};
 ghost use Rattle.litmus_command.specs.declared.command.Failure.TheVariants.{Engine, OutOfMemory, Picture, Trace};
 ghost use Rattle.picture_text.specs.declared.cells.Style.TheVariants.{Ascii};
-ghost use Rattle.litmus_parse.specs.Text.{file_bytes};
 ghost use Rattle.report_text.specs.Sink.{CountsFailure};
 ghost use Rattle.std.specs.Option.{option_map};
 ghost use Rattle.step_schedule.specs.Schedule.{entries_of};
@@ -41,7 +40,6 @@ use place_list::parse_places;
 use program_layout::Place;
 use run_output::{EngineError, Written};
 use run_tally::{Times, run_text_often};
-use search_run::SearchText;
 use std::alloc::{AllocError, Global};
 use std::convert::AsStr;
 use std::sync::Wait;
@@ -219,12 +217,11 @@ fn picture_status(error: PictureError) -> u8
 ///
 /// 0: no report, a trace that is accepted or drawn, files that read where they are checked, or help. 2: a report. 64:
 /// usage, a file that would be written over its input, a schedule that doesn't read or names a task that isn't there, or
-/// a place that doesn't read or doesn't suit.
-/// 65: the file is refused. 66: it can't be read. 70: a task is stuck. 71: out of memory, or a thread couldn't be
-/// started. 74: output can't be written. 75: a search was stopped at its limit, and no list that it went over has a
-/// report. Of several files that are checked the greatest status counts. At 64 to 71 nothing goes to standard output, but
-/// for what is printed of several files that are checked, and no file is written. At 74 standard output and all files
-/// have what they had, or standard output has a beginning of what should stand there.
+/// a place that doesn't read or doesn't suit. 65: the file is refused. 66: it can't be read. 70: a task is stuck. 71: out
+/// of memory, or a thread couldn't be started. 74: output can't be written. 75: a search was stopped at its limit, and
+/// tells of no report. Of several files that are checked the greatest status counts. At 64 to 71 nothing goes to standard
+/// output, but for what is printed of several files that are checked, and no file is written. At 74 standard output and
+/// all files have what they had, or standard output has a beginning of what should stand there.
 pub fn command<R: Threads + Wait + Sync, S: AsStr, D: Desk>(
     rt: &R,
     alloc: Global,
@@ -288,64 +285,40 @@ pub fn carry_out<R: Threads + Wait + Sync, D: Desk>(
     desk: &mut D,
 ) -> u8
     requires { MayBeAsked request.now }
-    ensures reported { result ≡ 2 → IsDone request.now true (state_of D.written D.failures D.files desk.old)
-        (state_of D.written D.failures D.files desk.new) }
-    ensures unreported { result ≡ 0 → IsDone request.now false (state_of D.written D.failures D.files desk.old)
-        (state_of D.written D.failures D.files desk.new) }
-    ensures stopped { result ≡ 75 → IsStopped request.now (state_of D.written D.failures D.files desk.old)
-        (state_of D.written D.failures D.files desk.new) }
-    ensures unwritten { result ≡ 74 → IsCut request.now (state_of D.written D.failures D.files desk.old)
-        (state_of D.written D.failures D.files desk.new) }
-    ensures refused { IsOfFile result → IsRefusedOf request.now result (state_of D.written D.failures D.files desk.old)
-        (state_of D.written D.failures D.files desk.new) }
-    ensures misused { result ≡ 64 → IsMisused request.now (state_of D.written D.failures D.files desk.old)
-        (state_of D.written D.failures D.files desk.new) }
-    ensures unread { result ≡ 66 → DoesRead request.now }
-    ensures checks { IsChecked request.now result (whole_of D.written D.failures D.files D.told D.faults desk.old)
+    ensures { IsCarriedOut request.now result (whole_of D.written D.failures D.files D.told D.faults desk.old)
         (whole_of D.written D.failures D.files D.told D.faults desk.new) }
-    ensures keeps { (path : List ℕ) → Overwrites request.now path → IsKept path result
-        (whole_of D.written D.failures D.files D.told D.faults desk.old) (whole_of D.written D.failures D.files D.told D.faults desk.new) }
-    ensures reads { IsOfSeveral request.now ⊎ Reads result (D.faults desk.old) (D.faults desk.new) }
-    ensures tells { IsToldApart request.now ⊎ Tells result (D.told desk.old) (D.told desk.new) }
-    ensures ends { IsOfSeveral request.now ⊎ EndsAs result (state_of D.written D.failures D.files desk.old)
-        (state_of D.written D.failures D.files desk.new) }
 {
     // That a file would be lost comes before anything else that is wrong with what is asked.
     if let Some(path) = overwritten(request) {
         return refuse_overwrite(alloc, path, desk);
     }
-    let done = match request {
-        Request::Step(request) => step(alloc, request, desk),
-        Request::Run(request) => run(rt, alloc, request, desk),
-        // A search may end with 75, which is no failure: all that was found is written, and nothing is complained of.
-        Request::Search(request) => return carry_search(rt, alloc, request, desk),
-        Request::Replay(request) => replay(alloc, request, desk),
-        Request::Show(request) => show(alloc, request, desk),
-        // A check tells of each file that isn't read, and goes on.
-        Request::Check(request) => return carry_check(alloc, request, desk),
-        Request::Calls => list_calls(desk),
-    };
-    match done {
-        Ok(true) => REPORTED,
-        Ok(false) => NO_REPORT,
-        Err(failure) => {
-            let status = fail(failure, desk);
-            advise_check(failure, file_to_run(request), &*desk);
-            status
-        }
-    }
-}
-
-/// The litmus file that is to be stepped or run, if one is.
-fn file_to_run<'a>(request: &Request<'a>) -> Option<&'a str> {
     match request {
-        Request::Step(request) => Some(request.file),
-        Request::Run(request) => Some(request.file),
-        Request::Search(_)
-        | Request::Replay(_)
-        | Request::Show(_)
-        | Request::Check(_)
-        | Request::Calls => None,
+        Request::Step(request) => {
+            let done = step(alloc, request, desk);
+            finish(done, Some(request.file), desk)
+        }
+        Request::Run(request) => {
+            let done = run(rt, alloc, request, desk);
+            finish(done, Some(request.file), desk)
+        }
+        Request::Search(request) => {
+            let done = search(rt, alloc, request, desk);
+            finish(done, Some(request.file), desk)
+        }
+        Request::Replay(request) => {
+            let done = replay(alloc, request, desk);
+            finish(done, None, desk)
+        }
+        Request::Show(request) => {
+            let done = show(alloc, request, desk);
+            finish(done, None, desk)
+        }
+        // A check tells of each file that isn't read, and goes on.
+        Request::Check(request) => carry_check(alloc, request, desk),
+        Request::Calls => {
+            let done = list_calls(desk);
+            finish(done, None, desk)
+        }
     }
 }
 
@@ -358,37 +331,18 @@ fn advise_check<D: Desk>(failure: Failure, file: Option<&str>, desk: &D) {
     }
 }
 
-/// Searches a file, and answers the status that the program ends with.
-fn carry_search<R: Threads + Sync, D: Desk>(
-    rt: &R,
-    alloc: Global,
-    request: &SearchRequest<'_>,
-    desk: &mut D,
-) -> u8
-    requires { KeepsSearchBounds request.now }
-    ensures reported { result ≡ 2 → IsDone (Request.Search request.now) true (state_of D.written D.failures D.files desk.old)
-        (state_of D.written D.failures D.files desk.new) }
-    ensures unreported { result ≡ 0 → IsDone (Request.Search request.now) false (state_of D.written D.failures D.files desk.old)
-        (state_of D.written D.failures D.files desk.new) }
-    ensures stopped { result ≡ 75 → IsStopped (Request.Search request.now) (state_of D.written D.failures D.files desk.old)
-        (state_of D.written D.failures D.files desk.new) }
-    ensures unwritten { result ≡ 74 → IsCut (Request.Search request.now) (state_of D.written D.failures D.files desk.old)
-        (state_of D.written D.failures D.files desk.new) }
-    ensures refused { IsOfFile result → IsRefusedOf (Request.Search request.now) result (state_of D.written D.failures D.files desk.old)
-        (state_of D.written D.failures D.files desk.new) }
-    ensures misused { result ≡ 64 → IsMisused (Request.Search request.now) (state_of D.written D.failures D.files desk.old)
-        (state_of D.written D.failures D.files desk.new) }
-    ensures unread { result ≡ 66 → DoesRead (Request.Search request.now) }
-    ensures reads { Reads result (D.faults desk.old) (D.faults desk.new) }
-    ensures tells { Tells result (D.told desk.old) (D.told desk.new) }
-    ensures ends { EndsAs result (state_of D.written D.failures D.files desk.old)
-        (state_of D.written D.failures D.files desk.new) }
+/// Ends what was asked, of the litmus file of this name if it is of one: where it failed, standard error is told why. The
+/// status that the program ends with.
+fn finish<D: Desk>(done: Result<u8, Failure>, file: Option<&str>, desk: &mut D) -> u8
+    ensures { (request : spec.Request) (before : Whole) → IsNoCheck request
+        → CommandEnds request done before (whole_of D.written D.failures D.files D.told D.faults desk.old)
+        → IsCarriedOut request result before (whole_of D.written D.failures D.files D.told D.faults desk.new) }
 {
-    match search(rt, alloc, request, desk) {
+    match done {
         Ok(status) => status,
         Err(failure) => {
             let status = fail(failure, desk);
-            advise_check(failure, Some(request.file), &*desk);
+            advise_check(failure, file, &*desk);
             status
         }
     }
@@ -482,10 +436,29 @@ fn keep_trace<D: Desk>(
     }
 }
 
-/// Gives what is left of runs: the trace, if it is asked for and there is one, and then the output. Whether there was a
-/// report.
-fn give<D: Desk>(path: Option<&str>, written: &Written, desk: &mut D) -> Result<bool, Failure>
-    ensures raced { IfOk result (λ raced. raced ≡ written.now.raced) }
+/// The status that ends what was done: whether there was a report, and whether a search was stopped at its limit.
+fn end_status(raced: bool, stopped: bool) -> u8
+    ensures { result ≡ end_status_of raced stopped }
+{
+    if raced {
+        REPORTED
+    } else if stopped {
+        // Without a report at the limit it is open whether there is one: neither status would be true.
+        STOPPED
+    } else {
+        NO_REPORT
+    }
+}
+
+/// Gives what is left of runs or of a search, which may have been stopped: the trace, if it is asked for and there is one,
+/// and then the output. The status that the program ends with.
+fn give<D: Desk>(
+    path: Option<&str>,
+    written: &Written,
+    stopped: bool,
+    desk: &mut D,
+) -> Result<u8, Failure>
+    ensures status { IfOk result (λ status. status ≡ end_status_of written.now.raced stopped) }
     ensures given { OnOk result (IsGiven (option_map (λ path. path.now) path.entry) written.now.output.items
         (option_map (λ bytes. bytes.items) written.now.trace) (state_of D.written D.failures D.files desk.old)
         (state_of D.written D.failures D.files desk.new)) }
@@ -500,36 +473,22 @@ fn give<D: Desk>(path: Option<&str>, written: &Written, desk: &mut D) -> Result<
     // The trace comes first: where its file can't be written, that is known before standard output has anything.
     keep_trace(path, &written.trace, desk)?;
     match desk.print(written.output.as_slice()) {
-        Ok(()) => Ok(written.raced),
+        Ok(()) => Ok(end_status(written.raced, stopped)),
         Err(_) => Err(Failure::CannotWrite),
     }
 }
 
-/// Steps a file, and gives what is left of that. Whether there was a report.
-fn step<D: Desk>(alloc: Global, request: &StepRequest<'_>, desk: &mut D) -> Result<bool, Failure>
+/// Steps a file, and gives what is left of that.
+fn step<D: Desk>(alloc: Global, request: &StepRequest<'_>, desk: &mut D) -> Result<u8, Failure>
     requires { KeepsBounds request.now.options }
-    ensures done { IfOk result (λ raced. FileIsRun request.now.file.now file_bytes (trace_path request.now.options) (IsLeft request.now) raced (state_of D.written D.failures D.files desk.old)
-        (state_of D.written D.failures D.files desk.new)) }
-    ensures silent { IfErr result (λ failure. status_of failure ≢ 74
-        → NothingIsWritten (state_of D.written D.failures D.files desk.old) (state_of D.written D.failures D.files desk.new)) }
-    ensures failed { IfErr result (λ failure.
-        status_of failure ≡ 74 → CountsFailure (D.failures desk.old) (D.failures desk.new)) }
-    ensures cut { IfErr result (λ failure. status_of failure ≡ 74
-        → FileIsRunInPart request.now.file.now file_bytes (trace_path request.now.options) (IsLeft request.now) (state_of D.written D.failures D.files desk.old) (state_of D.written D.failures D.files desk.new)) }
-    ensures refused { IfErr result (λ failure. IsOfFile (status_of failure) → FileIsRefused request.now.file.now (StepRefuses request.now) (status_of failure)
-        (state_of D.written D.failures D.files desk.old) (state_of D.written D.failures D.files desk.new)) }
-    ensures misused { IfErr result (λ failure. status_of failure ≡ 64 → IsMisused (Request.Step request.now)
-        (state_of D.written D.failures D.files desk.old) (state_of D.written D.failures D.files desk.new)) }
-    ensures unread { IfErr result (λ failure. status_of failure ≡ 66 → DoesRead (Request.Step request.now)) }
-    ensures reads { IfErr result (λ failure. Reads (status_of failure) (D.faults desk.old) (D.faults desk.new)) }
-    ensures faults { OnOk result (D.faults desk.new ≡ D.faults desk.old) }
-    ensures told { D.told desk.new ≡ D.told desk.old }
+    ensures { CommandEnds (Request.Step request.now) result (whole_of D.written D.failures D.files D.told D.faults desk.old)
+        (whole_of D.written D.failures D.files D.told D.faults desk.new) }
 {
     let (settings, schedule) = asked_for(alloc, request)?;
     let text = desk.read_file(alloc, request.file, FILE_BYTES)?;
     let traced = request.options.trace.is_some();
     let written = run_text(alloc, &text, &settings, &schedule, traced)?;
-    give(request.options.trace, &written, desk)
+    give(request.options.trace, &written, false, desk)
 }
 
 /// How often a program is run, and how, as it is asked for.
@@ -553,30 +512,16 @@ fn advise<D: Desk>(raced: bool, desk: &D) {
     }
 }
 
-/// Runs a file on threads, and gives what is left of the runs. Whether there was a report.
+/// Runs a file on threads, and gives what is left of the runs.
 fn run<R: Threads + Wait + Sync, D: Desk>(
     rt: &R,
     alloc: Global,
     request: &RunRequest<'_>,
     desk: &mut D,
-) -> Result<bool, Failure>
+) -> Result<u8, Failure>
     requires { KeepsRunBounds request.now }
-    ensures done { IfOk result (λ raced. FileIsRun request.now.file.now file_bytes (trace_path request.now.options) (AreLeft request.now) raced (state_of D.written D.failures D.files desk.old)
-        (state_of D.written D.failures D.files desk.new)) }
-    ensures silent { IfErr result (λ failure. status_of failure ≢ 74
-        → NothingIsWritten (state_of D.written D.failures D.files desk.old) (state_of D.written D.failures D.files desk.new)) }
-    ensures failed { IfErr result (λ failure.
-        status_of failure ≡ 74 → CountsFailure (D.failures desk.old) (D.failures desk.new)) }
-    ensures cut { IfErr result (λ failure. status_of failure ≡ 74
-        → FileIsRunInPart request.now.file.now file_bytes (trace_path request.now.options) (AreLeft request.now) (state_of D.written D.failures D.files desk.old) (state_of D.written D.failures D.files desk.new)) }
-    ensures refused { IfErr result (λ failure. IsOfFile (status_of failure) → FileIsRefused request.now.file.now (RunRefuses request.now) (status_of failure)
-        (state_of D.written D.failures D.files desk.old) (state_of D.written D.failures D.files desk.new)) }
-    ensures misused { IfErr result (λ failure. status_of failure ≡ 64 → IsMisused (Request.Run request.now)
-        (state_of D.written D.failures D.files desk.old) (state_of D.written D.failures D.files desk.new)) }
-    ensures unread { IfErr result (λ failure. status_of failure ≡ 66 → DoesRead (Request.Run request.now)) }
-    ensures reads { IfErr result (λ failure. Reads (status_of failure) (D.faults desk.old) (D.faults desk.new)) }
-    ensures faults { OnOk result (D.faults desk.new ≡ D.faults desk.old) }
-    ensures told { D.told desk.new ≡ D.told desk.old }
+    ensures { CommandEnds (Request.Run request.now) result (whole_of D.written D.failures D.files D.told D.faults desk.old)
+        (whole_of D.written D.failures D.files D.told D.faults desk.new) }
 {
     let settings = settings_for(alloc, &request.options)?;
     let text = desk.read_file(alloc, request.file, FILE_BYTES)?;
@@ -584,43 +529,10 @@ fn run<R: Threads + Wait + Sync, D: Desk>(
     let traced = request.options.trace.is_some();
     let written = run_text_often(rt, alloc, &text, &settings, times, traced, &*desk)?;
     advise(written.raced, &*desk);
-    give(request.options.trace, &written, desk)
+    give(request.options.trace, &written, false, desk)
 }
 
-/// The status that a search ends with.
-fn search_status(raced: bool, stopped: bool) -> u8
-    ensures { result ≡ search_status_of raced stopped }
-{
-    if raced {
-        REPORTED
-    } else if stopped {
-        // Without a report at the limit it is open whether the others have one: neither status would be true.
-        STOPPED
-    } else {
-        NO_REPORT
-    }
-}
-
-/// Gives what a search leaves: the trace, if it is asked for and there is one, and then the output. The status that the
-/// search ends with.
-fn give_found<D: Desk>(path: Option<&str>, found: &SearchText, desk: &mut D) -> Result<u8, Failure>
-    ensures status { IfOk result (λ status. status ≡ search_status_of found.now.written.raced found.now.stopped) }
-    ensures given { OnOk result (IsGiven (option_map (λ path. path.now) path.entry) found.now.written.output.items
-        (option_map (λ bytes. bytes.items) found.now.written.trace) (state_of D.written D.failures D.files desk.old)
-        (state_of D.written D.failures D.files desk.new)) }
-    ensures failed { IfErr result (λ failure.
-        (status_of failure ≡ 74) × CountsFailure (D.failures desk.old) (D.failures desk.new)) }
-    ensures part { OnErr result (IsGivenInPart (option_map (λ path. path.now) path.entry) found.now.written.output.items
-        (option_map (λ bytes. bytes.items) found.now.written.trace) (state_of D.written D.failures D.files desk.old)
-        (state_of D.written D.failures D.files desk.new)) }
-    ensures told { D.told desk.new ≡ D.told desk.old }
-    ensures faults { D.faults desk.new ≡ D.faults desk.old }
-{
-    let raced = give(path, &found.written, desk)?;
-    Ok(search_status(raced, found.stopped))
-}
-
-/// Searches a file, and gives what is left of that. The status that the program ends with.
+/// Searches a file, and gives what is left of that.
 fn search<R: Threads + Sync, D: Desk>(
     rt: &R,
     alloc: Global,
@@ -628,56 +540,24 @@ fn search<R: Threads + Sync, D: Desk>(
     desk: &mut D,
 ) -> Result<u8, Failure>
     requires { KeepsSearchBounds request.now }
-    ensures done { IfOk result (λ status. SearchEnds request.now status (state_of D.written D.failures D.files desk.old)
-        (state_of D.written D.failures D.files desk.new)) }
-    ensures silent { IfErr result (λ failure. status_of failure ≢ 74
-        → NothingIsWritten (state_of D.written D.failures D.files desk.old) (state_of D.written D.failures D.files desk.new)) }
-    ensures failed { IfErr result (λ failure.
-        status_of failure ≡ 74 → CountsFailure (D.failures desk.old) (D.failures desk.new)) }
-    ensures cut { IfErr result (λ failure. status_of failure ≡ 74 → IsCut (Request.Search request.now)
-        (state_of D.written D.failures D.files desk.old) (state_of D.written D.failures D.files desk.new)) }
-    ensures refused { IfErr result (λ failure. IsOfFile (status_of failure) → FileIsRefused request.now.file.now (SearchRefuses request.now) (status_of failure)
-        (state_of D.written D.failures D.files desk.old) (state_of D.written D.failures D.files desk.new)) }
-    ensures misused { IfErr result (λ failure. status_of failure ≡ 64 → IsMisused (Request.Search request.now)
-        (state_of D.written D.failures D.files desk.old) (state_of D.written D.failures D.files desk.new)) }
-    ensures unread { IfErr result (λ failure. status_of failure ≡ 66 → DoesRead (Request.Search request.now)) }
-    ensures reads { IfErr result (λ failure. Reads (status_of failure) (D.faults desk.old) (D.faults desk.new)) }
-    ensures faults { OnOk result (D.faults desk.new ≡ D.faults desk.old) }
-    ensures told { D.told desk.new ≡ D.told desk.old }
+    ensures { CommandEnds (Request.Search request.now) result (whole_of D.written D.failures D.files D.told D.faults desk.old)
+        (whole_of D.written D.failures D.files D.told D.faults desk.new) }
 {
     let settings = settings_for(alloc, &request.options)?;
     let text = desk.read_file(alloc, request.file, FILE_BYTES)?;
     let found = search_for(rt, alloc, request, &text, &settings, &*desk)?;
-    give_found(request.options.trace, &found, desk)
+    give(request.options.trace, &found.written, found.stopped, desk)
 }
 
 /// Checks a trace, and writes what is said of one that is accepted. No report is told of.
-fn replay<D: Desk>(
-    alloc: Global,
-    request: &ReplayRequest<'_>,
-    desk: &mut D,
-) -> Result<bool, Failure>
-    ensures done { IfOk result (λ raced. IsDone (Request.Replay request.now) raced (state_of D.written D.failures D.files desk.old)
-        (state_of D.written D.failures D.files desk.new)) }
-    ensures silent { IfErr result (λ failure. status_of failure ≢ 74
-        → NothingIsWritten (state_of D.written D.failures D.files desk.old) (state_of D.written D.failures D.files desk.new)) }
-    ensures failed { IfErr result (λ failure.
-        status_of failure ≡ 74 → CountsFailure (D.failures desk.old) (D.failures desk.new)) }
-    ensures cut { IfErr result (λ failure. status_of failure ≡ 74
-        → ReplayIsCut request.now (state_of D.written D.failures D.files desk.old) (state_of D.written D.failures D.files desk.new)) }
-    ensures refused { IfErr result (λ failure. IsOfFile (status_of failure) → ReplayIsRefused request.now (status_of failure)
-        (state_of D.written D.failures D.files desk.old) (state_of D.written D.failures D.files desk.new)) }
-    ensures misused { IfErr result (λ failure. status_of failure ≡ 64 → IsMisused (Request.Replay request.now)
-        (state_of D.written D.failures D.files desk.old) (state_of D.written D.failures D.files desk.new)) }
-    ensures unread { IfErr result (λ failure. status_of failure ≡ 66 → DoesRead (Request.Replay request.now)) }
-    ensures reads { IfErr result (λ failure. Reads (status_of failure) (D.faults desk.old) (D.faults desk.new)) }
-    ensures faults { OnOk result (D.faults desk.new ≡ D.faults desk.old) }
-    ensures told { D.told desk.new ≡ D.told desk.old }
+fn replay<D: Desk>(alloc: Global, request: &ReplayRequest<'_>, desk: &mut D) -> Result<u8, Failure>
+    ensures { CommandEnds (Request.Replay request.now) result (whole_of D.written D.failures D.files D.told D.faults desk.old)
+        (whole_of D.written D.failures D.files D.told D.faults desk.new) }
 {
     let bytes = desk.read_file(alloc, request.trace, SIZE_LIMIT)?;
     let line = replayed(alloc, &bytes)?;
     match desk.print(&line) {
-        Ok(()) => Ok(false),
+        Ok(()) => Ok(NO_REPORT),
         Err(_) => Err(Failure::CannotWrite),
     }
 }
@@ -694,28 +574,14 @@ fn style_for<D: Desk>(request: &ShowRequest<'_>, desk: &D) -> Style
 }
 
 /// Draws a trace, and gives what is left of that. A report that the trace tells of doesn't count as one here.
-fn show<D: Desk>(alloc: Global, request: &ShowRequest<'_>, desk: &mut D) -> Result<bool, Failure>
-    ensures done { IfOk result (λ raced. IsDone (Request.Show request.now) raced (state_of D.written D.failures D.files desk.old)
-        (state_of D.written D.failures D.files desk.new)) }
-    ensures silent { IfErr result (λ failure. status_of failure ≢ 74
-        → NothingIsWritten (state_of D.written D.failures D.files desk.old) (state_of D.written D.failures D.files desk.new)) }
-    ensures failed { IfErr result (λ failure.
-        status_of failure ≡ 74 → CountsFailure (D.failures desk.old) (D.failures desk.new)) }
-    ensures cut { IfErr result (λ failure. status_of failure ≡ 74 → IsCut (Request.Show request.now)
-        (state_of D.written D.failures D.files desk.old) (state_of D.written D.failures D.files desk.new)) }
-    ensures refused { IfErr result (λ failure. IsOfFile (status_of failure) → ShowIsRefused request.now (status_of failure)
-        (state_of D.written D.failures D.files desk.old) (state_of D.written D.failures D.files desk.new)) }
-    ensures misused { IfErr result (λ failure. status_of failure ≡ 64 → IsMisused (Request.Show request.now)
-        (state_of D.written D.failures D.files desk.old) (state_of D.written D.failures D.files desk.new)) }
-    ensures unread { IfErr result (λ failure. status_of failure ≡ 66 → DoesRead (Request.Show request.now)) }
-    ensures reads { IfErr result (λ failure. Reads (status_of failure) (D.faults desk.old) (D.faults desk.new)) }
-    ensures faults { OnOk result (D.faults desk.new ≡ D.faults desk.old) }
-    ensures told { D.told desk.new ≡ D.told desk.old }
+fn show<D: Desk>(alloc: Global, request: &ShowRequest<'_>, desk: &mut D) -> Result<u8, Failure>
+    ensures { CommandEnds (Request.Show request.now) result (whole_of D.written D.failures D.files D.told D.faults desk.old)
+        (whole_of D.written D.failures D.files D.told D.faults desk.new) }
 {
     let bytes = desk.read_file(alloc, request.trace, SIZE_LIMIT)?;
     let style = style_for(request, &*desk);
     let written = drawn(alloc, &bytes, style, request.svg.is_some())?;
-    give(request.svg, &written, desk)
+    give(request.svg, &written, false, desk)
 }
 
 /// Help goes to standard output, and what is wrong with the words to standard error.

@@ -10,7 +10,7 @@ ghost use Rattle.report_text.specs.Sink.{CountsFailure, Writes};
 use crate::complaint::Complaint;
 use report_text::WriteError;
 use run_tally::Progress;
-use search_run::SearchProgress;
+use search_output::SearchProgress;
 use std::alloc::Global;
 
 /// Why a file gives no bytes.

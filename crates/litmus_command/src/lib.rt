@@ -14,4 +14,4 @@ pub mod show;
 
 pub use run_output::EngineError;
 pub use run_tally::Progress;
-pub use search_run::SearchProgress;
+pub use search_output::SearchProgress;

@@ -3,13 +3,14 @@
 ghost use Rattle.std.specs.Prelude.{◌≡◌, ◌<◌, IfErr, IfOk};
 ghost use Rattle.std.specs.Option.{option_map};
 ghost use Rattle.litmus_command.specs.Command.{IsSearchedFor, all_wanted_of, wanted_of};
-ghost use Rattle.search_run.specs.Texts.{IsRefused};
+ghost use Rattle.search_output.specs.Texts.{IsRefused};
 
 use command_words::{SearchRequest, Switches};
 use litmus_step::Settings;
 use run_output::EngineError;
 use search_all::{AllWanted, search_all};
-use search_run::{SearchProgress, SearchText, Wanted, search_text};
+use search_output::{SearchProgress, SearchText};
+use search_run::{Wanted, search_text};
 use std::alloc::Global;
 use std::thread::Threads;
 

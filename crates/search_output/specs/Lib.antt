@@ -3,3 +3,5 @@ pub mod Traces
 pub mod Findings
 pub mod StateFindings
 pub mod Ends
+pub mod Again
+pub mod Texts

@@ -1,10 +1,14 @@
-//! What a search over schedules has found of a program, list by list.
+//! What a search over schedules has found of a program, list by list, and what it leaves of a litmus text.
 #![tactic(auto)]
 
 pub mod findings;
 pub mod laws;
+pub mod progress;
 pub mod state_findings;
+pub mod text;
 
 pub use findings::Findings;
+pub use progress::SearchProgress;
 pub use search_text::{Asked, Entry, MemorySink, Sink, Visited, WriteError};
 pub use state_findings::StateFindings;
+pub use text::SearchText;

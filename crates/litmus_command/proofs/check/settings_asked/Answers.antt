@@ -4,6 +4,8 @@ use Rattle.std.specs.Option.{option_map}
 use Rattle.list_faults.specs.Places as places
 use Rattle.list_faults.specs.Schedules as schedules
 use Rattle.litmus_command.proofs.CheckLemmas.{is_missing, is_there, list_fault}
+use Rattle.litmus_command.proofs.ListLemmas.{some_item_is_no_entry, some_item_is_no_place}
+use Rattle.litmus_command.specs.Lists.{SpellsNoPlaces, SpellsNoSchedule}
 use Rattle.litmus_command.specs.declared.command.Failure.TheVariants.{BadPlace, BadSchedule}
 use Rattle.step_schedule.specs.Schedule.{entries_of}
 use Rattle.litmus_command.proofs.check.settings_asked.Goals as goal
@@ -13,12 +15,13 @@ returns-then-is_none-clause-at_fault c =
     let text = c.args.request.now.schedule.now in
     let parsed = c.in_ok-parse.field-0 in
     let none : parsed ≡ None = is_missing parsed c.is_none.result c.is_none.ensures c.if-is_none.true in
+    let unread : SpellsNoSchedule text = λ entries spells.
+    (let read : option_map entries_of parsed ≡ Some entries = (c.in_ok-parse.ensures entries).0 spells in
+    let no : None ≡ Some entries = sym (ap (option_map entries_of) none) ∙ read in absurd (cc)) in
     inl (inl (
-      (λ entries spells.
-          let read : option_map entries_of parsed ≡ Some entries = (c.in_ok-parse.ensures entries).0 spells in
-          let no : None ≡ Some entries = sym (ap (option_map entries_of) none) ∙ read in absurd (cc)),
+      unread,
       list_fault BadSchedule (schedules.IsFault text) (schedules.AllRead text) c.in_ok-line.line c.list_complaint.result
-          c.in_ok-line.ensures.found c.in_ok-line.ensures.none c.list_complaint.ensures,
+          (some_item_is_no_entry text unread) c.in_ok-line.ensures.found c.in_ok-line.ensures.none c.list_complaint.ensures,
     ))
 
 pub returns-in_ok-line-in-None-clause-at_fault : goal.returns-in_ok-line-in-None-clause-at_fault
@@ -26,12 +29,14 @@ returns-in_ok-line-in-None-clause-at_fault c =
     let text = c.args.request.now.places.now in
     let parsed = c.in_ok-places.field-0 in
     let there = is_there c.in_ok-parse.field-0 c.is_none.result c.is_none.ensures c.if-is_none.false in
+    let unread : SpellsNoPlaces text = λ given spells.
+    (let read : option_map (λ list. list.items) parsed ≡ Some given = (c.in_ok-places.ensures given).0 spells in
+    let none : option_map (λ list. list.items) parsed ≡ None = ap (option_map (λ list. list.items)) c.in-None.is in
+    let no : None ≡ Some given = sym none ∙ read in absurd (cc)) in
     inl (inr (
       (entries_of there.0, (c.in_ok-parse.ensures (entries_of there.0)).1 (ap (option_map entries_of) there.1)),
-      (λ given spells.
-          let read : option_map (λ list. list.items) parsed ≡ Some given = (c.in_ok-places.ensures given).0 spells in
-          let none : option_map (λ list. list.items) parsed ≡ None = ap (option_map (λ list. list.items)) c.in-None.is in
-          let no : None ≡ Some given = sym none ∙ read in absurd (cc)),
+      unread,
       list_fault BadPlace (places.IsFault text) (places.AllRead text) c.in_ok-line-in-None.line c.list_complaint-in-None.result
-          c.in_ok-line-in-None.ensures.found c.in_ok-line-in-None.ensures.none c.list_complaint-in-None.ensures,
+          (some_item_is_no_place text unread) c.in_ok-line-in-None.ensures.found c.in_ok-line-in-None.ensures.none
+          c.list_complaint-in-None.ensures,
     ))

@@ -4,7 +4,8 @@ use Rattle.std.proofs.lemmas.List.{length-map}
 use Rattle.litmus_command.proofs.AskedLemmas.{seen_so}
 use Rattle.litmus_command.proofs.ResultLemmas.{err_holds, items_if_some, no_error, stuck_is_other}
 use Rattle.litmus_command.proofs.engine.run_ready.Goals as goal
-use Rattle.litmus_command.specs.Engine.{ComesToEnd, GetsStuck, StopsReady, tasks_known}
+use Rattle.schedule_search.specs.Again.{tasks_known}
+use Rattle.litmus_command.specs.Engine.{ComesToEnd, GetsStuck, StopsReady}
 use Rattle.litmus_step.specs.Runs.{run_of, tasks_of}
 use Rattle.litmus_step.specs.Steps.{tasks_in}
 use Rattle.litmus_step.specs.Turns.{known_of, point}

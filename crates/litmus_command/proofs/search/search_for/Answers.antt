@@ -11,7 +11,7 @@ use Rattle.run_output.specs.declared.error.EngineError.{EngineError}
 use Rattle.search_all.specs.Texts.{AllIsSearched}
 use Rattle.search_all.specs.declared.wanted.AllWanted.{AllWanted}
 use Rattle.search_run.specs.Texts.{TextIsSearched}
-use Rattle.search_run.specs.declared.text.SearchText.{SearchText}
+use Rattle.search_output.specs.declared.text.SearchText.{SearchText}
 use Rattle.search_run.specs.declared.wanted.Wanted.{Wanted}
 
 -- what is found in a search holds this
