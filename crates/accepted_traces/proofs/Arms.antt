@@ -7,14 +7,14 @@ use Rattle.std.proofs.lemmas.Bool.Decides.{eqb_tells}
 use Rattle.std.proofs.lemmas.List.{length-append}
 use Rattle.std.proofs.lemmas.List.Elements.{All-append, All-cons, All-contains, All-contains_itself, All-nil, Contains-append_left, Contains-append_right}
 use Rattle.access_types.specs.Arms.{Arm}
-use Rattle.run_lists.specs.Run.{Run, first_cells, locks_of, task_setting}
-use Rattle.run_lists.specs.RunList.{RunList}
-use Rattle.run_lists.specs.Told.{Armed, OutcomeAt, armed_by, armed_in, came_next, outcome_at, outcomes_by, outcomes_of}
-use Rattle.run_lists.proofs.CheckFacts.{back}
-use Rattle.run_lists.proofs.OwnLasts.{one_arming, own_word, stands_later}
-use Rattle.run_kept.specs.Lists.{AreArmsAt, AreArmsBy, IsArm, verdicts_by}
-use Rattle.run_headline.specs.Watches.{IfVerdict, IsOfWatch, is_verdict}
-use Rattle.run_headline.proofs.Finds.{back_is}
+use Rattle.executions.specs.run_lists.Run.{Run, first_cells, locks_of, task_setting}
+use Rattle.executions.specs.run_lists.RunList.{RunList}
+use Rattle.executions.specs.run_lists.Told.{Armed, OutcomeAt, armed_by, armed_in, came_next, outcome_at, outcomes_by, outcomes_of}
+use Rattle.executions.proofs.run_lists.CheckFacts.{back}
+use Rattle.executions.proofs.run_lists.OwnLasts.{one_arming, own_word, stands_later}
+use Rattle.log_correctness.specs.Lists.{AreArmsAt, AreArmsBy, IsArm, verdicts_by}
+use Rattle.soundness.specs.Watches.{IfVerdict, IsOfWatch, is_verdict}
+use Rattle.soundness.proofs.Finds.{back_is}
 use Rattle.setup_access.specs.Check.{Fallen}
 use Rattle.setup_access.specs.Setting as checks
 use Rattle.slot_table.specs.Armings.{Arming, armed_after, last_arming, last_arming_number, number_after}
@@ -30,7 +30,7 @@ use Rattle.slot_table.specs.declared.step.Step.TheVariants as steps
 use Rattle.slot_table.proofs.Lists.{Keeps, keeps_before}
 use Rattle.report_text.specs.Truth.{IsIndexOf}
 use Rattle.watch_word.specs.Word.{word_of}
-use Rattle.written_order.specs.Standing.{checks_of}
+use Rattle.program_order.specs.Standing.{checks_of}
 use Rattle.accepted_traces.proofs.Spans.{split_of}
 use Rattle.accepted_traces.proofs.Watches.{tried_index, watch_ends}
 

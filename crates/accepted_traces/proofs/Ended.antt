@@ -11,25 +11,25 @@ use Rattle.access_types.specs.declared.history.Happening.{Happening}
 use Rattle.access_types.specs.declared.history.Happening.TheVariants as happenings
 use Rattle.access_types.specs.declared.history.Moment.{Moment}
 use Rattle.report_text.specs.Truth.{AreInProgressAtOnce}
-use Rattle.litmus_meaning.specs.RunOfProgram.{setting_of}
-use Rattle.litmus_meaning.specs.TextSites.{FitsTickets, block_sites}
-use Rattle.run_lists.specs.Run.{Run, task_of, task_setting}
-use Rattle.run_lists.specs.RunList.{RunList}
-use Rattle.run_lists.specs.Told.{first_moments, history_by, history_of, made_by, moments_of}
-use Rattle.run_lists.proofs.Histories.{did_of_all, of_both, of_task}
-use Rattle.run_lists.proofs.Intervals.{Has, contains_has, has_contains, has_either, has_first, has_last}
-use Rattle.run_kept.specs.Decided.{IsStampedSo}
-use Rattle.run_kept.specs.Lists.{AreAccesses, AreAccessesOf, ByTask}
-use Rattle.run_kept.specs.Spans.{HappensAt, IsSpan}
-use Rattle.run_headline.specs.Events.{AreMarks, DoesEvent, EachDoesItsEvent, IsEvent}
+use Rattle.litmus_semantics.specs.RunOfProgram.{setting_of}
+use Rattle.litmus_semantics.specs.TextSites.{FitsTickets, block_sites}
+use Rattle.executions.specs.run_lists.Run.{Run, task_of, task_setting}
+use Rattle.executions.specs.run_lists.RunList.{RunList}
+use Rattle.executions.specs.run_lists.Told.{first_moments, history_by, history_of, made_by, moments_of}
+use Rattle.executions.proofs.run_lists.Histories.{did_of_all, of_both, of_task}
+use Rattle.executions.proofs.run_lists.Intervals.{Has, contains_has, has_contains, has_either, has_first, has_last}
+use Rattle.log_correctness.specs.Decided.{IsStampedSo}
+use Rattle.log_correctness.specs.Lists.{AreAccesses, AreAccessesOf, ByTask}
+use Rattle.log_correctness.specs.Spans.{HappensAt, IsSpan}
+use Rattle.soundness.specs.Events.{AreMarks, DoesEvent, EachDoesItsEvent, IsEvent}
 use Rattle.slot_table.specs.declared.records.Record.{Record}
 use Rattle.slot_table.specs.declared.step.Answer.TheVariants as answers
 use Rattle.slot_table.specs.declared.step.Step.TheVariants as steps
-use Rattle.run_kept.specs.Stamps.{is_clock, stamps_in}
-use Rattle.run_kept.proofs.Clock.{event_turns, turns, turns_both, turns_of_marks}
-use Rattle.run_lists.proofs.Begun.{once}
-use Rattle.written_order.specs.Standing as tasks
-use Rattle.written_order.specs.Told.{did_by, did_next}
+use Rattle.log_correctness.specs.Stamps.{is_clock, stamps_in}
+use Rattle.log_correctness.proofs.Clock.{event_turns, turns, turns_both, turns_of_marks}
+use Rattle.executions.proofs.run_lists.Begun.{once}
+use Rattle.program_order.specs.Standing as tasks
+use Rattle.program_order.specs.Told.{did_by, did_next}
 use Rattle.accepted_traces.proofs.Spans as spans
 use Rattle.accepted_traces.proofs.Spans.{IsTurn, clock_step}
 

@@ -18,17 +18,17 @@ use Rattle.access_types.specs.declared.arms.ArmOutcome.TheVariants as became
 use Rattle.access_types.specs.declared.arms.HitResult.{HitResult}
 use Rattle.access_types.specs.declared.kind.Kind.{Kind}
 use Rattle.access_types.specs.declared.kind.Kind.TheVariants as kinds
-use Rattle.litmus_meaning.specs.RunOfProgram.{setting_of}
-use Rattle.litmus_meaning.specs.TextSites.{FitsTickets, block_sites}
+use Rattle.litmus_semantics.specs.RunOfProgram.{setting_of}
+use Rattle.litmus_semantics.specs.TextSites.{FitsTickets, block_sites}
 use Rattle.report_text.specs.Truth.{AreOneBag, IsIndexOf, hit_in, hits_in, is_take}
-use Rattle.run_lists.specs.Run.{Run, first_cells, locks_of, task_of, task_setting}
-use Rattle.run_lists.specs.RunList.{RunList}
-use Rattle.run_lists.specs.Told.{OutcomeAt, history_of, made_by, outcomes_of}
-use Rattle.run_lists.proofs.OwnLasts.{one_arming, own_latest, stands_later}
-use Rattle.run_kept.specs.Lists.{AreAccesses, AreArms, AreArmsBy, AreArmsOf, ByTask, verdicts_by}
-use Rattle.run_headline.specs.Events.{AreMarks, EachDoesItsEvent}
-use Rattle.run_headline.specs.Joined.{IfAnswersBoth}
-use Rattle.run_headline.specs.Watches.{IfVerdict, IsOfWatch, IsWatch}
+use Rattle.executions.specs.run_lists.Run.{Run, first_cells, locks_of, task_of, task_setting}
+use Rattle.executions.specs.run_lists.RunList.{RunList}
+use Rattle.executions.specs.run_lists.Told.{OutcomeAt, history_of, made_by, outcomes_of}
+use Rattle.executions.proofs.run_lists.OwnLasts.{one_arming, own_latest, stands_later}
+use Rattle.log_correctness.specs.Lists.{AreAccesses, AreArms, AreArmsBy, AreArmsOf, ByTask, verdicts_by}
+use Rattle.soundness.specs.Events.{AreMarks, EachDoesItsEvent}
+use Rattle.soundness.specs.Joined.{IfAnswersBoth}
+use Rattle.soundness.specs.Watches.{IfVerdict, IsOfWatch, IsWatch}
 use Rattle.slot_table.specs.Armings.{Arming}
 use Rattle.slot_table.specs.Hearings.{IsArming, SomeRecord}
 use Rattle.slot_table.specs.Meetings.{finders_told, numbers_met}
@@ -41,10 +41,10 @@ use Rattle.watch_word.specs.Layout.{word_span}
 use Rattle.watch_word.specs.Word.{WordOf, Watches, watch_of, word_of}
 use Rattle.watch_word.specs.declared.layout.Layout.{Layout}
 use Rattle.watch_word.specs.declared.layout.Layout.TheVariants.{W64, W32}
-use Rattle.run_kept.specs.Stamps.{stamps_in}
-use Rattle.run_kept.specs.Watched.{FitsItsTask, IfTold, IfWatched}
-use Rattle.written_order.specs.Standing.{checks_of}
-use Rattle.written_order.specs.Told.{did_by}
+use Rattle.log_correctness.specs.Stamps.{stamps_in}
+use Rattle.log_correctness.specs.Watched.{FitsItsTask, IfTold, IfWatched}
+use Rattle.program_order.specs.Standing.{checks_of}
+use Rattle.program_order.specs.Told.{did_by}
 use Rattle.accepted_traces.specs.Parts.{ArmFits, OfNamed, OutcomeFits, TakeFits}
 use Rattle.accepted_traces.proofs.Arms as arming
 use Rattle.accepted_traces.proofs.Arms.{arming_of}

@@ -15,19 +15,19 @@ use Rattle.access_types.specs.Ticket.{ticket_number}
 use Rattle.access_types.specs.declared.arms.ArmOutcome.{ArmOutcome}
 use Rattle.access_types.specs.declared.arms.HitResult.{HitResult}
 use Rattle.access_types.specs.declared.arms.HitResult.TheVariants as results
-use Rattle.litmus_meaning.specs.RunOfProgram.{setting_of}
-use Rattle.litmus_meaning.specs.TextSites.{FitsTickets, block_sites}
+use Rattle.litmus_semantics.specs.RunOfProgram.{setting_of}
+use Rattle.litmus_semantics.specs.TextSites.{FitsTickets, block_sites}
 use Rattle.report_text.specs.Truth.{IsIndexOf, ResultAgrees}
-use Rattle.run_lists.specs.Answers.{AnswersTaking, is_answer}
-use Rattle.run_lists.specs.Run.{Run, task_of, task_setting}
-use Rattle.run_lists.specs.RunList.{RunList}
-use Rattle.run_lists.specs.Told.{Armed, OutcomeAt, history_of, outcomes_of}
-use Rattle.run_lists.proofs.Intervals.{Has, contains_has}
-use Rattle.run_lists.proofs.OwnLasts.{one_arming, stands_later, still_told}
-use Rattle.run_kept.specs.Lists.{AreAccesses, Became, IsHit}
-use Rattle.run_headline.specs.Events.{AreMarks, EachDoesItsEvent}
-use Rattle.run_headline.specs.Joined.{AnswersBoth}
-use Rattle.run_headline.proofs.Makers.{finds_hit}
+use Rattle.executions.specs.run_lists.Answers.{AnswersTaking, is_answer}
+use Rattle.executions.specs.run_lists.Run.{Run, task_of, task_setting}
+use Rattle.executions.specs.run_lists.RunList.{RunList}
+use Rattle.executions.specs.run_lists.Told.{Armed, OutcomeAt, history_of, outcomes_of}
+use Rattle.executions.proofs.run_lists.Intervals.{Has, contains_has}
+use Rattle.executions.proofs.run_lists.OwnLasts.{one_arming, stands_later, still_told}
+use Rattle.log_correctness.specs.Lists.{AreAccesses, Became, IsHit}
+use Rattle.soundness.specs.Events.{AreMarks, EachDoesItsEvent}
+use Rattle.soundness.specs.Joined.{AnswersBoth}
+use Rattle.soundness.proofs.Makers.{finds_hit}
 use Rattle.setup_access.specs.Hits.{Hits}
 use Rattle.setup_access.specs.Setting as checks
 use Rattle.setup_access.specs.Setting.{look_order, slot_of}
@@ -49,10 +49,10 @@ use Rattle.value_filter.specs.declared.verdict.Change.TheVariants.{Maybe, Ruled}
 use Rattle.value_filter.specs.declared.verdict.Reason.{Reason}
 use Rattle.value_filter.specs.declared.verdict.Reason.TheVariants.{Encoding, MaskedBits, SameValue}
 use Rattle.value_filter.specs.declared.verdict.Verdict.TheVariants as verdict
-use Rattle.run_kept.specs.Stamps.{stamps_in}
-use Rattle.run_kept.specs.Watched.{IfTold}
-use Rattle.written_order.specs.Standing.{checks_of}
-use Rattle.written_order.specs.Told.{did_by}
+use Rattle.log_correctness.specs.Stamps.{stamps_in}
+use Rattle.log_correctness.specs.Watched.{IfTold}
+use Rattle.program_order.specs.Standing.{checks_of}
+use Rattle.program_order.specs.Told.{did_by}
 use Rattle.accepted_traces.specs.Parts.{IsNamed, OutcomeFits}
 use Rattle.accepted_traces.proofs.Ended as ended
 use Rattle.accepted_traces.proofs.Watches.{found_at, looked_index}

@@ -12,22 +12,22 @@ use Rattle.access_types.specs.Kind.{is_scoped}
 use Rattle.access_types.specs.Ticket.{ticket_number}
 use Rattle.access_types.specs.declared.history.Happening.{Happening}
 use Rattle.access_types.specs.declared.history.Happening.TheVariants as happenings
-use Rattle.litmus_meaning.specs.RunOfProgram.{setting_of}
-use Rattle.litmus_meaning.specs.TextSites.{FitsTickets, block_sites}
-use Rattle.litmus_meaning.proofs.TicketLemmas.{own_tickets}
-use Rattle.run_lists.specs.Run.{Run, task_of, task_setting}
-use Rattle.run_lists.specs.RunList.{RunList}
-use Rattle.run_lists.specs.Told.{OutcomeAt, armed_by, came_next, made_by, outcome_at}
-use Rattle.run_lists.proofs.Histories.{front_of}
-use Rattle.run_lists.proofs.OwnLasts.{own_latest}
-use Rattle.run_kept.specs.Lists.{verdicts_by}
-use Rattle.run_headline.specs.Watches.{is_verdict}
+use Rattle.litmus_semantics.specs.RunOfProgram.{setting_of}
+use Rattle.litmus_semantics.specs.TextSites.{FitsTickets, block_sites}
+use Rattle.litmus_semantics.proofs.TicketLemmas.{own_tickets}
+use Rattle.executions.specs.run_lists.Run.{Run, task_of, task_setting}
+use Rattle.executions.specs.run_lists.RunList.{RunList}
+use Rattle.executions.specs.run_lists.Told.{OutcomeAt, armed_by, came_next, made_by, outcome_at}
+use Rattle.executions.proofs.run_lists.Histories.{front_of}
+use Rattle.executions.proofs.run_lists.OwnLasts.{own_latest}
+use Rattle.log_correctness.specs.Lists.{verdicts_by}
+use Rattle.soundness.specs.Watches.{is_verdict}
 use Rattle.setup_access.specs.Check.{Fallen}
 use Rattle.slot_table.specs.Records.{records_of}
 use Rattle.slot_table.specs.declared.records.Record.{Record}
-use Rattle.run_kept.proofs.OneVerdictAtMost.{begins_with, few_verdicts, is_verdict_of}
-use Rattle.written_order.specs.Told.{fell_next, to_come}
-use Rattle.written_order.proofs.MeaningLemmas.{whole_means}
+use Rattle.log_correctness.proofs.OneVerdictAtMost.{begins_with, few_verdicts, is_verdict_of}
+use Rattle.program_order.specs.Told.{fell_next, to_come}
+use Rattle.program_order.proofs.MeaningLemmas.{whole_means}
 
 -- ---- counts
 

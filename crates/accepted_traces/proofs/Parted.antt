@@ -9,13 +9,13 @@ use Rattle.std.proofs.lemmas.List.Elements.{All-append, All-filter, filter-appen
 use Rattle.std.proofs.lemmas.List.Sums.{length-filter}
 use Rattle.access_types.specs.Ticket.{task_in}
 use Rattle.access_types.specs.declared.report.Report.{Report}
-use Rattle.run_kept.specs.Setters.{is_by, reports_by, setter_of}
-use Rattle.run_lists.specs.Reports.{reports_of}
-use Rattle.run_lists.specs.Run.{Run}
-use Rattle.run_lists.specs.RunList.{RunList}
-use Rattle.run_kept.specs.Lists.{ByTask}
-use Rattle.run_kept.specs.Noted.{AreNoted, Notes}
-use Rattle.run_headline.proofs.Watches.{is_below}
+use Rattle.log_correctness.specs.Setters.{is_by, reports_by, setter_of}
+use Rattle.executions.specs.run_lists.Reports.{reports_of}
+use Rattle.executions.specs.run_lists.Run.{Run}
+use Rattle.executions.specs.run_lists.RunList.{RunList}
+use Rattle.log_correctness.specs.Lists.{ByTask}
+use Rattle.log_correctness.specs.Noted.{AreNoted, Notes}
+use Rattle.soundness.proofs.Watches.{is_below}
 use Rattle.slot_table.specs.Records.{records_of}
 use Rattle.slot_table.specs.declared.records.Record.{Record}
 use Rattle.task_log.specs.Reports.{reported_in}

@@ -16,22 +16,22 @@ use Rattle.access_types.specs.declared.history.Happening.{Happening}
 use Rattle.access_types.specs.declared.history.Happening.TheVariants as happenings
 use Rattle.access_types.specs.declared.report.Report.{Report}
 use Rattle.access_types.specs.declared.report.Report.TheVariants as reports
-use Rattle.litmus_meaning.specs.Layout.{initial_values, memory_at_first}
-use Rattle.litmus_meaning.specs.RunOfProgram.{setting_of}
-use Rattle.litmus_meaning.specs.TextSites.{FitsTickets, block_sites}
-use Rattle.memory_operation.proofs.WordLemmas.{range_is}
+use Rattle.litmus_semantics.specs.Layout.{initial_values, memory_at_first}
+use Rattle.litmus_semantics.specs.RunOfProgram.{setting_of}
+use Rattle.litmus_semantics.specs.TextSites.{FitsTickets, block_sites}
+use Rattle.access_run.proofs.memory_operation.WordLemmas.{range_is}
 use Rattle.report_text.specs.Truth.{IsLoadable, MaySee, RaceByStamps}
-use Rattle.run_headline.specs.Reported.{IsOfOutcome}
-use Rattle.run_headline.specs.Watched.{ChangedInWatch, IfUnknownInWatch, NamesWatched}
-use Rattle.run_headline.proofs.Memories.{HoldsBytes, first_bytes}
-use Rattle.run_lists.specs.Reports.{reported, reports_of}
-use Rattle.run_lists.specs.Run.{Run, task_of, task_setting}
-use Rattle.run_lists.specs.RunList.{RunList}
-use Rattle.run_lists.specs.Told.{OutcomeAt, history_of, outcomes_of}
-use Rattle.run_lists.specs.TwoSides.{IfTwoSided, NamesBoth, NamesTwoSides}
-use Rattle.run_kept.specs.Lists.{AreAccesses}
-use Rattle.run_headline.specs.Events.{AreMarks, EachDoesItsEvent}
-use Rattle.run_headline.specs.Watches.{is_verdict}
+use Rattle.soundness.specs.Reported.{IsOfOutcome}
+use Rattle.soundness.specs.Watched.{ChangedInWatch, IfUnknownInWatch, NamesWatched}
+use Rattle.soundness.proofs.Memories.{HoldsBytes, first_bytes}
+use Rattle.executions.specs.run_lists.Reports.{reported, reports_of}
+use Rattle.executions.specs.run_lists.Run.{Run, task_of, task_setting}
+use Rattle.executions.specs.run_lists.RunList.{RunList}
+use Rattle.executions.specs.run_lists.Told.{OutcomeAt, history_of, outcomes_of}
+use Rattle.executions.specs.run_lists.TwoSides.{IfTwoSided, NamesBoth, NamesTwoSides}
+use Rattle.log_correctness.specs.Lists.{AreAccesses}
+use Rattle.soundness.specs.Events.{AreMarks, EachDoesItsEvent}
+use Rattle.soundness.specs.Watches.{is_verdict}
 use Rattle.setup_access.specs.Setting as checks
 use Rattle.setup_access.specs.Values.{has_value, source_of}
 use Rattle.setup_access.specs.declared.outcome.Outcome.{Outcome}
@@ -41,10 +41,10 @@ use Rattle.slot.specs.Pair.{Halves}
 use Rattle.slot_table.specs.declared.records.Record.{Record}
 use Rattle.slot_table.specs.declared.step.Answer.TheVariants as answers
 use Rattle.slot_table.specs.declared.step.Step.TheVariants as steps
-use Rattle.run_kept.specs.Stamps.{stamps_in}
-use Rattle.run_kept.specs.Watched.{IfWatched}
-use Rattle.written_order.specs.Standing.{checks_of}
-use Rattle.written_order.specs.Told.{did_by}
+use Rattle.log_correctness.specs.Stamps.{stamps_in}
+use Rattle.log_correctness.specs.Watched.{IfWatched}
+use Rattle.program_order.specs.Standing.{checks_of}
+use Rattle.program_order.specs.Told.{did_by}
 use Rattle.accepted_traces.specs.Parts.{OfNamed, ReportFits}
 use Rattle.accepted_traces.proofs.Ended as ended
 use Rattle.accepted_traces.proofs.Hits as hits

@@ -34,7 +34,7 @@ use Rattle.watch_word.specs.declared.layout.Layout.{Layout}
 use Rattle.watch_word.specs.declared.layout.Layout.TheVariants.{W64, W32}
 use Rattle.accepted_traces.specs.Parts.{AccessFits, ArmFits, AreParts, IsNamed, OutcomeFits, ReportFits, TakeFits}
 use Rattle.accepted_traces.proofs.Sections.{index_within, value_limit}
-use Rattle.trace_lines.proofs.Hex.{length-hex}
+use Rattle.trace_replay.proofs.trace_lines.Hex.{length-hex}
 
 long_hex : (n : ℕ) → n < 2 ^ 64 → length (hex_field n) ≡ 18
 long_hex n small = omega (arith, length-append (codes "0x") (hex 16 n), length-hex n small)

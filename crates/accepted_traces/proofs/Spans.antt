@@ -14,33 +14,33 @@ use Rattle.access_types.specs.declared.history.Happening.{Happening}
 use Rattle.access_types.specs.declared.history.Happening.TheVariants as happenings
 use Rattle.access_types.specs.declared.kind.Kind.{Kind}
 use Rattle.access_types.specs.declared.kind.Kind.TheVariants as kinds
-use Rattle.litmus_meaning.specs.RunOfProgram.{setting_of}
-use Rattle.litmus_meaning.specs.TextSites.{FitsTickets, block_sites}
-use Rattle.litmus_meaning.proofs.TicketLemmas.{own_tickets}
+use Rattle.litmus_semantics.specs.RunOfProgram.{setting_of}
+use Rattle.litmus_semantics.specs.TextSites.{FitsTickets, block_sites}
+use Rattle.litmus_semantics.proofs.TicketLemmas.{own_tickets}
 use Rattle.report_text.specs.Standing.{LettersAgree}
-use Rattle.run_lists.specs.Run.{Run, task_of, task_setting}
-use Rattle.run_lists.specs.RunList.{RunList}
-use Rattle.run_lists.specs.Told.{history_by, history_of, made_by, moments_of}
-use Rattle.run_lists.proofs.Histories.{did_more, did_of_all, did_then}
-use Rattle.run_lists.proofs.Intervals.{Has, has_last}
-use Rattle.run_lists.proofs.OwnLasts.{own_latest, own_split}
-use Rattle.run_kept.specs.Decided.{IsStampedSo}
-use Rattle.run_kept.specs.Spans.{HappensAt, IsSpan}
-use Rattle.run_kept.specs.Lists.{AreAccesses, AreAccessesOf, ByTask}
-use Rattle.run_headline.specs.Events.{DoesEvent, EachDoesItsEvent}
-use Rattle.run_headline.proofs.Opens.{has_split}
+use Rattle.executions.specs.run_lists.Run.{Run, task_of, task_setting}
+use Rattle.executions.specs.run_lists.RunList.{RunList}
+use Rattle.executions.specs.run_lists.Told.{history_by, history_of, made_by, moments_of}
+use Rattle.executions.proofs.run_lists.Histories.{did_more, did_of_all, did_then}
+use Rattle.executions.proofs.run_lists.Intervals.{Has, has_last}
+use Rattle.executions.proofs.run_lists.OwnLasts.{own_latest, own_split}
+use Rattle.log_correctness.specs.Decided.{IsStampedSo}
+use Rattle.log_correctness.specs.Spans.{HappensAt, IsSpan}
+use Rattle.log_correctness.specs.Lists.{AreAccesses, AreAccessesOf, ByTask}
+use Rattle.soundness.specs.Events.{DoesEvent, EachDoesItsEvent}
+use Rattle.soundness.proofs.Opens.{has_split}
 use Rattle.slot_table.specs.Records.{records_of}
 use Rattle.slot_table.specs.declared.records.Record.{Record}
 use Rattle.slot_table.specs.declared.step.Answer.TheVariants as answers
 use Rattle.slot_table.specs.declared.step.Step.{Step}
 use Rattle.slot_table.specs.declared.step.Step.TheVariants as steps
-use Rattle.run_kept.specs.Stamps.{is_clock, stamps_in}
-use Rattle.run_kept.proofs.Checked.{all_fit, all_later}
-use Rattle.run_kept.proofs.Clock.{event_turns, one_more, turns, turns_both, turns_of_marks}
-use Rattle.run_lists.proofs.Begun.{once}
-use Rattle.written_order.specs.Told.{did_by, did_next}
-use Rattle.written_order.proofs.MeaningLemmas.{whole_means}
-use Rattle.written_order.proofs.WayLemmas.{Begins}
+use Rattle.log_correctness.specs.Stamps.{is_clock, stamps_in}
+use Rattle.log_correctness.proofs.Checked.{all_fit, all_later}
+use Rattle.log_correctness.proofs.Clock.{event_turns, one_more, turns, turns_both, turns_of_marks}
+use Rattle.executions.proofs.run_lists.Begun.{once}
+use Rattle.program_order.specs.Told.{did_by, did_next}
+use Rattle.program_order.proofs.MeaningLemmas.{whole_means}
+use Rattle.program_order.proofs.WayLemmas.{Begins}
 use Rattle.accepted_traces.specs.Parts.{AccessFits, AreOther, HasLowMask}
 
 -- ---- lists

@@ -4,7 +4,7 @@ use Rattle.std.proofs.lemmas.Bool.{eq-eqb}
 use Rattle.access_types.specs.Access.{Access}
 use Rattle.access_types.specs.Ticket.{ticket_number}
 use Rattle.report_text.specs.Truth.{IsIndexOf}
-use Rattle.run_lists.proofs.CheckFacts.{back}
+use Rattle.executions.proofs.run_lists.CheckFacts.{back}
 use Rattle.setup_access.specs.Find.{LooksUp}
 use Rattle.setup_access.specs.Found.{Hears, finder_half}
 use Rattle.setup_access.specs.Parts.{made}

@@ -4,9 +4,9 @@ use Rattle.access_types.specs.Arms.{Arm}
 use Rattle.access_types.specs.Stamped.{Stamped}
 use Rattle.access_types.specs.Takes.{Take}
 use Rattle.accepted_traces.specs.Parts.{HasLowMask}
-use Rattle.run_lists.specs.Run.{Run}
-use Rattle.run_lists.specs.RunList.{RunList}
-use Rattle.run_kept.specs.Lists.{AreAccesses, AreArms, AreTakes}
+use Rattle.executions.specs.run_lists.Run.{Run}
+use Rattle.executions.specs.run_lists.RunList.{RunList}
+use Rattle.log_correctness.specs.Lists.{AreAccesses, AreArms, AreTakes}
 use Rattle.slot_table.specs.declared.records.Record.{Record}
 
 -- These are the accesses, the armings and the takings of a run list that are over, one task after the other. The

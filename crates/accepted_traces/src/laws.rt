@@ -10,31 +10,31 @@ ghost use Rattle.accepted_traces.specs.Traces.{AreOf};
 ghost use Rattle.litmus_syntax.specs.Limits.{KeepsLimits};
 ghost use Rattle.report_text.specs.Faults.{IsTrueTrace};
 ghost use Rattle.report_text.specs.TraceText.{second, written_lines, written_trace};
-ghost use Rattle.run_lists.specs.Run.{Run};
-ghost use Rattle.run_lists.specs.Reports.{reports_of};
-ghost use Rattle.run_lists.specs.RunList.{AllHaveEnded, RunList};
-ghost use Rattle.run_kept.specs.Lists.{AreAccesses};
-ghost use Rattle.run_kept.specs.Setters.{AreReportsOf};
+ghost use Rattle.executions.specs.run_lists.Run.{Run};
+ghost use Rattle.executions.specs.run_lists.Reports.{reports_of};
+ghost use Rattle.executions.specs.run_lists.RunList.{AllHaveEnded, RunList};
+ghost use Rattle.log_correctness.specs.Lists.{AreAccesses};
+ghost use Rattle.log_correctness.specs.Setters.{AreReportsOf};
 ghost use Rattle.slot_table.specs.declared.records.Record.{Record};
 ghost use Rattle.trace_replay.specs.Answer.{IsAccepted};
 ghost use Rattle.trace_replay.specs.declared.accepted.Accepted.TheVariants as accepted;
 ghost use Rattle.watch_word.specs.declared.layout.Layout.{Layout};
 
-use litmus_meaning::laws::tickets_have_room;
-use run_headline::histories::{reports_are_true, unknown_origins_changed};
-use run_headline::verdicts::{
-    answers_are_on_a_watch_and_a_find, records_tell_their_events, verdicts_are_on_watches,
-};
-use run_kept::bags::{armings_have_their_own_verdicts, the_bags_are_equal};
-use run_kept::bounds::few_are_reported;
-use run_kept::lengths::few_are_kept;
-use run_kept::reports::a_task_reports_its_own;
-use run_kept::watched::{
+use executions::run_lists::laws::{reports_name_two_sides, run_lists_keep_the_discipline};
+use litmus_semantics::laws::tickets_have_room;
+use log_correctness::bags::{armings_have_their_own_verdicts, the_bags_are_equal};
+use log_correctness::bounds::few_are_reported;
+use log_correctness::lengths::few_are_kept;
+use log_correctness::reports::a_task_reports_its_own;
+use log_correctness::watched::{
     accesses_of_ended_tasks_have_ended, accesses_that_begin_fit, stamps_tell_the_order,
     watched_accesses_are_unmarked_and_heard,
 };
-use run_lists::laws::{reports_name_two_sides, run_lists_keep_the_discipline};
 use slot_table::laws::heard_is_told;
+use soundness::histories::{reports_are_true, unknown_origins_changed};
+use soundness::verdicts::{
+    answers_are_on_a_watch_and_a_find, records_tell_their_events, verdicts_are_on_watches,
+};
 use watch_word::words_read_back;
 
 /// Law: what is written of the parts of one true trace is a true trace, of these lines, and no longer than a trace may

@@ -2,22 +2,22 @@
 use Rattle.std.proofs.Common.{◌≡◌, ◌∙◌, ◌++◌, ◌∷◌, [], ℕ, Bool, true, false, List, Option, None, Some, IsSome, ap, append_assoc, refl, subst, sym}
 use Rattle.std.proofs.lemmas.List.{append-nil}
 use Rattle.access_types.specs.Access.{Access}
-use Rattle.memory_operation.specs.Effects.{and_then, changed, nothing, only_read}
-use Rattle.memory_operation.specs.Leads as operations
-use Rattle.memory_operation.specs.LockLeads.{LockLeads, LockLeft}
-use Rattle.memory_operation.specs.Locks.{TakesLock}
-use Rattle.memory_operation.specs.Operations.{Exchanges, Operates, OperatesIn}
-use Rattle.memory_operation.specs.Stages.{StageLeft}
-use Rattle.memory_operation.specs.Values.{is_wanted, new_value, sum_of, with_value}
-use Rattle.memory_operation.specs.declared.effect.Effect.{Effect}
-use Rattle.memory_operation.specs.declared.lock.LockWait.{LockWait}
-use Rattle.memory_operation.specs.declared.operation.Change.{Change}
-use Rattle.memory_operation.specs.declared.operation.Change.TheVariants as changes
-use Rattle.memory_operation.specs.declared.operation.Operation.{Operation}
-use Rattle.memory_operation.specs.declared.operation.Operation.TheVariants as kinds
-use Rattle.memory_operation.specs.declared.run.OperationRun.{OperationRun}
-use Rattle.memory_operation.specs.declared.stage.Stage as code
-use Rattle.memory_operation.specs.declared.stage.Stage.TheVariants as operating
+use Rattle.access_run.specs.memory_operation.Effects.{and_then, changed, nothing, only_read}
+use Rattle.access_run.specs.memory_operation.Leads as operations
+use Rattle.access_run.specs.memory_operation.LockLeads.{LockLeads, LockLeft}
+use Rattle.access_run.specs.memory_operation.Locks.{TakesLock}
+use Rattle.access_run.specs.memory_operation.Operations.{Exchanges, Operates, OperatesIn}
+use Rattle.access_run.specs.memory_operation.Stages.{StageLeft}
+use Rattle.access_run.specs.memory_operation.Values.{is_wanted, new_value, sum_of, with_value}
+use Rattle.access_run.specs.declared.memory_operation.effect.Effect.{Effect}
+use Rattle.access_run.specs.declared.memory_operation.lock.LockWait.{LockWait}
+use Rattle.access_run.specs.declared.memory_operation.operation.Change.{Change}
+use Rattle.access_run.specs.declared.memory_operation.operation.Change.TheVariants as changes
+use Rattle.access_run.specs.declared.memory_operation.operation.Operation.{Operation}
+use Rattle.access_run.specs.declared.memory_operation.operation.Operation.TheVariants as kinds
+use Rattle.access_run.specs.declared.memory_operation.run.OperationRun.{OperationRun}
+use Rattle.access_run.specs.declared.memory_operation.stage.Stage as code
+use Rattle.access_run.specs.declared.memory_operation.stage.Stage.TheVariants as operating
 use Rattle.setup_access.specs.Check.{Check, Passes}
 use Rattle.setup_access.specs.Checker.{Checks}
 use Rattle.setup_access.specs.OwnAccesses.{AreOwn, IsOwn}

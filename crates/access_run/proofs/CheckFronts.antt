@@ -4,11 +4,11 @@ use Rattle.std.proofs.lemmas.List.{append-nil}
 use Rattle.access_types.specs.Access.{Access}
 use Rattle.access_run.specs.Access.{MakesAccess}
 use Rattle.access_run.specs.Moved.{FramedChecks, moved}
-use Rattle.memory_operation.specs.Operations.{Operates, OperatesIn}
-use Rattle.memory_operation.specs.declared.effect.Effect.{Effect}
-use Rattle.memory_operation.specs.declared.operation.Operation.{Operation}
-use Rattle.memory_operation.proofs.FrameLemmas.{operation_front}
-use Rattle.memory_operation.proofs.Fronts.{Front, front_map, front_none, front_then, front_word}
+use Rattle.access_run.specs.memory_operation.Operations.{Operates, OperatesIn}
+use Rattle.access_run.specs.declared.memory_operation.effect.Effect.{Effect}
+use Rattle.access_run.specs.declared.memory_operation.operation.Operation.{Operation}
+use Rattle.access_run.proofs.memory_operation.FrameLemmas.{operation_front}
+use Rattle.access_run.proofs.memory_operation.Fronts.{Front, front_map, front_none, front_then, front_word}
 use Rattle.setup_access.specs.Check.{Check, ChecksAll, ChecksBegun, ChecksOnce, Close, Ends, Fallen, GoesOn, NoneFound, Pass, Passes, Rechecks, asked_silenced, counts_as_marked, fallen_of, left_to_check, skipped, unencodable, watched}
 use Rattle.setup_access.specs.Fallen.{followed}
 use Rattle.setup_access.specs.Find.{LooksUp}

@@ -4,8 +4,8 @@ use Rattle.access_run.specs.Leads.{AccessIsComplete, AccessLeads, AccessSays, Is
 use Rattle.access_run.specs.declared.access.AccessRun.{AccessRun}
 use Rattle.access_run.specs.declared.stage.Stage.{Stage}
 use Rattle.access_run.specs.declared.stage.Stage.TheVariants as stages
-use Rattle.memory_operation.specs.declared.effect.Effect.{Effect}
-use Rattle.memory_operation.specs.declared.operation.Operation.{Operation}
+use Rattle.access_run.specs.declared.memory_operation.effect.Effect.{Effect}
+use Rattle.access_run.specs.declared.memory_operation.operation.Operation.{Operation}
 use Rattle.setup_access.specs.Checker.{Checks}
 use Rattle.setup_access.specs.Copies.{IsCopy}
 use Rattle.setup_access.specs.Setting.{Setting}

@@ -8,14 +8,14 @@ use Rattle.access_run.specs.Whole.{IsWhole, NoneWhole}
 use Rattle.access_run.specs.declared.stage.Stage.{Stage}
 use Rattle.access_run.specs.declared.stage.Stage.TheVariants as stages
 use Rattle.access_types.specs.Access.{Access}
-use Rattle.memory_operation.specs.Leads as operations
-use Rattle.memory_operation.specs.Effects.{nothing}
-use Rattle.memory_operation.specs.Operations.{Operates, OperatesIn}
-use Rattle.memory_operation.specs.declared.effect.Effect.{Effect}
-use Rattle.memory_operation.specs.declared.operation.Operation.{Operation}
-use Rattle.memory_operation.specs.declared.operation.Operation.TheVariants as kinds
-use Rattle.memory_operation.specs.declared.run.OperationRun.{OperationRun}
-use Rattle.memory_operation.proofs.Fronts.{framed}
+use Rattle.access_run.specs.memory_operation.Leads as operations
+use Rattle.access_run.specs.memory_operation.Effects.{nothing}
+use Rattle.access_run.specs.memory_operation.Operations.{Operates, OperatesIn}
+use Rattle.access_run.specs.declared.memory_operation.effect.Effect.{Effect}
+use Rattle.access_run.specs.declared.memory_operation.operation.Operation.{Operation}
+use Rattle.access_run.specs.declared.memory_operation.operation.Operation.TheVariants as kinds
+use Rattle.access_run.specs.declared.memory_operation.run.OperationRun.{OperationRun}
+use Rattle.access_run.proofs.memory_operation.Fronts.{framed}
 use Rattle.setup_access.specs.Check.{Check, Fallen, Passes}
 use Rattle.setup_access.specs.Checker.{Checks, StageLeft}
 use Rattle.setup_access.specs.Fallen.{followed}

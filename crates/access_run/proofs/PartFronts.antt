@@ -2,7 +2,7 @@
 use Rattle.std.proofs.Common.{◌≡◌, ◌<◌, ◌⊎◌, ◌∷◌, [], ℕ, Bool, true, false, List, Option, None, Some, MatchBool, MatchOption, inl, inr, refl, sym}
 use Rattle.access_types.specs.Access.{Access}
 use Rattle.access_types.specs.Ticket.{ticket_number}
-use Rattle.memory_operation.proofs.Fronts.{Front, front_first, front_map, front_none, front_then, front_word}
+use Rattle.access_run.proofs.memory_operation.Fronts.{Front, front_first, front_map, front_none, front_then, front_word}
 use Rattle.setup_access.specs.Find.{LooksUp}
 use Rattle.setup_access.specs.Found.{FoundWatchpoint, Hears, Takes, Tells, TellsTo, finder_half, setter_half}
 use Rattle.setup_access.specs.Hits.{Hits}

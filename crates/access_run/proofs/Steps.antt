@@ -1,6 +1,6 @@
 -- Steps whose answers are flags, halves or nothing, and what follows on them.
 use Rattle.std.proofs.Common.{◌≡◌, ◌∷◌, [], ℕ, Bool, List}
-use Rattle.memory_operation.proofs.Fronts.{Front, front_first, front_map}
+use Rattle.access_run.proofs.memory_operation.Fronts.{Front, front_first, front_map}
 use Rattle.setup_access.specs.Records.{MakesDone, MakesFlag, OnFlag, OnHalves}
 use Rattle.slot.specs.Pair.{Halves}
 use Rattle.slot_table.specs.declared.records.Record.{Record}

@@ -1,8 +1,8 @@
 -- The records of one access of a task.
 use Rattle.std.specs.Prelude.{◌≡◌, ℕ, List, Option}
-use Rattle.memory_operation.specs.Operations.{Operates}
-use Rattle.memory_operation.specs.declared.effect.Effect.{Effect}
-use Rattle.memory_operation.specs.declared.operation.Operation.{Operation}
+use Rattle.access_run.specs.memory_operation.Operations.{Operates}
+use Rattle.access_run.specs.declared.memory_operation.effect.Effect.{Effect}
+use Rattle.access_run.specs.declared.memory_operation.operation.Operation.{Operation}
 use Rattle.setup_access.specs.Check.{Check, Passes}
 use Rattle.setup_access.specs.Records.{MakesWord}
 use Rattle.setup_access.specs.Setting.{Setting}

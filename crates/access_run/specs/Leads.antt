@@ -8,11 +8,11 @@ use Rattle.access_run.specs.declared.access.AccessRun.{AccessRun}
 use Rattle.access_run.specs.declared.stage.Stage.{Stage}
 use Rattle.access_run.specs.declared.stage.Stage.TheVariants as stages
 use Rattle.access_types.specs.Access.{Access}
-use Rattle.memory_operation.specs.Leads as operations
-use Rattle.memory_operation.specs.Operations.{Operates}
-use Rattle.memory_operation.specs.declared.effect.Effect.{Effect}
-use Rattle.memory_operation.specs.declared.operation.Operation.{Operation}
-use Rattle.memory_operation.specs.declared.run.OperationRun.{OperationRun}
+use Rattle.access_run.specs.memory_operation.Leads as operations
+use Rattle.access_run.specs.memory_operation.Operations.{Operates}
+use Rattle.access_run.specs.declared.memory_operation.effect.Effect.{Effect}
+use Rattle.access_run.specs.declared.memory_operation.operation.Operation.{Operation}
+use Rattle.access_run.specs.declared.memory_operation.run.OperationRun.{OperationRun}
 use Rattle.setup_access.specs.Check.{Check, Fallen, Passes}
 use Rattle.setup_access.specs.Checker.{Checks}
 use Rattle.setup_access.specs.Fallen.{outcomes_in}

@@ -3,3 +3,4 @@ pub mod Moved
 pub mod Whole
 pub mod Stamps
 pub mod Leads
+pub mod memory_operation

@@ -3,8 +3,8 @@
 ghost use Rattle.std.specs.Prelude.{ℕ, Bool, List, Option};
 ghost use Rattle.access_run.specs.Access.{MakesAccess};
 ghost use Rattle.access_run.specs.Moved.{FramedChecks};
-ghost use Rattle.memory_operation.specs.declared.effect.Effect.{Effect};
-ghost use Rattle.memory_operation.specs.declared.operation.Operation.{Operation};
+ghost use Rattle.access_run.specs.declared.memory_operation.effect.Effect.{Effect};
+ghost use Rattle.access_run.specs.declared.memory_operation.operation.Operation.{Operation};
 ghost use Rattle.setup_access.specs.Check.{Check, Close};
 ghost use Rattle.setup_access.specs.Setting.{Setting};
 ghost use Rattle.setup_access.specs.declared.begun.Begun.{Begun};

@@ -4,6 +4,7 @@
 pub mod access;
 pub mod completions;
 pub mod laws;
+pub mod memory_operation;
 pub mod stage;
 pub mod stamps;
 

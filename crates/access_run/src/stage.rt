@@ -4,8 +4,8 @@ ghost use Rattle.std.specs.Prelude.{◌<◌, ◌++◌, ◌∷◌, [], ℕ, IfSom
 ghost use Rattle.access_run.specs.Leads.{HasCell, IsChecked, IsReady, IsUnderWay, Runs, StageLeads};
 ghost use Rattle.access_run.specs.Whole.{NoneWhole};
 ghost use Rattle.access_run.specs.declared.stage.Stage.TheVariants as stages;
-ghost use Rattle.memory_operation.specs.Operations.{Operates};
-ghost use Rattle.memory_operation.specs.declared.operation.Operation as kinds;
+ghost use Rattle.access_run.specs.memory_operation.Operations.{Operates};
+ghost use Rattle.access_run.specs.declared.memory_operation.operation.Operation as kinds;
 ghost use Rattle.setup_access.specs.Check.{Check};
 ghost use Rattle.setup_access.specs.Checker.{Checks};
 ghost use Rattle.setup_access.specs.Leads.{Leads, Rests};
@@ -14,8 +14,8 @@ ghost use Rattle.setup_access.specs.declared.begun.Begun.{Begun};
 ghost use Rattle.setup_access.specs.declared.checker.Checker as checkers;
 ghost use Rattle.slot_table.specs.declared.records.Record.{Record};
 
+use crate::memory_operation::{Effect, Operation, OperationRun};
 use access_types::Access;
-use memory_operation::{Effect, Operation, OperationRun};
 use setup_access::Checker;
 
 /// What an access does next.

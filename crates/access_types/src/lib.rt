@@ -6,6 +6,7 @@ pub mod access;
 pub mod arms;
 pub mod history;
 pub mod kind;
+pub mod list_copy;
 pub mod report;
 pub mod sites;
 pub mod stamped;

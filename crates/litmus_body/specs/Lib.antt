@@ -5,3 +5,4 @@ pub mod StoreReader
 pub mod SimpleReader
 pub mod StatementReader
 pub mod Reads
+pub mod statement_laws

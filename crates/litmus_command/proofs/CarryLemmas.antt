@@ -1,9 +1,9 @@
 -- What a status says once a command has ended.
 use Rattle.std.proofs.Common.{◌≡◌, ◌≤◌, ◌⊎◌, ℕ, List, arith, false, inl, inr, refl, subst, true}
-use Rattle.command_words.specs.Bounds.{KeepsCheckBounds}
-use Rattle.command_words.specs.declared.request.CheckRequest.{CheckRequest}
-use Rattle.command_words.specs.declared.request.Request.{Request}
-use Rattle.command_words.specs.declared.request.Request.TheVariants.{Check}
+use Rattle.cli.specs.Bounds.{KeepsCheckBounds}
+use Rattle.cli.specs.declared.request.CheckRequest.{CheckRequest}
+use Rattle.cli.specs.declared.request.Request.{Request}
+use Rattle.cli.specs.declared.request.Request.TheVariants.{Check}
 use Rattle.litmus_command.proofs.EndLemmas.{check_reads, ends_otherwise, ends_unless_several, on_left, on_right}
 use Rattle.litmus_command.proofs.OverwriteLemmas.{kept_ends, kept_files, kept_otherwise, kept_reads, no_check, same_path}
 use Rattle.litmus_command.proofs.ResultLemmas.{failures_are_known, known_above, known_below, known_so, tells_so}

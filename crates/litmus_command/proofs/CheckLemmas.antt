@@ -7,13 +7,13 @@ use Rattle.std.proofs.Math.Seq.{take-suc}
 use Rattle.std.proofs.lemmas.List.{get_or-map, length-map, map-append}
 use Rattle.std.proofs.lemmas.List.Elements.{All-append}
 use Rattle.std.proofs.lemmas.List.Sums.{fold-append, sum_by-append}
-use Rattle.program_sites.specs.declared.settings.Settings.{Settings}
+use Rattle.prepared_program.specs.declared.program_sites.settings.Settings.{Settings}
 use Rattle.std.specs.Global.{Global}
-use Rattle.check_output.specs.Found.{Found, Gave, IsFound, Lost, greatest_status, has_tables, name_of, output_of, status_of_one, text_of}
-use Rattle.check_output.specs.declared.file.Files.{Files}
-use Rattle.command_words.specs.declared.request.CheckRequest.{CheckRequest}
-use Rattle.check_output.specs.Output.{IsMadeOf, last_line, unread_line}
-use Rattle.check_output.specs.declared.file.Comes.TheVariants as comes
+use Rattle.diagnostics.specs.check_output.Found.{Found, Gave, IsFound, Lost, greatest_status, has_tables, name_of, output_of, status_of_one, text_of}
+use Rattle.diagnostics.specs.declared.check_output.file.Files.{Files}
+use Rattle.cli.specs.declared.request.CheckRequest.{CheckRequest}
+use Rattle.diagnostics.specs.check_output.Output.{IsMadeOf, last_line, unread_line}
+use Rattle.diagnostics.specs.declared.check_output.file.Comes.TheVariants as comes
 use Rattle.litmus_command.specs.Check.{AreGoneOver, AreLeft, CheckAsksFor, GoesOver, IsGoneOver, IsLeftOver, IsListFault, IsSeveral, IsToldOf, IsToldOfLost}
 use Rattle.litmus_command.specs.Check.{Whole, asked_of, list_complaint, once_told}
 use Rattle.litmus_command.specs.Told.{heard}
@@ -21,10 +21,10 @@ use Rattle.litmus_command.specs.declared.command.Failure.TheVariants as failure
 use Rattle.litmus_command.specs.declared.complaint.Complaint.TheVariants as complaint
 use Rattle.litmus_syntax.specs.declared.error.ParseError.{ParseError}
 use Rattle.run_output.specs.declared.error.EngineError.TheVariants as engine
-use Rattle.text_check.specs.declared.checked.Check.{Check}
+use Rattle.diagnostics.specs.declared.text_check.checked.Check.{Check}
 use Rattle.litmus_command.specs.Files.{FileEvent, noted}
 use Rattle.litmus_parse.specs.Text.{file_bytes}
-use Rattle.text_check.specs.declared.checked.Check.TheVariants.{Misplaced, Reads, Refused}
+use Rattle.diagnostics.specs.declared.text_check.checked.Check.TheVariants.{Misplaced, Reads, Refused}
 use Rattle.litmus_command.specs.declared.command.Failure.{Failure}
 use Rattle.litmus_command.specs.declared.complaint.Complaint.{Complaint}
 

@@ -2,9 +2,9 @@
 use Rattle.std.proofs.Common.{◌≡◌, ◌≢◌, ◌∙◌, ◌⊎◌, ℕ, Bool, Err, IfErr, IfOk, List, Ok, OnErr, OnOk, Option, Result, Vec, ap, arith, false, inl, inr, refl, subst, sym, true}
 use Rattle.std.specs.Global.{Global}
 use Rattle.std.specs.Prelude.{IsErrAnd, IsErrOf}
-use Rattle.command_words.specs.declared.request.Request.{Request}
-use Rattle.command_words.specs.declared.request.Request.TheVariants.{Search}
-use Rattle.command_words.specs.declared.request.SearchRequest.{SearchRequest}
+use Rattle.cli.specs.declared.request.Request.{Request}
+use Rattle.cli.specs.declared.request.Request.TheVariants.{Search}
+use Rattle.cli.specs.declared.request.SearchRequest.{SearchRequest}
 use Rattle.litmus_command.specs.Check.{Whole}
 use Rattle.litmus_command.specs.Command.{DoesNotRead, DoesRead, IsCut, IsDone, IsGiven, IsGivenInPart, IsMisused, IsOfFile, IsRefusedOf, NothingIsWritten, Reads}
 use Rattle.litmus_command.specs.Command.{SearchIsDone, State, end_status_of, once_read, read_failure, state_in, status_of}

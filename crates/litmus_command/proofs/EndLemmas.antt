@@ -4,10 +4,10 @@ use Rattle.std.proofs.Common.{if◌then◌else◌, nat_lt, refl, subst, sym, tru
 use Rattle.std.proofs.lemmas.Bool.{cases_lt}
 use Rattle.litmus_parse.specs.Text.{file_bytes}
 use Rattle.run_output.specs.declared.error.EngineError.TheVariants as engine
-use Rattle.check_output.specs.Found.{Found, Gave, IsFound, Lost, greatest_status, output_of, status_of_one}
-use Rattle.check_output.specs.declared.file.Files.{Files}
-use Rattle.command_words.specs.Bounds.{KeepsCheckBounds}
-use Rattle.command_words.specs.declared.request.CheckRequest.{CheckRequest}
+use Rattle.diagnostics.specs.check_output.Found.{Found, Gave, IsFound, Lost, greatest_status, output_of, status_of_one}
+use Rattle.diagnostics.specs.declared.check_output.file.Files.{Files}
+use Rattle.cli.specs.Bounds.{KeepsCheckBounds}
+use Rattle.cli.specs.declared.request.CheckRequest.{CheckRequest}
 use Rattle.litmus_command.specs.Check.{AreGoneOver, AreListsAtFault, CheckAsksFor, CheckEnds, Checked, Early, IsGoneOver, IsLeftOver, IsListFault, IsToldOfLost}
 use Rattle.litmus_command.specs.Check.{IsPrinted, IsSeveral, Left, Unread, Whole, asked_of, once_told}
 use Rattle.litmus_command.specs.Command.{EndsAs, IsOfNoOverwrite, Reads, Tells, complaint_status_of, state_in, status_of, text_status_of}
@@ -20,8 +20,8 @@ use Rattle.litmus_command.specs.declared.complaint.Complaint.TheVariants as comp
 use Rattle.litmus_syntax.specs.declared.error.ParseError.{ParseError}
 use Rattle.litmus_syntax.specs.declared.error.ParseError.TheVariants as parse
 use Rattle.report_text.specs.Sink.{CountsFailure, appended}
-use Rattle.program_sites.specs.declared.settings.Settings.{Settings}
-use Rattle.text_check.specs.declared.checked.Check.TheVariants as checks
+use Rattle.prepared_program.specs.declared.program_sites.settings.Settings.{Settings}
+use Rattle.diagnostics.specs.declared.text_check.checked.Check.TheVariants as checks
 
 -- what can be said of the end of a check of one file
 pub record Ends (status : ℕ) (before after : Whole) : Type 0 where

@@ -2,14 +2,14 @@
 use Rattle.std.proofs.Common.{◌≡◌, ◌∙◌, ◌<◌, ◌++◌, ◌∷◌, [], ℕ, suc, List, Some, ap, ap₂, append_assoc, arith, length, refl, slice_get, subst, sym}
 use Rattle.std.proofs.lemmas.List.Splits.{join_with_byte-slice_split}
 use Rattle.std.specs.List.{join_with_byte}
-use Rattle.list_faults.specs.Item.{items_of}
-use Rattle.list_faults.specs.Places as places
-use Rattle.list_faults.specs.Schedules as schedules
+use Rattle.diagnostics.specs.option_diagnostics.Item.{items_of}
+use Rattle.diagnostics.specs.option_diagnostics.Places as places
+use Rattle.diagnostics.specs.option_diagnostics.Schedules as schedules
 use Rattle.litmus_command.specs.Lists.{SpellsNoPlaces, SpellsNoSchedule}
-use Rattle.place_list.specs.Spelling as place
-use Rattle.program_layout.specs.declared.place.Place.{Place}
-use Rattle.step_schedule.specs.Spelling as schedule
-use Rattle.step_schedule.specs.declared.schedule.Entry.{Entry}
+use Rattle.option_lists.specs.place_list.Spelling as place
+use Rattle.prepared_program.specs.declared.program_layout.place.Place.{Place}
+use Rattle.option_lists.specs.step_schedule.Spelling as schedule
+use Rattle.option_lists.specs.declared.step_schedule.schedule.Entry.{Entry}
 
 join-append : (x : List ℕ) (xs : List (List ℕ)) (y : List ℕ) (ys : List (List ℕ))
     → join_with_byte 44 ((x ∷ xs) ++ y ∷ ys) ≡ join_with_byte 44 (x ∷ xs) ++ 44 ∷ join_with_byte 44 (y ∷ ys)

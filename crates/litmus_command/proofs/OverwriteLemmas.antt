@@ -1,7 +1,7 @@
 -- What is so where a file that would be overwritten was kept.
 use Rattle.std.proofs.Common.{◌≡◌, ◌≤◌, ◌∙◌, ◌⊎◌, ℕ, List, ap, arith, inl, inr, sym}
-use Rattle.command_words.specs.declared.request.Request.{Request}
-use Rattle.command_words.specs.declared.request.Request.TheVariants as requests
+use Rattle.cli.specs.declared.request.Request.{Request}
+use Rattle.cli.specs.declared.request.Request.TheVariants as requests
 use Rattle.litmus_command.specs.Check.{Whole}
 use Rattle.litmus_command.specs.Command.{EndsAs, IsChecked, Reads, State, state_in}
 use Rattle.litmus_command.specs.Overwrite.{IsKept, Overwrites}

@@ -9,29 +9,29 @@ use Rattle.litmus_command.specs.declared.command.Failure.TheVariants as failure
 use Rattle.run_output.specs.declared.error.EngineError.{EngineError}
 use Rattle.run_output.specs.declared.error.EngineError.TheVariants as engine
 use Rattle.std.specs.Option.{option_map}
-use Rattle.program_sites.specs.declared.error.RunError.{RunError}
+use Rattle.prepared_program.specs.declared.program_sites.error.RunError.{RunError}
 use Rattle.litmus_syntax.specs.declared.error.ParseError.{ParseError}
 use Rattle.litmus_syntax.specs.declared.error.ParseError.TheVariants as parse
-use Rattle.program_sites.specs.declared.error.RunError.TheVariants as run
+use Rattle.prepared_program.specs.declared.program_sites.error.RunError.TheVariants as run
 use Rattle.trace_replay.specs.declared.accepted.TraceError.{TraceError}
 use Rattle.trace_replay.specs.declared.accepted.TraceError.TheVariants as trace
-use Rattle.picture.specs.declared.error.PictureError.{PictureError}
-use Rattle.picture.specs.declared.error.PictureError.TheVariants as picture
+use Rattle.timeline.specs.declared.picture.error.PictureError.{PictureError}
+use Rattle.timeline.specs.declared.picture.error.PictureError.TheVariants as picture
 use Rattle.litmus_command.specs.Command.{picture_status_of}
 use Rattle.litmus_command.specs.Engine.{IsRefused, Stops, StopsReady, StopsRun}
-use Rattle.run_tally.specs.Errors as tally
+use Rattle.run_stats.specs.Errors as tally
 use Rattle.search_output.specs.Texts as search
 use Rattle.litmus_command.specs.Command.{Tells}
 use Rattle.litmus_command.specs.Told.{heard}
 use Rattle.litmus_command.specs.declared.complaint.Complaint.{Complaint}
 use Rattle.litmus_command.specs.declared.complaint.Complaint.TheVariants as complaint
-use Rattle.run_tally.specs.Errors.{IsNotRead}
+use Rattle.run_stats.specs.Errors.{IsNotRead}
 use Rattle.litmus_parse.specs.Read.{IsReadAs}
 use Rattle.litmus_syntax.specs.declared.program.Program.{Program}
-use Rattle.program_layout.specs.Places.{AreFit}
-use Rattle.program_sites.specs.Errors.{IsOfPreparing}
-use Rattle.program_sites.specs.declared.settings.Settings.{Settings}
-use Rattle.step_schedule.specs.declared.schedule.Entry.{Entry}
+use Rattle.prepared_program.specs.program_layout.Places.{AreFit}
+use Rattle.prepared_program.specs.program_sites.Errors.{IsOfPreparing}
+use Rattle.prepared_program.specs.declared.program_sites.settings.Settings.{Settings}
+use Rattle.option_lists.specs.declared.step_schedule.schedule.Entry.{Entry}
 
 -- a status that a failure can end with
 abbrev pub IsKnown : ℕ → Type 0

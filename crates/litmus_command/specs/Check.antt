@@ -1,14 +1,14 @@
 -- What `check` does with its files.
 use Rattle.std.specs.Global.{Global}
 use Rattle.std.specs.Prelude.{◌≡◌, ◌<◌, ◌⊎◌, ℕ, All, Bool, List, [], ◌∷◌, None, Option, Some, Vec, false, length, map, nat_lt, take, true}
-use Rattle.check_output.specs.Found.{Found, Gave, IsFound, Lost, greatest_status, has_tables, name_of, output_of, status_of_one, text_of}
-use Rattle.check_output.specs.Output.{misplaced_text, unread_line}
-use Rattle.check_output.specs.declared.file.Files.{Files}
-use Rattle.check_output.specs.declared.told.Lines.{Lines}
-use Rattle.command_words.specs.declared.request.CheckRequest.{CheckRequest}
-use Rattle.command_words.specs.declared.request.RunOptions.{RunOptions}
-use Rattle.list_faults.specs.Places as places
-use Rattle.list_faults.specs.Schedules as schedule_items
+use Rattle.diagnostics.specs.check_output.Found.{Found, Gave, IsFound, Lost, greatest_status, has_tables, name_of, output_of, status_of_one, text_of}
+use Rattle.diagnostics.specs.check_output.Output.{misplaced_text, unread_line}
+use Rattle.diagnostics.specs.declared.check_output.file.Files.{Files}
+use Rattle.diagnostics.specs.declared.check_output.told.Lines.{Lines}
+use Rattle.cli.specs.declared.request.CheckRequest.{CheckRequest}
+use Rattle.cli.specs.declared.request.RunOptions.{RunOptions}
+use Rattle.diagnostics.specs.option_diagnostics.Places as places
+use Rattle.diagnostics.specs.option_diagnostics.Schedules as schedule_items
 use Rattle.litmus_command.specs.Files.{FileEvent, OnlyRead, noted}
 use Rattle.litmus_command.specs.Files as events
 use Rattle.litmus_command.specs.Lists.{SpellsNoPlaces, SpellsNoSchedule, SpellsSchedule}
@@ -22,11 +22,11 @@ use Rattle.litmus_command.specs.declared.complaint.Complaint.{Complaint}
 use Rattle.litmus_command.specs.declared.complaint.Complaint.TheVariants as complaint
 use Rattle.report_text.specs.Sink.{CountsFailure, HoldsBeginning, appended}
 use Rattle.litmus_parse.specs.Text.{file_bytes}
-use Rattle.program_sites.specs.declared.settings.Settings.{Settings}
+use Rattle.prepared_program.specs.declared.program_sites.settings.Settings.{Settings}
 use Rattle.run_output.specs.declared.error.EngineError.TheVariants as engine
-use Rattle.step_schedule.specs.Spelling as schedules
-use Rattle.step_schedule.specs.declared.schedule.Entry.{Entry}
-use Rattle.text_check.specs.declared.checked.Check.TheVariants.{Misplaced, Reads, Refused}
+use Rattle.option_lists.specs.step_schedule.Spelling as schedules
+use Rattle.option_lists.specs.declared.step_schedule.schedule.Entry.{Entry}
+use Rattle.diagnostics.specs.declared.text_check.checked.Check.TheVariants.{Misplaced, Reads, Refused}
 
 -- what standard output has taken, how often it has failed, what was done with files, what standard error was told, and how often the read of
 -- a file has failed

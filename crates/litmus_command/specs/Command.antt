@@ -1,39 +1,39 @@
 -- What the program does for what it is asked, and what each status says.
 use Rattle.std.specs.Prelude.{◌≡◌, ◌≢◌, ◌<◌, ◌≤◌, ◌⊎◌, ℕ, List, Option, Some, None, Bool, true, false, is_some}
 use Rattle.std.specs.Option.{option_map}
-use Rattle.command_words.specs.Bounds.{MayBeAsked}
+use Rattle.cli.specs.Bounds.{MayBeAsked}
 use Rattle.clap.specs.Words.{kind_of}
 use Rattle.clap.specs.declared.error.Error.{Error}
 use Rattle.clap.specs.declared.error.kind.ErrorKind.{ErrorKind}
 use Rattle.clap.specs.declared.error.kind.ErrorKind.TheVariants as kinds
-use Rattle.command_words.specs.Words.{Ask, AskForHelp, MayFail}
-use Rattle.command_words.specs.declared.request.CheckRequest.{CheckRequest}
-use Rattle.command_words.specs.declared.request.ReplayRequest.{ReplayRequest}
-use Rattle.command_words.specs.declared.request.Request.{Request}
-use Rattle.command_words.specs.declared.request.Request.TheVariants as requests
-use Rattle.command_words.specs.declared.request.RunOptions.{RunOptions}
-use Rattle.command_words.specs.declared.request.RunRequest.{RunRequest}
-use Rattle.command_words.specs.declared.request.SearchRequest.{SearchRequest}
-use Rattle.command_words.specs.declared.request.ShowRequest.{ShowRequest}
-use Rattle.command_words.specs.declared.request.StepRequest.{StepRequest}
-use Rattle.command_words.specs.declared.request.Switches.{Switches}
-use Rattle.command_words.specs.declared.request.Switches.TheVariants as switches
+use Rattle.cli.specs.Words.{Ask, AskForHelp, MayFail}
+use Rattle.cli.specs.declared.request.CheckRequest.{CheckRequest}
+use Rattle.cli.specs.declared.request.ReplayRequest.{ReplayRequest}
+use Rattle.cli.specs.declared.request.Request.{Request}
+use Rattle.cli.specs.declared.request.Request.TheVariants as requests
+use Rattle.cli.specs.declared.request.RunOptions.{RunOptions}
+use Rattle.cli.specs.declared.request.RunRequest.{RunRequest}
+use Rattle.cli.specs.declared.request.SearchRequest.{SearchRequest}
+use Rattle.cli.specs.declared.request.ShowRequest.{ShowRequest}
+use Rattle.cli.specs.declared.request.StepRequest.{StepRequest}
+use Rattle.cli.specs.declared.request.Switches.{Switches}
+use Rattle.cli.specs.declared.request.Switches.TheVariants as switches
 use Rattle.litmus_parse.specs.Grammar.{SpellsProgram}
 use Rattle.litmus_parse.specs.Text.{file_bytes}
 use Rattle.litmus_syntax.specs.Tree as tree
-use Rattle.place_list.specs.Spelling as places
+use Rattle.option_lists.specs.place_list.Spelling as places
 use Rattle.report_text.specs.Faults.{size_limit}
 use Rattle.report_text.specs.Sink.{CountsFailure, HoldsBeginning, appended}
 use Rattle.litmus_syntax.specs.declared.error.ParseError.{ParseError}
 use Rattle.litmus_syntax.specs.declared.error.ParseError.TheVariants as parse
-use Rattle.run_tally.specs.Errors as tally
-use Rattle.run_tally.specs.Output as tally_output
-use Rattle.run_tally.specs.declared.times.Times.{Times}
-use Rattle.program_sites.specs.declared.error.RunError.{RunError}
-use Rattle.program_sites.specs.declared.error.RunError.TheVariants as run
-use Rattle.step_schedule.specs.Spelling as schedules
-use Rattle.step_schedule.specs.declared.schedule.Entry.{Entry}
-use Rattle.program_sites.specs.declared.settings.Settings.{Settings}
+use Rattle.run_stats.specs.Errors as tally
+use Rattle.run_stats.specs.Output as tally_output
+use Rattle.run_stats.specs.declared.times.Times.{Times}
+use Rattle.prepared_program.specs.declared.program_sites.error.RunError.{RunError}
+use Rattle.prepared_program.specs.declared.program_sites.error.RunError.TheVariants as run
+use Rattle.option_lists.specs.step_schedule.Spelling as schedules
+use Rattle.option_lists.specs.declared.step_schedule.schedule.Entry.{Entry}
+use Rattle.prepared_program.specs.declared.program_sites.settings.Settings.{Settings}
 use Rattle.search_all.specs.Texts.{AllIsSearched}
 use Rattle.search_all.specs.declared.wanted.AllWanted.{AllWanted}
 use Rattle.search_output.specs.Texts as searched
@@ -42,7 +42,7 @@ use Rattle.search_run.specs.declared.wanted.Wanted.{Wanted}
 use Rattle.trace_replay.specs.Answer as answers
 use Rattle.trace_replay.specs.declared.accepted.TraceError.{TraceError}
 use Rattle.trace_replay.specs.declared.accepted.TraceError.TheVariants as trace
-use Rattle.text_check.specs.Calls.{calls_text}
+use Rattle.diagnostics.specs.text_check.Calls.{calls_text}
 use Rattle.litmus_command.specs.Check.{CheckAsksFor, CheckEnds, IsOutOfMemory, IsSeveral, Whole}
 use Rattle.litmus_command.specs.Engine.{IsRefused, TextLeaves}
 use Rattle.litmus_command.specs.Files.{FileEvent, Gave, Has, OnlyRead, noted}
@@ -53,9 +53,9 @@ pub use Rattle.litmus_command.specs.Settings.{AskSettings, settings_of}
 use Rattle.litmus_command.specs.Show.{IsDrawn}
 use Rattle.picture_text.specs.declared.cells.Style.{Style}
 use Rattle.picture_text.specs.declared.cells.Style.TheVariants.{Ascii}
-use Rattle.picture.specs.Drawn.{IsUndrawn}
-use Rattle.picture.specs.declared.error.PictureError.{PictureError}
-use Rattle.picture.specs.declared.error.PictureError.TheVariants as picture
+use Rattle.timeline.specs.picture.Drawn.{IsUndrawn}
+use Rattle.timeline.specs.declared.picture.error.PictureError.{PictureError}
+use Rattle.timeline.specs.declared.picture.error.PictureError.TheVariants as picture
 use Rattle.litmus_command.specs.Told.{heard}
 use Rattle.litmus_command.specs.declared.command.Failure.{Failure}
 use Rattle.litmus_command.specs.declared.command.Failure.TheVariants as failure

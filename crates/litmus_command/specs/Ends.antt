@@ -1,6 +1,6 @@
 -- How a command ends, and what its status says.
 use Rattle.std.specs.Prelude.{◌≡◌, ◌≢◌, ◌⊎◌, ℕ, List, Err, Ok, Result, false, true}
-use Rattle.command_words.specs.declared.request.Request.{Request}
+use Rattle.cli.specs.declared.request.Request.{Request}
 use Rattle.litmus_command.specs.Check.{Whole}
 use Rattle.litmus_command.specs.Command.{DoesRead, EndsAs, IsChecked, IsCut, IsDone, IsMisused, IsOfFile, IsOfSeveral, IsRefusedOf, IsStopped}
 use Rattle.litmus_command.specs.Command.{IsToldApart, NothingIsWritten, Reads, State, Tells, state_in, status_of}

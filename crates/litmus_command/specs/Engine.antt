@@ -2,26 +2,26 @@
 use Rattle.std.specs.Prelude.{◌≡◌, ◌<◌, ◌==◌, ◌⊎◌, ℕ, List, [], Option, Bool, IfSome, IsTrue, false, length, not}
 use Rattle.access_types.specs.Sites.{AccessMap}
 use Rattle.litmus_parse.specs.Read.{IsReadAs}
-use Rattle.program_sites.specs.declared.error.RunError.{RunError}
-use Rattle.program_sites.specs.declared.error.RunError.TheVariants.{BadPlace, BadSchedule, BadSlots, NoThread, OutOfMemory, Stuck}
+use Rattle.prepared_program.specs.declared.program_sites.error.RunError.{RunError}
+use Rattle.prepared_program.specs.declared.program_sites.error.RunError.TheVariants.{BadPlace, BadSchedule, BadSlots, NoThread, OutOfMemory, Stuck}
 use Rattle.run_output.specs.Output.{IsOutput}
 use Rattle.run_output.specs.Traces.{IsToBeAccepted, IsTraceOf}
-use Rattle.run_tally.specs.Errors.{IsNotRead}
+use Rattle.run_stats.specs.Errors.{IsNotRead}
 use Rattle.run_output.specs.declared.error.EngineError.{EngineError}
 use Rattle.run_output.specs.declared.error.EngineError.TheVariants.{Run, SinkFailed, Text}
 use Rattle.litmus_step.specs.Runs.{IsStuck, run_of, tasks_of}
-use Rattle.program_sites.specs.declared.settings.Settings.{Settings}
+use Rattle.prepared_program.specs.declared.program_sites.settings.Settings.{Settings}
 use Rattle.litmus_syntax.specs.declared.program.Program.{Program}
-use Rattle.program_layout.specs.Places.{AreFit}
-use Rattle.run_headline.specs.Headline.{Headline}
-use Rattle.run_lists.specs.Reports.{reports_of}
-use Rattle.run_lists.specs.Run as lists
-use Rattle.run_lists.specs.RunList.{AllHaveEnded, RunList}
+use Rattle.prepared_program.specs.program_layout.Places.{AreFit}
+use Rattle.soundness.specs.Headline.{Headline}
+use Rattle.executions.specs.run_lists.Reports.{reports_of}
+use Rattle.executions.specs.run_lists.Run as lists
+use Rattle.executions.specs.run_lists.RunList.{AllHaveEnded, RunList}
 use Rattle.slot_table.specs.declared.records.Record.{Record}
 use Rattle.schedule_search.specs.Again.{tasks_known}
-use Rattle.step_schedule.specs.Order.{AreAsked, IsOrder}
-use Rattle.step_schedule.specs.Schedule.{names_stranger}
-use Rattle.step_schedule.specs.declared.schedule.Entry.{Entry}
+use Rattle.option_lists.specs.step_schedule.Order.{AreAsked, IsOrder}
+use Rattle.option_lists.specs.step_schedule.Schedule.{names_stranger}
+use Rattle.option_lists.specs.declared.step_schedule.schedule.Entry.{Entry}
 
 -- from the first step on the tasks of the run were asked in the order of the schedule, and these are the steps that they made
 pub record AreStepped (run : lists.Run) (entries : List Entry) (records : List Record) : Type 0 where

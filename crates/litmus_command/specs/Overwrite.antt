@@ -2,12 +2,12 @@
 use Rattle.std.specs.Prelude.{◌≡◌, ◌⊎◌, ◌∷◌, [], ℕ, List, Option, Some, codes}
 use Rattle.std.specs.List.{concat}
 use Rattle.std.specs.Option.{option_map}
-use Rattle.check_output.specs.declared.told.Lines.{Lines}
-use Rattle.command_words.specs.declared.request.Request.{Request}
-use Rattle.command_words.specs.declared.request.Request.TheVariants as requests
+use Rattle.diagnostics.specs.declared.check_output.told.Lines.{Lines}
+use Rattle.cli.specs.declared.request.Request.{Request}
+use Rattle.cli.specs.declared.request.Request.TheVariants as requests
 use Rattle.litmus_command.specs.Check.{IsOutOfMemory, Whole, once_told}
 use Rattle.litmus_command.specs.declared.complaint.Complaint.TheVariants as complaint
-use Rattle.text_pieces.specs.Shown.{shown}
+use Rattle.program_table.specs.text_pieces.Shown.{shown}
 
 -- both are this path: that of the file that is read, and that of one that is to be written
 pub record AreSamePath (input : List ℕ) (output : Option (List ℕ)) (path : List ℕ) : Type 0 where

@@ -1,11 +1,11 @@
 -- What a program is run under, as the options ask for it.
 use Rattle.std.specs.Global.{Global}
 use Rattle.std.specs.Prelude.{◌≡◌, Vec, not}
-use Rattle.command_words.specs.Bounds.{KeepsBounds}
-use Rattle.command_words.specs.declared.request.RunOptions.{RunOptions}
-use Rattle.place_list.specs.Spelling as places
-use Rattle.program_layout.specs.declared.place.Place.{Place}
-use Rattle.program_sites.specs.declared.settings.Settings.{Settings}
+use Rattle.cli.specs.Bounds.{KeepsBounds}
+use Rattle.cli.specs.declared.request.RunOptions.{RunOptions}
+use Rattle.option_lists.specs.place_list.Spelling as places
+use Rattle.prepared_program.specs.declared.program_layout.place.Place.{Place}
+use Rattle.prepared_program.specs.declared.program_sites.settings.Settings.{Settings}
 
 -- what a run goes by, as it is asked for, with these places
 abbrev pub settings_of : RunOptions → Vec Place Global → Settings

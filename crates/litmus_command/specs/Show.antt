@@ -2,9 +2,9 @@
 use Rattle.std.specs.Prelude.{◌≡◌, ℕ, Bool, List, None, Option, Some, false, true}
 use Rattle.picture_text.specs.Text.{picture_text}
 use Rattle.picture_text.specs.declared.cells.Style.{Style}
-use Rattle.picture.specs.Drawn.{IsPictureOf}
-use Rattle.picture.specs.declared.draw.Picture.{Picture}
-use Rattle.picture_svg.specs.Svg.{picture_svg}
+use Rattle.timeline.specs.picture.Drawn.{IsPictureOf}
+use Rattle.timeline.specs.declared.picture.draw.Picture.{Picture}
+use Rattle.timeline.specs.picture_svg.Svg.{picture_svg}
 
 -- the picture as SVG, where that is wanted
 abbrev pub svg_if : Bool → Picture → Option (List ℕ)

@@ -1,10 +1,10 @@
 //! The check of litmus files: nothing is run; what is said of each file is printed, or told.
 
 ghost use Rattle.std.specs.Prelude.{◌≡◌, ◌⊎◌, ◌≤◌, ℕ, List, Option, IfErr, IfOk, OnErr, false, true};
-ghost use Rattle.check_output.specs.Found.{Found, Gave, IsFound, Lost, name_of};
-ghost use Rattle.check_output.specs.Output.{IsMadeOf};
-ghost use Rattle.check_output.specs.declared.file.Files.{Files};
-ghost use Rattle.command_words.specs.Bounds.{KeepsCheckBounds};
+ghost use Rattle.diagnostics.specs.check_output.Found.{Found, Gave, IsFound, Lost, name_of};
+ghost use Rattle.diagnostics.specs.check_output.Output.{IsMadeOf};
+ghost use Rattle.diagnostics.specs.declared.check_output.file.Files.{Files};
+ghost use Rattle.cli.specs.Bounds.{KeepsCheckBounds};
 ghost use Rattle.litmus_command.specs.Check as spec;
 ghost use Rattle.litmus_command.specs.Check.{AreChecked, AreLeft, AreListsAtFault, CheckAsksFor, CheckEnds, IsEndOf, IsGoneOver, IsLeftOver, IsPrinted, IsToldOf};
 ghost use Rattle.litmus_command.specs.Check.{once_told, options_of, whole_of};
@@ -12,23 +12,23 @@ ghost use Rattle.litmus_command.specs.Command.{complaint_status_of};
 ghost use Rattle.litmus_command.specs.Ends.{CommandEnds};
 ghost use Rattle.litmus_command.specs.Told.{heard};
 ghost use Rattle.litmus_command.specs.declared.complaint.Complaint.{Complaint};
-ghost use Rattle.program_sites.specs.declared.settings.Settings.{Settings};
-ghost use Rattle.text_check.specs.Check.{IsCheckOf};
-ghost use Rattle.text_check.specs.declared.checked.Check.{Check};
+ghost use Rattle.prepared_program.specs.declared.program_sites.settings.Settings.{Settings};
+ghost use Rattle.diagnostics.specs.text_check.Check.{IsCheckOf};
+ghost use Rattle.diagnostics.specs.declared.text_check.checked.Check.{Check};
 
 use crate::command::{Failure, NO_REPORT, settings};
 use crate::complaint::Complaint;
 use crate::desk::{Desk, ReadFault};
-use check_output::{Comes, Files, Lines, file_comes, last_line, unread_line};
-use command_words::{CheckRequest, Request, RunOptions};
-use list_faults::{place_fault, schedule_fault};
+use cli::{CheckRequest, Request, RunOptions};
+use diagnostics::check_output::{Comes, Files, Lines, file_comes, last_line, unread_line};
+use diagnostics::option_diagnostics::{place_fault, schedule_fault};
+use diagnostics::text_check::calls;
 use litmus_parse::FILE_BYTES;
 use litmus_step::Settings;
-use place_list::parse_places;
+use option_lists::place_list::parse_places;
+use option_lists::step_schedule::Schedule;
 use run_output::EngineError;
 use std::alloc::{AllocError, Global};
-use step_schedule::Schedule;
-use text_check::calls;
 
 /// What came of a file.
 #[derive(Drop)]

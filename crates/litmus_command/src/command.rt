@@ -1,9 +1,9 @@
 //! The command line: what the words ask for is done, and the status that the program ends with.
 
 ghost use Rattle.std.specs.Prelude.{◌≡◌, ◌≢◌, ◌≤◌, ◌⊎◌, ℕ, List, IfErr, IfOk, OnErr, OnOk, is_some, true, false, map};
-ghost use Rattle.command_words.specs.Bounds.{KeepsBounds, KeepsRunBounds, KeepsSearchBounds, MayBeAsked};
-ghost use Rattle.command_words.specs.Words.{AskForHelp, MayFail};
-ghost use Rattle.command_words.specs.declared.request.Request as spec;
+ghost use Rattle.cli.specs.Bounds.{KeepsBounds, KeepsRunBounds, KeepsSearchBounds, MayBeAsked};
+ghost use Rattle.cli.specs.Words.{AskForHelp, MayFail};
+ghost use Rattle.cli.specs.declared.request.Request as spec;
 ghost use Rattle.clap.specs.Words.{kind_of};
 ghost use Rattle.litmus_command.specs.Check.{IsOutOfMemory, Whole, once_told, whole_of};
 ghost use Rattle.litmus_command.specs.Command.{AskForOne, AskSettings, AsksFor, EndsAs, HelpIsCut, HelpIsGiven, IsCut, IsDone, IsGiven, IsGivenInPart};
@@ -18,7 +18,7 @@ ghost use Rattle.litmus_command.specs.declared.command.Failure.TheVariants.{Engi
 ghost use Rattle.picture_text.specs.declared.cells.Style.TheVariants.{Ascii};
 ghost use Rattle.report_text.specs.Sink.{CountsFailure};
 ghost use Rattle.std.specs.Option.{option_map};
-ghost use Rattle.step_schedule.specs.Schedule.{entries_of};
+ghost use Rattle.option_lists.specs.step_schedule.Schedule.{entries_of};
 
 use crate::check::{carry_check, list_calls};
 use crate::complaint::Complaint;
@@ -29,23 +29,23 @@ use crate::replay::replayed;
 use crate::search::search_for;
 use crate::show::drawn;
 use clap::error::ErrorKind;
-use command_words::{
+use cli::{
     ReplayRequest, Request, RunOptions, RunRequest, SearchRequest, ShowRequest, StepRequest, asked,
 };
 use litmus_parse::{FILE_BYTES, ParseError};
 use litmus_step::{RunError, Settings};
-use picture::PictureError;
+use option_lists::place_list::parse_places;
+use option_lists::step_schedule::Schedule;
 use picture_text::Style;
-use place_list::parse_places;
-use program_layout::Place;
+use prepared_program::program_layout::Place;
 use run_output::{EngineError, Written};
-use run_tally::{Times, run_text_often};
+use run_stats::{Times, run_text_often};
 use std::alloc::{AllocError, Global};
 use std::convert::AsStr;
 use std::sync::Wait;
 use std::thread::Threads;
-use step_schedule::Schedule;
 use thiserror::Error;
+use timeline::picture::PictureError;
 use trace_replay::{SIZE_LIMIT, TraceError};
 
 /// The program ran, and there was no report; or nothing was to be run.
@@ -452,7 +452,7 @@ fn end_status(raced: bool, stopped: bool) -> u8
 
 /// Gives what is left of runs or of a search, which may have been stopped: the trace, if it is asked for and there is one,
 /// and then the output. The status that the program ends with.
-fn give<D: Desk>(
+fn emit<D: Desk>(
     path: Option<&str>,
     written: &Written,
     stopped: bool,
@@ -488,7 +488,7 @@ fn step<D: Desk>(alloc: Global, request: &StepRequest<'_>, desk: &mut D) -> Resu
     let text = desk.read_file(alloc, request.file, FILE_BYTES)?;
     let traced = request.options.trace.is_some();
     let written = run_text(alloc, &text, &settings, &schedule, traced)?;
-    give(request.options.trace, &written, false, desk)
+    emit(request.options.trace, &written, false, desk)
 }
 
 /// How often a program is run, and how, as it is asked for.
@@ -529,7 +529,7 @@ fn run<R: Threads + Wait + Sync, D: Desk>(
     let traced = request.options.trace.is_some();
     let written = run_text_often(rt, alloc, &text, &settings, times, traced, &*desk)?;
     advise(written.raced, &*desk);
-    give(request.options.trace, &written, false, desk)
+    emit(request.options.trace, &written, false, desk)
 }
 
 /// Searches a file, and gives what is left of that.
@@ -546,7 +546,7 @@ fn search<R: Threads + Sync, D: Desk>(
     let settings = settings_for(alloc, &request.options)?;
     let text = desk.read_file(alloc, request.file, FILE_BYTES)?;
     let found = search_for(rt, alloc, request, &text, &settings, &*desk)?;
-    give(request.options.trace, &found.written, found.stopped, desk)
+    emit(request.options.trace, &found.written, found.stopped, desk)
 }
 
 /// Checks a trace, and writes what is said of one that is accepted. No report is told of.
@@ -581,7 +581,7 @@ fn show<D: Desk>(alloc: Global, request: &ShowRequest<'_>, desk: &mut D) -> Resu
     let bytes = desk.read_file(alloc, request.trace, SIZE_LIMIT)?;
     let style = style_for(request, &*desk);
     let written = drawn(alloc, &bytes, style, request.svg.is_some())?;
-    give(request.svg, &written, false, desk)
+    emit(request.svg, &written, false, desk)
 }
 
 /// Help goes to standard output, and what is wrong with the words to standard error.

@@ -6,7 +6,7 @@ ghost use Rattle.litmus_command.specs.declared.command.Failure.TheVariants.{OutO
 ghost use Rattle.litmus_command.specs.declared.complaint.Complaint.TheVariants as complaints;
 
 use crate::command::{Failure, USAGE};
-use check_output::Lines;
+use diagnostics::check_output::Lines;
 use std::alloc::AllocError;
 use thiserror::Error;
 

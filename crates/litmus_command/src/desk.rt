@@ -9,7 +9,7 @@ ghost use Rattle.report_text.specs.Sink.{CountsFailure, Writes};
 
 use crate::complaint::Complaint;
 use report_text::WriteError;
-use run_tally::Progress;
+use run_stats::Progress;
 use search_output::SearchProgress;
 use std::alloc::Global;
 

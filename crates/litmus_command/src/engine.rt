@@ -4,26 +4,26 @@ ghost use Rattle.std.specs.Prelude.{◌≡◌, ◌≤◌, ◌<◌, ◌==◌, ◌
 ghost use Rattle.std.specs.Option.{option_map};
 ghost use Rattle.litmus_command.specs.Engine.{IsRefused, Leaves, Stops, StopsReady, TextLeaves};
 ghost use Rattle.litmus_parse.specs.Text.{IsTextByte, file_bytes};
-ghost use Rattle.program_sites.specs.Prepared.{IsPrepared};
+ghost use Rattle.prepared_program.specs.program_sites.Prepared.{IsPrepared};
 ghost use Rattle.litmus_step.specs.Runs.{run_of};
 ghost use Rattle.litmus_step.specs.Steps.{LeadsTo};
 ghost use Rattle.litmus_syntax.specs.Limits.{KeepsLimits};
 ghost use Rattle.litmus_syntax.specs.Views.{program_of};
-ghost use Rattle.program_sites.specs.Prepared.{sites_in};
+ghost use Rattle.prepared_program.specs.program_sites.Prepared.{sites_in};
 ghost use Rattle.run_output.specs.Output.{IsOutput};
 ghost use Rattle.run_output.specs.Traces.{IsToBeAccepted, IsTraceOf};
 ghost use Rattle.run_output.specs.declared.error.EngineError.TheVariants.{SinkFailed, Text};
-ghost use Rattle.run_lists.specs.Reports.{reports_of};
-ghost use Rattle.run_lists.specs.Run.{Run};
-ghost use Rattle.run_lists.specs.RunList.{AllHaveEnded};
+ghost use Rattle.executions.specs.run_lists.Reports.{reports_of};
+ghost use Rattle.executions.specs.run_lists.Run.{Run};
+ghost use Rattle.executions.specs.run_lists.RunList.{AllHaveEnded};
 ghost use Rattle.slot_table.specs.declared.records.Record.{Record};
-ghost use Rattle.step_schedule.specs.Schedule.{entries_of};
+ghost use Rattle.option_lists.specs.step_schedule.Schedule.{entries_of};
 
 use litmus_parse::{Limit, ParseError, Program, parse};
 use litmus_step::{Prepared, Settings, World};
+use option_lists::step_schedule::Schedule;
 use run_output::{EngineError, Written, output_of, trace_if};
 use std::alloc::{AllocError, Global};
-use step_schedule::Schedule;
 
 /// Steps the program of a litmus text under a schedule to its end, and keeps what is written of the run: its trace only
 /// where that is wanted.
@@ -91,12 +91,12 @@ pub fn run_ready(
     ensures stops { IfErr result (StopsReady program.now settings.now (entries_of schedule.now)) }
 {
     world.run(schedule)?;
-    let written = left_of(alloc, program, settings, prepared, world, traced)?;
+    let written = render_run(alloc, program, settings, prepared, world, traced)?;
     Ok(written)
 }
 
 /// What is written of a run of a program that led to this world: its trace only where that is wanted.
-fn left_of(
+fn render_run(
     alloc: Global,
     program: &Program,
     settings: &Settings,

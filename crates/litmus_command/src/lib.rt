@@ -13,5 +13,5 @@ mod search;
 pub mod show;
 
 pub use run_output::EngineError;
-pub use run_tally::Progress;
+pub use run_stats::Progress;
 pub use search_output::SearchProgress;

@@ -10,10 +10,10 @@ use crate::check::tell;
 use crate::command::Failure;
 use crate::complaint::Complaint;
 use crate::desk::Desk;
-use check_output::Lines;
-use command_words::Request;
+use cli::Request;
+use diagnostics::check_output::Lines;
+use program_table::text_pieces::{joined, shown};
 use std::alloc::{AllocError, Global};
-use text_pieces::{joined, shown};
 
 /// The path of a file that is to be written, where that of the one that is read is the same text.
 fn same_path<'a>(input: &str, output: Option<&'a str>) -> Option<&'a str>

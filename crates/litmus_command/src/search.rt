@@ -5,7 +5,7 @@ ghost use Rattle.std.specs.Option.{option_map};
 ghost use Rattle.litmus_command.specs.Command.{IsSearchedFor, all_wanted_of, wanted_of};
 ghost use Rattle.search_output.specs.Texts.{IsRefused};
 
-use command_words::{SearchRequest, Switches};
+use cli::{SearchRequest, Switches};
 use litmus_step::Settings;
 use run_output::EngineError;
 use search_all::{AllWanted, search_all};

@@ -7,7 +7,7 @@ ghost use Rattle.litmus_cursor.specs.declared.cursor.Refusal.TheVariants.{OutOfM
 
 use crate::reason::{Expected, Fault, Unread, fault_of, unread_of};
 use crate::words::{Word, word_of};
-use litmus_lex::{Place, Sign, Token, next_token};
+use litmus_lex::{Sign, SourcePosition, Token, next_token};
 use std::alloc::{AllocError, AllocFailed, Global};
 
 /// What a text can have too much of, beside its bytes.
@@ -72,7 +72,11 @@ pub struct Spot<'a> {
 }
 
 /// The tokens of a text from a place on, without the end.
-pub fn tokens(alloc: Global, text: &[u8], start: Place) -> Result<Vec<Spot<'_>>, AllocError>
+pub fn tokens(
+    alloc: Global,
+    text: &[u8],
+    start: SourcePosition,
+) -> Result<Vec<Spot<'_>>, AllocError>
     requires { start.at ≤ length text.now }
     ensures spelled { IfOk result (λ spots. AreTokensFrom text.now start spots.items) }
     ensures found { IfOk result (λ spots. (found : List Placed) × AreSpots spots.items found) }

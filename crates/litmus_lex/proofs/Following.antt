@@ -5,7 +5,7 @@ use Rattle.std.specs.Prelude.{MatchOption}
 use Rattle.std.proofs.Math.Seq.{drop-length}
 use Rattle.std.proofs.lemmas.List.{drop-drop, take-append-drop}
 use Rattle.litmus_lex.specs.declared.token.Part.{Part}
-use Rattle.litmus_lex.specs.declared.token.Place.{Place}
+use Rattle.litmus_lex.specs.declared.token.SourcePosition.{SourcePosition}
 use Rattle.litmus_lex.specs.Gap.{IsAtToken, IsGap, IsUnclosed}
 use Rattle.litmus_lex.specs.Token.{Terminal, name, unclosed, Spells}
 use Rattle.litmus_lex.specs.Tokens.{Placed, First, Continues, StartsAt, part_after, part_behind, place_of}
@@ -27,7 +27,7 @@ closed_token part t a x bytes at spells token =
     record { starts = token; spells = spells; place = refl }
 
 -- from the first token of the bytes from a place on
-follows_first : (text : List ℕ) (place : Place) (next_part : Part) (next : ℕ) (token : Placed)
+follows_first : (text : List ℕ) (place : SourcePosition) (next_part : Part) (next : ℕ) (token : Placed)
     (f : First place.part place.at (drop place.at text) token)
     → part_after place.part token.terminal ≡ next_part
     → place.at + length f.gap + length f.spelled ≡ next → f.rest ≡ drop next text
@@ -43,7 +43,7 @@ follows_first text place next_part next token f part at rest tokens =
       ),
     )
 
-pub follows : (text : List ℕ) (place : Place) (next_part : Part) (next : ℕ) (bytes more : List ℕ)
+pub follows : (text : List ℕ) (place : SourcePosition) (next_part : Part) (next : ℕ) (bytes more : List ℕ)
     (len size : ℕ) (o : Option Terminal)
     → bytes ≡ drop place.at text → more ≡ drop len bytes → len ≤ length bytes
     → IsGap place.part (take len bytes) (drop len bytes) → IsAtToken place.part (drop len bytes)
@@ -93,7 +93,7 @@ follows text place next_part next bytes more len size
     (omega (arith, gap_len, size_is)) rest
 
 -- a comment that doesn't end is the last token
-pub follows_unclosed : (text : List ℕ) (place : Place) (next_part : Part) (next : ℕ)
+pub follows_unclosed : (text : List ℕ) (place : SourcePosition) (next_part : Part) (next : ℕ)
     (bytes gap comment : List ℕ)
     → place.at ≤ length text → bytes ≡ drop place.at text → bytes ≡ gap ++ comment
     → IsGap place.part gap comment → IsUnclosed place.part comment

@@ -2,7 +2,7 @@
 use Rattle.std.specs.Prelude.{◌≡◌, ◌↔◌, ◌+◌, ℕ, List, [], ◌∷◌, ◌++◌, Option, Some, None, length, drop}
 use Rattle.litmus_lex.specs.declared.sign.Sign.TheVariants.{OpenBrace, CloseBrace}
 use Rattle.litmus_lex.specs.declared.token.Part.{Part}
-use Rattle.litmus_lex.specs.declared.token.Place.{Place}
+use Rattle.litmus_lex.specs.declared.token.SourcePosition.{SourcePosition}
 use Rattle.litmus_lex.specs.declared.token.Lexeme.{Lexeme}
 use Rattle.litmus_lex.specs.Part.{opened, closed}
 use Rattle.litmus_lex.specs.Gap.{IsGap, IsAtToken, IsUnclosed}
@@ -58,12 +58,12 @@ AreTokens part at bytes (token ∷ tokens) =
 abbrev pub TokensAt : List ℕ → Part → ℕ → List Placed → Type 0
 TokensAt text part at tokens = AreTokens part at (drop at text) tokens
 
-abbrev pub TokensFrom : List ℕ → Place → List Placed → Type 0
+abbrev pub TokensFrom : List ℕ → SourcePosition → List Placed → Type 0
 TokensFrom text place tokens = TokensAt text place.part place.at tokens
 
 -- the tokens from a place on are the terminal, which stands at its own place, and those from the
 -- place behind it on; without a terminal there are none
-abbrev pub Continues : List ℕ → Place → Option Terminal → ℕ → Part → ℕ → Type 0
+abbrev pub Continues : List ℕ → SourcePosition → Option Terminal → ℕ → Part → ℕ → Type 0
 Continues text place None at part next =
     (tokens : List Placed) → TokensFrom text place tokens ↔ (tokens ≡ [])
 Continues text place (Some terminal) at part next =
@@ -72,6 +72,6 @@ Continues text place (Some terminal) at part next =
     × TokensAt text part next rest)
 
 -- what the text goes on with from the place is this token
-abbrev pub IsNext : List ℕ → Place → Lexeme → Type 0
+abbrev pub IsNext : List ℕ → SourcePosition → Lexeme → Type 0
 IsNext text place lexeme =
     Continues text place (terminal_of lexeme.token) lexeme.at lexeme.after.part lexeme.after.at

@@ -8,7 +8,7 @@ ghost use Rattle.litmus_lex.specs.Found.{IsPassedOf, IsTitle};
 
 use crate::bytes::{Class, run_len};
 use crate::gap::{Front, Gap, front_of, gap_of};
-use crate::token::{Part, Place};
+use crate::token::{Part, SourcePosition};
 
 /// A head, which is read.
 #[derive(Clone, Copy)]
@@ -16,7 +16,7 @@ pub struct Head<'a> {
     /// The test's name.
     pub name: &'a [u8],
     /// The first `{`, where tokens begin.
-    pub after: Place,
+    pub after: SourcePosition,
 }
 
 /// Reads the head: blanks and comments, `C`, blanks, the test's name (the longest run of bytes
@@ -37,7 +37,7 @@ pub fn read_head(text: &[u8]) -> Result<Head<'_>, usize>
             Ok(title) => match brace_of(&text[gap + title.end..]) {
                 Some(passed) => Ok(Head {
                     name: &text[gap + title.start..gap + title.end],
-                    after: Place {
+                    after: SourcePosition {
                         at: gap + title.end + passed,
                         part: Part::Init,
                     },

@@ -17,4 +17,4 @@ pub use lines::{column_of, line_of};
 pub use next::next_token;
 pub use sign::Sign;
 pub use source::{ReadError, Source, SourceFault, read_all};
-pub use token::{Lexeme, Part, Place, Token};
+pub use token::{Lexeme, Part, SourcePosition, Token};

@@ -10,13 +10,13 @@ ghost use Rattle.litmus_lex.specs.Found.{AreDigits, BeginsWith, IsEnding, Follow
 use crate::bytes::{Class, run_len};
 use crate::gap::{Gap, gap_of};
 use crate::sign::{Sign, sign_of};
-use crate::token::{Lexeme, Part, Place, Token};
+use crate::token::{Lexeme, Part, SourcePosition, Token};
 
 /// The token that the text goes on with from the place: blanks and comments are passed over.
 ///
 /// Every text has its tokens, one after the other, up to `End`: what can't be a token is one of
 /// `TooLarge`, `Stray` and `Unclosed`.
-pub fn next_token(text: &[u8], place: Place) -> Lexeme<'_>
+pub fn next_token(text: &[u8], place: SourcePosition) -> Lexeme<'_>
     requires { place.at ≤ length text.now }
     ensures within { result.after.at ≤ length text.now }
     ensures placed { result.at ≤ result.after.at }
@@ -30,7 +30,7 @@ pub fn next_token(text: &[u8], place: Place) -> Lexeme<'_>
             Lexeme {
                 token,
                 at: place.at + len,
-                after: Place {
+                after: SourcePosition {
                     at: place.at + len + more,
                     part: part_after(place.part, token),
                 },
@@ -39,7 +39,7 @@ pub fn next_token(text: &[u8], place: Place) -> Lexeme<'_>
         Gap::Unclosed => Lexeme {
             token: Token::Unclosed,
             at: text.len(),
-            after: Place {
+            after: SourcePosition {
                 at: text.len(),
                 part: place.part,
             },

@@ -39,7 +39,7 @@ pub enum Token<'a> {
 
 /// A place in a text after its head, and the part of the text in which it is.
 #[derive(Clone, Copy, PartialEq, Eq)]
-pub struct Place {
+pub struct SourcePosition {
     /// How many bytes stand before it.
     pub at: usize,
     pub part: Part,
@@ -52,5 +52,5 @@ pub struct Lexeme<'a> {
     pub token: Token<'a>,
     /// How many bytes stand before the token.
     pub at: usize,
-    pub after: Place,
+    pub after: SourcePosition,
 }

@@ -5,9 +5,9 @@ use Rattle.std.specs.Prelude.{Contains, slice_get}
 use Rattle.litmus_cursor.specs.Words.{Symbol}
 use Rattle.litmus_expression.specs.Names.{Names, Numbered, Parameter, known, new}
 use Rattle.litmus_expression.proofs.Named.{among, in_front, in_none, in_rest}
-use Rattle.statement_laws.proofs.Named.{Named, numbered_named}
-use Rattle.litmus_parts.specs.Mentions as mentions
-use Rattle.litmus_parts.specs.Mentions.{AreNumbered, Mention}
+use Rattle.litmus_body.proofs.statement_laws.Named.{Named, numbered_named}
+use Rattle.litmus_declarations.specs.Mentions as mentions
+use Rattle.litmus_declarations.specs.Mentions.{AreNumbered, Mention}
 use Rattle.litmus_parse.specs.Headers as headers
 use Rattle.litmus_parse.specs.Headers.{Listed, Parameters, mention_of}
 

@@ -16,23 +16,23 @@ use Rattle.litmus_expression.proofs.Fewer.{at_last, behind_it}
 use Rattle.litmus_expression.proofs.Named.{same_name}
 use Rattle.litmus_expression.proofs.Taken.{front, same_given}
 use Rattle.litmus_body.specs.StatementReader.{block_at}
-use Rattle.statement_laws.specs.Reads.{ReadsWhole}
-use Rattle.statement_laws.proofs.Kept.{whole_keeps}
-use Rattle.statement_laws.proofs.Sound.{whole_reads}
-use Rattle.litmus_parts.specs.ItemReader.{Heading, past}
-use Rattle.litmus_parts.specs.Mentions.{Mention}
-use Rattle.litmus_parts.specs.ParameterReader.{parameters_at}
-use Rattle.litmus_parts.specs.Seen.{process_of}
-use Rattle.litmus_parts.specs.Seen.{seen}
-use Rattle.litmus_parts.specs.Told.{all_told, told_of}
-use Rattle.litmus_parts.specs.Turns.{again, done, going, turned}
-use Rattle.litmus_parts.specs.Entries.{Entry}
-use Rattle.litmus_parts.proofs.Items.{identifier_is}
-use Rattle.litmus_parts.proofs.Listed.{ReadsParameters, parameters_read}
-use Rattle.litmus_parts.proofs.PropositionSound.{AllFew}
-use Rattle.litmus_parts.proofs.Spelled.{Said}
-use Rattle.litmus_parts.proofs.Tidy.{Tidy, entry_in}
-use Rattle.litmus_parts.proofs.Unrolled.{Listing}
+use Rattle.litmus_body.specs.statement_laws.Reads.{ReadsWhole}
+use Rattle.litmus_body.proofs.statement_laws.Kept.{whole_keeps}
+use Rattle.litmus_body.proofs.statement_laws.Sound.{whole_reads}
+use Rattle.litmus_declarations.specs.ItemReader.{Heading, past}
+use Rattle.litmus_declarations.specs.Mentions.{Mention}
+use Rattle.litmus_declarations.specs.ParameterReader.{parameters_at}
+use Rattle.litmus_declarations.specs.Seen.{process_of}
+use Rattle.litmus_declarations.specs.Seen.{seen}
+use Rattle.litmus_declarations.specs.Told.{all_told, told_of}
+use Rattle.litmus_declarations.specs.Turns.{again, done, going, turned}
+use Rattle.litmus_declarations.specs.Entries.{Entry}
+use Rattle.litmus_declarations.proofs.Items.{identifier_is}
+use Rattle.litmus_declarations.proofs.Listed.{ReadsParameters, parameters_read}
+use Rattle.litmus_declarations.proofs.PropositionSound.{AllFew}
+use Rattle.litmus_declarations.proofs.Spelled.{Said}
+use Rattle.litmus_declarations.proofs.Tidy.{Tidy, entry_in}
+use Rattle.litmus_declarations.proofs.Unrolled.{Listing}
 use Rattle.litmus_parse.specs.Grammar.{mentions_of}
 use Rattle.litmus_parse.specs.Headers as grammar
 use Rattle.litmus_parse.specs.Headers.{IsProcess, Parameters, Process, Processes, mention_of, name_of, process_name}

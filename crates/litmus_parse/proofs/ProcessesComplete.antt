@@ -15,21 +15,21 @@ use Rattle.litmus_expression.specs.States.{State}
 use Rattle.litmus_expression.proofs.Complete.{placed}
 use Rattle.litmus_expression.proofs.Named.{among, in_front, in_none, in_rest, is_itself}
 use Rattle.litmus_body.specs.Statements.{Statements}
-use Rattle.statement_laws.proofs.Named.{statements_named}
-use Rattle.statement_laws.proofs.Whole.{whole_is_read}
-use Rattle.litmus_parts.specs.Conditions as conditions
-use Rattle.litmus_parts.specs.Conditions.{Quantifies}
-use Rattle.litmus_parts.specs.Distinct.{AllDistinct, Distinct, body_of}
-use Rattle.litmus_parts.specs.Entries.{Entry}
-use Rattle.litmus_parts.specs.ItemReader.{Heading}
-use Rattle.litmus_parts.specs.Mentions.{Mention}
-use Rattle.litmus_parts.specs.Seen.{process_of, seen}
-use Rattle.litmus_parts.specs.Typed.{AreTyped}
-use Rattle.litmus_parts.proofs.Fits.{Behind, Fits}
-use Rattle.litmus_parts.proofs.ItemsComplete.{heading}
-use Rattle.litmus_parts.proofs.ParametersComplete.{parameters_complete}
-use Rattle.litmus_parts.proofs.Tidy.{entry_in}
-use Rattle.litmus_parts.proofs.Unrolled.{Listing}
+use Rattle.litmus_body.proofs.statement_laws.Named.{statements_named}
+use Rattle.litmus_body.proofs.statement_laws.Whole.{whole_is_read}
+use Rattle.litmus_declarations.specs.Conditions as conditions
+use Rattle.litmus_declarations.specs.Conditions.{Quantifies}
+use Rattle.litmus_declarations.specs.Distinct.{AllDistinct, Distinct, body_of}
+use Rattle.litmus_declarations.specs.Entries.{Entry}
+use Rattle.litmus_declarations.specs.ItemReader.{Heading}
+use Rattle.litmus_declarations.specs.Mentions.{Mention}
+use Rattle.litmus_declarations.specs.Seen.{process_of, seen}
+use Rattle.litmus_declarations.specs.Typed.{AreTyped}
+use Rattle.litmus_declarations.proofs.Fits.{Behind, Fits}
+use Rattle.litmus_declarations.proofs.ItemsComplete.{heading}
+use Rattle.litmus_declarations.proofs.ParametersComplete.{parameters_complete}
+use Rattle.litmus_declarations.proofs.Tidy.{entry_in}
+use Rattle.litmus_declarations.proofs.Unrolled.{Listing}
 use Rattle.litmus_parse.specs.Grammar.{mentions_of}
 use Rattle.litmus_parse.specs.Headers as grammar
 use Rattle.litmus_parse.specs.Headers.{IsProcess, Parameters, Process, Processes, mention_of, name_of, process_name}

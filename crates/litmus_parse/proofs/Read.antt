@@ -6,7 +6,7 @@ use Rattle.litmus_cursor.specs.declared.cursor.Refusal.{Refusal}
 use Rattle.litmus_cursor.specs.declared.cursor.Refusal.TheVariants.{Limit, OutOfMemory, Syntax, Unsupported}
 use Rattle.litmus_lex.specs.declared.token.Part.{Part}
 use Rattle.litmus_lex.specs.declared.token.Part.TheVariants.{Init}
-use Rattle.litmus_lex.specs.declared.token.Place.{Place}
+use Rattle.litmus_lex.specs.declared.token.SourcePosition.{SourcePosition}
 use Rattle.litmus_lex.specs.declared.token.Token.{Token}
 use Rattle.litmus_lex.specs.declared.token.Token.TheVariants as tokens
 use Rattle.litmus_lex.specs.Head.{IsHead}
@@ -45,7 +45,7 @@ spots_symbols (s ∷ spots) (t ∷ found) are =
     ap (λ (y : Symbol). y ∷ map symbol_of_spot spots) (sym (terminal_symbol s.token t.terminal are.0))
     ∙ ap (λ (l : List Symbol). symbol_at t ∷ l) (spots_symbols spots found are.1.1)
 
-pub text_is_spelled : (text : List ℕ) (place : Place) (name : List ℕ) (spots : List Spot) (p : tree.Program) → length text ≤ file_bytes
+pub text_is_spelled : (text : List ℕ) (place : SourcePosition) (name : List ℕ) (spots : List Spot) (p : tree.Program) → length text ≤ file_bytes
     → All IsTextByte text
     → place.part ≡ Init → IsHead text name place.at → AreTokensFrom text place spots → ((found : List Placed) × AreSpots spots found)
     → program_at name (map symbol_of_spot spots) ≡ Some p → SpellsProgram text p
@@ -64,7 +64,7 @@ text_is_spelled text place name spots p size bytes init head are found read =
     }
 
 -- what a text is read as, if it is read
-pub result_is_spelled : (text : List ℕ) (place : Place) (title name : List ℕ) (spots left : List Spot) (result : Result Reading Refusal)
+pub result_is_spelled : (text : List ℕ) (place : SourcePosition) (title name : List ℕ) (spots left : List Spot) (result : Result Reading Refusal)
     → length text ≤ file_bytes → All IsTextByte text → place.part ≡ Init → IsHead text title place.at → AreTokensFrom text place spots
     → ((found : List Placed) × AreSpots spots found) → name ≡ title → left ≡ spots
     → IfOk result (λ r. program_at name (map symbol_of_spot left) ≡ Some (program_of r.program))
@@ -78,7 +78,7 @@ result_is_spelled text place title name spots left (Err refusal) size bytes init
 -- ---- the other way round
 
 -- a text that spells a program is read as it
-pub spelled_is_read : (text : List ℕ) (place : Place) (title name : List ℕ) (spots left : List Spot) → place.part ≡ Init
+pub spelled_is_read : (text : List ℕ) (place : SourcePosition) (title name : List ℕ) (spots left : List Spot) → place.part ≡ Init
     → ((other : List ℕ) (at : ℕ) → IsHead text other at → (title ≡ other) × (place.at ≡ at)) → AreTokensFrom text place spots → name ≡ title
     → left ≡ spots → (p : tree.Program) → SpellsProgram text p → program_at name (map symbol_of_spot left) ≡ Some p
 spelled_is_read text place title name spots left init only are named stand p spells =

@@ -11,12 +11,12 @@ use Rattle.litmus_cursor.specs.Words.{Symbol}
 use Rattle.litmus_expression.specs.declared.process.Process.{Process}
 use Rattle.litmus_expression.specs.States.{State, state_of}
 use Rattle.litmus_expression.proofs.Taken.{same_given}
-use Rattle.litmus_parts.specs.ConditionReader.{quantifier_at}
-use Rattle.litmus_parts.specs.ItemReader.{Heading, initialization_at, unnamed}
-use Rattle.litmus_parts.specs.Seen.{process_of, seen}
-use Rattle.litmus_parts.specs.PropositionReader.{whole_at}
-use Rattle.litmus_parts.specs.Variables.{has_contradiction, locks_in, variables_in}
-use Rattle.litmus_parts.proofs.Refusals.{all_there}
+use Rattle.litmus_declarations.specs.ConditionReader.{quantifier_at}
+use Rattle.litmus_declarations.specs.ItemReader.{Heading, initialization_at, unnamed}
+use Rattle.litmus_declarations.specs.Seen.{process_of, seen}
+use Rattle.litmus_declarations.specs.PropositionReader.{whole_at}
+use Rattle.litmus_declarations.specs.Variables.{has_contradiction, locks_in, variables_in}
+use Rattle.litmus_declarations.proofs.Refusals.{all_there}
 use Rattle.litmus_parse.specs.Grammar.{task_of}
 use Rattle.litmus_parse.specs.ProcessReader.{Course, processes_at, unbegun}
 use Rattle.litmus_parse.specs.TextReader.{Parts, condition_at, ended, parts_at, parts_behind, program_at, put_together}

@@ -12,24 +12,24 @@ use Rattle.litmus_expression.specs.Names.{Names}
 use Rattle.litmus_expression.specs.States.{State}
 use Rattle.litmus_expression.proofs.Named as Named
 use Rattle.litmus_expression.proofs.Named.{found_at, in_none, in_rest}
-use Rattle.litmus_parts.specs.Conditions.{IsKnown}
-use Rattle.litmus_parts.specs.Distinct.{body_of}
-use Rattle.litmus_parts.specs.Entries.{Entry, fresh}
-use Rattle.litmus_parts.specs.ItemReader.{Heading}
-use Rattle.litmus_parts.specs.Mentions.{HasType, Mention}
-use Rattle.litmus_parts.specs.Seen.{seen}
-use Rattle.litmus_parts.specs.PropositionReader.{whole_at}
-use Rattle.litmus_parts.specs.Variables.{locks_in, variables_in}
-use Rattle.litmus_parts.specs.Told.{all_told}
-use Rattle.litmus_parts.specs.Typed.{AreTyped}
-use Rattle.litmus_parts.specs.VariableReader.{is_lock_type}
-use Rattle.litmus_parts.proofs.Declared.{Ends, EndsAt, no_contradiction, one_type, variables_are}
-use Rattle.litmus_parts.proofs.Fits.{Fit, Fits, fits_at_first, no_lock_type}
-use Rattle.litmus_parts.proofs.ItemsComplete.{BlockGoes, block_goes, heading}
-use Rattle.litmus_parts.proofs.Known as known
-use Rattle.litmus_parts.proofs.PropositionComplete.{whole_complete}
-use Rattle.litmus_parts.proofs.Quantifiers.{quantifier_read}
-use Rattle.litmus_parts.proofs.Tidy.{entry_at, entry_in}
+use Rattle.litmus_declarations.specs.Conditions.{IsKnown}
+use Rattle.litmus_declarations.specs.Distinct.{body_of}
+use Rattle.litmus_declarations.specs.Entries.{Entry, fresh}
+use Rattle.litmus_declarations.specs.ItemReader.{Heading}
+use Rattle.litmus_declarations.specs.Mentions.{HasType, Mention}
+use Rattle.litmus_declarations.specs.Seen.{seen}
+use Rattle.litmus_declarations.specs.PropositionReader.{whole_at}
+use Rattle.litmus_declarations.specs.Variables.{locks_in, variables_in}
+use Rattle.litmus_declarations.specs.Told.{all_told}
+use Rattle.litmus_declarations.specs.Typed.{AreTyped}
+use Rattle.litmus_declarations.specs.VariableReader.{is_lock_type}
+use Rattle.litmus_declarations.proofs.Declared.{Ends, EndsAt, no_contradiction, one_type, variables_are}
+use Rattle.litmus_declarations.proofs.Fits.{Fit, Fits, fits_at_first, no_lock_type}
+use Rattle.litmus_declarations.proofs.ItemsComplete.{BlockGoes, block_goes, heading}
+use Rattle.litmus_declarations.proofs.Known as known
+use Rattle.litmus_declarations.proofs.PropositionComplete.{whole_complete}
+use Rattle.litmus_declarations.proofs.Quantifiers.{quantifier_read}
+use Rattle.litmus_declarations.proofs.Tidy.{entry_at, entry_in}
 use Rattle.litmus_parse.specs.Grammar.{Grammar, mentions_of, said_by, task_of}
 use Rattle.litmus_parse.specs.Headers.{Process}
 use Rattle.litmus_parse.specs.ProcessReader.{Course, processes_at, unbegun}

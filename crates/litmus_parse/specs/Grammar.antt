@@ -7,8 +7,8 @@ use Rattle.litmus_syntax.specs.Tree.{Program, Task}
 use Rattle.litmus_cursor.specs.Words.{Symbol, sign, symbol_of}
 use Rattle.litmus_syntax.specs.Limits.{connectives, file_bytes, operators_limit}
 use Rattle.litmus_expression.specs.Names.{Names, Parameter}
-use Rattle.litmus_parts.specs.Conditions.{Disjoined, Quantifies}
-use Rattle.litmus_parts.specs.Mentions.{AreDeclared, AreNumbered, Mention}
+use Rattle.litmus_declarations.specs.Conditions.{Disjoined, Quantifies}
+use Rattle.litmus_declarations.specs.Mentions.{AreDeclared, AreNumbered, Mention}
 use Rattle.litmus_parse.specs.Headers.{Items, Process, Processes, mention_of}
 use Rattle.litmus_parse.specs.Text.{IsTextByte}
 

@@ -7,5 +7,5 @@ pub mod ProcessReader
 pub mod TextReader
 pub mod Refused
 pub mod Answer
-pub use Rattle.litmus_parts.specs.Conditions
-pub use Rattle.litmus_parts.specs.Mentions
+pub use Rattle.litmus_declarations.specs.Conditions
+pub use Rattle.litmus_declarations.specs.Mentions

@@ -8,9 +8,9 @@ use Rattle.litmus_expression.specs.Names.{Parameter}
 use Rattle.litmus_expression.specs.Places.{outermost}
 use Rattle.litmus_expression.specs.States.{State, entering}
 use Rattle.litmus_body.specs.StatementReader.{block_at}
-use Rattle.litmus_parts.specs.ItemReader.{Heading, past}
-use Rattle.litmus_parts.specs.ParameterReader.{parameters_at}
-use Rattle.litmus_parts.specs.Turns.{Turn, again, done, going}
+use Rattle.litmus_declarations.specs.ItemReader.{Heading, past}
+use Rattle.litmus_declarations.specs.ParameterReader.{parameters_at}
+use Rattle.litmus_declarations.specs.Turns.{Turn, again, done, going}
 use Rattle.litmus_parse.specs.Processes.{process_name}
 
 -- what stands before the condition: a heading, and the processes with their bodies

@@ -8,7 +8,7 @@ use Rattle.litmus_cursor.specs.Words.{Symbol, identifier, sign}
 use Rattle.litmus_syntax.specs.Limits.{BodyKeepsLimits, tasks_limit}
 use Rattle.litmus_expression.specs.Names.{Names, Parameter}
 use Rattle.litmus_body.specs.Statements.{Statements}
-use Rattle.litmus_parts.specs.Headers.{Parameters, Process}
+use Rattle.litmus_declarations.specs.Headers.{Parameters, Process}
 
 -- the name of a process
 abbrev pub process_name : ℕ → List ℕ

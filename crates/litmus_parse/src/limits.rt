@@ -3,7 +3,7 @@
 ghost use Rattle.std.specs.Prelude.{◌≡◌};
 
 use crate::text::{FILE_BYTES, TASKS};
-use litmus_parts::VARIABLES;
+use litmus_declarations::VARIABLES;
 
 /// Law: the limits are these numbers.
 pub fn text_limits()

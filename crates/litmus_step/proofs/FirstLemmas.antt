@@ -7,9 +7,9 @@ use Rattle.std.specs.FinMap as finite
 use Rattle.std.specs.Cmp.{nat_cmp_total}
 use Rattle.access_types.specs.Access.{Access}
 use Rattle.access_types.specs.Sites.{AccessMap}
-use Rattle.litmus_meaning.specs.Layout as layout
-use Rattle.litmus_meaning.specs.RunOfProgram.{setting_of}
-use Rattle.litmus_meaning.specs.TextSites.{IsOfText}
+use Rattle.litmus_semantics.specs.Layout as layout
+use Rattle.litmus_semantics.specs.RunOfProgram.{setting_of}
+use Rattle.litmus_semantics.specs.TextSites.{IsOfText}
 use Rattle.litmus_syntax.specs.Limits.{KeepsLimits, TaskKeepsLimits}
 use Rattle.litmus_syntax.specs.Tree.{Program, Task, empty}
 use Rattle.litmus_syntax.specs.Views.{block_of, program_of, task_of as syntax_task_of}
@@ -18,23 +18,23 @@ use Rattle.litmus_syntax.specs.declared.program.Contents.TheVariants.{Atomic, Ch
 use Rattle.litmus_syntax.specs.declared.program.Program.{Program as CodeProgram}
 use Rattle.litmus_syntax.specs.declared.program.Task.{Task as CodeTask}
 use Rattle.litmus_syntax.specs.declared.program.Variable.{Variable}
-use Rattle.program_layout.specs.Lays as lays
-use Rattle.program_layout.specs.Places.{AreFit, places_of}
-use Rattle.program_layout.specs.declared.place.Place.{Place}
-use Rattle.program_sites.specs.Sites as sites
-use Rattle.program_sites.specs.Sites.{AreSitesOf}
-use Rattle.run_lists.specs.Run.{AreItsSites, IsOfProgram, Run, idle, task_of, task_setting}
-use Rattle.run_lists.specs.RunList.{InWrittenOrder, RunList}
+use Rattle.prepared_program.specs.program_layout.Lays as lays
+use Rattle.prepared_program.specs.program_layout.Places.{AreFit, places_of}
+use Rattle.prepared_program.specs.declared.program_layout.place.Place.{Place}
+use Rattle.prepared_program.specs.program_sites.Sites as sites
+use Rattle.prepared_program.specs.program_sites.Sites.{AreSitesOf}
+use Rattle.executions.specs.run_lists.Run.{AreItsSites, IsOfProgram, Run, idle, task_of, task_setting}
+use Rattle.executions.specs.run_lists.RunList.{InWrittenOrder, RunList}
 use Rattle.task_laws.specs.Fits.{ArePlaced}
 use Rattle.litmus_step.specs.Leads.{LeadsTask}
 use Rattle.litmus_step.specs.Runs.{CanBeMade, run_of, tasks_of}
-use Rattle.program_sites.specs.declared.settings.Settings.{Settings}
+use Rattle.prepared_program.specs.declared.program_sites.settings.Settings.{Settings}
 use Rattle.task_run.specs.Leads as task_run
 use Rattle.task_run.specs.declared.run.TaskRun.{TaskRun}
-use Rattle.written_order.specs.Standing as standing
-use Rattle.written_order.specs.Standing.{Setting}
+use Rattle.program_order.specs.Standing as standing
+use Rattle.program_order.specs.Standing.{Setting}
 use Rattle.slot_table.specs.declared.records.Record.{Record}
-use Rattle.written_order.specs.WrittenOrder.{SpellsAll, WrittenOrder, at_first}
+use Rattle.program_order.specs.WrittenOrder.{SpellsAll, WrittenOrder, at_first}
 
 -- the variables of a program are placed for each of its tasks
 abbrev pub ArePlacedInTasks : Type 0

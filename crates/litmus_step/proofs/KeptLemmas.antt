@@ -5,11 +5,11 @@ use Rattle.std.proofs.lemmas.List.{append-nil, length-append, length-set}
 use Rattle.std.proofs.Math.ListN.{get_or-append}
 use Rattle.std.specs.Option.{option_to_list}
 use Rattle.access_types.specs.declared.report.Report.{Report}
-use Rattle.run_lists.specs.Reports.{reports_of}
-use Rattle.run_lists.specs.Run.{Run}
-use Rattle.run_lists.specs.RunList.{RunList}
-use Rattle.run_lists.specs.Told.{made_by}
-use Rattle.run_kept.specs.Noted.{IsNoted, Notes}
+use Rattle.executions.specs.run_lists.Reports.{reports_of}
+use Rattle.executions.specs.run_lists.Run.{Run}
+use Rattle.executions.specs.run_lists.RunList.{RunList}
+use Rattle.executions.specs.run_lists.Told.{made_by}
+use Rattle.log_correctness.specs.Noted.{IsNoted, Notes}
 use Rattle.slot_table.specs.declared.records.Record.{Record}
 use Rattle.litmus_step.proofs.StepLemmas.{by_task, same_some, set_here, set_other}
 use Rattle.litmus_step.specs.Kept.{Added, AreFirst, AreKept, IsKept, IsNotedIn, accesses_kept, watches_kept}

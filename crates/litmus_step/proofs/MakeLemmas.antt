@@ -1,8 +1,8 @@
 -- A world after one step more, by what is changed in it.
 use Rattle.std.proofs.Common.{Option, ap, inl, inr, ◌∙◌, ◌≡◌, ◌<◌, ◌≤◌, ◌+◌, ◌∷◌, [], ℕ, List, Some, length, vec_capacity, arith}
 use Rattle.std.proofs.Common.{get_or, refl, set, slice_get, subst, sym}
-use Rattle.run_lists.specs.Run.{Run, first_words, task_setting}
-use Rattle.run_lists.specs.RunList.{RunList}
+use Rattle.executions.specs.run_lists.Run.{Run, first_words, task_setting}
+use Rattle.executions.specs.run_lists.RunList.{RunList}
 use Rattle.setup_access.specs.Parts.{made}
 use Rattle.slot_table.specs.Answer.{Answers}
 use Rattle.slot_table.specs.StepLine.{step_line}
@@ -12,7 +12,7 @@ use Rattle.slot_table.specs.declared.step.Answer.{Answer}
 use Rattle.slot_table.specs.declared.step.Step.{Step}
 use Rattle.litmus_step.proofs.TurnLemmas.{same_machine}
 use Rattle.access_types.specs.declared.report.Report.{Report}
-use Rattle.run_kept.specs.Noted.{Notes}
+use Rattle.log_correctness.specs.Noted.{Notes}
 use Rattle.litmus_step.specs.Kept.{Added, AreKept, IsNotedIn, accesses_kept, reports_kept, watches_kept}
 use Rattle.litmus_step.specs.Leads.{AreAtPoints, LeadsTask, LeadsTasks, LeadsToAll, MakesNextIn}
 use Rattle.litmus_step.specs.Runs.{CanBeMade, tasks_of}
@@ -29,7 +29,7 @@ use Rattle.task_run.specs.Fell.{FellAt, fell_of}
 use Rattle.task_run.specs.Leads.{BeginsNext, Leads, LeadsOn, stands_at}
 use Rattle.task_run.specs.Points.{HasMade}
 use Rattle.task_run.specs.Says.{Says}
-use Rattle.written_order.specs.Standing.{Setting}
+use Rattle.program_order.specs.Standing.{Setting}
 use Rattle.std.proofs.lemmas.List.{append-nil, get_or-set_same}
 use Rattle.std.proofs.lemmas.Option.{slice_get_cases}
 use Rattle.task_run.specs.declared.run.TaskRun.{TaskRun}

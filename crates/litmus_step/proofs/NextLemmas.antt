@@ -8,12 +8,12 @@ use Rattle.setup_access.specs.Parts.{made}
 use Rattle.slot_table.specs.declared.records.Record.{Record}
 use Rattle.slot_table.specs.declared.step.Answer.{Answer}
 use Rattle.slot_table.specs.declared.step.Step.{Step}
-use Rattle.run_lists.specs.Run.{Run}
+use Rattle.executions.specs.run_lists.Run.{Run}
 use Rattle.task_run.specs.Leads.{Leads}
 use Rattle.task_run.specs.Says.{Says}
 use Rattle.task_run.specs.declared.run.TaskRun.{TaskRun}
-use Rattle.written_order.specs.Standing.{Setting}
-use Rattle.written_order.specs.Waits.{OnlyStep, WithinTurns}
+use Rattle.program_order.specs.Standing.{Setting}
+use Rattle.program_order.specs.Waits.{OnlyStep, WithinTurns}
 
 pub makes_next : (world : World) (task : ℕ) (machine : TaskRun) (next : Option Step) → IsMachine world task machine
     → IfSome next (Says machine)

@@ -4,11 +4,11 @@ use Rattle.std.proofs.Common.{set, slice_get, subst, sym}
 use Rattle.std.proofs.lemmas.Option.{slice_get_within}
 use Rattle.access_types.specs.declared.history.Happening.{Happening}
 use Rattle.litmus_syntax.specs.Tree.{Block}
-use Rattle.memory_operation.specs.Leads.{GoesOn}
-use Rattle.run_lists.specs.Run.{Run, task_of, task_setting}
-use Rattle.run_lists.specs.RunList.{RunList}
-use Rattle.run_lists.specs.Told.{made_by}
-use Rattle.run_kept.specs.Noted.{AreNoted, IsBegun, IsNoted}
+use Rattle.access_run.specs.memory_operation.Leads.{GoesOn}
+use Rattle.executions.specs.run_lists.Run.{Run, task_of, task_setting}
+use Rattle.executions.specs.run_lists.RunList.{RunList}
+use Rattle.executions.specs.run_lists.Told.{made_by}
+use Rattle.log_correctness.specs.Noted.{AreNoted, IsBegun, IsNoted}
 use Rattle.setup_access.specs.Parts.{made}
 use Rattle.setup_access.specs.declared.begun.Begun.{Begun}
 use Rattle.setup_access.specs.declared.outcome.Outcome.{Outcome}
@@ -32,13 +32,13 @@ use Rattle.task_run.specs.Part.{Part, closes, locks, makes, opens, over, stops, 
 use Rattle.task_run.specs.Points.{HasMade, Stepped, next_is}
 use Rattle.task_run.specs.Says.{Says}
 use Rattle.task_run.specs.declared.machine.Machine.{Machine}
-use Rattle.task_points.specs.declared.points.Before.{Before}
+use Rattle.task_plan.specs.declared.task_points.points.Before.{Before}
 use Rattle.task_run.specs.declared.run.TaskRun.{TaskRun}
 use Rattle.task_run.specs.declared.stage.Stage.{Stage}
-use Rattle.written_order.specs.Standing.{Setting, Standing}
-use Rattle.written_order.specs.Told.{did_by, did_next}
-use Rattle.written_order.specs.Waits.{OnlyStep}
-use Rattle.written_order.specs.WrittenOrder.{SpellsAll, WrittenOrder}
+use Rattle.program_order.specs.Standing.{Setting, Standing}
+use Rattle.program_order.specs.Told.{did_by, did_next}
+use Rattle.program_order.specs.Waits.{OnlyStep}
+use Rattle.program_order.specs.WrittenOrder.{SpellsAll, WrittenOrder}
 
 -- an access begins where one is noted
 pub begun_so : (plain_writes_atomic : Bool) (task : ℕ) (before next : List Happening) (begins : Option Begun)

@@ -5,16 +5,16 @@ use Rattle.std.proofs.lemmas.Option.{slice_get_cases}
 use Rattle.litmus_step.proofs.FirstLemmas.{past}
 use Rattle.litmus_syntax.specs.Limits.{BodyKeepsLimits, KeepsLimits, TaskKeepsLimits, block_rises}
 use Rattle.litmus_syntax.specs.Tree.{Task}
-use Rattle.run_lists.specs.Run.{Run, idle, task_of}
-use Rattle.run_lists.specs.RunList.{RunList}
-use Rattle.run_kept.specs.Lists.{ByTask}
-use Rattle.run_kept.specs.Noted.{AreNoted, Notes}
-use Rattle.run_kept.specs.Totals.{unbalanced_below}
+use Rattle.executions.specs.run_lists.Run.{Run, idle, task_of}
+use Rattle.executions.specs.run_lists.RunList.{RunList}
+use Rattle.log_correctness.specs.Lists.{ByTask}
+use Rattle.log_correctness.specs.Noted.{AreNoted, Notes}
+use Rattle.log_correctness.specs.Totals.{unbalanced_below}
 use Rattle.slot_table.specs.Records.{records_of}
 use Rattle.slot_table.specs.declared.records.Record.{Record}
 use Rattle.task_log.specs.declared.noted.Noted.{Noted}
 use Rattle.task_plan.specs.Counts.{up_to_last}
-use Rattle.written_order.specs.WrittenOrder.{stands_after}
+use Rattle.program_order.specs.WrittenOrder.{stands_after}
 
 -- those of one task more follow on those of the tasks before it
 pub by_one_more : {X : Type 0} (Of : ℕ → List X → Type 0) (tasks : ℕ) (some one all : List X) → ByTask Of tasks some → Of tasks one

@@ -4,14 +4,14 @@ use Rattle.std.proofs.Common.{append_assoc, arith, drop, get_or, length, refl, r
 use Rattle.std.specs.List.{range_with_len}
 use Rattle.std.proofs.lemmas.Grind.{flat_map-append}
 use Rattle.std.proofs.lemmas.List.{append-nil, take-append-drop, take_more}
-use Rattle.step_schedule.specs.Order.{asked_by, in_rounds}
-use Rattle.step_schedule.specs.declared.schedule.Entry.{Entry}
+use Rattle.option_lists.specs.step_schedule.Order.{asked_by, in_rounds}
+use Rattle.option_lists.specs.declared.step_schedule.schedule.Entry.{Entry}
 use Rattle.litmus_step.proofs.OrderLemmas.{one_more, some_more}
 use Rattle.litmus_step.proofs.TurnLemmas.{asked_both, asked_nothing, each_machine}
 use Rattle.litmus_step.specs.Steps.{IsFree, IsMachine, Tells, tasks_in}
 use Rattle.litmus_step.specs.Turns.{Asked, IsStuckAt, NobodyIsStuck, RunsOn, StopsAt}
-use Rattle.program_sites.specs.declared.error.RunError.{RunError}
-use Rattle.program_sites.specs.declared.error.RunError.TheVariants as errors
+use Rattle.prepared_program.specs.declared.program_sites.error.RunError.{RunError}
+use Rattle.prepared_program.specs.declared.program_sites.error.RunError.TheVariants as errors
 use Rattle.litmus_step.specs.declared.world.Stepped.{Stepped}
 use Rattle.litmus_step.specs.declared.world.Stepped.TheVariants.{Ended, Moved, Stuck}
 use Rattle.litmus_step.specs.declared.world.World.{World}

@@ -7,9 +7,9 @@ use Rattle.std.proofs.lemmas.List.{length-set, reverse-append, reverse-reverse}
 use Rattle.std.proofs.lemmas.Option.{slice_get_within}
 use Rattle.litmus_syntax.specs.Limits.{TaskKeepsLimits}
 use Rattle.litmus_syntax.specs.Tree.{Task}
-use Rattle.memory_operation.specs.Leads.{GoesOn}
-use Rattle.run_lists.specs.Run.{Run, first_words, idle, task_of, task_setting}
-use Rattle.run_lists.specs.RunList.{InWrittenOrder, RunList}
+use Rattle.access_run.specs.memory_operation.Leads.{GoesOn}
+use Rattle.executions.specs.run_lists.Run.{Run, first_words, idle, task_of, task_setting}
+use Rattle.executions.specs.run_lists.RunList.{InWrittenOrder, RunList}
 use Rattle.setup_access.specs.Parts.{made}
 use Rattle.slot_table.specs.Answer.{Answers}
 use Rattle.slot_table.specs.Records.{records_of, words_after}
@@ -29,9 +29,9 @@ use Rattle.task_plan.specs.Counts.{up_to_last}
 use Rattle.task_run.specs.Leads as task_run
 use Rattle.task_run.specs.Leads.{LeadsOn}
 use Rattle.task_run.specs.declared.run.TaskRun.{TaskRun}
-use Rattle.written_order.specs.Standing.{Setting}
-use Rattle.written_order.specs.Waits.{OnlyStep, WithinTurns}
-use Rattle.written_order.specs.WrittenOrder.{SpellsAll, WrittenOrder}
+use Rattle.program_order.specs.Standing.{Setting}
+use Rattle.program_order.specs.Waits.{OnlyStep, WithinTurns}
+use Rattle.program_order.specs.WrittenOrder.{SpellsAll, WrittenOrder}
 
 -- what is answered leads on
 abbrev pub AnAnswerLeadsOn : Type 0

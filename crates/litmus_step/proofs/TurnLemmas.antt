@@ -13,13 +13,13 @@ use Rattle.litmus_step.specs.declared.world.Stepped.{Stepped}
 use Rattle.litmus_step.specs.declared.world.Stepped.TheVariants.{Ended, Moved, Stuck}
 use Rattle.litmus_step.specs.declared.world.World.{World}
 use Rattle.litmus_syntax.specs.Limits.{TaskKeepsLimits}
-use Rattle.run_lists.specs.Run.{Run, idle, task_of, task_setting}
+use Rattle.executions.specs.run_lists.Run.{Run, idle, task_of, task_setting}
 use Rattle.slot_table.specs.Records.{records_of}
 use Rattle.slot_table.specs.declared.records.Record.{Record}
-use Rattle.step_schedule.specs.Order as order
-use Rattle.step_schedule.specs.Order.{AreAsked, IsAsked}
+use Rattle.option_lists.specs.step_schedule.Order as order
+use Rattle.option_lists.specs.step_schedule.Order.{AreAsked, IsAsked}
 use Rattle.task_run.specs.declared.run.TaskRun.{TaskRun}
-use Rattle.written_order.specs.WrittenOrder.{SpellsAll}
+use Rattle.program_order.specs.WrittenOrder.{SpellsAll}
 
 -- the records of a task reach its machine
 pub reaches : (run : Run) (records : List Record) (world : World) (task : ℕ) (machine : TaskRun)

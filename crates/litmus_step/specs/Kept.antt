@@ -2,11 +2,11 @@
 use Rattle.std.specs.Prelude.{◌≡◌, ◌⊎◌, ◌*◌, ◌≤◌, ◌++◌, ◌<◌, ◌∷◌, [], ℕ, List, Option, None, Some, length, map, slice_get}
 use Rattle.std.specs.List.{sum_by}
 use Rattle.access_types.specs.declared.report.Report.{Report}
-use Rattle.run_lists.specs.Reports.{reports_of}
+use Rattle.executions.specs.run_lists.Reports.{reports_of}
 use Rattle.litmus_syntax.specs.Limits.{block_repeats}
-use Rattle.run_lists.specs.Run.{Run, task_of}
-use Rattle.run_lists.specs.RunList.{RunList}
-use Rattle.run_kept.specs.Noted.{Notes}
+use Rattle.executions.specs.run_lists.Run.{Run, task_of}
+use Rattle.executions.specs.run_lists.RunList.{RunList}
+use Rattle.log_correctness.specs.Noted.{Notes}
 use Rattle.slot_table.specs.declared.records.Record.{Record}
 use Rattle.litmus_step.specs.Runs.{tasks_of}
 use Rattle.task_log.specs.Keeps.{Keeps, Room, room_in}

@@ -2,9 +2,9 @@
 use Rattle.std.specs.Prelude.{◌≡◌, ◌++◌, ◌∷◌, [], ℕ, List, Some, is_some, length, map, reverse, slice_get}
 use Rattle.access_types.specs.declared.report.Report.{Report}
 use Rattle.litmus_syntax.specs.Tree.{Block}
-use Rattle.run_lists.specs.Run.{Run, first_words, task_of, task_setting}
-use Rattle.run_lists.specs.RunList.{RunList}
-use Rattle.run_kept.specs.Noted.{Notes}
+use Rattle.executions.specs.run_lists.Run.{Run, first_words, task_of, task_setting}
+use Rattle.executions.specs.run_lists.RunList.{RunList}
+use Rattle.log_correctness.specs.Noted.{Notes}
 use Rattle.setup_access.specs.Parts.{made}
 use Rattle.slot_table.specs.Records.{records_of, words_after}
 use Rattle.slot_table.specs.Words.{Words}
@@ -20,8 +20,8 @@ use Rattle.task_run.specs.Leads as task_run
 use Rattle.task_run.specs.Points.{HasMade, Stepped}
 use Rattle.task_run.specs.Says.{Says}
 use Rattle.task_run.specs.declared.run.TaskRun.{TaskRun}
-use Rattle.written_order.specs.Standing.{Setting}
-use Rattle.written_order.specs.Waits.{OnlyStep, WithinTurns}
+use Rattle.program_order.specs.Standing.{Setting}
+use Rattle.program_order.specs.Waits.{OnlyStep, WithinTurns}
 
 -- a task's records in the list lead to its machine
 abbrev pub LeadsTask : Run → ℕ → List Record → TaskRun → Type 0

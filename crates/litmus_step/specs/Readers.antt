@@ -2,12 +2,12 @@
 use Rattle.std.specs.Prelude.{◌≡◌, ◌⊎◌, ◌∷◌, ℕ, Bool, List, [], false, length, true}
 use Rattle.access_types.specs.Access.{Access}
 use Rattle.access_types.specs.declared.history.Happening.{Happening}
-use Rattle.litmus_meaning.specs.Meaning.{MeansBlock}
+use Rattle.litmus_semantics.specs.Meaning.{MeansBlock}
 use Rattle.litmus_syntax.specs.Tree.{Block}
-use Rattle.run_lists.specs.Run.{Run, task_of, task_setting}
-use Rattle.run_lists.specs.RunList.{RunList}
-use Rattle.run_lists.specs.Told.{made_by}
-use Rattle.run_kept.specs.Noted.{begun_in}
+use Rattle.executions.specs.run_lists.Run.{Run, task_of, task_setting}
+use Rattle.executions.specs.run_lists.RunList.{RunList}
+use Rattle.executions.specs.run_lists.Told.{made_by}
+use Rattle.log_correctness.specs.Noted.{begun_in}
 use Rattle.litmus_step.specs.Steps.{MakesNoStep}
 use Rattle.setup_access.specs.Parts.{made}
 use Rattle.slot_table.specs.Records.{records_of}
@@ -15,11 +15,11 @@ use Rattle.slot_table.specs.declared.records.Record.{Record}
 use Rattle.slot_table.specs.declared.step.Answer.{Answer}
 use Rattle.slot_table.specs.declared.step.Step.{Step}
 use Rattle.task_run.specs.Points.{Stepped, next_is}
-use Rattle.task_points.specs.declared.points.Before.{Before}
-use Rattle.task_points.specs.declared.points.Before.TheVariants.{Other}
-use Rattle.written_order.specs.Standing.{Setting}
-use Rattle.written_order.specs.Told.{did_next}
-use Rattle.written_order.specs.WrittenOrder.{WrittenOrder, at_first, stands_after}
+use Rattle.task_plan.specs.declared.task_points.points.Before.{Before}
+use Rattle.task_plan.specs.declared.task_points.points.Before.TheVariants.{Other}
+use Rattle.program_order.specs.Standing.{Setting}
+use Rattle.program_order.specs.Told.{did_next}
+use Rattle.program_order.specs.WrittenOrder.{WrittenOrder, at_first, stands_after}
 
 -- the values of the task's registers after its records in the list
 abbrev pub AreRegisters : {run : Run} {records : List Record} → RunList run records → ℕ → List ℕ → Type 0

@@ -4,12 +4,12 @@ use Rattle.access_types.specs.Sites.{AccessMap}
 use Rattle.litmus_syntax.specs.Limits.{KeepsLimits}
 use Rattle.litmus_syntax.specs.Views.{program_of}
 use Rattle.litmus_syntax.specs.declared.program.Program.{Program}
-use Rattle.program_layout.specs.Places.{places_of}
-pub use Rattle.run_lists.specs.Ended.{HasEnded, IsStuck, tasks_of}
-use Rattle.run_lists.specs.Run.{Run, task_setting}
+use Rattle.prepared_program.specs.program_layout.Places.{places_of}
+pub use Rattle.executions.specs.run_lists.Ended.{HasEnded, IsStuck, tasks_of}
+use Rattle.executions.specs.run_lists.Run.{Run, task_setting}
 use Rattle.task_laws.specs.Fits.{ArePlaced}
-use Rattle.program_sites.specs.Settings.{rules_of}
-use Rattle.program_sites.specs.declared.settings.Settings.{Settings}
+use Rattle.prepared_program.specs.program_sites.Settings.{rules_of}
+use Rattle.prepared_program.specs.declared.program_sites.settings.Settings.{Settings}
 
 -- the run of a program under these settings, where tickets name these accesses
 abbrev pub run_of : Program → Settings → AccessMap → Run

@@ -8,15 +8,15 @@ use Rattle.litmus_step.specs.declared.world.Stepped.TheVariants.{Ended, Moved, S
 use Rattle.litmus_step.specs.declared.world.World.{World}
 use Rattle.litmus_syntax.specs.Limits.{BlockScopes, block_rises}
 use Rattle.litmus_syntax.specs.Tree.{Block}
-use Rattle.run_lists.specs.Run.{Run}
+use Rattle.executions.specs.run_lists.Run.{Run}
 use Rattle.slot_table.specs.declared.records.Record.{Record}
 use Rattle.task_log.specs.Keeps as task_log
 use Rattle.task_run.specs.Leads.{Leads}
 use Rattle.task_run.specs.Room.{task_room}
 use Rattle.task_run.specs.declared.run.TaskRun.{TaskRun}
-use Rattle.written_order.specs.Standing.{Setting}
-use Rattle.written_order.specs.Waits as waits
-use Rattle.written_order.specs.WrittenOrder.{SpellsAll, WrittenOrder}
+use Rattle.program_order.specs.Standing.{Setting}
+use Rattle.program_order.specs.Waits as waits
+use Rattle.program_order.specs.WrittenOrder.{SpellsAll, WrittenOrder}
 
 -- the list, the latest record first, is a run list and leads to the world
 abbrev pub LeadsTo : Run → List Record → World → Type 0

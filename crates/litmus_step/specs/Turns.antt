@@ -1,14 +1,14 @@
 -- What is known of the tasks of a world that a list leads to, and worlds to which tasks that are asked lead.
 use Rattle.std.specs.Prelude.{◌≡◌, ◌++◌, ◌<◌, ◌≤◌, ◌+◌, ◌∷◌, ℕ, List, length}
-use Rattle.run_lists.specs.Run.{Run}
-use Rattle.run_lists.specs.RunList as run_lists
+use Rattle.executions.specs.run_lists.Run.{Run}
+use Rattle.executions.specs.run_lists.RunList as run_lists
 use Rattle.slot_table.specs.declared.records.Record.{Record}
-use Rattle.step_schedule.specs.Order.{AreAsked, IsOrder, Tasks}
-use Rattle.step_schedule.specs.declared.schedule.Entry.{Entry}
+use Rattle.option_lists.specs.step_schedule.Order.{AreAsked, IsOrder, Tasks}
+use Rattle.option_lists.specs.declared.step_schedule.schedule.Entry.{Entry}
 use Rattle.litmus_step.specs.Runs.{HasEnded, IsStuck, tasks_of}
 use Rattle.litmus_step.specs.Steps.{IsFree, IsMachine, LeadsTo, tasks_in}
-use Rattle.program_sites.specs.declared.error.RunError.{RunError}
-use Rattle.program_sites.specs.declared.error.RunError.TheVariants as errors
+use Rattle.prepared_program.specs.declared.program_sites.error.RunError.{RunError}
+use Rattle.prepared_program.specs.declared.program_sites.error.RunError.TheVariants as errors
 use Rattle.litmus_step.specs.declared.world.World.{World}
 use Rattle.task_run.specs.declared.run.TaskRun.{TaskRun}
 

@@ -4,11 +4,11 @@ ghost use Rattle.std.specs.Prelude.{◌≡◌, ◌<◌, ◌≤◌, ◌*◌, [], 
 ghost use Rattle.access_types.specs.Sites.{AccessMap};
 ghost use Rattle.litmus_syntax.specs.Limits.{KeepsLimits};
 ghost use Rattle.litmus_syntax.specs.Views.{program_of};
-ghost use Rattle.run_lists.specs.Run.{first_words};
+ghost use Rattle.executions.specs.run_lists.Run.{first_words};
 ghost use Rattle.litmus_step.specs.Leads.{LeadsTask, LeadsTasks};
-ghost use Rattle.program_sites.specs.Prepared.{IsPrepared, IsReady, sites_in};
+ghost use Rattle.prepared_program.specs.program_sites.Prepared.{IsPrepared, IsReady, sites_in};
 ghost use Rattle.litmus_step.specs.Runs.{run_of};
-ghost use Rattle.program_sites.specs.declared.settings.Settings.{Settings};
+ghost use Rattle.prepared_program.specs.declared.program_sites.settings.Settings.{Settings};
 ghost use Rattle.task_log.specs.Keeps.{Keeps};
 ghost use Rattle.task_log.specs.declared.log.TaskLog.{TaskLog};
 ghost use Rattle.task_run.specs.Points.{HasMade};
@@ -16,7 +16,7 @@ ghost use Rattle.task_run.specs.declared.run.TaskRun.{TaskRun};
 
 use access_types::Report;
 use litmus_syntax::Program;
-use program_sites::Prepared;
+use prepared_program::program_sites::Prepared;
 use slot_table::{BoardError, PlainBoard, Shape};
 use std::alloc::{AllocError, Global};
 use task_log::TaskLog;

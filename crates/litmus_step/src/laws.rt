@@ -5,18 +5,18 @@ ghost use Rattle.access_types.specs.Arms.{Arm};
 ghost use Rattle.access_types.specs.Stamped.{Stamped};
 ghost use Rattle.access_types.specs.Takes.{Take};
 ghost use Rattle.access_types.specs.declared.report.Report.{Report};
-ghost use Rattle.litmus_meaning.specs.RunOfProgram.{RunOfProgram};
+ghost use Rattle.litmus_semantics.specs.RunOfProgram.{RunOfProgram};
 ghost use Rattle.litmus_syntax.specs.Limits.{KeepsLimits};
-ghost use Rattle.program_layout.specs.Places.{AreFit, places_of};
-ghost use Rattle.program_layout.specs.declared.place.Place.{Place};
-ghost use Rattle.program_sites.specs.Sites.{AreSitesOf};
-ghost use Rattle.run_lists.specs.Run.{Run, task_setting};
-ghost use Rattle.run_lists.specs.RunList.{RunList};
-ghost use Rattle.run_lists.specs.Told.{history_of};
-ghost use Rattle.run_lists.specs.Reports.{reports_of};
-ghost use Rattle.run_kept.specs.Lists.{AreAccessesOf, AreArmsOf, AreTakesOf};
-ghost use Rattle.run_kept.specs.Noted.{Notes};
-ghost use Rattle.run_kept.specs.Totals.{AddUp, CountsList, CountsTasks};
+ghost use Rattle.prepared_program.specs.program_layout.Places.{AreFit, places_of};
+ghost use Rattle.prepared_program.specs.declared.program_layout.place.Place.{Place};
+ghost use Rattle.prepared_program.specs.program_sites.Sites.{AreSitesOf};
+ghost use Rattle.executions.specs.run_lists.Run.{Run, task_setting};
+ghost use Rattle.executions.specs.run_lists.RunList.{RunList};
+ghost use Rattle.executions.specs.run_lists.Told.{history_of};
+ghost use Rattle.executions.specs.run_lists.Reports.{reports_of};
+ghost use Rattle.log_correctness.specs.Lists.{AreAccessesOf, AreArmsOf, AreTakesOf};
+ghost use Rattle.log_correctness.specs.Noted.{Notes};
+ghost use Rattle.log_correctness.specs.Totals.{AddUp, CountsList, CountsTasks};
 ghost use Rattle.setup_access.specs.Parts.{made};
 ghost use Rattle.setup_access.specs.declared.begun.Begun.{Begun};
 ghost use Rattle.setup_access.specs.declared.outcome.Outcome.{Outcome};
@@ -45,21 +45,23 @@ ghost use Rattle.task_run.specs.Leads.{BeginsNext, LeadsOn, stands_at};
 ghost use Rattle.task_run.specs.Points.{HasMade, Stepped};
 ghost use Rattle.task_run.specs.Says.{Says};
 ghost use Rattle.task_run.specs.declared.run.TaskRun.{TaskRun};
-ghost use Rattle.written_order.specs.WrittenOrder.{stands_after};
+ghost use Rattle.program_order.specs.WrittenOrder.{stands_after};
 
-use run_headline::histories::run_lists_tell_runs_of_the_program;
-use run_kept::accesses::a_log_keeps_just_the_accesses;
-use run_kept::bounds::{few_are_reported, few_watches_are_over};
-use run_kept::logs::{
+use executions::observation_determinism::steps_name_words_of_the_run;
+use log_correctness::accesses::a_log_keeps_just_the_accesses;
+use log_correctness::bounds::{few_are_reported, few_watches_are_over};
+use log_correctness::logs::{
     a_log_keeps_just_the_arms, a_log_keeps_just_the_takes, a_log_reports_what_the_list_does,
     a_machine_says_what_is_noted, counters_of_tasks_add_up, few_accesses_are_noted,
     one_more_is_noted,
 };
-use run_kept::standing::{ended_tasks_stand_at_the_end, machines_stand_where_the_records_tell};
+use log_correctness::standing::{
+    ended_tasks_stand_at_the_end, machines_stand_where_the_records_tell,
+};
+use soundness::histories::run_lists_tell_runs_of_the_program;
 use task_laws::laws::an_answer_leads_on;
 use task_laws::spelled::{texts_within_limits_are_spelled, variables_of_programs_are_placed};
 use task_run::laws::no_task_stops;
-use written_tellings::steps_name_words_of_the_run;
 
 /// Law: a program within the limits, with places that fit its variables, at least three page slots, and waits of less
 /// than 2^64 tries, can be made steps of. The list without a step is a run list of it.

@@ -3,10 +3,10 @@
 ghost use Rattle.std.specs.Prelude.{◌≡◌, IfOk, List, Option, vec_capacity};
 ghost use Rattle.litmus_step.specs.Kept.{Added, AreLogs, IsNotedIn};
 ghost use Rattle.litmus_syntax.specs.Limits.{KeepsLimits};
-ghost use Rattle.run_lists.specs.Run.{Run};
-ghost use Rattle.run_lists.specs.RunList.{RunList};
-ghost use Rattle.run_kept.specs.Lists.{AreAccesses, AreArms, AreTakes};
-ghost use Rattle.run_kept.specs.Totals.{CountsList};
+ghost use Rattle.executions.specs.run_lists.Run.{Run};
+ghost use Rattle.executions.specs.run_lists.RunList.{RunList};
+ghost use Rattle.log_correctness.specs.Lists.{AreAccesses, AreArms, AreTakes};
+ghost use Rattle.log_correctness.specs.Totals.{CountsList};
 ghost use Rattle.slot_table.specs.declared.records.Record.{Record};
 ghost use Rattle.task_log.specs.Keeps.{room_in};
 

@@ -1,16 +1,16 @@
 //! What is read of a run, whoever made its steps.
 
 ghost use Rattle.std.specs.Prelude.{◌≡◌, ◌<◌, ℕ, IfOk, List};
-ghost use Rattle.run_kept.specs.Setters.{AreReportsOf};
+ghost use Rattle.log_correctness.specs.Setters.{AreReportsOf};
 ghost use Rattle.access_types.specs.declared.report.Report.{Report};
 ghost use Rattle.litmus_step.specs.Readers.{AreRegisters};
 ghost use Rattle.litmus_step.specs.Runs.{CanBeMade, tasks_of};
-ghost use Rattle.run_kept.specs.Lists.{AreAccesses, AreArms, AreTakes};
-ghost use Rattle.run_kept.specs.Totals.{CountsList, IsUnbalanced};
+ghost use Rattle.log_correctness.specs.Lists.{AreAccesses, AreArms, AreTakes};
+ghost use Rattle.log_correctness.specs.Totals.{CountsList, IsUnbalanced};
 ghost use Rattle.slot_table.specs.Records.{words_after};
 ghost use Rattle.slot_table.specs.declared.records.Record.{Record};
-ghost use Rattle.run_lists.specs.Run.{Run, first_words};
-ghost use Rattle.run_lists.specs.RunList.{RunList};
+ghost use Rattle.executions.specs.run_lists.Run.{Run, first_words};
+ghost use Rattle.executions.specs.run_lists.RunList.{RunList};
 
 use access_types::{Arm, Report, Stamped, Take};
 use std::alloc::{AllocError, Global};

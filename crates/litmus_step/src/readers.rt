@@ -2,14 +2,14 @@
 
 ghost use Rattle.std.specs.Prelude.{◌≡◌, ◌<◌, All, IfOk, List};
 ghost use Rattle.std.specs.Arc.{arc_value};
-ghost use Rattle.litmus_meaning.specs.RunOfProgram.{RunOfProgram};
+ghost use Rattle.litmus_semantics.specs.RunOfProgram.{RunOfProgram};
 ghost use Rattle.litmus_step.specs.Runs.{HasEnded};
-ghost use Rattle.run_headline.specs.Headline.{Headline};
-ghost use Rattle.run_headline.specs.Cells.{CellsHold, memory_after, run_cells};
-ghost use Rattle.run_headline.specs.Reported.{IsTrueReport};
-ghost use Rattle.run_lists.specs.Reports.{reports_of};
-ghost use Rattle.run_lists.specs.Run.{Run};
-ghost use Rattle.run_lists.specs.Told.{history_of};
+ghost use Rattle.soundness.specs.Headline.{Headline};
+ghost use Rattle.soundness.specs.Cells.{CellsHold, memory_after, run_cells};
+ghost use Rattle.soundness.specs.Reported.{IsTrueReport};
+ghost use Rattle.executions.specs.run_lists.Reports.{reports_of};
+ghost use Rattle.executions.specs.run_lists.Run.{Run};
+ghost use Rattle.executions.specs.run_lists.Told.{history_of};
 ghost use Rattle.slot_table.specs.declared.records.Record.{Record};
 
 use crate::laws::{
@@ -19,18 +19,18 @@ use crate::logs::{accesses_of, arms_of, counters_of, takes_of};
 use crate::ran::Ran;
 use crate::world::World;
 use access_types::{Arm, Report, Sites, Stamped, Take};
-use run_headline::histories::{cells_hold_the_content, reports_are_true};
-use run_headline::laws::the_headline_holds;
-use run_kept::logs::a_machine_says_what_begins;
+use log_correctness::logs::a_machine_says_what_begins;
 use slot_table::PlainBoard;
+use soundness::histories::{cells_hold_the_content, reports_are_true};
+use soundness::laws::the_headline_holds;
 use std::alloc::{AllocError, Global};
 use task_log::Counters;
 use task_run::{After, Before, TaskRun};
 
 impl<'a> World<'a> {
     ghost use Rattle.litmus_step.specs.Readers.{AreRegisters, IsBefore, IsMeant, steps_told};
-    ghost use Rattle.run_kept.specs.Lists.{AreAccesses, AreArms, AreTakes};
-    ghost use Rattle.run_kept.specs.Totals.{CountsList, IsUnbalanced};
+    ghost use Rattle.log_correctness.specs.Lists.{AreAccesses, AreArms, AreTakes};
+    ghost use Rattle.log_correctness.specs.Totals.{CountsList, IsUnbalanced};
     ghost use Rattle.litmus_step.specs.Steps.{IsMachine, LeadsTo, tasks_in};
     ghost use Rattle.task_run.specs.Points.{last_was};
 

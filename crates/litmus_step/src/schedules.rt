@@ -2,17 +2,17 @@
 
 ghost use Rattle.std.specs.Prelude.{◌≡◌, ◌≢◌, ◌<◌, ◌↔◌, ◌⊎◌, ℕ, IfErr, IsErrOf, IsTrue, List, OnOk, false, replicate, true};
 ghost use Rattle.std.specs.List.{range_with_len};
-ghost use Rattle.run_headline.specs.Headline.{Headline};
-ghost use Rattle.run_lists.specs.Run.{Run};
+ghost use Rattle.soundness.specs.Headline.{Headline};
+ghost use Rattle.executions.specs.run_lists.Run.{Run};
 ghost use Rattle.slot_table.specs.declared.records.Record.{Record};
-ghost use Rattle.step_schedule.specs.Order.{asked_by, in_rounds};
-ghost use Rattle.step_schedule.specs.Schedule.{entries_of, names_stranger};
+ghost use Rattle.option_lists.specs.step_schedule.Order.{asked_by, in_rounds};
+ghost use Rattle.option_lists.specs.step_schedule.Schedule.{entries_of, names_stranger};
 
 use crate::world::{Stepped, World};
-use program_sites::RunError;
-use run_headline::laws::the_headline_holds;
-use step_bounds::laws::few_steps_are_made;
-use step_schedule::Schedule;
+use executions::step_bounds::laws::few_steps_are_made;
+use option_lists::step_schedule::Schedule;
+use prepared_program::program_sites::RunError;
+use soundness::laws::the_headline_holds;
 
 impl<'a> World<'a> {
     ghost use Rattle.litmus_step.specs.Steps.{LeadsTo, room_in, tasks_in};

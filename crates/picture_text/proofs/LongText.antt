@@ -1,7 +1,7 @@
 -- the begin of an access that is told in three lines, and of one that is told in one
 use Rattle.std.proofs.Common.{◌≡◌, ◌∙◌, ℕ, Bool, false, true, List, refl, sym}
 use Rattle.access_types.specs.Stamped.{Stamped}
-use Rattle.picture.specs.declared.columns.Column.{Column}
+use Rattle.timeline.specs.declared.picture.columns.Column.{Column}
 use Rattle.picture_text.specs.Rows.{begin_text, is_short, long_text, short_text}
 use Rattle.picture_text.specs.declared.cells.Style.{Style}
 

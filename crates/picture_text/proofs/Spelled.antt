@@ -2,11 +2,11 @@
 use Rattle.std.proofs.Common.{◌≡◌, ◌++◌, ◌∙◌, ℕ, List, [], append_assoc, append-nil, codes}
 use Rattle.std.specs.Prelude.{max, min}
 use Rattle.std.specs.Fmt.{decimal}
-use Rattle.picture.specs.Words.{deed, outcome_words, place_of, site_words, size_words}
+use Rattle.timeline.specs.picture.Words.{deed, outcome_words, place_of, site_words, size_words}
 use Rattle.access_types.specs.Stamped.{Stamped}
-use Rattle.picture.specs.declared.columns.Column.{Column}
-use Rattle.picture.specs.declared.watches.Taking.{Taking}
-use Rattle.picture.specs.declared.watches.Watch.{Watch}
+use Rattle.timeline.specs.declared.picture.columns.Column.{Column}
+use Rattle.timeline.specs.declared.picture.watches.Taking.{Taking}
+use Rattle.timeline.specs.declared.picture.watches.Watch.{Watch}
 use Rattle.picture_text.specs.Lines.{line_of}
 use Rattle.picture_text.specs.Rows.{changed_line, deed_line, end_text, race_text, short_text, site_line}
 use Rattle.picture_text.specs.Watches.{taking_text, watch_text}

@@ -2,8 +2,8 @@
 use Rattle.std.specs.Prelude.{◌==◌, ◌++◌, ℕ, List, [], codes, if◌then◌else◌, length, nat_le, nat_lt}
 use Rattle.std.specs.Fmt.{decimal}
 use Rattle.std.specs.List.{flat_map}
-use Rattle.picture.specs.Running.{running}
-use Rattle.picture.specs.declared.columns.Column.{Column}
+use Rattle.timeline.specs.picture.Running.{running}
+use Rattle.timeline.specs.declared.picture.columns.Column.{Column}
 use Rattle.picture_text.specs.Cells.{cell_of, cell_text}
 use Rattle.picture_text.specs.declared.cells.Shape.{Shape}
 use Rattle.picture_text.specs.declared.cells.Style.{Style}

@@ -3,12 +3,12 @@ use Rattle.std.specs.Prelude.{◌^◌, ◌&&◌, ◌++◌, ℕ, Bool, List, code
 use Rattle.std.specs.List.{flat_map}
 use Rattle.access_types.specs.ReportText.{hex}
 use Rattle.access_types.specs.Stamped.{Stamped}
-use Rattle.picture.specs.declared.columns.Column.{Column}
-use Rattle.picture.specs.declared.rows.Mark.{Mark}
-use Rattle.picture.specs.declared.rows.Mark.TheVariants as marks
-use Rattle.picture.specs.declared.rows.Row.{Row}
+use Rattle.timeline.specs.declared.picture.columns.Column.{Column}
+use Rattle.timeline.specs.declared.picture.rows.Mark.{Mark}
+use Rattle.timeline.specs.declared.picture.rows.Mark.TheVariants as marks
+use Rattle.timeline.specs.declared.picture.rows.Row.{Row}
 use Rattle.picture_text.specs.Lines.{line_of}
-use Rattle.picture.specs.Words.{deed, place_of, site_words, size_words}
+use Rattle.timeline.specs.picture.Words.{deed, place_of, site_words, size_words}
 use Rattle.picture_text.specs.declared.cells.Shape.TheVariants.{Bars, Begins, Ends, Race}
 use Rattle.picture_text.specs.declared.cells.Style.{Style}
 use Rattle.picture_text.specs.declared.lines.Margin.TheVariants.{Empty, Stamp}

@@ -2,8 +2,8 @@
 use Rattle.std.specs.Prelude.{◌==◌, ◌++◌, ℕ, List, [], codes, if◌then◌else◌, length, nat_lt}
 use Rattle.std.specs.Fmt.{decimal}
 use Rattle.std.specs.List.{flat_map}
-use Rattle.picture.specs.declared.columns.Column.{Column}
-use Rattle.picture.specs.declared.draw.Picture.{Picture}
+use Rattle.timeline.specs.declared.picture.columns.Column.{Column}
+use Rattle.timeline.specs.declared.picture.draw.Picture.{Picture}
 use Rattle.picture_text.specs.Rows.{rows_text}
 use Rattle.picture_text.specs.Watches.{gap_text, taking_text, watch_text}
 use Rattle.picture_text.specs.declared.cells.Style.{Style}

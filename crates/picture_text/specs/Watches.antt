@@ -1,9 +1,9 @@
 -- The watchpoints under a picture, and who took them.
 use Rattle.std.specs.Prelude.{◌==◌, ◌++◌, ℕ, List, [], codes, if◌then◌else◌, length}
 use Rattle.std.specs.Fmt.{decimal}
-use Rattle.picture.specs.declared.watches.Taking.{Taking}
-use Rattle.picture.specs.declared.watches.Watch.{Watch}
-use Rattle.picture.specs.Words.{outcome_words, place_of}
+use Rattle.timeline.specs.declared.picture.watches.Taking.{Taking}
+use Rattle.timeline.specs.declared.picture.watches.Watch.{Watch}
+use Rattle.timeline.specs.picture.Words.{outcome_words, place_of}
 
 -- an empty line, where there are watchpoints
 abbrev pub gap_text : List Watch → List ℕ

@@ -2,16 +2,16 @@
 
 ghost use Rattle.std.specs.Prelude.{◌≡◌, ◌++◌, All};
 ghost use Rattle.std.specs.List.{flat_map};
-ghost use Rattle.picture.specs.Running.{IsInOrder};
+ghost use Rattle.timeline.specs.picture.Running.{IsInOrder};
 ghost use Rattle.report_text.specs.Pieces.{text_of_parts};
 ghost use Rattle.report_text.specs.Sink.{Writes};
 ghost use Rattle.picture_text.specs.Lines as spec;
 ghost use Rattle.picture_text.specs.Lines.{cells, column_text, line_of, stamp_text};
 
 use crate::cells::{Shape, Style, cell_of, cell_text};
-use picture::Column;
 use report_text::pieces::{Piece, write_parts, write_pieces};
 use report_text::{Sink, WriteError, write_all};
+use timeline::picture::Column;
 
 /// What stands in front of a line.
 #[derive(Clone, Copy)]

@@ -1,17 +1,17 @@
 //! The rows of a picture, as lines.
 
 ghost use Rattle.std.specs.Prelude.{◌≡◌, All};
-ghost use Rattle.picture.specs.Running.{IsInOrder};
+ghost use Rattle.timeline.specs.picture.Running.{IsInOrder};
 ghost use Rattle.report_text.specs.Sink.{Writes};
 ghost use Rattle.picture_text.specs.Rows as spec;
 
 use crate::cells::{Shape, Style};
 use crate::lines::{Margin, write_line};
 use access_types::Stamped;
-use picture::words::{deed, place_of, site_words, size_words};
-use picture::{Column, Mark, Row};
 use report_text::pieces::Piece;
 use report_text::{Sink, WriteError};
+use timeline::picture::words::{deed, place_of, site_words, size_words};
+use timeline::picture::{Column, Mark, Row};
 
 /// An access that is told in one line.
 fn is_short(stamped: &Stamped) -> bool

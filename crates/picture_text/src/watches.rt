@@ -5,10 +5,10 @@ ghost use Rattle.std.specs.List.{flat_map};
 ghost use Rattle.report_text.specs.Sink.{Writes};
 ghost use Rattle.picture_text.specs.Watches.{gap_text, taking_text, watch_text};
 
-use picture::words::{outcome_words, place_of};
-use picture::{Taking, Watch};
 use report_text::pieces::{Piece, write_parts};
 use report_text::{Sink, WriteError, write_all};
+use timeline::picture::words::{outcome_words, place_of};
+use timeline::picture::{Taking, Watch};
 
 /// Writes an empty line, where there are watchpoints.
 pub(crate) fn write_gap<K: Sink>(sink: &mut K, watches: &[Watch]) -> Result<(), WriteError>

@@ -2,7 +2,7 @@
 
 ghost use Rattle.std.specs.Prelude.{◌≡◌};
 ghost use Rattle.std.specs.List.{flat_map};
-ghost use Rattle.picture.specs.Ordered.{IsOrdered};
+ghost use Rattle.timeline.specs.picture.Ordered.{IsOrdered};
 ghost use Rattle.report_text.specs.Sink.{Writes};
 ghost use Rattle.picture_text.specs.Text as spec;
 ghost use Rattle.picture_text.specs.Text.{head_text, heading, picture_text};
@@ -10,9 +10,9 @@ ghost use Rattle.picture_text.specs.Text.{head_text, heading, picture_text};
 use crate::cells::Style;
 use crate::rows::write_rows;
 use crate::watches::{write_gap, write_takings, write_watches};
-use picture::{Column, Picture};
 use report_text::pieces::{Piece, write_pieces};
 use report_text::{Sink, WriteError, write_all};
+use timeline::picture::{Column, Picture};
 
 /// What fills the heading of a task up to seven signs.
 fn fill(task: u32) -> &'static str

@@ -6,8 +6,8 @@ use Rattle.access_types.specs.Access.{Access}
 use Rattle.access_types.specs.Kind.{access_words, is_marked}
 use Rattle.access_types.specs.Marked as marked
 use Rattle.access_types.specs.ReportText.{hex}
-use Rattle.index_order.specs.Indices.{look_index}
-use Rattle.index_order.specs.declared.place.Place.TheVariants as places
+use Rattle.slot_table.specs.index_order.Indices.{look_index}
+use Rattle.slot_table.specs.declared.index_order.place.ProbeIndex.TheVariants as places
 use Rattle.program_table.specs.declared.accesses.Table.{Table}
 use Rattle.program_table.specs.declared.accesses.Table.TheVariants.{Checks, Places}
 use Rattle.program_table.specs.declared.rows.Made.{Made}
@@ -15,7 +15,7 @@ use Rattle.program_table.specs.declared.rows.Made.TheVariants.{First, Never}
 use Rattle.program_table.specs.declared.rows.SiteRow.{SiteRow}
 use Rattle.program_table.specs.declared.rows.Spot.{Spot}
 use Rattle.program_table.specs.declared.rows.Spot.TheVariants.{At, Unknown}
-use Rattle.text_pieces.specs.Pieces.{padded}
+use Rattle.program_table.specs.text_pieces.Pieces.{padded}
 
 -- a number in hexadecimal, behind `0x`
 unfoldable pub hexed : ℕ → List ℕ

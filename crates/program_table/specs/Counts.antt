@@ -8,7 +8,7 @@ use Rattle.litmus_syntax.specs.Views.{block_of}
 use Rattle.litmus_syntax.specs.declared.program.Task.{Task}
 use Rattle.program_table.specs.Nesting.{open_blocks, scoped_in}
 use Rattle.program_table.specs.Operators.{most_in_block}
-use Rattle.text_pieces.specs.Pieces.{padded}
+use Rattle.program_table.specs.text_pieces.Pieces.{padded}
 
 -- a count of 64 bits stays at its last value
 abbrev pub capped : ℕ → ℕ

@@ -6,3 +6,4 @@ pub mod Nesting
 pub mod Operators
 pub mod Counts
 pub mod Table
+pub mod text_pieces

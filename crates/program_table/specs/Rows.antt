@@ -6,7 +6,7 @@ use Rattle.access_types.specs.Sites.{AccessMap}
 use Rattle.litmus_lex.specs.Lines.{column_at, line_at}
 use Rattle.litmus_syntax.specs.Sites.{sites_of}
 use Rattle.litmus_syntax.specs.Tree.{Program, Task}
-use Rattle.program_sites.specs.Added.{first_ticket}
+use Rattle.prepared_program.specs.program_sites.Added.{first_ticket}
 use Rattle.program_table.specs.declared.rows.Made.{Made}
 use Rattle.program_table.specs.declared.rows.Made.TheVariants.{First, Never}
 use Rattle.program_table.specs.declared.rows.SiteRow.{SiteRow}

@@ -3,10 +3,10 @@ use Rattle.std.specs.Prelude.{ℕ, List, [], ◌∷◌, codes, length}
 use Rattle.std.specs.List.{concat, flat_map}
 use Rattle.litmus_syntax.specs.Views.{program_of, proposition_of}
 use Rattle.litmus_syntax.specs.declared.program.Program.{Program}
-use Rattle.program_layout.specs.Places.{places_of}
-use Rattle.program_sites.specs.Prepared.{sites_in}
-use Rattle.program_sites.specs.declared.prepared.Prepared.{Prepared}
-use Rattle.program_sites.specs.declared.settings.Settings.{Settings}
+use Rattle.prepared_program.specs.program_layout.Places.{places_of}
+use Rattle.prepared_program.specs.program_sites.Prepared.{sites_in}
+use Rattle.prepared_program.specs.declared.program_sites.prepared.Prepared.{Prepared}
+use Rattle.prepared_program.specs.declared.program_sites.settings.Settings.{Settings}
 use Rattle.program_table.specs.Accesses.{line_of}
 use Rattle.program_table.specs.Counts as counts
 use Rattle.program_table.specs.Rows.{Words, rows_of}

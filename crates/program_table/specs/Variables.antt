@@ -3,14 +3,14 @@ use Rattle.std.specs.Prelude.{◌==◌, ◌++◌, ℕ, suc, List, [], ◌∷◌,
 use Rattle.std.specs.Fmt.{signed_decimal}
 use Rattle.std.specs.List.{concat}
 use Rattle.access_types.specs.declared.history.Bytes.{Bytes}
-use Rattle.litmus_meaning.specs.Layout.{Place, bytes_of_variable}
+use Rattle.litmus_semantics.specs.Layout.{Place, bytes_of_variable}
 use Rattle.litmus_syntax.specs.PrintedForm.{type_name}
 use Rattle.litmus_syntax.specs.declared.program.Contents.{Contents}
 use Rattle.litmus_syntax.specs.declared.program.Contents.TheVariants.{Atomic, Char, Int, Lock, Long, Short}
 use Rattle.litmus_syntax.specs.declared.program.Variable.{Variable}
 use Rattle.program_table.specs.Accesses.{hexed}
-use Rattle.text_pieces.specs.Pieces.{padded}
-use Rattle.text_pieces.specs.Shown.{cut}
+use Rattle.program_table.specs.text_pieces.Pieces.{padded}
+use Rattle.program_table.specs.text_pieces.Shown.{cut}
 
 -- a number in decimal, behind a `-` where it is below 0
 abbrev pub signed : ℤ → List ℕ

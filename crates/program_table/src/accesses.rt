@@ -11,12 +11,12 @@ ghost use Rattle.litmus_syntax.specs.Views.{program_of};
 
 use crate::hex::hexed;
 use crate::rows::{Listed, Made, SiteRow, Spot, row_of, site_count};
+use crate::text_pieces::{joined, number, padded};
 use access_types::{Access, words};
-use index_order::Place;
 use litmus_syntax::Program;
+use slot_table::index_order::ProbeIndex;
 use slot_table::page_slot;
 use std::alloc::{AllocError, Global};
-use text_pieces::{joined, number, padded};
 
 /// One of the two tables that have a line a row.
 #[derive(Clone, Copy)]
@@ -138,9 +138,9 @@ fn indices(alloc: Global, slots: usize, access: &Access) -> Result<Vec<u8>, Allo
     ensures { IfOk result (λ text. text.items ≡ spec.indices slots access.now) }
 {
     let slot = page_slot(access.addr(), slots);
-    let first = number(alloc, Place::First.of_look_up(slot))?;
-    let second = number(alloc, Place::Second.of_look_up(slot))?;
-    let third = number(alloc, Place::Third.of_look_up(slot))?;
+    let first = number(alloc, ProbeIndex::First.of_look_up(slot))?;
+    let second = number(alloc, ProbeIndex::Second.of_look_up(slot))?;
+    let third = number(alloc, ProbeIndex::Third.of_look_up(slot))?;
     joined(alloc, &[&first, b" ", &second, b" ", &third])
 }
 

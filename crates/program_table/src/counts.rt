@@ -8,9 +8,9 @@ ghost use Rattle.program_table.specs.Counts.{capped};
 
 use crate::nesting::{open_blocks, scoped_in_force};
 use crate::operators::{in_proposition, most_in_block};
+use crate::text_pieces::{joined, number, padded};
 use litmus_syntax::{Proposition, Statement, Task};
 use std::alloc::{AllocError, Global};
-use text_pieces::{joined, number, padded};
 
 /// Bytes of a file.
 const FILE_BYTES: usize = 65536;

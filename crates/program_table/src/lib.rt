@@ -9,6 +9,7 @@ mod nesting;
 mod operators;
 pub mod rows;
 pub mod tables;
+pub mod text_pieces;
 pub mod variables;
 
 pub use rows::{Made, SiteRow, Spot};

@@ -9,7 +9,7 @@ ghost use Rattle.program_table.specs.Words.{AreWords};
 
 use access_types::{Access, Sites};
 use litmus_lex::{column_of, line_of};
-use litmus_meaning::text_sites;
+use litmus_semantics::text_sites;
 use litmus_syntax::Task;
 use std::alloc::{AllocError, Global};
 use watch_word::{Layout, encode_in};

@@ -3,8 +3,8 @@
 ghost use Rattle.std.specs.Prelude.{◌≡◌, ◌≤◌, IfOk, map};
 ghost use Rattle.litmus_syntax.specs.Limits.{KeepsLimits};
 ghost use Rattle.litmus_syntax.specs.Views.{program_of};
-ghost use Rattle.program_sites.specs.Prepared.{IsPrepared};
-ghost use Rattle.program_sites.specs.declared.settings.Settings.{Settings};
+ghost use Rattle.prepared_program.specs.program_sites.Prepared.{IsPrepared};
+ghost use Rattle.prepared_program.specs.declared.program_sites.settings.Settings.{Settings};
 ghost use Rattle.program_table.specs.Rows.{rows_of};
 ghost use Rattle.program_table.specs.Table as spec;
 ghost use Rattle.program_table.specs.Words.{AreWords};
@@ -12,11 +12,11 @@ ghost use Rattle.program_table.specs.Words.{AreWords};
 use crate::accesses::{Table, table_lines};
 use crate::counts::{program_lines, tasks_lines};
 use crate::rows::Listed;
+use crate::text_pieces::joined;
 use crate::variables::variable_lines;
 use litmus_syntax::Program;
-use program_sites::Prepared;
+use prepared_program::program_sites::Prepared;
 use std::alloc::{AllocError, Global};
-use text_pieces::joined;
 
 /// The tables of the accesses, which go by so many page slots.
 #[tactic(auto, unfolding(crate::specs::Table::accesses_text))]

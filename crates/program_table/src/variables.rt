@@ -1,17 +1,17 @@
 //! The lines of variables: type, address and initial value.
 
 ghost use Rattle.std.specs.Prelude.{◌≡◌, IfOk, List};
-ghost use Rattle.litmus_meaning.specs.Layout.{Place};
-ghost use Rattle.program_layout.specs.Lays.{Lays};
+ghost use Rattle.litmus_semantics.specs.Layout.{Place};
+ghost use Rattle.prepared_program.specs.program_layout.Lays.{Lays};
 ghost use Rattle.program_table.specs.Variables as spec;
 
 use crate::hex::hexed;
+use crate::text_pieces::{cut, joined, padded};
 use access_types::Bytes;
 use itoa::Buffer;
 use litmus_syntax::{Contents, Variable};
-use program_layout::Layout;
+use prepared_program::program_layout::Layout;
 use std::alloc::{AllocError, Global};
-use text_pieces::{cut, joined, padded};
 
 /// The number in decimal, behind a `-` where it is below 0.
 fn signed(alloc: Global, value: i64) -> Result<Vec<u8>, AllocError>

@@ -11,14 +11,14 @@ use Rattle.std.proofs.Math.Nat.{mod-mod, mod-one}
 use Rattle.std.proofs.Math.Seq.{take-length}
 use Rattle.access_types.specs.History.{History, Memory, after_moments, byte_of, value_from}
 use Rattle.access_types.specs.declared.history.Bytes.{Bytes}
-use Rattle.litmus_meaning.specs.Layout.{Place, block_of, bytes_at, bytes_of_variable, cells_of, memory_at_first, no_bytes}
-use Rattle.litmus_meaning.specs.Values.{sign_extended, size_of, with_sign}
+use Rattle.litmus_semantics.specs.Layout.{Place, block_of, bytes_at, bytes_of_variable, cells_of, memory_at_first, no_bytes}
+use Rattle.litmus_semantics.specs.Values.{sign_extended, size_of, with_sign}
 use Rattle.litmus_syntax.specs.declared.program.Variable.{Variable}
-use Rattle.program_layout.specs.Cells.{LieInOneCell}
+use Rattle.prepared_program.specs.program_layout.Cells.{LieInOneCell}
 use Rattle.run_output.specs.Finals.{value_in_cells, value_of, variable_value, word_at}
-use Rattle.memory_operation.proofs.WordLemmas.{range_is}
-use Rattle.run_headline.specs.Cells.{CellsHold}
-use Rattle.run_headline.proofs.WordBytes.{value_of_bytes}
+use Rattle.access_run.proofs.memory_operation.WordLemmas.{range_is}
+use Rattle.soundness.specs.Cells.{CellsHold}
+use Rattle.soundness.proofs.WordBytes.{value_of_bytes}
 
 chosen : (same : Bool) (word other : ℕ) → same ≡ true → (if same then word else other) ≡ word
 chosen true word other is = refl

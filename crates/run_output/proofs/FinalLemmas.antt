@@ -4,14 +4,14 @@ use Rattle.std.proofs.Common.{refl, slice_get, subst, suc, sym, inl, inr, Vec}
 use Rattle.std.specs.Option.{option_map}
 use Rattle.std.proofs.lemmas.Option.{slice_get-map}
 use Rattle.std.specs.Global.{Global}
-use Rattle.final_condition.specs.Holds as final
-use Rattle.final_condition.specs.Holds.{Holds, register_of}
-use Rattle.final_condition.specs.declared.condition.Finals.{Finals}
+use Rattle.litmus_semantics.specs.final_condition.Holds as final
+use Rattle.litmus_semantics.specs.final_condition.Holds.{Holds, register_of}
+use Rattle.litmus_semantics.specs.declared.final_condition.condition.Finals.{Finals}
 use Rattle.run_output.specs.Finals.{AreAllRegisters, AreRegistersFrom, register_value, value_among}
 use Rattle.litmus_step.specs.Readers.{AreRegisters}
 use Rattle.litmus_syntax.specs.Tree.{Proposition, always, both, either, negation, never, register_is, variable_is}
-use Rattle.run_lists.specs.Run.{Run}
-use Rattle.run_lists.specs.RunList.{RunList}
+use Rattle.executions.specs.run_lists.Run.{Run}
+use Rattle.executions.specs.run_lists.RunList.{RunList}
 use Rattle.slot_table.specs.declared.records.Record.{Record}
 
 -- the registers of one task more

@@ -3,16 +3,16 @@ use Rattle.std.specs.Prelude.{◌≡◌, ◌↔◌, ◌*◌, ◌/◌, ◌%◌, �
 use Rattle.std.specs.Prelude.{suc, if◌then◌else◌}
 use Rattle.access_types.specs.History.{History, content}
 use Rattle.access_types.specs.declared.history.Bytes.{Bytes}
-use Rattle.final_condition.specs.Holds.{Holds, variable_of}
-use Rattle.final_condition.specs.declared.condition.Finals.{Finals}
-use Rattle.litmus_meaning.specs.Layout.{Place, block_of, bytes_of_variable, cells_of, memory_at_first}
-use Rattle.litmus_meaning.specs.Values.{sign_extended}
+use Rattle.litmus_semantics.specs.final_condition.Holds.{Holds, variable_of}
+use Rattle.litmus_semantics.specs.declared.final_condition.condition.Finals.{Finals}
+use Rattle.litmus_semantics.specs.Layout.{Place, block_of, bytes_of_variable, cells_of, memory_at_first}
+use Rattle.litmus_semantics.specs.Values.{sign_extended}
 use Rattle.litmus_step.specs.Readers.{AreRegisters}
 use Rattle.litmus_step.specs.Runs.{tasks_of}
 use Rattle.litmus_syntax.specs.declared.program.Variable.{Variable}
-use Rattle.run_lists.specs.Run.{Run}
-use Rattle.run_lists.specs.RunList.{RunList}
-use Rattle.run_lists.specs.Told.{history_of}
+use Rattle.executions.specs.run_lists.Run.{Run}
+use Rattle.executions.specs.run_lists.RunList.{RunList}
+use Rattle.executions.specs.run_lists.Told.{history_of}
 use Rattle.run_output.specs.declared.finals.End.{End}
 use Rattle.slot_table.specs.declared.records.Record.{Record}
 

@@ -4,14 +4,14 @@ use Rattle.access_types.specs.Arms.{Arm}
 use Rattle.access_types.specs.Stamped.{Stamped}
 use Rattle.access_types.specs.Takes.{Take}
 use Rattle.report_text.specs.TraceText.{written_trace}
-use Rattle.run_lists.specs.Run.{Run}
-use Rattle.run_lists.specs.RunList.{RunList}
-use Rattle.run_kept.specs.Lists.{AreAccesses, AreArms, AreTakes}
+use Rattle.executions.specs.run_lists.Run.{Run}
+use Rattle.executions.specs.run_lists.RunList.{RunList}
+use Rattle.log_correctness.specs.Lists.{AreAccesses, AreArms, AreTakes}
 use Rattle.slot_table.specs.declared.records.Record.{Record}
 use Rattle.trace_replay.specs.Answer.{IsAccepted}
 use Rattle.trace_replay.specs.declared.accepted.Accepted.{Accepted}
 use Rattle.access_types.specs.declared.report.Report.{Report}
-use Rattle.program_sites.specs.declared.settings.Settings.{Settings}
+use Rattle.prepared_program.specs.declared.program_sites.settings.Settings.{Settings}
 
 -- the bytes are the trace of the list's accesses, armings and takings, with these reports, under these settings
 pub record IsTraceOf (settings : Settings) {run : Run} {records : List Record} (list : RunList run records) (reports : List Report)

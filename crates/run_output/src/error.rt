@@ -1,7 +1,7 @@
 //! Why the runs of a litmus text have no output.
 
 ghost use Rattle.std.specs.Prelude.{◌≡◌};
-ghost use Rattle.program_sites.specs.declared.error.RunError.TheVariants.{OutOfMemory};
+ghost use Rattle.prepared_program.specs.declared.program_sites.error.RunError.TheVariants.{OutOfMemory};
 ghost use Rattle.run_output.specs.declared.error.EngineError.TheVariants.{Run, Text};
 
 use litmus_step::RunError;

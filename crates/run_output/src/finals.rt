@@ -2,32 +2,32 @@
 
 ghost use Rattle.std.specs.Prelude.{◌≡◌, ℕ, List, IfOk, map, slice_get, unwrap_or};
 ghost use Rattle.access_types.specs.Sites.{AccessMap};
-ghost use Rattle.final_condition.specs.Holds.{variable_of};
-ghost use Rattle.program_sites.specs.Prepared.{IsPrepared};
+ghost use Rattle.litmus_semantics.specs.final_condition.Holds.{variable_of};
+ghost use Rattle.prepared_program.specs.program_sites.Prepared.{IsPrepared};
 ghost use Rattle.litmus_step.specs.Runs.{run_of};
-ghost use Rattle.program_sites.specs.declared.settings.Settings as terms;
+ghost use Rattle.prepared_program.specs.declared.program_sites.settings.Settings as terms;
 ghost use Rattle.litmus_syntax.specs.Limits.{KeepsLimits};
 ghost use Rattle.litmus_syntax.specs.Views.{program_of};
 ghost use Rattle.litmus_syntax.specs.declared.program.Program as tree;
-ghost use Rattle.program_layout.specs.Places.{places_of};
+ghost use Rattle.prepared_program.specs.program_layout.Places.{places_of};
 ghost use Rattle.run_output.specs.Finals as spec;
 ghost use Rattle.run_output.specs.Finals.{AreAllRegisters, IsEndOf, value_in_cells, variable_value};
 ghost use Rattle.run_output.specs.Output.{IsFoundOf};
-ghost use Rattle.run_lists.specs.Run.{Run};
-ghost use Rattle.run_lists.specs.Run.{first_words};
-ghost use Rattle.run_lists.specs.RunList.{RunList};
-ghost use Rattle.run_lists.specs.Told.{history_of};
+ghost use Rattle.executions.specs.run_lists.Run.{Run};
+ghost use Rattle.executions.specs.run_lists.Run.{first_words};
+ghost use Rattle.executions.specs.run_lists.RunList.{RunList};
+ghost use Rattle.executions.specs.run_lists.Told.{history_of};
 ghost use Rattle.slot_table.specs.Records.{words_after};
 ghost use Rattle.slot_table.specs.declared.records.Record.{Record};
 
-use crate::output::Found;
+use crate::output::RunFindings;
 use access_types::Bytes;
-use final_condition::{Finals, holds};
-use litmus_meaning::sign_extended;
+use litmus_semantics::final_condition::{Finals, holds};
+use litmus_semantics::sign_extended;
 use litmus_step::{Prepared, Ran};
 use litmus_syntax::Program;
-use program_layout::laws::variables_lie_in_one_cell;
-use run_headline::histories::cells_hold_the_content;
+use prepared_program::program_layout::laws::variables_lie_in_one_cell;
+use soundness::histories::cells_hold_the_content;
 use std::alloc::{AllocError, Global};
 
 /// The end of a run.
@@ -152,14 +152,14 @@ pub fn found_of<R: Ran>(
     program: &Program,
     prepared: &Prepared,
     ran: &R,
-) -> Result<Found, AllocError>
+) -> Result<RunFindings, AllocError>
     requires { KeepsLimits (program_of program.now) }
     ensures { (settings : terms.Settings) (sites : AccessMap) (records : List Record)
         → (comes : R.comes_of ran.now (run_of program.now settings sites) records) → IsPrepared program.now settings prepared.now
         → IfOk result (IsFoundOf (R.list_of ran.now (run_of program.now settings sites) records comes)) }
 {
     let end = end_of(alloc, program, prepared, ran)?;
-    Ok(Found {
+    Ok(RunFindings {
         counters: ran.counters(),
         unbalanced: ran.unbalanced(),
         held: end.held,

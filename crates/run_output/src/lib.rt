@@ -12,6 +12,6 @@ pub mod written;
 pub use error::EngineError;
 pub use finals::{End, end_of, found_of};
 pub use lines::{write_condition, write_counters, write_stuck};
-pub use output::{Found, output_of, write_output};
+pub use output::{RunFindings, output_of, write_output};
 pub use trace::{trace_if, trace_of};
 pub use written::Written;

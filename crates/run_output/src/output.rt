@@ -7,8 +7,8 @@ ghost use Rattle.report_text.specs.Sink.{Writes};
 ghost use Rattle.litmus_step.specs.Runs.{run_of};
 ghost use Rattle.litmus_syntax.specs.Limits.{KeepsLimits};
 ghost use Rattle.litmus_syntax.specs.Views.{program_of};
-ghost use Rattle.program_sites.specs.Prepared.{IsPrepared, sites_in};
-ghost use Rattle.program_sites.specs.declared.settings.Settings as terms;
+ghost use Rattle.prepared_program.specs.program_sites.Prepared.{IsPrepared, sites_in};
+ghost use Rattle.prepared_program.specs.declared.program_sites.settings.Settings as terms;
 ghost use Rattle.run_output.specs.Output.{IsOutput, output_text};
 ghost use Rattle.slot_table.specs.declared.records.Record.{Record};
 
@@ -23,7 +23,7 @@ use task_log::Counters;
 
 /// What was found in a run.
 #[derive(Clone, Copy)]
-pub struct Found {
+pub struct RunFindings {
     /// How often each thing came of a check.
     pub counters: Counters,
     /// How many calls had nothing to end.
@@ -49,7 +49,7 @@ fn write_reports<K: Sink>(reports: &[Report], sites: &Sites, sink: &mut K) -> Re
 pub fn write_output<K: Sink>(
     reports: &[Report],
     sites: &Sites,
-    found: &Found,
+    found: &RunFindings,
     sink: &mut K,
 ) -> Result<(), WriteError>
     ensures { Writes K.written K.failures result (output_text sites.now reports.now found.now) sink.old sink.new }

@@ -1,8 +1,8 @@
 //! The trace of a run, which is accepted where all its tasks have ended.
 
 ghost use Rattle.std.specs.Prelude.{◌≡◌, ◌≤◌, ◌&&◌, IfOk, IfSome, List, is_some};
-ghost use Rattle.run_lists.specs.Run.{Run};
-ghost use Rattle.run_lists.specs.RunList.{AllHaveEnded};
+ghost use Rattle.executions.specs.run_lists.Run.{Run};
+ghost use Rattle.executions.specs.run_lists.RunList.{AllHaveEnded};
 ghost use Rattle.run_output.specs.Traces.{IsToBeAccepted, IsTraceOf};
 ghost use Rattle.slot_table.specs.declared.records.Record.{Record};
 

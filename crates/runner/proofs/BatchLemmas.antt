@@ -3,15 +3,15 @@ use Rattle.std.proofs.Common.{◌≡◌, ◌<◌, ◌+◌, ◌∙◌, ◌∷◌,
 use Rattle.std.proofs.lemmas.List.{length-append}
 use Rattle.std.proofs.lemmas.Option.{slice_get-get_or, slice_get-map, slice_get_within}
 use Rattle.litmus_step.specs.Runs.{tasks_of}
-use Rattle.run_lists.specs.Run.{Run}
-use Rattle.program_sites.specs.declared.error.RunError.{RunError}
+use Rattle.executions.specs.run_lists.Run.{Run}
+use Rattle.prepared_program.specs.declared.program_sites.error.RunError.{RunError}
 use Rattle.runner.proofs.ColumnLemmas.{item_there}
 use Rattle.runner.specs.Columns.{AreColumns}
 use Rattle.runner.specs.Result.{AreResultsOf, IsResultOf}
 use Rattle.runner.specs.declared.result.RunResult.{RunResult}
-use Rattle.runner.specs.declared.run.Turn.{Turn}
+use Rattle.runner.specs.declared.run.RunIndex.{RunIndex}
 use Rattle.litmus_syntax.specs.declared.program.Program.{Program}
-use Rattle.program_sites.specs.declared.settings.Settings.{Settings}
+use Rattle.prepared_program.specs.declared.program_sites.settings.Settings.{Settings}
 use Rattle.runner.specs.Starts.{AreAllOutcomes, AreAllStarts, AreOutcomesOfEach, AreStarts, AreStartsOfEach, AreTaskStarts}
 use Rattle.runner.specs.declared.first.TaskStart.{TaskStart}
 use Rattle.runner.specs.declared.first.TaskStarts.{TaskStarts}
@@ -93,7 +93,7 @@ more_starts tables rows opened row starts here = record {
 }
 
 -- what comes of the one turn
-pub of_one_turn : (program : Program) (settings : Settings) (turn : Turn) (all before : List (Result RunResult RunError))
+pub of_one_turn : (program : Program) (settings : Settings) (turn : RunIndex) (all before : List (Result RunResult RunError))
     (outcome : Result RunResult RunError) → AreResultsOf program settings (turn ∷ []) all → all ≡ before ++ outcome ∷ []
     → IsResultOf program settings turn outcome
 of_one_turn program settings turn all [] outcome are is =

@@ -3,14 +3,14 @@ use Rattle.std.proofs.Common.{◌≡◌, ◌+◌, ◌∙◌, ◌∷◌, ◌++◌
 use Rattle.std.proofs.lemmas.List.{length-append}
 use Rattle.access_types.specs.declared.history.Happening.{Happening}
 use Rattle.litmus_syntax.specs.Tree.{Block}
-use Rattle.run_headline.proofs.RecordsDoEvents.{done_with}
-use Rattle.run_headline.proofs.AccessesBeginOnce.{begin_once}
-use Rattle.run_headline.proofs.TextTells.{whole_tells}
-use Rattle.run_headline.specs.Events.{DoesEvent, IsEvent}
+use Rattle.soundness.proofs.RecordsDoEvents.{done_with}
+use Rattle.soundness.proofs.AccessesBeginOnce.{begin_once}
+use Rattle.soundness.proofs.TextTells.{whole_tells}
+use Rattle.soundness.specs.Events.{DoesEvent, IsEvent}
 use Rattle.slot_table.specs.declared.records.Record.{Record}
-use Rattle.written_order.specs.Standing.{Point, Setting, point_by}
-use Rattle.written_order.specs.Told.{did_by, did_next, to_come}
-use Rattle.written_order.specs.WrittenOrder.{WrittenOrder, first_point}
+use Rattle.program_order.specs.Standing.{Point, Setting, point_by}
+use Rattle.program_order.specs.Told.{did_by, did_next, to_come}
+use Rattle.program_order.specs.WrittenOrder.{WrittenOrder, first_point}
 
 drop_front : (first rest : List Happening) → drop (length first) (first ++ rest) ≡ rest
 drop_front [] rest = refl

@@ -10,10 +10,10 @@ use Rattle.litmus_step.proofs.KeptLemmas.{more_reports}
 use Rattle.litmus_step.specs.Leads.{MakesNext}
 use Rattle.litmus_step.specs.Runs.{CanBeMade, tasks_of}
 use Rattle.litmus_syntax.specs.Tree.{Block}
-use Rattle.run_lists.specs.Run.{Run, first_words, idle, task_of, task_setting}
-use Rattle.run_lists.specs.RunList.{InWrittenOrder}
-use Rattle.run_kept.proofs.MachineMatchesRecords.{says_what_is_noted}
-use Rattle.run_kept.specs.Noted.{AreNoted, IsNoted}
+use Rattle.executions.specs.run_lists.Run.{Run, first_words, idle, task_of, task_setting}
+use Rattle.executions.specs.run_lists.RunList.{InWrittenOrder}
+use Rattle.log_correctness.proofs.MachineMatchesRecords.{says_what_is_noted}
+use Rattle.log_correctness.specs.Noted.{AreNoted, IsNoted}
 use Rattle.runner.proofs.DoneWith.{does_last}
 use Rattle.runner.specs.Led.{IsLed}
 use Rattle.runner.specs.Machine.{SaysBegin}
@@ -32,9 +32,9 @@ use Rattle.task_log.specs.declared.noted.Noted.{Noted}
 use Rattle.task_run.specs.Fell.{FellAt}
 use Rattle.task_run.specs.Leads.{Leads, LeadsOn}
 use Rattle.task_run.specs.declared.run.TaskRun.{TaskRun}
-use Rattle.written_order.specs.Standing.{Setting}
-use Rattle.written_order.specs.Waits.{WithinTurns}
-use Rattle.written_order.specs.WrittenOrder.{WrittenOrder}
+use Rattle.program_order.specs.Standing.{Setting}
+use Rattle.program_order.specs.Waits.{WithinTurns}
+use Rattle.program_order.specs.WrittenOrder.{WrittenOrder}
 
 abbrev pub KeepsDiscipline : Type 0
 KeepsDiscipline = (s : Setting) (registers : ℕ) (body : Block) (records : List Record)

@@ -4,19 +4,19 @@ use Rattle.std.proofs.lemmas.List.{length-map, reverse-reverse}
 use Rattle.std.proofs.lemmas.Option.{slice_get_cases}
 use Rattle.litmus_step.specs.Runs.{tasks_of}
 use Rattle.litmus_syntax.specs.Tree.{Block}
-use Rattle.run_lists.specs.Run.{Run, task_of, task_setting}
+use Rattle.executions.specs.run_lists.Run.{Run, task_of, task_setting}
 use Rattle.runner.specs.Found.{AreFound, IsFound, IsInVain, IsThrough}
 use Rattle.runner.specs.Starts.{AreOutcomes}
-use Rattle.program_sites.specs.declared.error.RunError.{RunError}
-use Rattle.program_sites.specs.declared.error.RunError.TheVariants.{OutOfMemory, Stuck}
+use Rattle.prepared_program.specs.declared.program_sites.error.RunError.{RunError}
+use Rattle.prepared_program.specs.declared.program_sites.error.RunError.TheVariants.{OutOfMemory, Stuck}
 use Rattle.runner.specs.declared.seated.Found.{Found}
 use Rattle.shared_table.specs.Ended.{HasUnfinished, IsMissing}
 use Rattle.shared_table.specs.Given.{Given}
 use Rattle.shared_table.specs.Seats.{Opened, Sitting}
 use Rattle.slot_table.specs.Discipline.{IsFinished}
 use Rattle.slot_table.specs.declared.records.Record.{Record}
-use Rattle.written_order.specs.Standing.{Setting}
-use Rattle.written_order.specs.WrittenOrder.{SpellsAll}
+use Rattle.program_order.specs.Standing.{Setting}
+use Rattle.program_order.specs.WrittenOrder.{SpellsAll}
 
 same_some : {X : Type 0} (one other : X) → Some one ≡ Some other → one ≡ other
 same_some one other same = cc

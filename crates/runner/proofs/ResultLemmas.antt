@@ -9,14 +9,14 @@ use Rattle.litmus_step.specs.Readers.{AreRegisters}
 use Rattle.litmus_step.specs.Runs.{CanBeMade, tasks_of}
 use Rattle.litmus_syntax.specs.Limits.{KeepsLimits}
 use Rattle.litmus_syntax.specs.Tree.{Block, Task}
-use Rattle.run_headline.specs.Headline.{Headline}
-use Rattle.run_kept.specs.Setters.{AreReports, reports_by}
-use Rattle.run_lists.specs.Reports.{reports_of}
-use Rattle.run_lists.specs.Run.{Run, first_words, idle, task_of, task_setting}
-use Rattle.run_lists.specs.RunList.{AllHaveEnded, InWrittenOrder, RunList}
-use Rattle.run_kept.specs.Lists.{ByTask}
-use Rattle.run_kept.specs.Noted.{AreNoted, Notes}
-use Rattle.run_kept.specs.Totals.{IsUnbalanced, unbalanced_below}
+use Rattle.soundness.specs.Headline.{Headline}
+use Rattle.log_correctness.specs.Setters.{AreReports, reports_by}
+use Rattle.executions.specs.run_lists.Reports.{reports_of}
+use Rattle.executions.specs.run_lists.Run.{Run, first_words, idle, task_of, task_setting}
+use Rattle.executions.specs.run_lists.RunList.{AllHaveEnded, InWrittenOrder, RunList}
+use Rattle.log_correctness.specs.Lists.{ByTask}
+use Rattle.log_correctness.specs.Noted.{AreNoted, Notes}
+use Rattle.log_correctness.specs.Totals.{IsUnbalanced, unbalanced_below}
 use Rattle.runner.specs.Found.{AreFound, IsFound, calls_below, calls_of}
 use Rattle.runner.specs.Hits.{AllHitsOverlap}
 use Rattle.runner.specs.Result.{IsOf}
@@ -36,9 +36,9 @@ use Rattle.task_log.specs.Reports.{reported_in}
 use Rattle.task_log.specs.declared.log.TaskLog.{TaskLog}
 use Rattle.task_log.specs.declared.noted.Noted.{Noted}
 use Rattle.task_plan.specs.Counts.{up_to_last}
-use Rattle.written_order.specs.Standing.{Setting}
-use Rattle.written_order.specs.Waits.{WithinTurns}
-use Rattle.written_order.specs.WrittenOrder.{SpellsAll, at_first, stands_after}
+use Rattle.program_order.specs.Standing.{Setting}
+use Rattle.program_order.specs.Waits.{WithinTurns}
+use Rattle.program_order.specs.WrittenOrder.{SpellsAll, at_first, stands_after}
 
 -- what the laws on the reports of a task, and on the headline, say
 abbrev pub ReportsItsOwn : Type 0

@@ -8,8 +8,8 @@ use Rattle.litmus_step.specs.Runs.{CanBeMade, tasks_of}
 use Rattle.litmus_step.specs.Steps.{Reaches}
 use Rattle.litmus_syntax.specs.Limits.{BlockScopes, BodyKeepsLimits, TaskKeepsLimits, block_repeats, block_rises}
 use Rattle.litmus_syntax.specs.Tree.{Block}
-use Rattle.run_lists.specs.Run.{Run, first_words, idle, task_of, task_setting}
-use Rattle.run_kept.specs.Noted.{AreNoted}
+use Rattle.executions.specs.run_lists.Run.{Run, first_words, idle, task_of, task_setting}
+use Rattle.log_correctness.specs.Noted.{AreNoted}
 use Rattle.runner.specs.Found.{IsFound}
 use Rattle.litmus_step.specs.Kept.{AreFirst}
 use Rattle.runner.specs.Led.{IsLed}
@@ -37,8 +37,8 @@ use Rattle.task_run.specs.Fell.{FellAt, fell_of}
 use Rattle.task_run.specs.Leads.{Leads, LeadsOn, stands_at}
 use Rattle.task_run.specs.Says.{IsStopped}
 use Rattle.task_run.specs.declared.run.TaskRun.{TaskRun}
-use Rattle.written_order.specs.Standing.{Setting}
-use Rattle.written_order.specs.WrittenOrder.{SpellsAll, WrittenOrder, stands_after}
+use Rattle.program_order.specs.Standing.{Setting}
+use Rattle.program_order.specs.WrittenOrder.{SpellsAll, WrittenOrder, stands_after}
 
 -- what the laws on tasks at their seats say
 abbrev pub NamesWord : Type 0

@@ -5,8 +5,8 @@ use Rattle.std.proofs.lemmas.List.FromFn.{length-range_with_len}
 use Rattle.std.specs.List.{range_with_len}
 use Rattle.litmus_step.specs.Kept.{accesses_kept, watches_kept}
 use Rattle.litmus_step.specs.Leads.{LeadsTask}
-use Rattle.run_lists.specs.Run.{Run}
-use Rattle.run_lists.specs.RunList.{RunList}
+use Rattle.executions.specs.run_lists.Run.{Run}
+use Rattle.executions.specs.run_lists.RunList.{RunList}
 use Rattle.runner.specs.Led.{IsLed}
 use Rattle.shared_table.specs.Seats.{Opened, Sitting, new_seats}
 use Rattle.task_log.specs.Keeps.{Keeps}

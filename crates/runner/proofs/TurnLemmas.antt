@@ -6,9 +6,9 @@ use Rattle.std.proofs.lemmas.List.{length-map, map-append}
 use Rattle.std.specs.Global.{Global}
 use Rattle.runner.proofs.ColumnLemmas.{from_map}
 use Rattle.std.proofs.lemmas.Option.{get_or_from_slice_get, same_Some, slice_get-map, slice_get_cases, slice_get_read, slice_get_within}
-use Rattle.run_lists.specs.Run.{Run}
+use Rattle.executions.specs.run_lists.Run.{Run}
 use Rattle.runner.specs.Starts.{AreAllOutcomes, AreAllStarts, AreSomeStarts, ComeOf, IsOutcomeOfEach, IsTaskStart}
-use Rattle.program_sites.specs.declared.error.RunError.{RunError}
+use Rattle.prepared_program.specs.declared.program_sites.error.RunError.{RunError}
 use Rattle.runner.specs.declared.first.TaskStarts.{TaskStarts}
 use Rattle.runner.specs.declared.seated.Found.{Found}
 use Rattle.shared_table.specs.Seats.{Opened}

@@ -2,11 +2,11 @@
 use Rattle.std.specs.Prelude.{◌≡◌, ℕ, zero, suc, List, Option, None, Some, length, reverse, slice_get}
 use Rattle.litmus_step.specs.Kept.{accesses_kept, watches_kept}
 use Rattle.litmus_step.specs.Runs.{tasks_of}
-use Rattle.run_lists.specs.Run.{Run, task_of, task_setting}
-use Rattle.run_lists.specs.RunList.{InWrittenOrder}
-use Rattle.run_kept.specs.Noted.{AreNoted}
-use Rattle.program_sites.specs.declared.error.RunError.{RunError}
-use Rattle.program_sites.specs.declared.error.RunError.TheVariants.{BadPlace, BadSchedule, BadSlots, NoThread, OutOfMemory, Stuck}
+use Rattle.executions.specs.run_lists.Run.{Run, task_of, task_setting}
+use Rattle.executions.specs.run_lists.RunList.{InWrittenOrder}
+use Rattle.log_correctness.specs.Noted.{AreNoted}
+use Rattle.prepared_program.specs.declared.program_sites.error.RunError.{RunError}
+use Rattle.prepared_program.specs.declared.program_sites.error.RunError.TheVariants.{BadPlace, BadSchedule, BadSlots, NoThread, OutOfMemory, Stuck}
 use Rattle.runner.specs.declared.seated.Found.{Found}
 use Rattle.shared_table.specs.Seats.{Opened}
 use Rattle.slot_table.specs.declared.records.Record.{Record}
@@ -15,8 +15,8 @@ use Rattle.task_log.specs.Keeps.{Keeps}
 use Rattle.task_log.specs.Reports.{reported_in}
 use Rattle.task_log.specs.declared.noted.Noted.{Noted}
 use Rattle.task_plan.specs.Counts.{up_to_last}
-use Rattle.written_order.specs.Waits.{IsStuck, WithinTurns}
-use Rattle.written_order.specs.WrittenOrder.{SpellsAll, stands_after}
+use Rattle.program_order.specs.Waits.{IsStuck, WithinTurns}
+use Rattle.program_order.specs.WrittenOrder.{SpellsAll, stands_after}
 
 -- The task of a number has made the steps of its whole text, which its seat holds. What was kept of them is what is noted of them, what
 -- was reported is what is reported at them, and its registers are those that they leave.

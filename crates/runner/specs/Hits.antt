@@ -1,9 +1,9 @@
 -- The two sides of each hit, whatever came of it.
 use Rattle.std.specs.Prelude.{ℕ, All, List}
 use Rattle.accepted_traces.specs.Parts.{OfNamed}
-use Rattle.run_kept.specs.Lists.{AreAccesses, AreArms, AreTakes}
-use Rattle.run_lists.specs.Run.{Run}
-use Rattle.run_lists.specs.RunList.{RunList}
+use Rattle.log_correctness.specs.Lists.{AreAccesses, AreArms, AreTakes}
+use Rattle.executions.specs.run_lists.Run.{Run}
+use Rattle.executions.specs.run_lists.RunList.{RunList}
 use Rattle.access_types.specs.Arms.{Arm}
 use Rattle.access_types.specs.Stamped.{Stamped}
 use Rattle.access_types.specs.Takes.{Take}

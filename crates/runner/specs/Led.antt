@@ -2,9 +2,9 @@
 use Rattle.std.specs.Prelude.{ℕ, List, length, reverse}
 use Rattle.access_types.specs.declared.report.Report.{Report}
 use Rattle.litmus_step.specs.Kept.{accesses_kept, watches_kept}
-use Rattle.run_lists.specs.Run.{Run, task_of, task_setting}
-use Rattle.run_lists.specs.RunList.{InWrittenOrder}
-use Rattle.run_kept.specs.Noted.{AreNoted}
+use Rattle.executions.specs.run_lists.Run.{Run, task_of, task_setting}
+use Rattle.executions.specs.run_lists.RunList.{InWrittenOrder}
+use Rattle.log_correctness.specs.Noted.{AreNoted}
 use Rattle.litmus_step.specs.Kept.{AreFirst}
 use Rattle.slot_table.specs.declared.records.Record.{Record}
 use Rattle.task_log.specs.Keeps.{Keeps}
@@ -13,7 +13,7 @@ use Rattle.task_log.specs.declared.log.TaskLog.{TaskLog}
 use Rattle.task_log.specs.declared.noted.Noted.{Noted}
 use Rattle.task_run.specs.Leads.{Leads}
 use Rattle.task_run.specs.declared.run.TaskRun.{TaskRun}
-use Rattle.written_order.specs.Waits.{WithinTurns}
+use Rattle.program_order.specs.Waits.{WithinTurns}
 
 -- A task's own records, the latest first, are in the written order of its text, with no wait for longer than the turns. They lead
 -- to its machine, and what is kept of its steps is what is noted of them.

@@ -6,9 +6,9 @@ use Rattle.setup_access.specs.declared.begun.Begun.{Begun}
 use Rattle.slot_table.specs.declared.records.Record.{Record}
 use Rattle.task_run.specs.Leads.{BeginsNext, Leads, stands_at}
 use Rattle.task_run.specs.declared.run.TaskRun.{TaskRun}
-use Rattle.written_order.specs.Standing.{Setting}
-use Rattle.written_order.specs.Waits as waits
-use Rattle.written_order.specs.WrittenOrder.{SpellsAll}
+use Rattle.program_order.specs.Standing.{Setting}
+use Rattle.program_order.specs.Waits as waits
+use Rattle.program_order.specs.WrittenOrder.{SpellsAll}
 
 -- this access begins with the next step, by whatever records lead to the machine
 abbrev pub SaysBegin : TaskRun → Option Begun → Type 0

@@ -4,19 +4,19 @@ use Rattle.access_types.specs.Sites.{AccessMap}
 use Rattle.litmus_step.specs.Kept.{AreLogs}
 use Rattle.litmus_step.specs.Readers.{AreRegisters}
 use Rattle.litmus_step.specs.Runs.{CanBeMade, run_of, tasks_of}
-use Rattle.program_sites.specs.declared.settings.Settings.{Settings}
+use Rattle.prepared_program.specs.declared.program_sites.settings.Settings.{Settings}
 use Rattle.litmus_syntax.specs.declared.program.Program.{Program}
-use Rattle.run_headline.specs.Headline.{Headline}
-use Rattle.run_kept.specs.Setters.{AreReports}
-use Rattle.run_lists.specs.Run.{Run, first_words}
-use Rattle.run_lists.specs.RunList.{AllHaveEnded, RunList}
-use Rattle.run_kept.specs.Totals.{IsUnbalanced}
-use Rattle.program_sites.specs.declared.error.RunError.{RunError}
-use Rattle.program_sites.specs.declared.error.RunError.TheVariants.{Stuck}
+use Rattle.soundness.specs.Headline.{Headline}
+use Rattle.log_correctness.specs.Setters.{AreReports}
+use Rattle.executions.specs.run_lists.Run.{Run, first_words}
+use Rattle.executions.specs.run_lists.RunList.{AllHaveEnded, RunList}
+use Rattle.log_correctness.specs.Totals.{IsUnbalanced}
+use Rattle.prepared_program.specs.declared.program_sites.error.RunError.{RunError}
+use Rattle.prepared_program.specs.declared.program_sites.error.RunError.TheVariants.{Stuck}
 use Rattle.runner.specs.Found.{IsInVain, IsOfThreads, IsThrough}
 use Rattle.runner.specs.Hits.{AllHitsOverlap}
 use Rattle.runner.specs.declared.result.RunResult.{RunResult}
-use Rattle.runner.specs.declared.run.Turn.{Turn}
+use Rattle.runner.specs.declared.run.RunIndex.{RunIndex}
 use Rattle.shared_table.specs.Ended.{IsListOf}
 use Rattle.slot_table.specs.Records.{words_after}
 use Rattle.slot_table.specs.declared.records.Record.{Record}
@@ -45,7 +45,7 @@ pub record IsRunOnce (program : Program) (settings : Settings) (result : RunResu
 
 -- What comes of a run of the program of a turn: a result of some list of its steps, under the number of the turn, or why threads make none
 -- of it. Of several tasks that are stuck the smallest is named.
-pub record IsResultOf (program : Program) (settings : Settings) (turn : Turn) (outcome : Result RunResult RunError) : Type 0 where
+pub record IsResultOf (program : Program) (settings : Settings) (turn : RunIndex) (outcome : Result RunResult RunError) : Type 0 where
   pub once : IfOk outcome (IsRunOnce program settings)
   pub number : IfOk outcome (λ result. result.number ≡ turn.number)
   pub errors : IfErr outcome IsOfThreads
@@ -53,8 +53,8 @@ pub record IsResultOf (program : Program) (settings : Settings) (turn : Turn) (o
       × ((below : ℕ) → below < task → IsThrough (run_of program settings sites) below)
 
 -- so it is of each turn, in their order
-pub record AreResultsOf (program : Program) (settings : Settings) (turns : List Turn) (outcomes : List (Result RunResult RunError)) :
+pub record AreResultsOf (program : Program) (settings : Settings) (turns : List RunIndex) (outcomes : List (Result RunResult RunError)) :
     Type 0 where
   pub many : length outcomes ≡ length turns
-  pub each : (at : ℕ) (turn : Turn) (outcome : Result RunResult RunError) → slice_get turns at ≡ Some turn → slice_get outcomes at ≡ Some outcome
+  pub each : (at : ℕ) (turn : RunIndex) (outcome : Result RunResult RunError) → slice_get turns at ≡ Some turn → slice_get outcomes at ≡ Some outcome
       → IsResultOf program settings turn outcome

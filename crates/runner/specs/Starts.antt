@@ -2,10 +2,10 @@
 use Rattle.std.specs.Prelude.{◌≡◌, ◌<◌, ◌≤◌, ◌⊎◌, [], ℕ, IfErr, IfOk, IsErrOf, List, Result, Some, Vec, length, slice_get, vec_capacity}
 use Rattle.std.specs.Global.{Global}
 use Rattle.litmus_step.specs.Runs.{tasks_of}
-use Rattle.run_lists.specs.Run.{Run}
+use Rattle.executions.specs.run_lists.Run.{Run}
 use Rattle.runner.specs.Found.{IsFound, IsInVain}
-use Rattle.program_sites.specs.declared.error.RunError.{RunError}
-use Rattle.program_sites.specs.declared.error.RunError.TheVariants.{OutOfMemory, Stuck}
+use Rattle.prepared_program.specs.declared.program_sites.error.RunError.{RunError}
+use Rattle.prepared_program.specs.declared.program_sites.error.RunError.TheVariants.{OutOfMemory, Stuck}
 use Rattle.runner.specs.declared.first.TaskStart.{TaskStart}
 use Rattle.runner.specs.declared.first.TaskStarts.{TaskStarts}
 use Rattle.runner.specs.declared.seated.Found.{Found}

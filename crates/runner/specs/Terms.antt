@@ -1,13 +1,13 @@
 -- What a run goes by.
 use Rattle.std.specs.Prelude.{◌≡◌, [], ℕ, List, Some, slice_get}
-use Rattle.program_sites.specs.Prepared.{IsPrepared, sites_in}
+use Rattle.prepared_program.specs.program_sites.Prepared.{IsPrepared, sites_in}
 use Rattle.litmus_step.specs.Runs.{CanBeMade, run_of, tasks_of}
-use Rattle.program_sites.specs.declared.prepared.Prepared.{Prepared}
-use Rattle.program_sites.specs.declared.settings.Settings.{Settings}
+use Rattle.prepared_program.specs.declared.program_sites.prepared.Prepared.{Prepared}
+use Rattle.prepared_program.specs.declared.program_sites.settings.Settings.{Settings}
 use Rattle.litmus_syntax.specs.declared.program.Program.{Program}
-use Rattle.run_lists.specs.Run as lists
-use Rattle.run_lists.specs.Run.{Run}
-use Rattle.run_lists.specs.RunList.{RunList}
+use Rattle.executions.specs.run_lists.Run as lists
+use Rattle.executions.specs.run_lists.Run.{Run}
+use Rattle.executions.specs.run_lists.RunList.{RunList}
 use Rattle.runner.specs.declared.terms.Batch.{Batch}
 use Rattle.runner.specs.declared.terms.Terms.{Terms}
 use Rattle.shared_table.specs.Given.{first_words}

@@ -2,13 +2,13 @@
 
 ghost use Rattle.std.specs.Prelude.{◌≡◌, ◌≤◌, ◌<◌, [], ℕ, IfOk, length, map, vec_capacity};
 ghost use Rattle.access_types.specs.Sites.{AccessMap};
-ghost use Rattle.program_sites.specs.Prepared.{IsPrepared, IsReady, sites_in};
+ghost use Rattle.prepared_program.specs.program_sites.Prepared.{IsPrepared, IsReady, sites_in};
 ghost use Rattle.litmus_step.specs.Runs.{CanBeMade, run_of, tasks_of};
-ghost use Rattle.program_sites.specs.declared.settings.Settings.{Settings};
+ghost use Rattle.prepared_program.specs.declared.program_sites.settings.Settings.{Settings};
 ghost use Rattle.litmus_syntax.specs.Limits.{KeepsLimits};
 ghost use Rattle.litmus_syntax.specs.Views.{program_of};
-ghost use Rattle.run_lists.specs.Run as lists;
-ghost use Rattle.run_lists.specs.RunList.{RunList};
+ghost use Rattle.executions.specs.run_lists.Run as lists;
+ghost use Rattle.executions.specs.run_lists.RunList.{RunList};
 ghost use Rattle.runner.specs.Starts.{AreStarts, AreStartsOfEach, AreTaskStarts, IsOutcome, IsOutcomeOfEach, IsStart, IsTaskStart};
 ghost use Rattle.runner.specs.Terms.{AreGivenEach, AreTerms, run_by, run_of_batch};
 ghost use Rattle.shared_table.specs.Given.{first_words};

@@ -8,7 +8,7 @@ use task_run::{After, Before, TaskRun};
 
 /// A point on a task's way.
 #[derive(Clone, Copy, PartialEq, Eq)]
-pub enum Point {
+pub enum HookPoint {
     /// Directly before the clock step of the begin of an access.
     Begin,
     /// Directly before the stall of a watchpoint.
@@ -37,7 +37,7 @@ pub trait Stall: Sync {
 /// Where a test may hold a task.
 pub trait Gate: Sync {
     /// A task comes to a point.
-    fn pass(&self, task: usize, point: Point);
+    fn pass(&self, task: usize, point: HookPoint);
 }
 
 /// A stall that is lent does what it does where it stands.
@@ -57,7 +57,7 @@ impl<S: Stall> Stall for &S {
 
 /// A gate that is lent holds where it stands.
 impl<G: Gate> Gate for &G {
-    fn pass(&self, task: usize, point: Point) {
+    fn pass(&self, task: usize, point: HookPoint) {
         (**self).pass(task, point);
     }
 }
@@ -75,15 +75,15 @@ impl Stall for NoStall {
 pub struct Open;
 
 impl Gate for Open {
-    fn pass(&self, _task: usize, _point: Point) {}
+    fn pass(&self, _task: usize, _point: HookPoint) {}
 }
 
 /// What comes before a step of a task.
 pub(crate) fn comes_to<S: Stall, G: Gate>(stall: &S, gate: &G, task: usize, before: Before) {
     match before {
-        Before::Begin => gate.pass(task, Point::Begin),
+        Before::Begin => gate.pass(task, HookPoint::Begin),
         Before::Stall { index } => {
-            gate.pass(task, Point::Armed);
+            gate.pass(task, HookPoint::Armed);
             stall.stall(task, index);
         }
         Before::Other => {}
@@ -93,8 +93,8 @@ pub(crate) fn comes_to<S: Stall, G: Gate>(stall: &S, gate: &G, task: usize, befo
 /// What comes after a step of a task.
 pub(crate) fn has_passed<G: Gate>(gate: &G, task: usize, after: After) {
     match after {
-        After::Told { .. } => gate.pass(task, Point::Taken),
-        After::Ended => gate.pass(task, Point::End),
+        After::Told { .. } => gate.pass(task, HookPoint::Taken),
+        After::Ended => gate.pass(task, HookPoint::End),
         After::Other => {}
     }
 }

@@ -9,13 +9,13 @@ ghost use Rattle.litmus_step.specs.Leads.{MakesNext};
 ghost use Rattle.litmus_step.specs.Readers.{IsMeant};
 ghost use Rattle.litmus_step.specs.Runs.{CanBeMade, tasks_of};
 ghost use Rattle.litmus_syntax.specs.Limits.{KeepsLimits};
-ghost use Rattle.run_headline.specs.Cells.{CellsHold, memory_after, run_cells};
-ghost use Rattle.run_headline.specs.Reported.{IsTrueReport};
-ghost use Rattle.run_lists.specs.Reports.{reports_of};
-ghost use Rattle.run_lists.specs.Run.{Run, first_words};
-ghost use Rattle.run_lists.specs.RunList.{AllHaveEnded, RunList};
-ghost use Rattle.run_lists.specs.Told.{history_of};
-ghost use Rattle.run_kept.specs.Lists.{AreAccesses};
+ghost use Rattle.soundness.specs.Cells.{CellsHold, memory_after, run_cells};
+ghost use Rattle.soundness.specs.Reported.{IsTrueReport};
+ghost use Rattle.executions.specs.run_lists.Reports.{reports_of};
+ghost use Rattle.executions.specs.run_lists.Run.{Run, first_words};
+ghost use Rattle.executions.specs.run_lists.RunList.{AllHaveEnded, RunList};
+ghost use Rattle.executions.specs.run_lists.Told.{history_of};
+ghost use Rattle.log_correctness.specs.Lists.{AreAccesses};
 ghost use Rattle.runner.specs.Hits.{AllHitsOverlap};
 ghost use Rattle.runner.specs.Led.{IsLed};
 ghost use Rattle.runner.specs.Machine.{SaysBegin};
@@ -35,24 +35,24 @@ ghost use Rattle.task_run.specs.Fell.{FellAt};
 ghost use Rattle.task_run.specs.Leads.{LeadsOn};
 ghost use Rattle.task_run.specs.declared.run.TaskRun.{TaskRun};
 
-use litmus_meaning::laws::tickets_have_room;
+use executions::observation_determinism::steps_name_words_of_the_run;
+use executions::run_lists::laws::{reports_name_two_sides, run_lists_keep_the_discipline};
+use litmus_semantics::laws::tickets_have_room;
 use litmus_step::laws::machines_stand_where_the_list_does;
-use run_headline::histories::{cells_hold_the_content, reports_are_true, unknown_origins_changed};
-use run_headline::verdicts::{
-    answers_are_on_a_watch_and_a_find, records_tell_their_events, verdicts_are_on_watches,
-};
-use run_kept::bags::{armings_have_their_own_verdicts, the_bags_are_equal};
-use run_kept::logs::one_more_is_noted;
-use run_kept::watched::{
+use log_correctness::bags::{armings_have_their_own_verdicts, the_bags_are_equal};
+use log_correctness::logs::one_more_is_noted;
+use log_correctness::watched::{
     accesses_of_ended_tasks_have_ended, accesses_that_begin_fit, stamps_tell_the_order,
     watched_accesses_are_unmarked_and_heard,
 };
-use run_lists::laws::{reports_name_two_sides, run_lists_keep_the_discipline};
+use program_order::laws::the_written_order_keeps_the_discipline;
 use slot_table::laws::heard_is_told;
+use soundness::histories::{cells_hold_the_content, reports_are_true, unknown_origins_changed};
+use soundness::verdicts::{
+    answers_are_on_a_watch_and_a_find, records_tell_their_events, verdicts_are_on_watches,
+};
 use task_laws::laws::an_answer_leads_on;
 use watch_word::words_read_back;
-use written_order::laws::the_written_order_keeps_the_discipline;
-use written_tellings::steps_name_words_of_the_run;
 
 /// Law: where a task's own records lead to its machine, the step that it makes next names a word of the run, and the
 /// discipline of watchpoints allows it. Followed by the record of this step, whatever is answered, they lead on, and

@@ -12,7 +12,7 @@ mod terms;
 mod threads;
 mod together;
 
-pub use hooks::{Gate, NoStall, Open, Point, Stall};
+pub use hooks::{Gate, HookPoint, NoStall, Open, Stall};
 pub use litmus_step::RunError;
 pub use result::RunResult;
-pub use run::{Turn, run_batch, run_once, run_prepared};
+pub use run::{RunIndex, run_batch, run_once, run_prepared};

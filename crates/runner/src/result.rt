@@ -2,10 +2,10 @@
 
 ghost use Rattle.std.specs.Prelude.{◌≡◌, ◌<◌, All, IfOk, List, length, slice_index_or};
 ghost use Rattle.accepted_traces.specs.Parts.{ReportFits};
-ghost use Rattle.run_lists.specs.Run.{Run};
-ghost use Rattle.run_lists.specs.RunList.{RunList};
-ghost use Rattle.run_kept.specs.Lists.{AreAccesses, AreArms, AreTakes};
-ghost use Rattle.run_kept.specs.Totals.{CountsList};
+ghost use Rattle.executions.specs.run_lists.Run.{Run};
+ghost use Rattle.executions.specs.run_lists.RunList.{RunList};
+ghost use Rattle.log_correctness.specs.Lists.{AreAccesses, AreArms, AreTakes};
+ghost use Rattle.log_correctness.specs.Totals.{CountsList};
 ghost use Rattle.runner.specs.Result.{IsOf};
 ghost use Rattle.slot_table.specs.declared.records.Record.{Record};
 

@@ -2,14 +2,14 @@
 
 ghost use Rattle.std.specs.Prelude.{◌≡◌, ◌<◌, ◌⊎◌, ℕ, IfErr, IfOk, IsErrOf, length};
 ghost use Rattle.access_types.specs.Sites.{AccessMap};
-ghost use Rattle.program_sites.specs.Prepared.{IsPrepared};
+ghost use Rattle.prepared_program.specs.program_sites.Prepared.{IsPrepared};
 ghost use Rattle.litmus_step.specs.Runs.{run_of};
 ghost use Rattle.litmus_syntax.specs.Limits.{KeepsLimits};
 ghost use Rattle.litmus_syntax.specs.Views.{program_of};
-ghost use Rattle.program_layout.specs.Places.{AreFit};
+ghost use Rattle.prepared_program.specs.program_layout.Places.{AreFit};
 ghost use Rattle.runner.specs.Found.{IsInVain, IsOfThreads, IsThrough};
 ghost use Rattle.runner.specs.Result.{AreResultsOf, IsRunOnce};
-ghost use Rattle.program_sites.specs.declared.error.RunError.TheVariants.{BadPlace, BadSchedule, BadSlots, NoThread, OutOfMemory, Stuck};
+ghost use Rattle.prepared_program.specs.declared.program_sites.error.RunError.TheVariants.{BadPlace, BadSchedule, BadSlots, NoThread, OutOfMemory, Stuck};
 
 use crate::columns::columns_of;
 use crate::first::{first_runs, task_starts};
@@ -48,7 +48,7 @@ pub fn run_once<R: Threads + Wait + Sync, S: Stall, G: Gate>(
         × ((below : ℕ) → below < task → IsThrough (run_of program.now settings.now sites) below) }
 {
     let prepared = Prepared::new(alloc, program, settings)?;
-    let turn = Turn {
+    let turn = RunIndex {
         number: 0,
         first: 0,
     };
@@ -57,7 +57,7 @@ pub fn run_once<R: Threads + Wait + Sync, S: Stall, G: Gate>(
 
 /// Which of many runs one is.
 #[derive(Clone, Copy, PartialEq, Eq)]
-pub struct Turn {
+pub struct RunIndex {
     /// Its number, which stands in its result.
     pub number: u64,
     /// The task whose thread starts first, then those of the tasks above, then those below: who starts first is often
@@ -72,7 +72,7 @@ pub fn run_prepared<R: Threads + Wait + Sync, S: Stall, G: Gate>(
     program: &Program,
     settings: &Settings,
     prepared: &Prepared,
-    turn: Turn,
+    turn: RunIndex,
     stall: &S,
     gate: &G,
 ) -> Result<RunResult, RunError>
@@ -112,7 +112,7 @@ pub fn run_batch<R: Threads + Wait + Sync, S: Stall, G: Gate>(
     program: &Program,
     settings: &Settings,
     prepared: &Prepared,
-    turns: &[Turn],
+    turns: &[RunIndex],
     stalls: &[S],
     gates: &[G],
 ) -> Result<Vec<Result<RunResult, RunError>>, RunError>

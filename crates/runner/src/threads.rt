@@ -2,11 +2,11 @@
 
 ghost use Rattle.std.specs.Prelude.{◌≡◌, ◌<◌, IfErr, IfOk, ◌⊎◌, length, map};
 ghost use Rattle.std.specs.Thread.{IsSync};
-ghost use Rattle.program_sites.specs.Prepared.{sites_in};
+ghost use Rattle.prepared_program.specs.program_sites.Prepared.{sites_in};
 ghost use Rattle.litmus_step.specs.Runs.{run_of, tasks_of};
 ghost use Rattle.runner.specs.Starts.{AreAllOutcomes, AreAllStarts, AreSomeStarts, ComeOf, IsOutcomeOfEach, IsTaskStart};
 ghost use Rattle.runner.specs.Terms.{AreGivenEach, run_of_batch};
-ghost use Rattle.program_sites.specs.declared.error.RunError.TheVariants.{NoThread, OutOfMemory};
+ghost use Rattle.prepared_program.specs.declared.program_sites.error.RunError.TheVariants.{NoThread, OutOfMemory};
 
 use crate::first::TaskStarts;
 use crate::hooks::{Gate, Stall};

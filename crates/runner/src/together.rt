@@ -3,29 +3,29 @@
 ghost use Rattle.std.specs.Prelude.{◌≡◌, ◌<◌, ◌⊎◌, ℕ, IfErr, IfOk, IsErrOf, length, map};
 ghost use Rattle.std.specs.List.{flat_map};
 ghost use Rattle.access_types.specs.Sites.{AccessMap};
-ghost use Rattle.program_sites.specs.Prepared.{sites_in};
+ghost use Rattle.prepared_program.specs.program_sites.Prepared.{sites_in};
 ghost use Rattle.litmus_step.specs.Runs.{run_of, tasks_of};
-ghost use Rattle.run_lists.specs.Run.{Run};
+ghost use Rattle.executions.specs.run_lists.Run.{Run};
 ghost use Rattle.runner.specs.Found.{AreFound, IsInVain, IsOfThreads, IsThrough, calls_below};
 ghost use Rattle.runner.specs.Result.{AreResultsOf, IsRunOnce};
 ghost use Rattle.runner.specs.Starts.{AreOutcomes, AreOutcomesOfEach};
 ghost use Rattle.runner.specs.Terms.{AreGiven, AreGivenEach};
-ghost use Rattle.program_sites.specs.declared.error.RunError.TheVariants.{OutOfMemory, Stuck};
+ghost use Rattle.prepared_program.specs.declared.program_sites.error.RunError.TheVariants.{OutOfMemory, Stuck};
 ghost use Rattle.shared_table.specs.Seats.{Opened};
 
 use crate::laws::sides_of_hits_overlap;
 use crate::result::RunResult;
-use crate::run::Turn;
+use crate::run::RunIndex;
 use crate::seated::Found;
 use access_types::Report;
 use litmus_step::{Prepared, RunError, Settings};
 use litmus_syntax::Program;
-use run_headline::laws::the_headline_holds;
-use run_kept::reports::a_task_reports_its_own;
+use log_correctness::reports::a_task_reports_its_own;
+use program_order::the_written_order_keeps_the_discipline;
 use shared_table::{SharedTable, TaskSeat};
+use soundness::laws::the_headline_holds;
 use std::alloc::{AllocError, Global};
 use task_log::TaskLog;
-use written_order::the_written_order_keeps_the_discipline;
 
 /// What is found of all tasks, if it is of each.
 ///
@@ -108,7 +108,7 @@ fn result_of(
     program: &Program,
     settings: &Settings,
     prepared: &Prepared,
-    turn: Turn,
+    turn: RunIndex,
     table: SharedTable,
     outcomes: Vec<Result<Found, RunError>>,
 ) -> Result<RunResult, RunError>
@@ -153,7 +153,7 @@ pub(crate) fn results_of(
     program: &Program,
     settings: &Settings,
     prepared: &Prepared,
-    turns: &[Turn],
+    turns: &[RunIndex],
     tables: Vec<SharedTable>,
     rows: Vec<Vec<Result<Found, RunError>>>,
 ) -> Result<Vec<Result<RunResult, RunError>>, AllocError>

@@ -1,13 +1,13 @@
 -- Lists that end with the same registers and variables.
 use Rattle.std.proofs.Common.{◌≡◌, ◌∙◌, ◌∷◌, [], ℕ, List, ap, refl, suc, sym}
-use Rattle.final_condition.specs.Holds.{register_of, variable_of}
-use Rattle.final_condition.specs.declared.condition.Finals.{Finals}
-use Rattle.run_lists.specs.Told.{history_of}
-use Rattle.written_order.specs.WrittenOrder.{stands_after}
+use Rattle.litmus_semantics.specs.final_condition.Holds.{register_of, variable_of}
+use Rattle.litmus_semantics.specs.declared.final_condition.condition.Finals.{Finals}
+use Rattle.executions.specs.run_lists.Told.{history_of}
+use Rattle.program_order.specs.WrittenOrder.{stands_after}
 use Rattle.run_output.proofs.FinalLemmas.{all_registers_same, holds_alike, registers_same}
 use Rattle.run_output.specs.Finals.{AreAllRegisters, AreFinals, AreRegistersFrom, HoldsAtEnd, register_value, variable_value}
-use Rattle.run_lists.specs.Run.{Run}
-use Rattle.run_lists.specs.RunList.{RunList}
+use Rattle.executions.specs.run_lists.Run.{Run}
+use Rattle.executions.specs.run_lists.RunList.{RunList}
 use Rattle.slot_table.specs.declared.records.Record.{Record}
 use Rattle.search_output.specs.Ends.{EndTheSame}
 use Rattle.search_text.specs.States.{state_text}

@@ -2,11 +2,11 @@
 use Rattle.std.proofs.Common.{◌≡◌, ◌∙◌, ◌==◌, ◌&&◌, ◌++◌, ◌∷◌, [], ℕ, Bool, List, None, Option, Some, ap, false, is_some, length, not, refl, subst, sym, true}
 use Rattle.std.proofs.Common.{Global, Vec, if◌then◌else◌}
 use Rattle.std.specs.Option.{option_map}
-use Rattle.program_sites.specs.declared.settings.Settings.{Settings}
+use Rattle.prepared_program.specs.declared.program_sites.settings.Settings.{Settings}
 use Rattle.access_types.specs.declared.report.Report.{Report}
 use Rattle.run_output.specs.Traces.{IsToBeAccepted, IsTraceOf}
-use Rattle.run_lists.specs.Run.{Run}
-use Rattle.run_lists.specs.RunList.{AllHaveEnded, RunList}
+use Rattle.executions.specs.run_lists.Run.{Run}
+use Rattle.executions.specs.run_lists.RunList.{AllHaveEnded, RunList}
 use Rattle.search_output.specs.Lists.{OneList}
 use Rattle.search_output.specs.Traces.{IsFirstTrace, IsTraceIfSome, IsTraceOfOne, first_reported}
 

@@ -1,11 +1,11 @@
 -- Lists of a run that end alike.
 use Rattle.std.specs.Prelude.{◌≡◌, ◌↔◌, ℕ, List}
-use Rattle.final_condition.specs.Holds.{register_of, variable_of}
-use Rattle.final_condition.specs.declared.condition.Finals.{Finals}
+use Rattle.litmus_semantics.specs.final_condition.Holds.{register_of, variable_of}
+use Rattle.litmus_semantics.specs.declared.final_condition.condition.Finals.{Finals}
 use Rattle.run_output.specs.Finals.{AreFinals, HoldsAtEnd}
 use Rattle.litmus_step.specs.Runs.{HasEnded}
-use Rattle.run_lists.specs.Run.{Run, first_words}
-use Rattle.run_lists.specs.RunList.{RunList}
+use Rattle.executions.specs.run_lists.Run.{Run, first_words}
+use Rattle.executions.specs.run_lists.RunList.{RunList}
 use Rattle.search_text.specs.States.{state_text}
 use Rattle.slot_table.specs.Records.{words_after}
 use Rattle.slot_table.specs.Words.{but_clock}

@@ -6,18 +6,18 @@ use Rattle.litmus_parse.specs.Read.{IsReadAs}
 use Rattle.litmus_syntax.specs.Tree as tree
 use Rattle.litmus_syntax.specs.declared.error.ParseError.TheVariants as parse
 use Rattle.litmus_syntax.specs.declared.program.Program.{Program}
-use Rattle.program_layout.specs.Places.{AreFit}
-use Rattle.program_sites.specs.declared.error.RunError.{RunError}
-use Rattle.program_sites.specs.declared.error.RunError.TheVariants.{BadPlace, BadSchedule, BadSlots, NoThread, OutOfMemory, Stuck}
-use Rattle.program_sites.specs.declared.settings.Settings.{Settings}
-use Rattle.run_lists.specs.Run.{Run}
-use Rattle.run_lists.specs.RunList.{RunList}
+use Rattle.prepared_program.specs.program_layout.Places.{AreFit}
+use Rattle.prepared_program.specs.declared.program_sites.error.RunError.{RunError}
+use Rattle.prepared_program.specs.declared.program_sites.error.RunError.TheVariants.{BadPlace, BadSchedule, BadSlots, NoThread, OutOfMemory, Stuck}
+use Rattle.prepared_program.specs.declared.program_sites.settings.Settings.{Settings}
+use Rattle.executions.specs.run_lists.Run.{Run}
+use Rattle.executions.specs.run_lists.RunList.{RunList}
 use Rattle.run_output.specs.declared.error.EngineError.{EngineError}
 use Rattle.run_output.specs.declared.error.EngineError.TheVariants as engine
-use Rattle.searched_lists.specs.Searched.{HasAtMostSwitches}
+use Rattle.context_bound.specs.searched_lists.Searched.{HasAtMostSwitches}
 use Rattle.slot_table.specs.declared.records.Record.{Record}
 use Rattle.access_types.specs.declared.report.Report.{Report}
-use Rattle.run_lists.specs.Reports.{reports_of}
+use Rattle.executions.specs.run_lists.Reports.{reports_of}
 
 -- the text of each report of a list of the run with no more switches than are allowed is among these
 abbrev pub AllAreTold : Run → Option ℕ → List (List ℕ) → Type 0

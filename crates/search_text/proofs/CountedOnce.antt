@@ -9,7 +9,7 @@ use Rattle.std.proofs.lemmas.Map.Keys.{IsDistinct-head, IsDistinct-tail}
 use Rattle.std.proofs.lemmas.Map.Views.{All-from_any}
 use Rattle.report_text.specs.Groups.{first_seen, is_text}
 use Rattle.search_text.proofs.TextLists.{any_fold, any_same}
-use Rattle.search_text.specs.Found.{Searched, has, resting, sightings_in, state_in, states_of, times_in}
+use Rattle.search_text.specs.SearchFindings.{Searched, has, resting, sightings_in, state_in, states_of, times_in}
 use Rattle.search_text.specs.Texts.{End}
 use Rattle.search_text.specs.Times.{Sighting}
 

@@ -9,19 +9,19 @@ use Rattle.std.specs.Cmp.Lexicographic.{same_text}
 use Rattle.report_text.specs.Groups.{first_seen, is_text, one_more}
 use Rattle.search_text.proofs.SightingLemmas.{count_on, counted_more, seen_on, sightings_on}
 use Rattle.search_text.proofs.TextLists.{any_fold}
-use Rattle.search_text.specs.Found.{Finds, Searched, ends_so, fails, has, is_deadlocked, is_none, meets, option_again, resting, sightings_in, state_in, states_of, texts_of_all, times_in}
+use Rattle.search_text.specs.SearchFindings.{Finds, Searched, ends_so, fails, has, is_deadlocked, is_none, meets, option_again, resting, sightings_in, state_in, states_of, texts_of_all, times_in}
 use Rattle.search_text.specs.Seen.{sighted}
 use Rattle.search_text.specs.Texts.{End}
 use Rattle.search_text.specs.Times.{Sighting, Times}
 use Rattle.search_text.specs.Write.{found_text, search_text, states_search_text, text_found, text_of_both}
-use Rattle.search_text.specs.declared.found.Found.{Found}
+use Rattle.search_text.specs.declared.found.SearchFindings.{SearchFindings}
 
 -- a final state is one text
 one_state : (ending : Option End) → first_seen (state_in ending) ≡ state_in ending
 one_state None = refl
 one_state (Some end) = refl
 
-pub finds_on : (lists : List Searched) (one : Searched) (old new : Found) → Finds lists old
+pub finds_on : (lists : List Searched) (one : Searched) (old new : SearchFindings) → Finds lists old
     → new.reports ≡ fold (sighted one.schedule) old.reports (first_seen one.texts)
     → new.stuck ≡ (if is_none one.ending then option_again one.schedule old.stuck else old.stuck)
     → new.states ≡ fold (sighted one.schedule) old.states (state_in one.ending)
@@ -63,7 +63,7 @@ some_kept (text ∷ texts) = by (first_seen (text ∷ texts)) refl ∙ sym (not_
         cc
     by (first ∷ kept) e = ap (λ all. length all == 0) e ∙ not_zero (length (first ∷ kept)) (omega arith)
 
-pub reports_kept : (lists : List Searched) (found : Found) → Finds lists found
+pub reports_kept : (lists : List Searched) (found : SearchFindings) → Finds lists found
     → not (length found.reports == 0) ≡ not (length (texts_of_all lists) == 0)
 reports_kept lists found finds =
     ap (λ all. not (length all == 0)) finds.reports
@@ -71,12 +71,12 @@ reports_kept lists found finds =
     ∙ ap not (some_kept (texts_of_all lists))
 
 -- what is found is what is written
-pub text_found_is : (name : List ℕ) (switches : ℕ) (stopped : Bool) (lists : List Searched) (found : Found) → Finds lists found
+pub text_found_is : (name : List ℕ) (switches : ℕ) (stopped : Bool) (lists : List Searched) (found : SearchFindings) → Finds lists found
     → text_found name switches stopped found ≡ search_text name switches stopped lists
 text_found_is name switches stopped lists found finds =
     rw (finds.reports, finds.stuck, finds.states, finds.searched, finds.held, finds.failed)
 
-pub text_of_both_is : (name : List ℕ) (stopped : Bool) (visited : ℕ) (reports ends : List Searched) (reported ended : Found)
+pub text_of_both_is : (name : List ℕ) (stopped : Bool) (visited : ℕ) (reports ends : List Searched) (reported ended : SearchFindings)
     → Finds reports reported → Finds ends ended
     → text_of_both name stopped visited reported ended ≡ states_search_text name stopped visited reports ends
 text_of_both_is name stopped visited reports ends reported ended first second =
@@ -88,14 +88,14 @@ any_each : (text : List ℕ) (times : List ℕ → Times) (texts : List (List �
 any_each text times [] = refl
 any_each text times (first ∷ texts) = ap (λ b. is_text text first || b) (any_each text times texts)
 
-any_state : (text : List ℕ) (lists : List Searched) (found : Found) → Finds lists found
+any_state : (text : List ℕ) (lists : List Searched) (found : SearchFindings) → Finds lists found
     → list_any (λ sighting. is_text text sighting.0) found.states ≡ list_any (is_text text) (flat_map states_of lists)
 any_state text lists found finds =
     ap (list_any (λ sighting. is_text text sighting.0)) finds.states
     ∙ any_each text (λ one. times_in (has states_of one) lists) (first_seen (flat_map states_of lists))
     ∙ any_fold text [] (flat_map states_of lists)
 
-pub state_there : (text : List ℕ) (lists : List Searched) (found : Found) (result : Bool)
+pub state_there : (text : List ℕ) (lists : List Searched) (found : SearchFindings) (result : Bool)
     → result ≡ list_any (λ sighting. is_text text sighting.0) found.states → Finds lists found
     → IsTrue result ↔ Contains (flat_map states_of lists) text
 state_there text lists found result told finds =

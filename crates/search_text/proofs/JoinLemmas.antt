@@ -5,12 +5,12 @@ use Rattle.std.specs.List.{list_any}
 use Rattle.std.proofs.lemmas.Cmp.{nat_list_eq_equiv}
 use Rattle.report_text.specs.Groups.{first_seen, is_text, one_more}
 use Rattle.search_text.proofs.SightingLemmas.{count_on, seen_on, sightings_on}
-use Rattle.search_text.specs.Found.{Finds, Searched, fails, is_deadlocked, meets, option_again, resting, seen_in, sightings_in, states_of}
+use Rattle.search_text.specs.SearchFindings.{Finds, Searched, fails, is_deadlocked, meets, option_again, resting, seen_in, sightings_in, states_of}
 use Rattle.search_text.specs.Joined.{both, joined, joined_one, option_both}
 use Rattle.search_text.specs.Seen.{sighted}
 use Rattle.search_text.specs.Times.{Sighting, Times}
-use Rattle.search_text.specs.declared.found.Found.{Found}
-use Rattle.step_schedule.specs.declared.schedule.Entry.{Entry}
+use Rattle.search_text.specs.declared.found.SearchFindings.{SearchFindings}
+use Rattle.option_lists.specs.declared.step_schedule.schedule.Entry.{Entry}
 
 -- what holds of no list, and with a last one more, holds of all
 by_last : (P : List Searched → Type 0) → P [] → ((before : List Searched) (one : Searched) → P before → P (before ++ one ∷ []))
@@ -211,7 +211,7 @@ count_join test lists more =
     choice true n m = omega arith
     choice false n m = refl
 
-pub finds_join : (lists more : List Searched) (old later new : Found) → Finds lists old → Finds more later
+pub finds_join : (lists more : List Searched) (old later new : SearchFindings) → Finds lists old → Finds more later
     → new.reports ≡ joined old.reports later.reports
     → new.stuck ≡ option_both old.stuck later.stuck
     → new.states ≡ joined old.states later.states

@@ -5,11 +5,11 @@ use Rattle.std.specs.Map.{keys_of, lookup, values_of}
 use Rattle.indexmap.specs.IndexMap.{insert_entry, set_value_at}
 use Rattle.indexmap.proofs.MapLemmas.{Found-position, insert_entry-first}
 use Rattle.report_text.specs.Groups.{is_text}
-use Rattle.search_text.specs.Found.{option_again}
+use Rattle.search_text.specs.SearchFindings.{option_again}
 use Rattle.search_text.specs.Joined.{both, joined_one, option_both}
 use Rattle.search_text.specs.Seen.{again, sighted}
 use Rattle.search_text.specs.Times.{Sighting, Times}
-use Rattle.step_schedule.specs.declared.schedule.Entry as schedules
+use Rattle.option_lists.specs.declared.step_schedule.schedule.Entry as schedules
 
 -- an entry of the map, without where it lies in memory
 abbrev pub Entry : Type 0

@@ -9,10 +9,10 @@ use Rattle.std.proofs.lemmas.List.Folds.{list_any-append}
 use Rattle.std.proofs.lemmas.List.Sums.{fold-append}
 use Rattle.report_text.specs.Groups.{first_seen, is_text, one_more, seen_too}
 use Rattle.search_text.proofs.TextLists.{AreDistinct, any_flat, any_fold, any_more, any_same, distinct_fold, fold_first, left_of, not_before, or_false, or_true, right_of}
-use Rattle.search_text.specs.Found.{Searched, first_schedule, has, option_again, resting, seen_in, sightings_in, times_in}
+use Rattle.search_text.specs.SearchFindings.{Searched, first_schedule, has, option_again, resting, seen_in, sightings_in, times_in}
 use Rattle.search_text.specs.Seen.{again, sighted}
 use Rattle.search_text.specs.Times.{Sighting, Times}
-use Rattle.step_schedule.specs.declared.schedule.Entry.{Entry}
+use Rattle.option_lists.specs.declared.step_schedule.schedule.Entry.{Entry}
 
 -- each text with what is kept of it
 abbrev pub each_with : (List ℕ → Times) → List (List ℕ) → List Sighting

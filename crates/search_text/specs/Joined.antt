@@ -1,7 +1,7 @@
 -- What is seen in lists and in more lists behind them.
 use Rattle.std.specs.Prelude.{◌+◌, ◌∷◌, [], List, Option, None, Some, fold, if◌then◌else◌}
 use Rattle.report_text.specs.Groups.{is_text}
-use Rattle.search_text.specs.Found.{resting}
+use Rattle.search_text.specs.SearchFindings.{resting}
 use Rattle.search_text.specs.Times.{Sighting, Times}
 
 -- in how many lists it is, of all of them, and the schedule of the first

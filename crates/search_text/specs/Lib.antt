@@ -4,6 +4,6 @@ pub mod States
 pub mod Times
 pub mod Seen
 pub mod Texts
-pub mod Found
+pub mod SearchFindings
 pub mod Joined
 pub mod Write

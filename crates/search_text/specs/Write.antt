@@ -3,11 +3,11 @@ use Rattle.std.specs.Prelude.{◌++◌, ◌==◌, ◌∷◌, [], ℕ, Bool, List
 use Rattle.std.specs.Fmt.{decimal}
 use Rattle.std.specs.List.{flat_map}
 use Rattle.access_types.specs.ReportText.{line}
-use Rattle.search_text.specs.Found.{Searched, fails, is_deadlocked, meets, resting, seen_in, sightings_in, states_of}
+use Rattle.search_text.specs.SearchFindings.{Searched, fails, is_deadlocked, meets, resting, seen_in, sightings_in, states_of}
 use Rattle.search_text.specs.Schedules.{schedule_text}
 use Rattle.search_text.specs.Times.{Sighting, Times}
-use Rattle.search_text.specs.declared.found.Found.{Found}
-use Rattle.step_schedule.specs.declared.schedule.Entry.{Entry}
+use Rattle.search_text.specs.declared.found.SearchFindings.{SearchFindings}
+use Rattle.option_lists.specs.declared.step_schedule.schedule.Entry.{Entry}
 
 -- in how many schedules something was, behind this word
 unfoldable pub times_head : List ℕ → ℕ → List ℕ
@@ -75,7 +75,7 @@ found_text name switches stopped reports stuck states searched held failed =
     flat_map sighting_text reports
     ++ (stuck_text stuck ++ (bounds_text searched switches stopped ++ endings_text name states held failed))
 
-abbrev pub text_found : (name : List ℕ) → (switches : ℕ) → (stopped : Bool) → Found → List ℕ
+abbrev pub text_found : (name : List ℕ) → (switches : ℕ) → (stopped : Bool) → SearchFindings → List ℕ
 text_found name switches stopped found =
     found_text name switches stopped found.reports found.stuck found.states found.searched found.held found.failed
 
@@ -122,7 +122,7 @@ abbrev pub states_text : (name : List ℕ) → (stopped : Bool) → (visited : �
 states_text name stopped visited reports stuck states held failed =
     flat_map first_text reports ++ (deadlock_text stuck ++ (visited_text visited stopped ++ endings_text name states held failed))
 
-abbrev pub text_of_both : (name : List ℕ) → (stopped : Bool) → (visited : ℕ) → (reported ended : Found) → List ℕ
+abbrev pub text_of_both : (name : List ℕ) → (stopped : Bool) → (visited : ℕ) → (reported ended : SearchFindings) → List ℕ
 text_of_both name stopped visited reported ended =
     states_text name stopped visited reported.reports ended.stuck ended.states ended.held ended.failed
 

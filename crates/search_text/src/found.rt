@@ -3,15 +3,15 @@
 ghost use Rattle.std.specs.Prelude.{◌≡◌, ◌==◌, ◌↔◌, ◌++◌, ◌∷◌, [], Contains, IfOk, IsTrue, List, OnOk, fold, length, map, not};
 ghost use Rattle.std.specs.List.{flat_map};
 ghost use Rattle.report_text.specs.ReportOf.{report_text};
-ghost use Rattle.search_text.specs.Found.{EndsAdded, Finds, Searched, option_again, states_of, texts_of_all};
+ghost use Rattle.search_text.specs.SearchFindings.{EndsAdded, Finds, Searched, option_again, states_of, texts_of_all};
 ghost use Rattle.search_text.specs.Seen.{sighted};
 ghost use Rattle.search_text.specs.Texts.{ending_of, texts_in};
 
 use crate::seen::{Seen, Sightings};
 use crate::texts::texts_of;
 use access_types::{Report, Sites};
+use option_lists::step_schedule::Entry;
 use std::alloc::{AllocError, Global};
-use step_schedule::Entry;
 
 /// How a list ends after which all tasks have ended.
 #[derive(Drop)]
@@ -24,7 +24,7 @@ pub struct Ending {
 
 /// What is found of the lists that were searched so far. Each count rests at 2^64 - 1.
 #[derive(Drop)]
-pub struct Found {
+pub struct SearchFindings {
     pub(crate) reports: Sightings,
     pub(crate) stuck: Option<Seen>,
     pub(crate) states: Sightings,
@@ -59,12 +59,12 @@ fn add_seen(alloc: Global, seen: &mut Option<Seen>, schedule: &[Entry]) -> Resul
     Ok(())
 }
 
-impl Found {
+impl SearchFindings {
     /// Of no list.
-    pub fn new(alloc: Global) -> Found
+    pub fn new(alloc: Global) -> SearchFindings
         ensures { Finds [] result }
     {
-        Found {
+        SearchFindings {
             reports: Sightings::new(alloc),
             stuck: None,
             states: Sightings::new(alloc),

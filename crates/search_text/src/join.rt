@@ -1,10 +1,10 @@
 //! What is found of lists is joined with what is found of more lists that come behind them.
 
 ghost use Rattle.std.specs.Prelude.{◌≡◌, ◌++◌, List, OnOk};
-ghost use Rattle.search_text.specs.Found.{Finds, Searched};
+ghost use Rattle.search_text.specs.SearchFindings.{Finds, Searched};
 ghost use Rattle.search_text.specs.Joined.{joined, joined_one, option_both};
 
-use crate::found::Found;
+use crate::found::SearchFindings;
 use crate::seen::{Seen, Sightings};
 use std::alloc::AllocError;
 
@@ -48,11 +48,11 @@ impl Sightings {
     }
 }
 
-impl Found {
+impl SearchFindings {
     /// Joins what is found of lists that come behind these.
     ///
     /// The only error is want of memory, after which what is found is of no use.
-    pub fn join(&mut self, later: Found) -> Result<(), AllocError>
+    pub fn join(&mut self, later: SearchFindings) -> Result<(), AllocError>
         ensures { (lists more : List Searched) → Finds lists self.old → Finds more later
             → OnOk result (Finds (lists ++ more) self.new) }
     {

@@ -3,10 +3,10 @@
 ghost use Rattle.std.specs.Prelude.{◌≡◌, ◌<◌, ◌^◌, All, List};
 ghost use Rattle.std.specs.List.{IsDistinct, flat_map};
 ghost use Rattle.report_text.specs.Groups.{is_text};
-ghost use Rattle.search_text.specs.Found.{Searched, sightings_in, states_of};
+ghost use Rattle.search_text.specs.SearchFindings.{Searched, sightings_in, states_of};
 ghost use Rattle.search_text.specs.Schedules.{schedule_text};
-ghost use Rattle.step_schedule.specs.Spelling.{Spells};
-ghost use Rattle.step_schedule.specs.declared.schedule.Entry as entries;
+ghost use Rattle.option_lists.specs.step_schedule.Spelling.{Spells};
+ghost use Rattle.option_lists.specs.declared.step_schedule.schedule.Entry as entries;
 
 /// Law: a schedule that is written is read back.
 pub fn schedules_are_read_back()

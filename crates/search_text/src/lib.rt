@@ -13,10 +13,10 @@ pub mod texts;
 pub mod visited;
 pub mod write;
 
-pub use found::{Ending, Found};
+pub use found::{Ending, SearchFindings};
 pub use locations::{Location, locations_of};
+pub use option_lists::step_schedule::Entry;
 pub use report_text::{MemorySink, Sink, WriteError};
 pub use states::state_of;
-pub use step_schedule::Entry;
 pub use visited::{Visited, write_states_search};
 pub use write::{Asked, write_search};

@@ -8,9 +8,9 @@ ghost use Rattle.search_text.specs.Seen as spec;
 ghost use Rattle.search_text.specs.Seen.{sighted};
 
 use indexmap::IndexMap;
+use option_lists::step_schedule::Entry;
 use std::alloc::{AllocError, Global};
 use std::marker::Model;
-use step_schedule::Entry;
 
 /// In how many lists something was seen, and the schedule of the first of them. The count rests at 2^64 - 1.
 #[derive(Drop)]

@@ -2,13 +2,13 @@
 
 ghost use Rattle.std.specs.Prelude.{◌≡◌, ◌++◌, IfOk, OnOk, map};
 ghost use Rattle.std.specs.String.{string_bytes};
-ghost use Rattle.final_condition.specs.Holds.{register_of, variable_of};
+ghost use Rattle.litmus_semantics.specs.final_condition.Holds.{register_of, variable_of};
 ghost use Rattle.litmus_syntax.specs.PrintedForm as printed;
 ghost use Rattle.litmus_syntax.specs.Views.{program_of, task_of};
 ghost use Rattle.search_text.specs.States as spec;
 
 use crate::locations::Location;
-use final_condition::Finals;
+use litmus_semantics::final_condition::Finals;
 use litmus_syntax::{Name, Program, Task, Variable};
 use std::alloc::{AllocError, Global};
 use std::fmt::Write;

@@ -3,17 +3,17 @@
 ghost use Rattle.std.specs.Prelude.{◌++◌, List, codes};
 ghost use Rattle.std.specs.List.{flat_map};
 ghost use Rattle.report_text.specs.Sink.{Writes};
-ghost use Rattle.search_text.specs.Found.{Finds, Searched};
+ghost use Rattle.search_text.specs.SearchFindings.{Finds, Searched};
 ghost use Rattle.search_text.specs.Write.{deadlock_text, endings_text, first_line, first_text, states_search_text, stopped_at_line};
 ghost use Rattle.search_text.specs.Write.{stopped_at_text, text_of_both, visited_line, visited_text};
 
-use crate::found::Found;
+use crate::found::SearchFindings;
 use crate::schedules::write_schedule;
 use crate::seen::{Seen, Sightings};
 use crate::write::write_ending;
+use option_lists::step_schedule::Entry;
 use report_text::pieces::{Piece, write_pieces};
 use report_text::{Sink, WriteError, write_all};
-use step_schedule::Entry;
 
 /// How many states were searched: all of them, or as many as there may be at most.
 #[derive(Clone, Copy, PartialEq, Eq)]
@@ -120,8 +120,8 @@ fn write_visited<K: Sink>(sink: &mut K, visited: Visited) -> Result<(), WriteErr
 
 /// Writes what is found, of the test of this name: the reports of the first, and how the lists of the other end.
 fn write_both<K: Sink>(
-    reported: &Found,
-    ended: &Found,
+    reported: &SearchFindings,
+    ended: &SearchFindings,
     name: &str,
     visited: Visited,
     sink: &mut K,
@@ -140,8 +140,8 @@ fn write_both<K: Sink>(
 ///
 /// `SinkFailed`: the sink failed in this call, and holds a beginning of the text.
 pub fn write_states_search<K: Sink>(
-    reported: &Found,
-    ended: &Found,
+    reported: &SearchFindings,
+    ended: &SearchFindings,
     name: &str,
     visited: Visited,
     sink: &mut K,

@@ -3,17 +3,17 @@
 ghost use Rattle.std.specs.Prelude.{◌≡◌, ◌++◌, List, codes, decimal, length};
 ghost use Rattle.std.specs.List.{flat_map};
 ghost use Rattle.report_text.specs.Sink.{Writes};
-ghost use Rattle.step_schedule.specs.declared.schedule.Entry as entries;
-ghost use Rattle.search_text.specs.Found.{Finds, Searched};
+ghost use Rattle.option_lists.specs.declared.step_schedule.schedule.Entry as entries;
+ghost use Rattle.search_text.specs.SearchFindings.{Finds, Searched};
 ghost use Rattle.search_text.specs.Write.{bounds_text, endings_text, observation_line, observed, search_text, searched_line, sighting_text, state_line};
 ghost use Rattle.search_text.specs.Write.{states_line, stopped_line, stopped_text, stuck_text, text_found, times_head, times_line, word_of};
 
-use crate::found::Found;
+use crate::found::SearchFindings;
 use crate::schedules::write_schedule;
 use crate::seen::{Seen, Sightings};
+use option_lists::step_schedule::Entry;
 use report_text::pieces::{Piece, write_pieces};
 use report_text::{Sink, WriteError, write_all};
-use step_schedule::Entry;
 
 /// Which schedules were searched: those with at most so many switches, all of them or as many as there may be at most.
 #[derive(Clone, Copy, PartialEq, Eq)]
@@ -235,7 +235,7 @@ fn write_bounds<K: Sink>(sink: &mut K, searched: u64, asked: Asked) -> Result<()
 /// Writes how whole lists end: how many final states there are, each of them, and whether a proposition holds there.
 pub(crate) fn write_ending<K: Sink>(
     sink: &mut K,
-    found: &Found,
+    found: &SearchFindings,
     name: &str,
 ) -> Result<(), WriteError>
     ensures { Writes K.written K.failures result (endings_text name.now found.now.states found.now.held found.now.failed)
@@ -248,7 +248,7 @@ pub(crate) fn write_ending<K: Sink>(
 
 /// Writes what is found, of the test of this name.
 fn write_found<K: Sink>(
-    found: &Found,
+    found: &SearchFindings,
     name: &str,
     asked: Asked,
     sink: &mut K,
@@ -265,7 +265,7 @@ fn write_found<K: Sink>(
 ///
 /// `SinkFailed`: the sink failed in this call, and holds a beginning of the text.
 pub fn write_search<K: Sink>(
-    found: &Found,
+    found: &SearchFindings,
     name: &str,
     asked: Asked,
     sink: &mut K,

@@ -19,7 +19,7 @@ use Rattle.setup_access.specs.Fallen.{followed}
 use Rattle.setup_access.specs.Found.{Hears, Takes, Tells, TellsTo, finder_half, setter_half}
 use Rattle.setup_access.specs.Hits.{Hits}
 use Rattle.setup_access.specs.Parts.{FindLeft, SetupLeft, after_refusal, left_to_try, made}
-use Rattle.index_order.specs.Indices.{look_index, place_after, try_index}
+use Rattle.slot_table.specs.index_order.Indices.{look_index, place_after, try_index}
 use Rattle.setup_access.specs.PassLeft.{Given, PassLeft, falls_before}
 use Rattle.setup_access.specs.Records.{MakesDone, MakesWord, OnFlag, OnHalves, OnWord}
 use Rattle.setup_access.specs.Setting.{Setting, slot_of}
@@ -36,8 +36,8 @@ use Rattle.setup_access.specs.declared.outcome.Outcome.TheVariants.{Capacity, Lo
 use Rattle.setup_access.specs.declared.outcome.Watchpoint.{Watchpoint}
 use Rattle.setup_access.specs.declared.pass.Pass as code
 use Rattle.setup_access.specs.declared.pass.Pass.TheVariants as parts
-use Rattle.index_order.specs.declared.place.Place.{Place}
-use Rattle.index_order.specs.declared.place.Place.TheVariants.{First, Second, Third}
+use Rattle.slot_table.specs.declared.index_order.place.ProbeIndex.{ProbeIndex}
+use Rattle.slot_table.specs.declared.index_order.place.ProbeIndex.TheVariants.{First, Second, Third}
 use Rattle.setup_access.specs.declared.setup.Setup.{Setup}
 use Rattle.setup_access.specs.declared.setup.Setup.TheVariants as setups
 use Rattle.setup_access.specs.declared.setup.Watching.{Watching}
@@ -108,7 +108,7 @@ clock_ends task (first ∷ later) rest h =
 
 module _ (s : Setting) (a : Access) where
   -- a look-up that found a watchpoint, or none, ended with this load
-  found_ends : (place : Place) (first : Record) (word : ℕ) (found : Option Watchpoint)
+  found_ends : (place : ProbeIndex) (first : Record) (word : ℕ) (found : Option Watchpoint)
       → first ≡ made s.task (Load (look_index place (slot_of s a))) (answers.Word word) → Hits s.rules.layout a word
       → found ≡ Some (record { index = look_index place (slot_of s a); word = word }) → EndsLookUp s a found first
   found_ends place first word found is hits same =
@@ -119,7 +119,7 @@ module _ (s : Setting) (a : Access) where
   none_ends first word found is misses same = subst (λ (f : Option Watchpoint). EndsLookUp s a f first) (sym same) (word, is, misses)
 
   -- a word that was read leaves nothing of the look-up
-  pub sought_ends : (place : Place) (word : ℕ) (found : Option Watchpoint)
+  pub sought_ends : (place : ProbeIndex) (word : ℕ) (found : Option Watchpoint)
       → FindLeft s a (record { place = place }) (made s.task (Load (look_index place (slot_of s a))) (answers.Word word) ∷ []) found []
       → EndsLookUp s a found (made s.task (Load (look_index place (slot_of s a))) (answers.Word word))
   sought_ends First word found h = elim h.2 [ inl p ↦ found_ends First _ word found refl p.0 p.1 | inr q ↦ absurd q.1 ]
@@ -131,7 +131,7 @@ module _ (s : Setting) (a : Access) where
   pub masked_falls : (found : Watchpoint) (last : Record) → IsSome a.mask → EndsLookUp s a (Some found) last → FallsAt s a Nothing last
   masked_falls found last masked looked = inr (found, masked, looked)
 
-  find_last : (place : Place) (records : List Record) (found : Option Watchpoint) (rest : List Record)
+  find_last : (place : ProbeIndex) (records : List Record) (found : Option Watchpoint) (rest : List Record)
       → FindLeft s a (record { place = place }) records found rest → EndsAfter (EndsLookUp s a found) records rest
   find_last First [] found rest h = absurd h
   find_last Second [] found rest h = absurd h
@@ -303,7 +303,7 @@ module _ (s : Setting) (a : Access) where
       refused_last (slot_of s a + 2) word (slot_of s a ∷ []) records place rest h none
       (λ first later is more. last_later (FallsAt s a Capacity) first later rest (third_full word later place rest more none))
 
-  tries_full : (from : Place) (word : ℕ) (records : List Record) (place : Option ℕ) (rest : List Record)
+  tries_full : (from : ProbeIndex) (word : ℕ) (records : List Record) (place : Option ℕ) (rest : List Record)
       → TriesInsert s.task word (left_to_try from (slot_of s a)) records place rest → place ≡ None
       → EndsAfter (FallsAt s a Capacity) records rest
   tries_full First word records place rest h none =
@@ -330,7 +330,7 @@ module _ (s : Setting) (a : Access) where
       )
 
   -- an insertion, and what follows on it
-  inserts_comes : (from : Place) (word asked : ℕ) (records : List Record) (place : Option ℕ) (mid : List Record)
+  inserts_comes : (from : ProbeIndex) (word asked : ℕ) (records : List Record) (place : Option ℕ) (mid : List Record)
       (judged : Option Judged) (later : List Record) (pass : Pass) (rest : List Record)
       → TriesInsert s.task word (left_to_try from (slot_of s a)) records place mid → WatchesAt s a place mid judged later
       → Ends s asked judged later pass rest → Comes records pass rest
@@ -521,7 +521,7 @@ module _ (s : Setting) where
       let above : 0 < suc n = omega arith in subst (λ (t : Taking). TakingFalls s a t last) (sym (stands above)) tt
 
   -- an insertion, and the consume
-  pub inserted_falls : (a : Access) (place : Place) (word index : ℕ) (accepted : Bool) (result : Watching) → (accepted ≡ true → result ≡ watchings.Going (setups.Name index))
+  pub inserted_falls : (a : Access) (place : ProbeIndex) (word index : ℕ) (accepted : Bool) (result : Watching) → (accepted ≡ true → result ≡ watchings.Going (setups.Name index))
       → (accepted ≡ false → result ≡ after_refusal word (place_after place))
       → WatchingFalls s a result (made s.task (Insert (try_index place (slot_of s a)) word) (answers.Flag accepted))
   inserted_falls a place word index true result stands again =

@@ -31,7 +31,7 @@ use Rattle.setup_access.specs.declared.begun.Begun.{Begun}
 use Rattle.setup_access.specs.declared.checker.Checker.{Checker}
 use Rattle.setup_access.specs.declared.outcome.Outcome.{Outcome}
 use Rattle.setup_access.specs.declared.pass.Pass.{Pass}
-use Rattle.setup_access.specs.declared.pass.Turn.{Turn}
+use Rattle.setup_access.specs.declared.pass.Transition.{Transition}
 use Rattle.setup_access.specs.declared.setting.Setting as code
 use Rattle.setup_access.specs.declared.stage.Role.{Role}
 use Rattle.setup_access.specs.declared.stage.Stage.{Stage}
@@ -133,7 +133,7 @@ leads_first s scopes doing asked checker setting in_force own samples none last 
       (λ h. (passes, (does later passes).0 h, refl), λ h. subst (λ p. Does s scopes doing asked later p) (sym h.2) ((does later h.0).1 h.1));
 }
 
-module _ (s : Setting) (scopes : List Begun) (role : Role) (begun : Begun) (pass : Pass) (turn : Turn) (stage : Stage) (then now : ℕ) (first : Record) (later : List Record)
+module _ (s : Setting) (scopes : List Begun) (role : Role) (begun : Begun) (pass : Pass) (turn : Transition) (stage : Stage) (then now : ℕ) (first : Record) (later : List Record)
     (left : (given : Given) (rest : List Record) → PassLeft s begun pass then (first ∷ later) given rest ↔ TurnLeft s begun turn now later given rest)
     (leads : (passes : Passes) → ToRoleLeft s scopes turn.to role begun now later passes ↔ StageLeft s scopes stage now later passes) where
   -- an outcome that a turn gives goes to those so far
@@ -248,7 +248,7 @@ module _ (s : Setting) (sites : AccessMap) (scopes : List Begun) (doing : Doing)
           × ((left : List Record) (passes : Passes) → ChecksBegun t in_force begun then left passes [] ↔ StageLeft t in_force new.stage now left passes)
 
   -- a check of an access went on
-  pub check_on : (role : Role) (begun : Begun) (pass : Pass) (turn : Turn) → s.sites ≡ sites → Leads s scopes doing asked records old → old.stage ≡ stages.Check role begun pass → Says old step
+  pub check_on : (role : Role) (begun : Begun) (pass : Pass) (turn : Transition) → s.sites ≡ sites → Leads s scopes doing asked records old → old.stage ≡ stages.Check role begun pass → Says old step
       → new.setting ≡ old.setting → new.scopes.items ≡ old.scopes.items → new.last ≡ old.last → new.outcomes ≡ extended old.outcomes turn.outcome
       → Counts (pass_wait pass) (pass_step (setting_with old.setting sites) begun pass) answer (to_wait turn.to) → stage_wait new.stage ≡ to_wait turn.to
       → GivesAt (setting_with old.setting sites) begun.access turn.outcome (made (setting_with old.setting sites).task (pass_step (setting_with old.setting sites) begun pass) answer)

@@ -28,8 +28,8 @@ use Rattle.setup_access.specs.declared.outcome.Outcome.{Outcome}
 use Rattle.setup_access.specs.declared.outcome.Watchpoint.{Watchpoint}
 use Rattle.setup_access.specs.declared.pass.Pass.{Pass}
 use Rattle.setup_access.specs.declared.pass.Pass.TheVariants as parts
-use Rattle.index_order.specs.declared.place.Place.{Place}
-use Rattle.index_order.specs.declared.place.Place.TheVariants.{First, Second, Third}
+use Rattle.slot_table.specs.declared.index_order.place.ProbeIndex.{ProbeIndex}
+use Rattle.slot_table.specs.declared.index_order.place.ProbeIndex.TheVariants.{First, Second, Third}
 use Rattle.setup_access.specs.declared.setup.Setup.{Setup}
 use Rattle.setup_access.specs.declared.setup.Setup.TheVariants as setups
 use Rattle.setup_access.specs.declared.stage.Stage.{Stage}
@@ -55,7 +55,7 @@ halves_kind (answers.Flag flag) P h = absurd h
 halves_kind (answers.Halves setter finder) P h = tt
 halves_kind answers.Done P h = absurd h
 
-find_goes : (s : Setting) (a : Access) (place : Place) (records : List Record) (found : Option Watchpoint) (rest : List Record)
+find_goes : (s : Setting) (a : Access) (place : ProbeIndex) (records : List Record) (found : Option Watchpoint) (rest : List Record)
     → FindLeft s a (record { place = place }) records found rest → GoOn s.task (find_step s a (record { place = place })) records
 find_goes s a First [] found rest h = h
 find_goes s a Second [] found rest h = h

@@ -22,9 +22,9 @@ use Rattle.setup_access.specs.declared.outcome.Outcome.TheVariants.{Capacity, No
 use Rattle.setup_access.specs.declared.outcome.Watchpoint.{Watchpoint}
 use Rattle.setup_access.specs.declared.pass.Pass as code
 use Rattle.setup_access.specs.declared.pass.Pass.TheVariants as passes
-use Rattle.setup_access.specs.declared.pass.To.TheVariants.{Going, Settled, Unsettled}
-use Rattle.setup_access.specs.declared.pass.Turn.{Turn}
-use Rattle.index_order.specs.declared.place.Place.TheVariants.{First}
+use Rattle.setup_access.specs.declared.pass.Next.TheVariants.{Going, Settled, Unsettled}
+use Rattle.setup_access.specs.declared.pass.Transition.{Transition}
+use Rattle.slot_table.specs.declared.index_order.place.ProbeIndex.TheVariants.{First}
 use Rattle.setup_access.specs.declared.setup.Setup.{Setup}
 use Rattle.setup_access.specs.declared.setup.Setup.TheVariants.{Insert}
 
@@ -55,19 +55,19 @@ module _ (s : Setting) (begun : Begun) (asked : ℕ) (later : List Record) (give
   here outcome = record { access = begun.access; outcome = outcome; later = later }
 
   -- the check goes on
-  pub going_left : (turn : Turn) (pass : code.Pass) → turn ≡ record { outcome = None; to = Going pass }
+  pub going_left : (turn : Transition) (pass : code.Pass) → turn ≡ record { outcome = None; to = Going pass }
       → (PassLeft s begun pass asked later given rest ↔ TurnLeft s begun turn asked later given rest)
   going_left turn pass is = rw is
       (λ h. (given, h, refl), λ h. subst (λ g. PassLeft s begun pass asked later g rest) (sym h.2) h.1)
 
   -- it is over with an outcome, and has found a watchpoint
-  pub settled_left : (turn : Turn) (outcome : Outcome) → turn ≡ record { outcome = Some outcome; to = Settled }
+  pub settled_left : (turn : Transition) (outcome : Outcome) → turn ≡ record { outcome = Some outcome; to = Settled }
       → (((given ≡ record { outcomes = here outcome ∷ []; settled = true; asked = asked }) × (rest ≡ later)) ↔ TurnLeft s begun turn asked later given rest)
   settled_left turn outcome is = rw is
       (λ h. (nothing_given true asked, (refl, h.1), h.0), λ h. (h.2 ∙ ap (with_outcome (Some (here outcome))) h.1.0, h.1.1))
 
   -- it is over with an outcome, and has neither found a watchpoint nor set one up
-  pub unsettled_left : (turn : Turn) (outcome : Outcome) → turn ≡ record { outcome = Some outcome; to = Unsettled }
+  pub unsettled_left : (turn : Transition) (outcome : Outcome) → turn ≡ record { outcome = Some outcome; to = Unsettled }
       → (((given ≡ record { outcomes = here outcome ∷ []; settled = false; asked = asked }) × (rest ≡ later)) ↔ TurnLeft s begun turn asked later given rest)
   unsettled_left turn outcome is = rw is
       (λ h. (nothing_given false asked, (refl, h.1), h.0), λ h. (h.2 ∙ ap (with_outcome (Some (here outcome))) h.1.0, h.1.1))
@@ -133,7 +133,7 @@ module _ (s : Setting) (begun : Begun) (asked : ℕ) (later : List Record) (give
       through (at_point (λ judged mid. SetupLeft s begun.access setup records judged mid) (λ judged mid. EndsGiven s begun asked judged mid given rest) None later is)
       (pass_is Capacity false asked (λ pass. (pass ≡ record { outcome = Capacity; later = later; settled = false; asked = asked }) × (rest ≡ later)) (λ pass. (λ h. h, λ h. h)))
 
-  pub watch_over : (setup : Setup) (records : List Record) (index : ℕ) (outcome : Outcome) (turn : Turn)
+  pub watch_over : (setup : Setup) (records : List Record) (index : ℕ) (outcome : Outcome) (turn : Transition)
       → ((judged : Option Judged) (mid : List Record) → SetupLeft s begun.access setup records judged mid ↔ ((judged ≡ Some (record { index = index; outcome = outcome })) × (mid ≡ later)))
       → turn ≡ record { outcome = Some outcome; to = Going (passes.Clear index) }
       → (PassLeft s begun (passes.Setup setup) asked records given rest ↔ TurnLeft s begun turn asked later given rest)
@@ -221,7 +221,7 @@ module _ (s : Setting) (begun : Begun) (asked : ℕ) (old new : Sampler) (watch 
       by_marked false is = is
 
   -- an access that is not watched
-  pub not_watched : (turn : Turn) → (begun.marked ≡ true → new ≡ old) → (begun.marked ≡ false → (IsTrue watch ↔ IsWatched s asked))
+  pub not_watched : (turn : Transition) → (begun.marked ≡ true → new ≡ old) → (begun.marked ≡ false → (IsTrue watch ↔ IsWatched s asked))
       → (begun.marked ≡ false → Samples s (asked + 1) new) → watch ≡ false → turn ≡ record { outcome = Some Nothing; to = Unsettled } → Samples s asked old
       → (asked_now : ℕ) × Samples s asked_now new
       × ((given : Given) (later rest : List Record) → GoesOnGiven s begun asked None later given rest ↔ TurnLeft s begun turn asked_now later given rest)

@@ -8,14 +8,14 @@ use Rattle.slot_table.specs.declared.step.Answer.TheVariants as answers
 use Rattle.slot_table.specs.declared.step.Step.TheVariants as steps
 use Rattle.setup_access.specs.Found.{finder_half}
 use Rattle.setup_access.specs.Parts.{JudgedAt, LoadsBoth, LoadsNew, SetupLeft, WatchingLeft, after_name, after_refusal, made}
-use Rattle.index_order.specs.Indices.{place_after, try_index}
+use Rattle.slot_table.specs.index_order.Indices.{place_after, try_index}
 use Rattle.setup_access.specs.Setting.{Setting, slot_of}
 use Rattle.setup_access.specs.Setup.{Judged, Judges, JudgesHit, TriesInsert, WatchesAt}
 use Rattle.setup_access.specs.Values.{LoadsFrom, both_values, source_of, value_in}
 use Rattle.setup_access.specs.Verdicts.{HitOutcome, UntouchedOutcome}
 use Rattle.setup_access.specs.declared.outcome.Outcome.{Outcome}
-use Rattle.index_order.specs.declared.place.Place.{Place}
-use Rattle.index_order.specs.declared.place.Place.TheVariants.{First, Second, Third}
+use Rattle.slot_table.specs.declared.index_order.place.ProbeIndex.{ProbeIndex}
+use Rattle.slot_table.specs.declared.index_order.place.ProbeIndex.TheVariants.{First, Second, Third}
 use Rattle.setup_access.specs.declared.setup.Setup.TheVariants as setups
 use Rattle.setup_access.specs.declared.setup.Watching.{Watching}
 use Rattle.setup_access.specs.declared.setup.Watching.TheVariants as watchings
@@ -49,7 +49,7 @@ module _ (s : Setting) (a : Access) (later : List Record) (judged : Option Judge
     λ h. (None, later, (refl, refl), h),
   )
 
-  pub inserted_left : (place : Place) (word : ℕ) (accepted : Bool) (result : Watching)
+  pub inserted_left : (place : ProbeIndex) (word : ℕ) (accepted : Bool) (result : Watching)
       → (accepted ≡ true → result ≡ watchings.Going (setups.Name (try_index place (slot_of s a))))
       → (accepted ≡ false → result ≡ after_refusal word (place_after place))
       → (SetupLeft s a (setups.Insert place word) (made s.task (steps.Insert (try_index place (slot_of s a)) word) (answers.Flag accepted) ∷ later) judged rest

@@ -10,7 +10,7 @@ use Rattle.setup_access.specs.Records.{MakesWord}
 use Rattle.setup_access.specs.Setting.{Setting}
 use Rattle.setup_access.specs.declared.begun.Begun.{Begun}
 use Rattle.setup_access.specs.declared.pass.Pass.TheVariants as parts
-use Rattle.index_order.specs.declared.place.Place.TheVariants.{First}
+use Rattle.slot_table.specs.declared.index_order.place.ProbeIndex.TheVariants.{First}
 use Rattle.setup_access.specs.declared.stage.Role.{Role}
 use Rattle.setup_access.specs.declared.stage.Role.TheVariants as roles
 use Rattle.setup_access.specs.declared.stage.Stage.TheVariants as stages

@@ -6,7 +6,7 @@ use Rattle.slot_table.specs.declared.records.Record.{Record}
 use Rattle.slot_table.specs.declared.step.Answer.TheVariants.{Flag, Halves as Heard}
 use Rattle.setup_access.specs.Found.{setter_half}
 use Rattle.setup_access.specs.Parts.{after_name, after_refusal}
-use Rattle.index_order.specs.Indices.{place_after}
+use Rattle.slot_table.specs.index_order.Indices.{place_after}
 use Rattle.setup_access.specs.Waiting.{capped, taking_wait, tries_of, watching_wait}
 use Rattle.setup_access.specs.Waits.{Wait, after_consume, after_half, after_load, after_try, wait_from, wait_on}
 use Rattle.setup_access.specs.declared.found.Found.TheVariants.{HearSetter, Tell}
@@ -14,8 +14,8 @@ use Rattle.setup_access.specs.declared.found.Taking.{Taking}
 use Rattle.setup_access.specs.declared.found.Taking.TheVariants as takings
 use Rattle.setup_access.specs.declared.outcome.Outcome.{Outcome}
 use Rattle.setup_access.specs.declared.outcome.Outcome.TheVariants.{Lost}
-use Rattle.index_order.specs.declared.place.Place.{Place}
-use Rattle.index_order.specs.declared.place.Place.TheVariants.{First, Second, Third}
+use Rattle.slot_table.specs.declared.index_order.place.ProbeIndex.{ProbeIndex}
+use Rattle.slot_table.specs.declared.index_order.place.ProbeIndex.TheVariants.{First, Second, Third}
 use Rattle.setup_access.specs.declared.setup.Setup.TheVariants as setups
 use Rattle.setup_access.specs.declared.setup.Watching.{Watching}
 use Rattle.setup_access.specs.declared.setup.Watching.TheVariants as watchings
@@ -95,7 +95,7 @@ consumed_counts index values true result P over on = ap watching_wait (over refl
 consumed_counts index values false result P over on = ap watching_wait (on refl)
 
 -- an insertion waits for nobody
-pub inserted_counts : (word index : ℕ) (place : Place) (accepted : Bool) (result : Watching) → (accepted ≡ true → result ≡ watchings.Going (setups.Name index))
+pub inserted_counts : (word index : ℕ) (place : ProbeIndex) (accepted : Bool) (result : Watching) → (accepted ≡ true → result ≡ watchings.Going (setups.Name index))
     → (accepted ≡ false → result ≡ after_refusal word (place_after place)) → watching_wait result ≡ None
 inserted_counts word index place true result stands again = ap watching_wait (stands refl)
 inserted_counts word index First false result stands again = ap watching_wait (again refl)

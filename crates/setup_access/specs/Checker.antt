@@ -8,7 +8,7 @@ use Rattle.setup_access.specs.PassLeft.{Given, PassLeft, ToLeft}
 use Rattle.setup_access.specs.Records.{MakesWord}
 use Rattle.setup_access.specs.Setting.{Setting}
 use Rattle.setup_access.specs.declared.begun.Begun.{Begun}
-use Rattle.setup_access.specs.declared.pass.To.{To}
+use Rattle.setup_access.specs.declared.pass.Next.{Next}
 use Rattle.setup_access.specs.declared.stage.Role.{Role}
 use Rattle.setup_access.specs.declared.stage.Role.TheVariants as roles
 use Rattle.setup_access.specs.declared.stage.Stage.{Stage}
@@ -48,7 +48,7 @@ StageLeft s scopes stages.End asked records passes =
     (passes ≡ record { outcomes = []; asked = asked }) × MakesWord s.task Clock (λ stamp after. [] ≡ after) records
 
 -- what is left where a check of an access leads, and what follows on it
-abbrev pub ToRoleLeft : Setting → List Begun → To → Role → Begun → ℕ → List Record → Passes → Type 0
+abbrev pub ToRoleLeft : Setting → List Begun → Next → Role → Begun → ℕ → List Record → Passes → Type 0
 ToRoleLeft s scopes to role begun asked records passes =
     (given : Given) × (later : List Record) × (more : Passes) × ToLeft s begun to asked records given later
     × RoleLeft s scopes role given.settled given.asked later more

@@ -3,8 +3,8 @@ use Rattle.std.specs.Prelude.{◌++◌, ℕ, List, [], ◌∷◌, Option, None, 
 use Rattle.setup_access.specs.declared.outcome.Outcome.{Outcome}
 use Rattle.setup_access.specs.declared.pass.Pass.{Pass}
 use Rattle.setup_access.specs.declared.pass.Pass.TheVariants as passes
-use Rattle.setup_access.specs.declared.pass.To.{To}
-use Rattle.setup_access.specs.declared.pass.To.TheVariants as tos
+use Rattle.setup_access.specs.declared.pass.Next.{Next}
+use Rattle.setup_access.specs.declared.pass.Next.TheVariants as tos
 
 -- how many outcomes a check of an access may still give
 abbrev pub pass_due : Pass → ℕ
@@ -15,7 +15,7 @@ pass_due (passes.Clear index) = 0
 pass_due (passes.Remove index) = 0
 
 -- the same where an answer leads
-abbrev pub to_due : To → ℕ
+abbrev pub to_due : Next → ℕ
 to_due (tos.Going pass) = pass_due pass
 to_due tos.Settled = 0
 to_due tos.Unsettled = 0

@@ -8,14 +8,14 @@ use Rattle.slot_table.specs.declared.step.Step.TheVariants.{Consume, Insert, Loa
 use Rattle.setup_access.specs.Check.{Fallen}
 use Rattle.setup_access.specs.Hits.{Hits}
 use Rattle.setup_access.specs.Parts.{made}
-use Rattle.index_order.specs.Indices.{look_index}
+use Rattle.slot_table.specs.index_order.Indices.{look_index}
 use Rattle.setup_access.specs.Setting.{Setting, slot_of}
 use Rattle.setup_access.specs.declared.found.Taking.{Taking}
 use Rattle.setup_access.specs.declared.found.Taking.TheVariants as takings
 use Rattle.setup_access.specs.declared.outcome.Outcome.{Outcome}
 use Rattle.setup_access.specs.declared.outcome.Outcome.TheVariants.{Capacity, Dropped, Lost, Nothing, Quiet, Report, Told, Unencodable, Unknown}
 use Rattle.setup_access.specs.declared.outcome.Watchpoint.{Watchpoint}
-use Rattle.index_order.specs.declared.place.Place.{Place}
+use Rattle.slot_table.specs.declared.index_order.place.ProbeIndex.{ProbeIndex}
 use Rattle.setup_access.specs.declared.setup.Watching.{Watching}
 use Rattle.setup_access.specs.declared.setup.Watching.TheVariants as watchings
 
@@ -24,7 +24,7 @@ abbrev pub EndsLookUp : Setting → Access → Option Watchpoint → Record → 
 EndsLookUp s a None last =
     (word : ℕ) × (last ≡ made s.task (Load (slot_of s a + 2)) (answers.Word word)) × ¬ Hits s.rules.layout a word
 EndsLookUp s a (Some found) last =
-    (place : Place) × (found.index ≡ look_index place (slot_of s a)) × Hits s.rules.layout a found.word
+    (place : ProbeIndex) × (found.index ≡ look_index place (slot_of s a)) × Hits s.rules.layout a found.word
     × (last ≡ made s.task (Load found.index) (answers.Word found.word))
 
 -- the record is a load of the pair at an index, and the finder's half stood

@@ -22,9 +22,9 @@ use Rattle.setup_access.specs.declared.found.Taking.{Taking}
 use Rattle.setup_access.specs.declared.found.Taking.TheVariants as takings
 use Rattle.setup_access.specs.declared.outcome.Outcome.{Outcome}
 use Rattle.setup_access.specs.declared.outcome.Watchpoint.{Watchpoint}
-use Rattle.index_order.specs.Indices.{look_index, try_index}
-use Rattle.index_order.specs.declared.place.Place.{Place}
-use Rattle.index_order.specs.declared.place.Place.TheVariants.{First, Second, Third}
+use Rattle.slot_table.specs.index_order.Indices.{look_index, try_index}
+use Rattle.slot_table.specs.declared.index_order.place.ProbeIndex.{ProbeIndex}
+use Rattle.slot_table.specs.declared.index_order.place.ProbeIndex.TheVariants.{First, Second, Third}
 use Rattle.setup_access.specs.declared.setup.Setup.{Setup}
 use Rattle.setup_access.specs.declared.setup.Setup.TheVariants as setups
 use Rattle.setup_access.specs.declared.setup.Watching.{Watching}
@@ -35,13 +35,13 @@ abbrev pub made : ℕ → Step → Answer → Record
 made task step answer = record { task = task; step = step; answer = answer }
 
 -- the indices that a look-up has left
-abbrev pub left_to_look : Place → ℕ → List ℕ
+abbrev pub left_to_look : ProbeIndex → ℕ → List ℕ
 left_to_look First slot = look_order slot
 left_to_look Second slot = (slot + 1) ∷ (slot + 2) ∷ []
 left_to_look Third slot = (slot + 2) ∷ []
 
 -- the indices that an insertion has left
-abbrev pub left_to_try : Place → ℕ → List ℕ
+abbrev pub left_to_try : ProbeIndex → ℕ → List ℕ
 left_to_try First slot = (slot + 1) ∷ (slot + 2) ∷ slot ∷ []
 left_to_try Second slot = (slot + 2) ∷ slot ∷ []
 left_to_try Third slot = slot ∷ []
@@ -87,7 +87,7 @@ setup_step s a (setups.Consume index values) = Consume index
 setup_step s a (setups.HearFinder index values tries) = PairLoad index
 
 -- after a refused insertion
-abbrev pub after_refusal : ℕ → Option Place → Watching
+abbrev pub after_refusal : ℕ → Option ProbeIndex → Watching
 after_refusal word None = watchings.Full
 after_refusal word (Some place) = watchings.Going (setups.Insert place word)
 

@@ -14,9 +14,9 @@ use Rattle.setup_access.specs.declared.outcome.Outcome.{Outcome}
 use Rattle.setup_access.specs.declared.outcome.Watchpoint.{Watchpoint}
 use Rattle.setup_access.specs.declared.pass.Pass as code
 use Rattle.setup_access.specs.declared.pass.Pass.TheVariants as passes
-use Rattle.setup_access.specs.declared.pass.To.{To}
-use Rattle.setup_access.specs.declared.pass.To.TheVariants as tos
-use Rattle.setup_access.specs.declared.pass.Turn.{Turn}
+use Rattle.setup_access.specs.declared.pass.Next.{Next}
+use Rattle.setup_access.specs.declared.pass.Next.TheVariants as tos
+use Rattle.setup_access.specs.declared.pass.Transition.{Transition}
 
 -- the task's sampler has been asked so many times
 abbrev pub Samples : Setting → ℕ → Sampler → Type 0
@@ -76,12 +76,12 @@ PassLeft s begun (passes.Remove index) asked records given rest =
     MakesDone s.task (Remove index) (λ after. rest ≡ after) records × (given ≡ nothing_given true asked)
 
 -- what is left where an answer leads
-abbrev pub ToLeft : Setting → Begun → To → ℕ → List Record → Given → List Record → Type 0
+abbrev pub ToLeft : Setting → Begun → Next → ℕ → List Record → Given → List Record → Type 0
 ToLeft s begun (tos.Going pass) asked records given rest = PassLeft s begun pass asked records given rest
 ToLeft s begun tos.Settled asked records given rest = (given ≡ nothing_given true asked) × (rest ≡ records)
 ToLeft s begun tos.Unsettled asked records given rest = (given ≡ nothing_given false asked) × (rest ≡ records)
 
 -- the same, with the outcome of the answer
-abbrev pub TurnLeft : Setting → Begun → Turn → ℕ → List Record → Given → List Record → Type 0
+abbrev pub TurnLeft : Setting → Begun → Transition → ℕ → List Record → Given → List Record → Type 0
 TurnLeft s begun turn asked records given rest =
     (more : Given) × ToLeft s begun turn.to asked records more rest × (given ≡ with_outcome (falls_before begun records turn.outcome) more)

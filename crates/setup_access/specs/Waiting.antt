@@ -10,8 +10,8 @@ use Rattle.setup_access.specs.declared.found.Taking.{Taking}
 use Rattle.setup_access.specs.declared.found.Taking.TheVariants as takings
 use Rattle.setup_access.specs.declared.pass.Pass.{Pass}
 use Rattle.setup_access.specs.declared.pass.Pass.TheVariants as passes
-use Rattle.setup_access.specs.declared.pass.To.{To}
-use Rattle.setup_access.specs.declared.pass.To.TheVariants as tos
+use Rattle.setup_access.specs.declared.pass.Next.{Next}
+use Rattle.setup_access.specs.declared.pass.Next.TheVariants as tos
 use Rattle.setup_access.specs.declared.setup.Setup.{Setup}
 use Rattle.setup_access.specs.declared.setup.Setup.TheVariants as setups
 use Rattle.setup_access.specs.declared.setup.Watching.{Watching}
@@ -49,7 +49,7 @@ pass_wait (passes.Setup setup) = setup_wait setup
 pass_wait (passes.Clear index) = None
 pass_wait (passes.Remove index) = None
 
-abbrev pub to_wait : To → Option Wait
+abbrev pub to_wait : Next → Option Wait
 to_wait (tos.Going pass) = pass_wait pass
 to_wait tos.Settled = None
 to_wait tos.Unsettled = None

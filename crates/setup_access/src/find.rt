@@ -6,14 +6,14 @@ ghost use Rattle.slot_table.specs.declared.records.Record.{Record};
 ghost use Rattle.setup_access.specs.Kept.{setting_with};
 ghost use Rattle.setup_access.specs.Hits.{Hits};
 ghost use Rattle.setup_access.specs.Parts.{FindLeft, SoughtLeft, find_step, made};
-ghost use Rattle.index_order.specs.Indices.{look_index};
+ghost use Rattle.slot_table.specs.index_order.Indices.{look_index};
 ghost use Rattle.setup_access.specs.Setting.{slot_of};
 ghost use Rattle.setup_access.specs.declared.outcome.Watchpoint.{Watchpoint};
 
 use crate::outcome::Watchpoint;
 use crate::setting::Setting;
 use access_types::Access;
-use index_order::Place;
+use slot_table::index_order::ProbeIndex;
 use slot_table::{Answer, Step, page_slot};
 use watch_word::{Layout, decode_in, matches_in};
 
@@ -21,7 +21,7 @@ use watch_word::{Layout, decode_in, matches_in};
 /// may be gone by now is left to the try to take it.
 #[derive(Clone, Copy, PartialEq, Eq)]
 pub struct Find {
-    place: Place,
+    place: ProbeIndex,
 }
 
 /// Where a word that was read leads a look-up.
@@ -35,10 +35,10 @@ pub enum Sought {
 impl Find {
     /// A look-up that has read nothing yet.
     pub(crate) fn new() -> Find
-        ensures { result.place ≡ Place.First }
+        ensures { result.place ≡ ProbeIndex.First }
     {
         Find {
-            place: Place::First,
+            place: ProbeIndex::First,
         }
     }
 

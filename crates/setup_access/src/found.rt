@@ -13,7 +13,7 @@ ghost use Rattle.setup_access.specs.declared.outcome.Outcome.{Outcome};
 
 use crate::begun::Begun;
 use crate::outcome::{Outcome, Watchpoint};
-use crate::pass::{Pass, To, Turn};
+use crate::pass::{Next, Pass, Transition};
 use access_types::{Access, ticket};
 use slot::Pair;
 use slot_table::{Answer, Step};
@@ -40,7 +40,7 @@ pub enum Taking {
 
 /// `kcsan_found_watchpoint`. An access with a mask takes nothing: which of its bits change only its own watch
 /// could tell, and the setter knows of no mask.
-pub(crate) fn found_watchpoint(begun: &Begun, found: Watchpoint) -> Turn
+pub(crate) fn found_watchpoint(begun: &Begun, found: Watchpoint) -> Transition
     ensures fits { given_now result.outcome + to_due result.to ≤ 1 }
     ensures waits { to_wait result.to ≡ None }
     ensures falls { (s : spec.Setting) (last : Record) → EndsLookUp s begun.now.access (Some found) last
@@ -49,9 +49,9 @@ pub(crate) fn found_watchpoint(begun: &Begun, found: Watchpoint) -> Turn
         GoesOnGiven s begun.now asked (Some found) later given rest ↔ TurnLeft s begun.now result asked later given rest }
 {
     if begun.access.mask().is_some() {
-        return Turn::over(Outcome::Nothing, To::Settled);
+        return Transition::over(Outcome::Nothing, Next::Settled);
     }
-    Turn::going(Pass::Found(Found::TryConsume(found)))
+    Transition::going(Pass::Found(Found::TryConsume(found)))
 }
 
 impl Found {
@@ -114,7 +114,7 @@ fn heard_setter(index: usize, tries: u64, setter: u32) -> Taking
 
 /// Where its step leads the check. A finder that has told goes on at once: the setter knows whether the bytes
 /// changed, and reports.
-pub(crate) fn took(found: Found, begun: &Begun, answer: Answer) -> Turn
+pub(crate) fn took(found: Found, begun: &Begun, answer: Answer) -> Transition
     requires { Answers (found_step begun.now.access found) answer }
     ensures fits { given_now result.outcome + to_due result.to ≤ 1 }
     ensures waits { Counts (found_wait found) (found_step begun.now.access found) answer (to_wait result.to) }
@@ -123,7 +123,7 @@ pub(crate) fn took(found: Found, begun: &Begun, answer: Answer) -> Turn
         PassLeft s begun.now (Pass.Found found) asked (made s.task (found_step begun.now.access found) answer ∷ later) given rest ↔ TurnLeft s begun.now result asked later given rest }
 {
     match found.answer(&begun.access, answer) {
-        Taking::Going(found) => Turn::going(Pass::Found(found)),
-        Taking::Over(outcome) => Turn::over(outcome, To::Settled),
+        Taking::Going(found) => Transition::going(Pass::Found(found)),
+        Taking::Over(outcome) => Transition::over(outcome, Next::Settled),
     }
 }

@@ -36,7 +36,7 @@ pub enum Pass {
 
 /// Where an answer leads a check.
 #[derive(Clone, Copy, PartialEq, Eq)]
-pub enum To {
+pub enum Next {
     Going(Pass),
     /// It is over, and has found a watchpoint or set one up.
     Settled,
@@ -46,9 +46,9 @@ pub enum To {
 
 /// Where an answer leads a check, and the outcome that it gives.
 #[derive(Clone, Copy, PartialEq, Eq)]
-pub struct Turn {
+pub struct Transition {
     pub(crate) outcome: Option<Outcome>,
-    pub(crate) to: To,
+    pub(crate) to: Next,
 }
 
 /// `check_access`, of an access that isn't silenced. One that found a watchpoint sets none up: its race is that watch's
@@ -60,7 +60,7 @@ fn check_access(
     sampler: &mut Sampler,
     begun: &Begun,
     answer: Answer,
-) -> Turn
+) -> Transition
     requires { Answers (pass_step (setting_with setting.now sites.now) begun.now (Pass.Find find)) answer }
     ensures fits { given_now result.outcome + to_due result.to ≤ 1 }
     ensures waits { to_wait result.to ≡ None }
@@ -73,11 +73,11 @@ fn check_access(
         unreachable!()
     };
     match find.answer(setting, &begun.access, word) {
-        Sought::Going(find) => Turn::going(Pass::Find(find)),
+        Sought::Going(find) => Transition::going(Pass::Find(find)),
         Sought::Found(found) => found_watchpoint(begun, found),
         Sought::Missed => {
             if !should_watch(setting, sites, sampler, begun) {
-                return Turn::over(Outcome::Nothing, To::Unsettled);
+                return Transition::over(Outcome::Nothing, Next::Unsettled);
             }
             setup_watchpoint(setting, begun)
         }
@@ -117,7 +117,7 @@ impl Pass {
         sampler: &mut Sampler,
         begun: &Begun,
         answer: Answer,
-    ) -> Turn
+    ) -> Transition
         requires { Answers (pass_step (setting_with setting.now sites.now) begun.now self) answer }
         ensures fits { given_now result.outcome + to_due result.to ≤ pass_due self }
         ensures waits { Counts (pass_wait self) (pass_step (setting_with setting.now sites.now) begun.now self) answer (to_wait result.to) }
@@ -130,10 +130,10 @@ impl Pass {
             Pass::Find(find) => check_access(find, setting, sites, sampler, begun, answer),
             Pass::Found(found) => took(found, begun, answer),
             Pass::Setup(setup) => watched(setup, setting, sites, begun, answer),
-            Pass::Clear { index } => Turn::going(Pass::Remove { index }),
-            Pass::Remove { .. } => Turn {
+            Pass::Clear { index } => Transition::going(Pass::Remove { index }),
+            Pass::Remove { .. } => Transition {
                 outcome: None,
-                to: To::Settled,
+                to: Next::Settled,
             },
         }
     }
@@ -150,20 +150,20 @@ impl Pass {
     }
 }
 
-impl Turn {
-    pub(crate) fn going(pass: Pass) -> Turn
-        ensures { result ≡ record { outcome = None; to = To.Going pass } }
+impl Transition {
+    pub(crate) fn going(pass: Pass) -> Transition
+        ensures { result ≡ record { outcome = None; to = Next.Going pass } }
     {
-        Turn {
+        Transition {
             outcome: None,
-            to: To::Going(pass),
+            to: Next::Going(pass),
         }
     }
 
-    pub(crate) fn over(outcome: Outcome, to: To) -> Turn
+    pub(crate) fn over(outcome: Outcome, to: Next) -> Transition
         ensures { result ≡ record { outcome = Some outcome; to = to } }
     {
-        Turn {
+        Transition {
             outcome: Some(outcome),
             to,
         }

@@ -3,7 +3,7 @@
 ghost use Rattle.std.specs.Prelude.{◌≡◌, ◌≤◌, IfOk, vec_capacity};
 
 use crate::rules::Rules;
-use list_copy::copied;
+use access_types::list_copy::copied;
 use std::alloc::{AllocError, Global};
 
 /// What a task's checks go by: whose they are, the rules of the run, and the addresses of the cells.

@@ -8,7 +8,7 @@ ghost use Rattle.setup_access.specs.Due.{given_now, to_due};
 ghost use Rattle.setup_access.specs.FallsAt.{EndsLookUp, GivesAt, WatchingFalls};
 ghost use Rattle.setup_access.specs.Kept.{setting_with};
 ghost use Rattle.setup_access.specs.Parts.{SetupLeft, WatchingLeft, after_name, after_refusal, made, setup_step};
-ghost use Rattle.index_order.specs.Indices.{place_after, try_index};
+ghost use Rattle.slot_table.specs.index_order.Indices.{place_after, try_index};
 ghost use Rattle.setup_access.specs.PassLeft.{Given, GoesOnGiven, PassLeft, TurnLeft};
 ghost use Rattle.setup_access.specs.Setting as spec;
 ghost use Rattle.setup_access.specs.Setup.{Judged};
@@ -19,13 +19,13 @@ ghost use Rattle.setup_access.specs.declared.outcome.Outcome.{Outcome};
 
 use crate::begun::Begun;
 use crate::outcome::Outcome;
-use crate::pass::{Pass, To, Turn};
+use crate::pass::{Next, Pass, Transition};
 use crate::setting::Setting;
 use crate::source::Source;
 use crate::values::{source_of, value_in};
 use access_types::{Access, Sites, overlaps, ticket};
-use index_order::Place;
 use slot::Pair;
+use slot_table::index_order::ProbeIndex;
 use slot_table::{Answer, Step, page_slot};
 use value_filter::{Reason, Verdict, change, judge, seen_change};
 use watch_word::encode_in;
@@ -35,7 +35,7 @@ use watch_word::encode_in;
 pub enum Setup {
     /// Try to insert the word.
     Insert {
-        place: Place,
+        place: ProbeIndex,
         word: u64,
     },
     /// It stands: name the setter, for whoever takes it. Only now is the index its own.
@@ -80,7 +80,7 @@ pub enum Watching {
 
 /// `kcsan_setup_watchpoint`. The access is watched if a word can stand for it: a word that says less of it
 /// would be met by the wrong ones.
-pub(crate) fn setup_watchpoint(setting: &Setting, begun: &Begun) -> Turn
+pub(crate) fn setup_watchpoint(setting: &Setting, begun: &Begun) -> Transition
     ensures fits { given_now result.outcome + to_due result.to ≤ 1 }
     ensures waits { to_wait result.to ≡ None }
     ensures falls { (s : spec.Setting) (last : Record) → EndsLookUp s begun.now.access None last
@@ -89,11 +89,11 @@ pub(crate) fn setup_watchpoint(setting: &Setting, begun: &Begun) -> Turn
         begun.now.marked ≡ false → spec.IsWatched s asked → (GoesOnGiven s begun.now asked None later given rest ↔ TurnLeft s begun.now result (asked + 1) later given rest) }
 {
     match encode_in(setting.rules.layout, &begun.access) {
-        Some(word) => Turn::going(Pass::Setup(Setup::Insert {
-            place: Place::First,
+        Some(word) => Transition::going(Pass::Setup(Setup::Insert {
+            place: ProbeIndex::First,
             word,
         })),
-        None => Turn::over(Outcome::Unencodable, To::Unsettled),
+        None => Transition::over(Outcome::Unencodable, Next::Unsettled),
     }
 }
 
@@ -168,14 +168,20 @@ impl Setup {
     }
 }
 
-fn index_of(place: Place, setting: &Setting, access: &Access) -> usize
+fn index_of(place: ProbeIndex, setting: &Setting, access: &Access) -> usize
     ensures { (sites : AccessMap) → result ≡ try_index place (spec.slot_of (setting_with setting.now sites) access.now) }
 {
     place.of_insertion(page_slot(access.addr(), setting.rules.slots))
 }
 
 /// An index was tried. Refused, it is occupied, and the next one is tried: as in core.c its neighbours stand in.
-fn inserted(setting: &Setting, access: &Access, place: Place, word: u64, accepted: bool) -> Watching
+fn inserted(
+    setting: &Setting,
+    access: &Access,
+    place: ProbeIndex,
+    word: u64,
+    accepted: bool,
+) -> Watching
     ensures accepted { (sites : AccessMap) → accepted ≡ true → result ≡ Watching.Going (Setup.Name (try_index place (spec.slot_of (setting_with setting.now sites) access.now))) }
     ensures refused { accepted ≡ false → result ≡ after_refusal word (place_after place) }
 {
@@ -233,7 +239,7 @@ pub(crate) fn watched(
     sites: &Sites,
     begun: &Begun,
     answer: Answer,
-) -> Turn
+) -> Transition
     requires { Answers (setup_step (setting_with setting.now sites.now) begun.now.access setup) answer }
     ensures fits { given_now result.outcome + to_due result.to ≤ 1 }
     ensures waits { Counts (setup_wait setup) (setup_step (setting_with setting.now sites.now) begun.now.access setup) answer (to_wait result.to) }
@@ -242,10 +248,10 @@ pub(crate) fn watched(
         PassLeft s begun.now (Pass.Setup setup) asked (made s.task (setup_step s begun.now.access setup) answer ∷ later) given rest ↔ TurnLeft s begun.now result asked later given rest }
 {
     match setup.answer(setting, sites, &begun.access, answer) {
-        Watching::Going(setup) => Turn::going(Pass::Setup(setup)),
-        Watching::Full => Turn::over(Outcome::Capacity, To::Unsettled),
+        Watching::Going(setup) => Transition::going(Pass::Setup(setup)),
+        Watching::Full => Transition::over(Outcome::Capacity, Next::Unsettled),
         Watching::Judged { index, outcome } => {
-            Turn::over(outcome, To::Going(Pass::Clear { index }))
+            Transition::over(outcome, Next::Going(Pass::Clear { index }))
         }
     }
 }

@@ -12,11 +12,11 @@ ghost use Rattle.setup_access.specs.Waiting.{stage_wait, to_wait};
 
 use crate::begun::Begun;
 use crate::find::Find;
-use crate::pass::{Pass, To};
+use crate::pass::{Next, Pass};
 use crate::setting::Setting;
 use access_types::Sites;
-use index_order::Place;
 use skip_sampler::Sampler;
+use slot_table::index_order::ProbeIndex;
 
 /// Whose check it is.
 #[derive(Clone, Copy, PartialEq, Eq)]
@@ -48,7 +48,7 @@ pub enum Stage {
 
 /// The check of an access from its look-up on: it has made no step yet.
 fn check_of(role: Role, begun: Begun) -> Stage
-    ensures { result ≡ Stage.Check role begun (Pass.Find (record { place = Place.First })) }
+    ensures { result ≡ Stage.Check role begun (Pass.Find (record { place = ProbeIndex.First })) }
 {
     Stage::Check {
         role,
@@ -89,7 +89,7 @@ pub(crate) fn closing(begun: Begun, silenced: bool) -> Stage
     check_of(Role::Closing, begun)
 }
 
-pub(crate) fn after_turn(to: To, role: Role, begun: Begun, scopes: &[Begun]) -> Stage
+pub(crate) fn after_turn(to: Next, role: Role, begun: Begun, scopes: &[Begun]) -> Stage
     requires { length scopes.now ≤ 8 }
     ensures fits { stage_due result ≤ to_due to + role_due role }
     ensures waits { stage_wait result ≡ to_wait to }
@@ -97,9 +97,9 @@ pub(crate) fn after_turn(to: To, role: Role, begun: Begun, scopes: &[Begun]) -> 
         ToRoleLeft s scopes.now to role begun asked records passes ↔ StageLeft s scopes.now result asked records passes }
 {
     match to {
-        To::Going(pass) => Stage::Check { role, begun, pass },
-        To::Settled => after_check(role, true, scopes),
-        To::Unsettled => after_check(role, false, scopes),
+        Next::Going(pass) => Stage::Check { role, begun, pass },
+        Next::Settled => after_check(role, true, scopes),
+        Next::Unsettled => after_check(role, false, scopes),
     }
 }
 

@@ -8,3 +8,4 @@ pub mod Meetings
 pub mod Roles
 pub mod Hearings
 pub mod Parts
+pub mod index_order

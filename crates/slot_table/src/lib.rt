@@ -7,6 +7,7 @@
 pub mod board;
 pub mod discipline;
 pub mod index;
+pub mod index_order;
 pub mod laws;
 pub mod records;
 pub mod replay;

@@ -5,10 +5,10 @@ use Rattle.access_types.specs.Access.{Access}
 use Rattle.task_laws.proofs.Checks.{OfPasses, check_open, clock_open}
 use Rattle.task_laws.proofs.Memory.{operates_open}
 use Rattle.task_laws.proofs.Opens.{After, Begins, Lists, open_map}
-use Rattle.memory_operation.specs.Operations.{Operates}
-use Rattle.memory_operation.specs.declared.effect.Effect.{Effect}
-use Rattle.memory_operation.specs.declared.operation.Operation.{Operation}
-use Rattle.memory_operation.specs.declared.operation.Operation.TheVariants as operations
+use Rattle.access_run.specs.memory_operation.Operations.{Operates}
+use Rattle.access_run.specs.declared.memory_operation.effect.Effect.{Effect}
+use Rattle.access_run.specs.declared.memory_operation.operation.Operation.{Operation}
+use Rattle.access_run.specs.declared.memory_operation.operation.Operation.TheVariants as operations
 use Rattle.setup_access.specs.Check.{Check, Fallen, Passes}
 use Rattle.setup_access.specs.OwnAccesses.{AreOwn, IsOwn}
 use Rattle.setup_access.specs.Records.{MakesWord}
@@ -20,8 +20,8 @@ use Rattle.task_laws.proofs.Decided.{begins_now}
 use Rattle.task_laws.specs.Begins.{one_at}
 use Rattle.task_laws.specs.StandingButWay.{Core, core_of, standing}
 use Rattle.task_laws.proofs.Places.{ByEach, BySome, PartIsOpen, Valued, WithinFrom, sum_open}
-use Rattle.written_order.specs.Access.{Makes}
-use Rattle.written_order.specs.Standing.{BeginsNow, Point, Setting, Standing, checks_of}
+use Rattle.program_order.specs.Access.{Makes}
+use Rattle.program_order.specs.Standing.{BeginsNow, Point, Setting, Standing, checks_of}
 
 -- where a task stands after an access hangs on what came of it, and on how often the sampler was asked
 core_ends : (at : Core) (way : List Point) (outcomes : List Fallen) (a : Access) (operation : Option Operation)

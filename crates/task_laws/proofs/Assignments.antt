@@ -4,18 +4,18 @@ use Rattle.access_types.specs.declared.history.Happening.{Happening}
 use Rattle.access_types.specs.declared.history.Happening.TheVariants as happenings
 use Rattle.access_types.specs.declared.history.Mark.TheVariants as marks
 use Rattle.access_types.specs.declared.kind.Kind.{Kind}
-use Rattle.litmus_meaning.specs.Assignments.{compound_kind, write_kind}
-use Rattle.litmus_meaning.specs.Expressions.{pure_value}
-use Rattle.litmus_meaning.specs.Loads.{exchange_kind}
-use Rattle.litmus_meaning.specs.Task.{access_now, bytes_in}
+use Rattle.litmus_semantics.specs.Assignments.{compound_kind, write_kind}
+use Rattle.litmus_semantics.specs.Expressions.{pure_value}
+use Rattle.litmus_semantics.specs.Loads.{exchange_kind}
+use Rattle.litmus_semantics.specs.Task.{access_now, bytes_in}
 use Rattle.litmus_syntax.specs.Limits.{AssignmentTyped, IsVariable}
 use Rattle.litmus_syntax.specs.Sites.{assignment_has_access, expression_has_access}
 use Rattle.litmus_syntax.specs.Tree.{Assignment, Expression}
 use Rattle.litmus_syntax.specs.Tree as tree
-use Rattle.memory_operation.specs.declared.effect.Effect.{Effect}
-use Rattle.memory_operation.specs.declared.operation.Change.TheVariants as changes
-use Rattle.memory_operation.specs.declared.operation.Operation.{Operation}
-use Rattle.memory_operation.specs.declared.operation.Operation.TheVariants as operations
+use Rattle.access_run.specs.declared.memory_operation.effect.Effect.{Effect}
+use Rattle.access_run.specs.declared.memory_operation.operation.Change.TheVariants as changes
+use Rattle.access_run.specs.declared.memory_operation.operation.Operation.{Operation}
+use Rattle.access_run.specs.declared.memory_operation.operation.Operation.TheVariants as operations
 use Rattle.setup_access.specs.OwnAccesses.{AreOwn}
 use Rattle.task_laws.proofs.Parts.{set_at}
 use Rattle.task_laws.proofs.Statements.{atomic_bytes, doing_at, few_at, integer_bytes, write_bytes}
@@ -25,9 +25,9 @@ use Rattle.task_laws.specs.Fits.{ArePlaced, HasBytes}
 use Rattle.task_laws.proofs.Loads.{expression_open, made_to_open}
 use Rattle.task_laws.proofs.Places.{Plain, StepsAreOpen, WithinFrom, part_via}
 use Rattle.task_plan.proofs.KeepsLemmas.{begun_still, marks_other}
-use Rattle.written_order.specs.Access.{Makes}
-use Rattle.written_order.specs.Standing.{Setting, checks_of, doing, registered}
-use Rattle.written_order.specs.WrittenOrder.{MakesTo, Steps, StepsInDataRace, StepsOfAssignment, StepsOfExpression}
+use Rattle.program_order.specs.Access.{Makes}
+use Rattle.program_order.specs.Standing.{Setting, checks_of, doing, registered}
+use Rattle.program_order.specs.WrittenOrder.{MakesTo, Steps, StepsInDataRace, StepsOfAssignment, StepsOfExpression}
 
 module _ (s : Setting) (placed : ArePlaced s) where
   -- a register gets the value of an expression

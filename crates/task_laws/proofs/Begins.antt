@@ -1,6 +1,6 @@
 -- At each site no more accesses begin than the text has room for.
 use Rattle.std.proofs.Common.{◌≤◌, ◌+◌, ◌*◌, ◌==◌, ℕ, Bool, true, false, List, arith, le_refl, length, not, refl, if◌then◌else◌}
-use Rattle.litmus_meaning.specs.Task.{begins_at}
+use Rattle.litmus_semantics.specs.Task.{begins_at}
 use Rattle.litmus_syntax.specs.Sites.{accesses_of, assignment_has_access, call_has_access, expression_has_access}
 use Rattle.litmus_syntax.specs.Tree.{Assignment, Block, Expression}
 use Rattle.litmus_syntax.specs.Tree as tree
@@ -9,12 +9,12 @@ use Rattle.litmus_syntax.specs.declared.statement.Call.TheVariants as calls
 use Rattle.slot_table.specs.declared.records.Record.{Record}
 use Rattle.task_laws.specs.Begins.{block_begins, one_at, own_begins, statement_begins}
 use Rattle.task_laws.specs.StandingButWay.{begun_at, core_of}
-use Rattle.text_bounds.proofs.Counts.{Bounds, block_grows}
-use Rattle.text_bounds.proofs.Statements.{assignment_weight, call_weight, expression_weight}
-use Rattle.text_bounds.proofs.Weights.{Weighs}
-use Rattle.written_order.proofs.MeaningLemmas.{by_block}
-use Rattle.written_order.specs.Standing.{Setting, Standing}
-use Rattle.written_order.specs.WrittenOrder.{StepsOfBlock}
+use Rattle.program_order.proofs.text_bounds.Counts.{Bounds, block_grows}
+use Rattle.program_order.proofs.text_bounds.Statements.{assignment_weight, call_weight, expression_weight}
+use Rattle.program_order.proofs.text_bounds.Weights.{Weighs}
+use Rattle.program_order.proofs.MeaningLemmas.{by_block}
+use Rattle.program_order.specs.Standing.{Setting, Standing}
+use Rattle.program_order.specs.WrittenOrder.{StepsOfBlock}
 
 module _ (at : ℕ) where
   begins_weigh : Weighs (begins_at at) (λ site. one_at site at) (λ m. 0)

@@ -2,9 +2,9 @@
 use Rattle.std.proofs.Common.{◌≡◌, ◌<◌, ◌≤◌, ◌∙◌, ◌+◌, ◌*◌, ◌++◌, ℕ, zero, suc, true, List, ap, arith, inl, inr, length, length-append, refl, subst, sym}
 use Rattle.std.proofs.Math.Nat.{suc-mul}
 use Rattle.std.proofs.lemmas.Bool.{cases_eq}
-use Rattle.litmus_meaning.specs.Calls.{scoped_assertion}
-use Rattle.litmus_meaning.specs.Loads.{variable_of}
-use Rattle.litmus_meaning.specs.Meaning.{Chooses, after_condition}
+use Rattle.litmus_semantics.specs.Calls.{scoped_assertion}
+use Rattle.litmus_semantics.specs.Loads.{variable_of}
+use Rattle.litmus_semantics.specs.Meaning.{Chooses, after_condition}
 use Rattle.litmus_syntax.specs.Limits.{BlockTyped, ExpressionTyped, IsVariable, StatementTyped}
 use Rattle.litmus_syntax.specs.Sites.{accesses_of, assignment_has_access, call_has_access, expression_has_access, sites_of}
 use Rattle.litmus_syntax.specs.Tree.{Block, Expression, Load, Statement}
@@ -24,8 +24,8 @@ use Rattle.task_laws.proofs.Calls.{call_open}
 use Rattle.task_laws.proofs.Loads.{expression_open, load_open}
 use Rattle.task_laws.proofs.Places.{Both, PartIsOpen, Plain, StepsAreOpen, Valued, WithinFrom, part_as, part_both, part_still, part_via, part_wider}
 use Rattle.task_laws.proofs.Scopes.{in_block_open}
-use Rattle.written_order.specs.Standing.{Setting, Standing, checks_of, registered}
-use Rattle.written_order.specs.WrittenOrder.{Steps, StepsOf, StepsOfBlock, StepsOfExpression, StepsOfLoad, StepsOfTurns}
+use Rattle.program_order.specs.Standing.{Setting, Standing, checks_of, registered}
+use Rattle.program_order.specs.WrittenOrder.{Steps, StepsOf, StepsOfBlock, StepsOfExpression, StepsOfLoad, StepsOfTurns}
 
 -- nothing
 abbrev Nothing : Steps

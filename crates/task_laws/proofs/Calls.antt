@@ -12,14 +12,14 @@ use Rattle.access_types.specs.declared.kind.Kind.{Kind}
 use Rattle.access_types.specs.declared.kind.Kind.TheVariants as kinds
 use Rattle.task_laws.proofs.Opens.{Begins, done_then, still_open}
 use Rattle.task_laws.proofs.Waits.{lock_open}
-use Rattle.litmus_meaning.specs.Calls.{check_kind, checked_bytes}
-use Rattle.litmus_meaning.specs.Task.{access_now, begins_at, bytes_in, has_lock}
+use Rattle.litmus_semantics.specs.Calls.{check_kind, checked_bytes}
+use Rattle.litmus_semantics.specs.Task.{access_now, begins_at, bytes_in, has_lock}
 use Rattle.litmus_syntax.specs.Limits.{CallTyped, IsVariable}
 use Rattle.litmus_syntax.specs.Sites.{call_has_access}
 use Rattle.litmus_syntax.specs.declared.statement.Call.{Call}
 use Rattle.litmus_syntax.specs.declared.statement.Call.TheVariants as calls
-use Rattle.memory_operation.specs.Locks.{TakesLock}
-use Rattle.memory_operation.specs.declared.effect.Effect.{Effect}
+use Rattle.access_run.specs.memory_operation.Locks.{TakesLock}
+use Rattle.access_run.specs.declared.memory_operation.effect.Effect.{Effect}
 use Rattle.setup_access.specs.Check.{Fallen}
 use Rattle.setup_access.specs.OwnAccesses.{AreOwn}
 use Rattle.setup_access.specs.Records.{MakesDone}
@@ -32,9 +32,9 @@ use Rattle.task_laws.specs.StandingButWay.{Core, begun_at, core_of, standing}
 use Rattle.task_laws.specs.Fits.{ArePlaced}
 use Rattle.task_laws.proofs.Accesses.{makes_open}
 use Rattle.task_laws.proofs.Places.{Plain, StepsAreOpen, Valued, WithinFrom, part_as, part_of, part_still, part_sum, part_via}
-use Rattle.written_order.specs.Access.{Makes}
-use Rattle.written_order.specs.Standing.{EndsNothing, Point, Setting, Standing, checks_of, coming, counting, doing, lock_number}
-use Rattle.written_order.specs.WrittenOrder.{ChecksAt, MakesMark, Only, Steps, StepsOfCall}
+use Rattle.program_order.specs.Access.{Makes}
+use Rattle.program_order.specs.Standing.{EndsNothing, Point, Setting, Standing, checks_of, coming, counting, doing, lock_number}
+use Rattle.program_order.specs.WrittenOrder.{ChecksAt, MakesMark, Only, Steps, StepsOfCall}
 
 -- one thing is done that begins no access
 begun_with : (at : Core) (does : List Happening) (k : ℕ) → count_by (begins_at k) does ≡ 0 → begun_at k (doing_at at does) ≡ begun_at k at

@@ -16,7 +16,7 @@ use Rattle.task_context.proofs.Surpluses.{EndsRaised-surplus, surplus-EndsRaised
 use Rattle.task_context.specs.Context.{Context}
 use Rattle.task_context.specs.History.{IsLeft, IsSurplus, LeadsTo}
 use Rattle.task_context.specs.History.IsLeft.{set, unset}
-use Rattle.written_order.specs.Standing.{BeginsNow, EndsNothing, IsDisabled, IsNested, Setting, Standing, checks_of, moments}
+use Rattle.program_order.specs.Standing.{BeginsNow, EndsNothing, IsDisabled, IsNested, Setting, Standing, checks_of, moments}
 
 -- what is so or isn't is told by a Bool
 abbrev pub Told : Type 0 → Type 0

@@ -6,10 +6,10 @@ use Rattle.task_laws.proofs.Checks.{PassesAreOpen, check_open, close_open}
 use Rattle.task_laws.proofs.Memory.{operates_open}
 use Rattle.task_laws.proofs.Opens.{Begins, IsOpen, Lists, Open}
 use Rattle.task_laws.proofs.Waits.{lock_open}
-use Rattle.memory_operation.specs.Locks.{TakesLock}
-use Rattle.memory_operation.specs.Operations.{Operates}
-use Rattle.memory_operation.specs.declared.effect.Effect.{Effect}
-use Rattle.memory_operation.specs.declared.operation.Operation.{Operation}
+use Rattle.access_run.specs.memory_operation.Locks.{TakesLock}
+use Rattle.access_run.specs.memory_operation.Operations.{Operates}
+use Rattle.access_run.specs.declared.memory_operation.effect.Effect.{Effect}
+use Rattle.access_run.specs.declared.memory_operation.operation.Operation.{Operation}
 use Rattle.setup_access.specs.Check.{Check, Close, Passes}
 use Rattle.setup_access.specs.Setting.{Setting}
 use Rattle.setup_access.specs.declared.begun.Begun.{Begun}

@@ -2,7 +2,7 @@
 use Rattle.std.proofs.Common.{◌≡◌, ◌<◌, ◌≤◌, ◌⊎◌, ◌∙◌, ◌+◌, ◌*◌, ◌==◌, ◌++◌, ℕ, Bool, true, false, List, [], ◌∷◌, add-zero, ap, arith, inl, inr, length, length-append, ne_eqb, refl, subst, sym, zero-add, if◌then◌else◌}
 use Rattle.std.proofs.Math.Nat.{mul-zero, mul_assoc}
 use Rattle.std.proofs.lemmas.Bool.{cases_eq}
-use Rattle.litmus_meaning.specs.Meaning.{after_condition}
+use Rattle.litmus_semantics.specs.Meaning.{after_condition}
 use Rattle.litmus_syntax.specs.Limits.{BlockTurns, StatementTurns}
 use Rattle.litmus_syntax.specs.Sites.{accesses_of, assignment_has_access, call_has_access, expression_has_access, itself, sites_of}
 use Rattle.litmus_syntax.specs.Tree.{Block, Statement}

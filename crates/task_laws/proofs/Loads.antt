@@ -5,16 +5,16 @@ use Rattle.access_types.specs.declared.history.Happening.{Happening}
 use Rattle.access_types.specs.declared.history.Happening.TheVariants as happenings
 use Rattle.access_types.specs.declared.history.Mark.TheVariants as marks
 use Rattle.access_types.specs.declared.kind.Kind.{Kind}
-use Rattle.litmus_meaning.specs.Expressions.{loading_value, pure_value}
-use Rattle.litmus_meaning.specs.Loads.{fetch_kind, load_in, variable_of}
-use Rattle.litmus_meaning.specs.Task.{access_now, bytes_in}
-use Rattle.litmus_meaning.specs.Values.{sign_extended}
+use Rattle.litmus_semantics.specs.Expressions.{loading_value, pure_value}
+use Rattle.litmus_semantics.specs.Loads.{fetch_kind, load_in, variable_of}
+use Rattle.litmus_semantics.specs.Task.{access_now, bytes_in}
+use Rattle.litmus_semantics.specs.Values.{sign_extended}
 use Rattle.litmus_syntax.specs.Limits.{ExpressionTyped, IsVariable}
 use Rattle.litmus_syntax.specs.Sites.{expression_has_access}
 use Rattle.litmus_syntax.specs.Tree.{Expression, Load}
 use Rattle.litmus_syntax.specs.Tree as tree
-use Rattle.memory_operation.specs.declared.effect.Effect.{Effect}
-use Rattle.memory_operation.specs.declared.operation.Operation.{Operation}
+use Rattle.access_run.specs.declared.memory_operation.effect.Effect.{Effect}
+use Rattle.access_run.specs.declared.memory_operation.operation.Operation.{Operation}
 use Rattle.setup_access.specs.Check.{Fallen}
 use Rattle.setup_access.specs.OwnAccesses.{AreOwn}
 use Rattle.slot_table.specs.declared.records.Record.{Record}
@@ -26,9 +26,9 @@ use Rattle.task_laws.specs.Fits.{ArePlaced, HasBytes}
 use Rattle.task_laws.proofs.Accesses.{makes_open}
 use Rattle.task_laws.proofs.Places.{PartIsOpen, Valued, WithinFrom, part_still, part_via}
 use Rattle.task_plan.proofs.KeepsLemmas.{begun_still, marks_other}
-use Rattle.written_order.specs.Access.{Makes}
-use Rattle.written_order.specs.Standing.{Point, Setting, Standing, checks_of, doing}
-use Rattle.written_order.specs.WrittenOrder.{StepsOfExpression, StepsOfLoad, fetch_operation}
+use Rattle.program_order.specs.Access.{Makes}
+use Rattle.program_order.specs.Standing.{Point, Setting, Standing, checks_of, doing}
+use Rattle.program_order.specs.WrittenOrder.{StepsOfExpression, StepsOfLoad, fetch_operation}
 
 -- the value that was read, or 0
 abbrev read_or_none : Option ℕ → ℕ

@@ -2,15 +2,15 @@
 use Rattle.std.proofs.Common.{◌≡◌, ◌⊎◌, ◌∙◌, ◌++◌, ℕ, Bool, true, false, List, [], ◌∷◌, Option, None, Some, IsSome, inl, inr, refl, subst, sym}
 use Rattle.access_run.specs.Leads.{HasCell}
 use Rattle.access_types.specs.Access.{Access}
-use Rattle.memory_operation.proofs.TurnLemmas.{ends_now}
-use Rattle.memory_operation.specs.Effects.{and_then, changed, nothing, only_read}
-use Rattle.memory_operation.specs.Operations.{Changes, Exchanges, IsExchange, OnExchange, Operates, OperatesIn}
-use Rattle.memory_operation.specs.Values.{is_wanted, new_value, sum_of, with_value}
-use Rattle.memory_operation.specs.declared.effect.Effect.{Effect}
-use Rattle.memory_operation.specs.declared.operation.Change.{Change}
-use Rattle.memory_operation.specs.declared.operation.Change.TheVariants as changes
-use Rattle.memory_operation.specs.declared.operation.Operation.{Operation}
-use Rattle.memory_operation.specs.declared.operation.Operation.TheVariants as operations
+use Rattle.access_run.proofs.memory_operation.TurnLemmas.{ends_now}
+use Rattle.access_run.specs.memory_operation.Effects.{and_then, changed, nothing, only_read}
+use Rattle.access_run.specs.memory_operation.Operations.{Changes, Exchanges, IsExchange, OnExchange, Operates, OperatesIn}
+use Rattle.access_run.specs.memory_operation.Values.{is_wanted, new_value, sum_of, with_value}
+use Rattle.access_run.specs.declared.memory_operation.effect.Effect.{Effect}
+use Rattle.access_run.specs.declared.memory_operation.operation.Change.{Change}
+use Rattle.access_run.specs.declared.memory_operation.operation.Change.TheVariants as changes
+use Rattle.access_run.specs.declared.memory_operation.operation.Operation.{Operation}
+use Rattle.access_run.specs.declared.memory_operation.operation.Operation.TheVariants as operations
 use Rattle.setup_access.specs.Parts.{made}
 use Rattle.setup_access.specs.Records.{MakesWord}
 use Rattle.setup_access.specs.Setting.{Setting}

@@ -1,15 +1,15 @@
 -- What a task made goes on with any answer of its next step.
 use Rattle.std.proofs.Common.{◌++◌, ℕ, List, [], ◌∷◌, subst, sym}
 use Rattle.litmus_syntax.specs.Tree.{Block}
-use Rattle.memory_operation.specs.Leads.{GoesOn}
+use Rattle.access_run.specs.memory_operation.Leads.{GoesOn}
 use Rattle.setup_access.specs.Parts.{made}
 use Rattle.slot_table.specs.Answer.{Answers}
 use Rattle.slot_table.specs.declared.records.Record.{Record}
 use Rattle.slot_table.specs.declared.step.Answer.{Answer}
 use Rattle.slot_table.specs.declared.step.Step.{Step}
 use Rattle.task_laws.specs.SameStep.{IsAlike}
-use Rattle.written_order.specs.Standing.{Setting}
-use Rattle.written_order.specs.WrittenOrder.{SpellsAll, WrittenOrder}
+use Rattle.program_order.specs.Standing.{Setting}
+use Rattle.program_order.specs.WrittenOrder.{SpellsAll, WrittenOrder}
 
 module _ (s : Setting) (registers : ℕ) (body : Block) (records : List Record) (step : Step) (answer : Answer) (fits : Answers step answer)
     (another : (first other : Record) (later : List Record) → IsAlike first other → SpellsAll s registers body (records ++ first ∷ later)

@@ -1,14 +1,14 @@
 -- Parts of a text that some records spell, from a place on.
 use Rattle.std.proofs.Common.{◌≡◌, ◌≤◌, ◌∙◌, ◌+◌, ◌*◌, ◌++◌, ℕ, zero, suc, List, [], append_assoc, arith, refl, subst, sym}
 use Rattle.std.proofs.Math.Nat.{suc-mul}
-use Rattle.litmus_meaning.specs.Task as meaning
+use Rattle.litmus_semantics.specs.Task as meaning
 use Rattle.setup_access.specs.Check.{Fallen}
 use Rattle.setup_access.specs.OwnAccesses.{AreOwn}
 use Rattle.setup_access.specs.Setting as checks
 use Rattle.slot_table.specs.declared.records.Record.{Record}
 use Rattle.task_laws.specs.StandingButWay.{Core, begun_at, standing}
-use Rattle.written_order.specs.Standing.{Point, Standing, registered}
-use Rattle.written_order.specs.WrittenOrder.{Steps, StepsOfTurns}
+use Rattle.program_order.specs.Standing.{Point, Standing, registered}
+use Rattle.program_order.specs.WrittenOrder.{Steps, StepsOfTurns}
 
 -- Some records spell the part from here on, whatever the way there and whatever follows. No more accesses than so
 -- many begin at each site, and the scoped assertions in force are the same afterwards.

@@ -6,17 +6,17 @@ use Rattle.std.proofs.lemmas.Iterator.Adapters.{position_from-zero}
 use Rattle.std.specs.List.{list_any, position, position_from}
 use Rattle.access_types.specs.Access.{Access}
 use Rattle.access_types.specs.declared.history.Bytes.{Bytes}
-use Rattle.litmus_meaning.specs.Layout.{Place, block_of, bytes_at, cells_of, initial_value, initial_values, no_bytes, with_cell}
-use Rattle.litmus_meaning.specs.Task.{bytes_in}
-use Rattle.litmus_meaning.specs.Values.{size_of}
+use Rattle.litmus_semantics.specs.Layout.{Place, block_of, bytes_at, cells_of, initial_value, initial_values, no_bytes, with_cell}
+use Rattle.litmus_semantics.specs.Task.{bytes_in}
+use Rattle.litmus_semantics.specs.Values.{size_of}
 use Rattle.litmus_syntax.specs.Limits.{IsLock}
 use Rattle.litmus_syntax.specs.declared.program.Contents.{Contents}
 use Rattle.litmus_syntax.specs.declared.program.Contents.TheVariants.{Atomic, Char, Int, Lock, Long, Short}
 use Rattle.litmus_syntax.specs.declared.program.Variable.{Variable}
 use Rattle.setup_access.specs.Values.{has_value, lies_in, source_in, source_of}
-use Rattle.program_layout.specs.Aligned.{AreAligned}
+use Rattle.prepared_program.specs.program_layout.Aligned.{AreAligned}
 use Rattle.task_laws.specs.Fits.{ArePlaced, HasBytes}
-use Rattle.written_order.specs.Standing.{Setting, checks_of}
+use Rattle.program_order.specs.Standing.{Setting, checks_of}
 
 abbrev Has : ℕ → List ℕ → Type 0
 Has cell cells = list_any (λ (other : ℕ). other == cell) cells ≡ true

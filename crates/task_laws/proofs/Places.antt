@@ -4,7 +4,7 @@ use Rattle.task_laws.proofs.Opens.{After, Begins, IsOpen, Lists, Open, open_map}
 use Rattle.setup_access.specs.Check.{Fallen}
 use Rattle.slot_table.specs.declared.records.Record.{Record}
 use Rattle.task_laws.specs.StandingButWay.{Core, begun_at, core_of, standing}
-use Rattle.written_order.specs.Standing.{Point, Standing}
+use Rattle.program_order.specs.Standing.{Point, Standing}
 
 -- the steps of a part of a text that gives a value
 abbrev pub Valued : Type 0 → Type 1

@@ -3,14 +3,14 @@ use Rattle.std.proofs.Common.{◌≡◌, ◌∙◌, ℕ, Bool, true, false, List
 use Rattle.access_types.specs.Access.{Access}
 use Rattle.litmus_syntax.specs.Tree.{Fetch}
 use Rattle.litmus_syntax.specs.Tree as tree
-use Rattle.memory_operation.specs.Effects.{changed}
-use Rattle.memory_operation.specs.Operations.{Ends, Exchanges, OnExchange, Operates}
-use Rattle.memory_operation.specs.Values.{is_wanted}
-use Rattle.memory_operation.specs.declared.effect.Effect.{Effect}
-use Rattle.memory_operation.specs.declared.operation.Change.{Change}
-use Rattle.memory_operation.specs.declared.operation.Change.TheVariants as changes
-use Rattle.memory_operation.specs.declared.operation.Operation.{Operation}
-use Rattle.memory_operation.specs.declared.operation.Operation.TheVariants as operations
+use Rattle.access_run.specs.memory_operation.Effects.{changed}
+use Rattle.access_run.specs.memory_operation.Operations.{Ends, Exchanges, OnExchange, Operates}
+use Rattle.access_run.specs.memory_operation.Values.{is_wanted}
+use Rattle.access_run.specs.declared.memory_operation.effect.Effect.{Effect}
+use Rattle.access_run.specs.declared.memory_operation.operation.Change.{Change}
+use Rattle.access_run.specs.declared.memory_operation.operation.Change.TheVariants as changes
+use Rattle.access_run.specs.declared.memory_operation.operation.Operation.{Operation}
+use Rattle.access_run.specs.declared.memory_operation.operation.Operation.TheVariants as operations
 use Rattle.setup_access.specs.Records.{MakesWord, OnWord}
 use Rattle.setup_access.specs.Setting.{Setting}
 use Rattle.setup_access.specs.Values.{value_in}
@@ -19,7 +19,7 @@ use Rattle.slot_table.specs.declared.records.Record.{Record}
 use Rattle.slot_table.specs.declared.step.Answer.{Answer}
 use Rattle.slot_table.specs.declared.step.Answer.TheVariants as answers
 use Rattle.slot_table.specs.declared.step.Step.{Step}
-use Rattle.written_order.specs.WrittenOrder.{fetch_operation}
+use Rattle.program_order.specs.WrittenOrder.{fetch_operation}
 
 -- the operation of a load
 abbrev pub Reads : Option Operation → Type 0

@@ -4,9 +4,9 @@ use Rattle.access_types.specs.Access.{Access}
 use Rattle.access_types.specs.declared.history.Happening.TheVariants as happenings
 use Rattle.task_laws.proofs.Checks.{OfPasses, check_open, close_open}
 use Rattle.task_laws.proofs.Opens.{After, Lists, open_map}
-use Rattle.litmus_meaning.specs.Calls.{Scoped, scoped_access}
-use Rattle.litmus_meaning.specs.Task as meaning
-use Rattle.litmus_meaning.specs.Task.{bytes_in}
+use Rattle.litmus_semantics.specs.Calls.{Scoped, scoped_access}
+use Rattle.litmus_semantics.specs.Task as meaning
+use Rattle.litmus_semantics.specs.Task.{bytes_in}
 use Rattle.setup_access.specs.Check.{Check, Close, Passes}
 use Rattle.setup_access.specs.OwnAccesses.{AreOwn, IsOwn}
 use Rattle.setup_access.specs.declared.begun.Begun.{Begun}
@@ -20,8 +20,8 @@ use Rattle.task_laws.specs.StandingButWay.{Core, begun_at, core_of, standing}
 use Rattle.task_laws.specs.Fits.{ArePlaced, HasBytes}
 use Rattle.task_laws.proofs.Places.{Both, ByEach, BySome, PartIsOpen, Plain, StepsAreOpen, Valued, WithinFrom, part_as, part_both, part_wider, sum_open}
 use Rattle.task_plan.proofs.KeepsLemmas.{begun_still}
-use Rattle.written_order.specs.Standing.{BeginsNow, IsDisabled, Setting, Standing, checks_of, doing}
-use Rattle.written_order.specs.WrittenOrder.{ClosesScope, OpensScope, Steps, StepsInBlock}
+use Rattle.program_order.specs.Standing.{BeginsNow, IsDisabled, Setting, Standing, checks_of, doing}
+use Rattle.program_order.specs.WrittenOrder.{ClosesScope, OpensScope, Steps, StepsInBlock}
 
 -- after a scoped assertion has opened, and after one has closed
 abbrev opened_at : Core → Access → Begun → ℕ → Core

@@ -9,12 +9,12 @@ use Rattle.access_run.specs.Moved.{moved}
 use Rattle.access_types.specs.Access.{Access}
 use Rattle.access_types.specs.declared.history.Happening.{Happening}
 use Rattle.access_types.specs.declared.history.Happening.TheVariants as happenings
-use Rattle.litmus_meaning.specs.Task.{begins_at}
-use Rattle.memory_operation.specs.Effects.{moments_of, nothing, read_moments, write_moments}
-use Rattle.memory_operation.specs.Operations.{Operates}
-use Rattle.memory_operation.specs.declared.effect.Effect.{Effect}
-use Rattle.memory_operation.specs.declared.operation.Operation.{Operation}
-use Rattle.memory_operation.specs.declared.operation.Operation.TheVariants as operations
+use Rattle.litmus_semantics.specs.Task.{begins_at}
+use Rattle.access_run.specs.memory_operation.Effects.{moments_of, nothing, read_moments, write_moments}
+use Rattle.access_run.specs.memory_operation.Operations.{Operates}
+use Rattle.access_run.specs.declared.memory_operation.effect.Effect.{Effect}
+use Rattle.access_run.specs.declared.memory_operation.operation.Operation.{Operation}
+use Rattle.access_run.specs.declared.memory_operation.operation.Operation.TheVariants as operations
 use Rattle.setup_access.specs.Check.{Fallen, Passes}
 use Rattle.setup_access.specs.OwnAccesses.{AreOwn, IsOwn}
 use Rattle.setup_access.specs.Parts.{made}
@@ -30,8 +30,8 @@ use Rattle.task_laws.specs.Begins.{one_at}
 use Rattle.task_laws.specs.StandingButWay.{Core, begun_at, standing}
 use Rattle.task_plan.proofs.KeepsLemmas.{begun_still}
 use Rattle.task_plan.specs.SameProgress.{AreOther}
-use Rattle.written_order.specs.Access.{Makes, operated}
-use Rattle.written_order.specs.Standing.{Point, Setting, Standing, checks_of, doing}
+use Rattle.program_order.specs.Access.{Makes, operated}
+use Rattle.program_order.specs.Standing.{Point, Setting, Standing, checks_of, doing}
 
 -- what a task did by the end of an access of which this came
 abbrev pub did_in : Access → Option Operation → Effect → List Happening → List Happening

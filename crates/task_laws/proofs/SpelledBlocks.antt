@@ -7,10 +7,10 @@ use Rattle.access_run.proofs.LeadsLemmas.{check_joined}
 use Rattle.access_run.specs.Moved.{moved}
 use Rattle.access_types.specs.Access.{Access}
 use Rattle.access_types.specs.declared.history.Happening.TheVariants as happenings
-use Rattle.litmus_meaning.specs.Calls.{Scoped, scoped_access, scoped_assertion}
-use Rattle.litmus_meaning.specs.Meaning.{Chooses, after_condition}
-use Rattle.litmus_meaning.specs.Task as meaning
-use Rattle.litmus_meaning.specs.Task.{access_now, bytes_in}
+use Rattle.litmus_semantics.specs.Calls.{Scoped, scoped_access, scoped_assertion}
+use Rattle.litmus_semantics.specs.Meaning.{Chooses, after_condition}
+use Rattle.litmus_semantics.specs.Task as meaning
+use Rattle.litmus_semantics.specs.Task.{access_now, bytes_in}
 use Rattle.litmus_syntax.specs.Limits.{BlockTyped, IsVariable, StatementTyped}
 use Rattle.litmus_syntax.specs.Sites.{accesses_of, assignment_has_access, call_has_access, expression_has_access, sites_of}
 use Rattle.litmus_syntax.specs.Tree.{Block, Expression, Statement}
@@ -29,8 +29,8 @@ use Rattle.task_laws.specs.Begins.{block_begins, one_at, own_begins, statement_b
 use Rattle.task_laws.specs.StandingButWay.{Core, begun_at, standing}
 use Rattle.task_laws.specs.Fits.{ArePlaced, HasBytes}
 use Rattle.task_plan.proofs.KeepsLemmas.{begun_still}
-use Rattle.written_order.specs.Standing.{BeginsNow, Setting, Standing, checks_of, doing}
-use Rattle.written_order.specs.WrittenOrder.{ClosesScope, OpensScope, Steps, StepsInBlock, StepsOf, StepsOfBlock, StepsOfExpression}
+use Rattle.program_order.specs.Standing.{BeginsNow, Setting, Standing, checks_of, doing}
+use Rattle.program_order.specs.WrittenOrder.{ClosesScope, OpensScope, Steps, StepsInBlock, StepsOf, StepsOfBlock, StepsOfExpression}
 
 pub own_more : (s : checks.Setting) (scopes : List Begun) (begun : Begun) → AreOwn s scopes → IsOwn s begun.access → AreOwn s (scopes ++ begun ∷ [])
 own_more s [] begun are is = (is, tt)

@@ -12,13 +12,13 @@ use Rattle.access_types.specs.declared.history.Mark.TheVariants as marks
 use Rattle.access_types.specs.declared.kind.Claim.TheVariants.{NoAccesses, NoWrites}
 use Rattle.access_types.specs.declared.kind.Kind.{Kind}
 use Rattle.access_types.specs.declared.kind.Kind.TheVariants as kinds
-use Rattle.litmus_meaning.specs.Assignments.{compound_kind, write_kind}
-use Rattle.litmus_meaning.specs.Calls.{check_kind, checked_bytes}
-use Rattle.litmus_meaning.specs.Expressions.{loading_value, pure_value}
-use Rattle.litmus_meaning.specs.Loads.{exchange_kind, fetch_kind, load_in, variable_of}
-use Rattle.litmus_meaning.specs.Task as meaning
-use Rattle.litmus_meaning.specs.Task.{access_now, begins_at, bytes_in, has_lock}
-use Rattle.litmus_meaning.specs.Values.{sign_extended}
+use Rattle.litmus_semantics.specs.Assignments.{compound_kind, write_kind}
+use Rattle.litmus_semantics.specs.Calls.{check_kind, checked_bytes}
+use Rattle.litmus_semantics.specs.Expressions.{loading_value, pure_value}
+use Rattle.litmus_semantics.specs.Loads.{exchange_kind, fetch_kind, load_in, variable_of}
+use Rattle.litmus_semantics.specs.Task as meaning
+use Rattle.litmus_semantics.specs.Task.{access_now, begins_at, bytes_in, has_lock}
+use Rattle.litmus_semantics.specs.Values.{sign_extended}
 use Rattle.litmus_syntax.specs.Limits.{AssignmentTyped, CallTyped, ExpressionTyped, FetchTyped, IsLock, IsOfSort, IsVariable, LoadingTyped, atomics, integers, locks, memory, write_takes}
 use Rattle.litmus_syntax.specs.Sites.{assignment_has_access, call_has_access, expression_has_access}
 use Rattle.litmus_syntax.specs.Tree.{Assignment, Expression, Fetch, Load, Loading}
@@ -30,10 +30,10 @@ use Rattle.litmus_syntax.specs.declared.statement.Call.{Call}
 use Rattle.litmus_syntax.specs.declared.statement.Call.TheVariants as calls
 use Rattle.litmus_syntax.specs.declared.statement.WriteForm.{WriteForm}
 use Rattle.litmus_syntax.specs.declared.statement.WriteForm.TheVariants as writes
-use Rattle.memory_operation.specs.declared.effect.Effect.{Effect}
-use Rattle.memory_operation.specs.declared.operation.Change.TheVariants as changes
-use Rattle.memory_operation.specs.declared.operation.Operation.{Operation}
-use Rattle.memory_operation.specs.declared.operation.Operation.TheVariants as operations
+use Rattle.access_run.specs.declared.memory_operation.effect.Effect.{Effect}
+use Rattle.access_run.specs.declared.memory_operation.operation.Change.TheVariants as changes
+use Rattle.access_run.specs.declared.memory_operation.operation.Operation.{Operation}
+use Rattle.access_run.specs.declared.memory_operation.operation.Operation.TheVariants as operations
 use Rattle.setup_access.specs.Check.{Fallen}
 use Rattle.setup_access.specs.OwnAccesses.{AreOwn, IsOwn}
 use Rattle.setup_access.specs.Parts.{made}
@@ -49,8 +49,8 @@ use Rattle.task_laws.specs.Begins.{one_at, own_begins}
 use Rattle.task_laws.specs.StandingButWay.{Core, begun_at, standing}
 use Rattle.task_laws.specs.Fits.{ArePlaced, HasBytes}
 use Rattle.task_plan.proofs.KeepsLemmas.{begun_still, marks_other}
-use Rattle.written_order.specs.Standing.{EndsNothing, IsLockAt, Point, Setting, Standing, checks_of, coming, counting, doing, is_lock, lock_number, registered}
-use Rattle.written_order.specs.WrittenOrder.{ChecksAt, MakesTo, Only, Steps, StepsInDataRace, StepsOfAssignment, StepsOfCall, StepsOfExpression, StepsOfLoad, fetch_operation}
+use Rattle.program_order.specs.Standing.{EndsNothing, IsLockAt, Point, Setting, Standing, checks_of, coming, counting, doing, is_lock, lock_number, registered}
+use Rattle.program_order.specs.WrittenOrder.{ChecksAt, MakesTo, Only, Steps, StepsInDataRace, StepsOfAssignment, StepsOfCall, StepsOfExpression, StepsOfLoad, fetch_operation}
 
 -- after the task has done this
 abbrev pub doing_at : Core → List Happening → Core

@@ -1,7 +1,7 @@
 -- A text that keeps its limits fits where its task begins, and is spelled by some records.
 use Rattle.std.proofs.Common.{◌≡◌, ◌≤◌, ◌+◌, ◌*◌, ◌++◌, [], ℕ, List, arith, length, subst}
 use Rattle.std.proofs.lemmas.List.{append-nil}
-use Rattle.litmus_meaning.proofs.LimitLemmas.{few_sites}
+use Rattle.litmus_semantics.proofs.LimitLemmas.{few_sites}
 use Rattle.litmus_syntax.specs.Limits.{TaskKeepsLimits}
 use Rattle.litmus_syntax.specs.Tree.{Block, Task}
 use Rattle.slot_table.specs.declared.records.Record.{Record}
@@ -10,8 +10,8 @@ use Rattle.task_laws.proofs.LimitLemmas.{block_few}
 use Rattle.task_laws.specs.Begins.{block_begins}
 use Rattle.task_laws.specs.StandingButWay.{begun_at, core_of, standing}
 use Rattle.task_laws.specs.Fits.{ArePlaced, Fits}
-use Rattle.written_order.specs.Standing.{Setting, Standing}
-use Rattle.written_order.specs.WrittenOrder.{SpellsAll, StepsOfBlock, WrittenOrder, at_first}
+use Rattle.program_order.specs.Standing.{Setting, Standing}
+use Rattle.program_order.specs.WrittenOrder.{SpellsAll, StepsOfBlock, WrittenOrder, at_first}
 
 pub fitting_spelled : (s : Setting) (registers site : ℕ) (body : Block) (before : Standing) (rest : List Record)
     → ArePlaced s → Fits s registers site body before

@@ -11,8 +11,8 @@ use Rattle.task_laws.specs.StandingButWay.{core_of}
 use Rattle.task_laws.specs.Fits.{ArePlaced, Fits}
 use Rattle.task_laws.proofs.Blocks.{block_open}
 use Rattle.task_laws.proofs.Places.{StepsAreOpen}
-use Rattle.written_order.specs.Standing.{Setting}
-use Rattle.written_order.specs.WrittenOrder.{SpellsAll, StepsOfBlock, WrittenOrder, at_first}
+use Rattle.program_order.specs.Standing.{Setting}
+use Rattle.program_order.specs.WrittenOrder.{SpellsAll, StepsOfBlock, WrittenOrder, at_first}
 
 -- where the block of a text is open, another answer of a step goes on to an end of the text
 module _ (s : Setting) (registers : ℕ) (body : Block) (most : ℕ → ℕ)

@@ -1,6 +1,6 @@
 -- Waits are open: each answer ends them, or they go on.
 use Rattle.std.proofs.Common.{◌≡◌, ◌⊎◌, ◌∙◌, ◌++◌, ◌<◌, ℕ, zero, suc, true, false, List, [], ◌∷◌, MatchBool, arith, inl, inr, refl, subst}
-use Rattle.memory_operation.specs.Locks.{TakesLock}
+use Rattle.access_run.specs.memory_operation.Locks.{TakesLock}
 use Rattle.setup_access.specs.Found.{Hears}
 use Rattle.setup_access.specs.Parts.{made}
 use Rattle.setup_access.specs.Records.{OnFlag, OnHalves}

@@ -1,6 +1,6 @@
 -- How many accesses of a text begin at a site, at most.
 use Rattle.std.specs.Prelude.{◌+◌, ◌*◌, ◌==◌, ℕ, Bool, length, if◌then◌else◌}
-use Rattle.litmus_meaning.specs.Meaning.{after_condition}
+use Rattle.litmus_semantics.specs.Meaning.{after_condition}
 use Rattle.litmus_syntax.specs.Sites.{accesses_of, assignment_has_access, call_has_access, expression_has_access, sites_of}
 use Rattle.litmus_syntax.specs.Tree.{Block, Statement}
 use Rattle.litmus_syntax.specs.Tree as tree

@@ -1,7 +1,7 @@
 -- Where a text fits what is left: its accesses lie in memory, and tickets have room for them.
 use Rattle.std.specs.Prelude.{◌≡◌, ◌+◌, ◌<◌, ◌≤◌, ◌^◌, ℕ, IsSome, Some, length, slice_get}
 use Rattle.access_types.specs.Access.{Access}
-use Rattle.litmus_meaning.specs.Task.{bytes_in}
+use Rattle.litmus_semantics.specs.Task.{bytes_in}
 use Rattle.litmus_syntax.specs.Limits.{BlockTyped, IsLock, IsVariable}
 use Rattle.litmus_syntax.specs.Sites.{sites_of}
 use Rattle.litmus_syntax.specs.Tree.{Block}
@@ -10,7 +10,7 @@ use Rattle.setup_access.specs.OwnAccesses.{AreOwn}
 use Rattle.setup_access.specs.Values.{source_of}
 use Rattle.task_laws.specs.Begins.{block_begins}
 use Rattle.task_laws.specs.StandingButWay.{begun_at, core_of}
-use Rattle.written_order.specs.Standing.{Setting, Standing, checks_of}
+use Rattle.program_order.specs.Standing.{Setting, Standing, checks_of}
 
 -- the variable of a number has bytes, up to 8, of low addresses and in one cell
 pub record HasBytes (s : Setting) (number : ℕ) : Type 0 where

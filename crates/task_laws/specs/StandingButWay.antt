@@ -1,10 +1,10 @@
 -- Where a task stands, but for the way there and for what came of its checks: these two hang on the records
 -- that are still to come, and nothing else does.
 use Rattle.std.specs.Prelude.{ℕ, List, count_by}
-use Rattle.litmus_meaning.specs.Task.{Progress, begins_at}
+use Rattle.litmus_semantics.specs.Task.{Progress, begins_at}
 use Rattle.setup_access.specs.Check.{Fallen}
 use Rattle.setup_access.specs.declared.begun.Begun.{Begun}
-use Rattle.written_order.specs.Standing.{Point, Standing}
+use Rattle.program_order.specs.Standing.{Point, Standing}
 
 pub record Core : Type 0 where
   pub progress : Progress

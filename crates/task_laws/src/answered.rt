@@ -3,9 +3,9 @@
 ghost use Rattle.std.specs.Prelude.{ℕ, Bool, List, Option};
 ghost use Rattle.access_types.specs.Access as access;
 ghost use Rattle.task_laws.specs.LeadsOn.{AnswersLeadOn};
-ghost use Rattle.memory_operation.specs.Locks.{TakesLock};
-ghost use Rattle.memory_operation.specs.Operations.{Operates};
-ghost use Rattle.memory_operation.specs.declared.operation.Operation.{Operation};
+ghost use Rattle.access_run.specs.memory_operation.Locks.{TakesLock};
+ghost use Rattle.access_run.specs.memory_operation.Operations.{Operates};
+ghost use Rattle.access_run.specs.declared.memory_operation.operation.Operation.{Operation};
 ghost use Rattle.setup_access.specs.Check.{Check, Close};
 ghost use Rattle.setup_access.specs.Setting.{Setting};
 ghost use Rattle.setup_access.specs.declared.begun.Begun.{Begun};

@@ -3,7 +3,7 @@
 ghost use Rattle.std.specs.Prelude.{◌+◌, ◌++◌, ◌≤◌, ◌∷◌, [], ℕ, List, length};
 ghost use Rattle.litmus_syntax.specs.Limits.{TaskKeepsLimits};
 ghost use Rattle.litmus_syntax.specs.Tree.{Block, Task};
-ghost use Rattle.memory_operation.specs.Leads.{GoesOn};
+ghost use Rattle.access_run.specs.memory_operation.Leads.{GoesOn};
 ghost use Rattle.setup_access.specs.Parts.{made};
 ghost use Rattle.slot_table.specs.Answer.{Answers};
 ghost use Rattle.slot_table.specs.declared.records.Record.{Record};
@@ -13,8 +13,8 @@ ghost use Rattle.task_laws.specs.Begins.{block_begins};
 ghost use Rattle.task_laws.specs.StandingButWay.{begun_at, core_of};
 ghost use Rattle.task_laws.specs.Fits.{ArePlaced};
 ghost use Rattle.task_laws.specs.SameStep.{IsAlike};
-ghost use Rattle.written_order.specs.Standing.{Setting, Standing};
-ghost use Rattle.written_order.specs.WrittenOrder.{SpellsAll, StepsOfBlock, WrittenOrder};
+ghost use Rattle.program_order.specs.Standing.{Setting, Standing};
+ghost use Rattle.program_order.specs.WrittenOrder.{SpellsAll, StepsOfBlock, WrittenOrder};
 
 /// Law: of a text within the limits, whose variables are placed: where a record of records in the written order
 /// had another answer, the records up to it are in the written order too. So is what a task made with one step

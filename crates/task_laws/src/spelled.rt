@@ -1,20 +1,20 @@
 //! What is true of texts that fit.
 
 ghost use Rattle.std.specs.Prelude.{◌≡◌, ◌<◌, ◌≤◌, ◌+◌, ◌++◌, [], ℕ, List, length};
-ghost use Rattle.litmus_meaning.specs.RunOfProgram.{setting_of};
+ghost use Rattle.litmus_semantics.specs.RunOfProgram.{setting_of};
 ghost use Rattle.litmus_syntax.specs.Limits.{KeepsLimits, TaskKeepsLimits};
 ghost use Rattle.litmus_syntax.specs.Tree.{Block, Program, Task};
-ghost use Rattle.program_layout.specs.Aligned.{AreAligned};
-ghost use Rattle.program_layout.specs.Places.{AreFit, places_of};
-ghost use Rattle.program_layout.specs.declared.place.Place.{Place};
+ghost use Rattle.prepared_program.specs.program_layout.Aligned.{AreAligned};
+ghost use Rattle.prepared_program.specs.program_layout.Places.{AreFit, places_of};
+ghost use Rattle.prepared_program.specs.declared.program_layout.place.Place.{Place};
 ghost use Rattle.slot_table.specs.declared.records.Record.{Record};
 ghost use Rattle.task_laws.specs.Begins.{block_begins};
 ghost use Rattle.task_laws.specs.StandingButWay.{begun_at, core_of};
 ghost use Rattle.task_laws.specs.Fits.{ArePlaced, Fits};
-ghost use Rattle.written_order.specs.Standing.{Setting, Standing};
-ghost use Rattle.written_order.specs.WrittenOrder.{SpellsAll, StepsOfBlock, WrittenOrder, at_first};
+ghost use Rattle.program_order.specs.Standing.{Setting, Standing};
+ghost use Rattle.program_order.specs.WrittenOrder.{SpellsAll, StepsOfBlock, WrittenOrder, at_first};
 
-use program_layout::variables_are_aligned;
+use prepared_program::program_layout::variables_are_aligned;
 
 /// Law: a block that fits where a task stands is spelled by some records, whatever follows. The scoped assertions
 /// in force are the same afterwards, and at each site no more accesses began than the block has room for.

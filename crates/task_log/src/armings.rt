@@ -6,7 +6,7 @@ ghost use Rattle.access_types.specs.Ticket.{site_in};
 ghost use Rattle.task_log.specs.Armings.{CountsBySite, armings_by};
 
 use access_types::Arm;
-use list_copy::copied;
+use access_types::list_copy::copied;
 use std::alloc::{AllocError, Global};
 
 /// How many sites a ticket tells apart.

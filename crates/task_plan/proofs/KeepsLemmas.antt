@@ -9,8 +9,8 @@ use Rattle.access_types.specs.Access.{Access, proper_mask}
 use Rattle.access_types.specs.declared.history.Happening.{Happening}
 use Rattle.access_types.specs.declared.history.Happening.TheVariants as happenings
 use Rattle.access_types.specs.declared.history.Mark.{Mark}
-use Rattle.litmus_meaning.specs.Task as meaning
-use Rattle.litmus_meaning.specs.Task.{access_now, begins_at, has_after, has_lock}
+use Rattle.litmus_semantics.specs.Task as meaning
+use Rattle.litmus_semantics.specs.Task.{access_now, begins_at, has_after, has_lock}
 use Rattle.slot_table.specs.declared.records.Record.{Record}
 use Rattle.task_plan.specs.SameProgress.{AreOther, IsOther, StandAlike}
 use Rattle.task_plan.specs.Counts.{up_to_last}
@@ -18,9 +18,9 @@ use Rattle.task_plan.specs.Keeps.{Keeps}
 use Rattle.task_plan.specs.Plans.{planned_access}
 use Rattle.task_plan.specs.Views.{Plan}
 use Rattle.task_plan.specs.declared.progress.Progress.{Progress}
-use Rattle.written_order.proofs.HeldLocks.{AreQuiet, IsQuiet, lock_last, quiet_leaves}
-use Rattle.written_order.specs.Standing.{Setting, Standing, doing}
-use Rattle.written_order.specs.WrittenOrder.{at_first}
+use Rattle.program_order.proofs.HeldLocks.{AreQuiet, IsQuiet, lock_last, quiet_leaves}
+use Rattle.program_order.specs.Standing.{Setting, Standing, doing}
+use Rattle.program_order.specs.WrittenOrder.{at_first}
 
 -- an element of a list of one value, or past its end, is that value
 all_one : {X : Type 0} (n i : ℕ) (x : X) → get_or (replicate n x) i x ≡ x

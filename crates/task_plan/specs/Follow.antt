@@ -31,8 +31,8 @@ taker_off (to_register register value data_race) = so_often data_race
 taker_off (condition value) = 0
 
 -- how often they are turned off before an access on which this follows
-abbrev pub so_many_off : Follow → ℕ
-so_many_off goes_on = 0
-so_many_off marks_next = 0
-so_many_off (assigned data_race) = so_often data_race
-so_many_off (loaded_by size data_races taker) = up_to_last (data_races + taker_off taker)
+abbrev pub disable_count : Follow → ℕ
+disable_count goes_on = 0
+disable_count marks_next = 0
+disable_count (assigned data_race) = so_often data_race
+disable_count (loaded_by size data_races taker) = up_to_last (data_races + taker_off taker)

@@ -1,9 +1,9 @@
 -- What a task keeps of what it did.
 use Rattle.std.specs.Prelude.{◌≡◌, ℕ, false, length, count_by, slice_get, slice_index, unwrap_or}
-use Rattle.litmus_meaning.specs.Task.{begins_at, has_lock}
+use Rattle.litmus_semantics.specs.Task.{begins_at, has_lock}
 use Rattle.task_plan.specs.Counts.{up_to_last}
 use Rattle.task_plan.specs.declared.progress.Progress.{Progress}
-use Rattle.written_order.specs.Standing.{Standing}
+use Rattle.program_order.specs.Standing.{Standing}
 
 -- Where the task stands so, in a program of so many variables, these are its registers, how many
 -- accesses began at each site, which locks it has, and how many of its calls had nothing to end. What

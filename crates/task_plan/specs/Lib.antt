@@ -5,3 +5,4 @@ pub mod Plans
 pub mod Keeps
 pub mod Room
 pub mod SameProgress
+pub mod task_points

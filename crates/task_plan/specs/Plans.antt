@@ -6,23 +6,23 @@ use Rattle.access_types.specs.declared.history.Bytes.{Bytes}
 use Rattle.access_types.specs.declared.kind.Claim.TheVariants.{NoAccesses, NoWrites}
 use Rattle.access_types.specs.declared.kind.Kind.{Kind}
 use Rattle.access_types.specs.declared.kind.Kind.TheVariants as kinds
-use Rattle.litmus_meaning.specs.Assignments.{compound_kind, write_kind}
-use Rattle.litmus_meaning.specs.Calls.{check_kind, checked_bytes}
-use Rattle.litmus_meaning.specs.Expressions.{pure_value}
-use Rattle.litmus_meaning.specs.Loads.{exchange_kind, fetch_kind, load_in, variable_of}
-use Rattle.litmus_meaning.specs.Task as meaning
-use Rattle.litmus_meaning.specs.Task.{access_now, bytes_in}
+use Rattle.litmus_semantics.specs.Assignments.{compound_kind, write_kind}
+use Rattle.litmus_semantics.specs.Calls.{check_kind, checked_bytes}
+use Rattle.litmus_semantics.specs.Expressions.{pure_value}
+use Rattle.litmus_semantics.specs.Loads.{exchange_kind, fetch_kind, load_in, variable_of}
+use Rattle.litmus_semantics.specs.Task as meaning
+use Rattle.litmus_semantics.specs.Task.{access_now, bytes_in}
 use Rattle.litmus_syntax.specs.Tree.{Assignment, Load}
 use Rattle.litmus_syntax.specs.Tree as tree
 use Rattle.litmus_syntax.specs.declared.statement.Call.{Call}
 use Rattle.litmus_syntax.specs.declared.statement.Call.TheVariants as calls
-use Rattle.memory_operation.specs.declared.operation.Change.TheVariants as changes
-use Rattle.memory_operation.specs.declared.operation.Operation.{Operation}
-use Rattle.memory_operation.specs.declared.operation.Operation.TheVariants as operations
+use Rattle.access_run.specs.declared.memory_operation.operation.Change.TheVariants as changes
+use Rattle.access_run.specs.declared.memory_operation.operation.Operation.{Operation}
+use Rattle.access_run.specs.declared.memory_operation.operation.Operation.TheVariants as operations
 use Rattle.task_plan.specs.Follow.{Follow, Taker, assigned, goes_on, loaded_by, marks_next, to_register}
 use Rattle.task_plan.specs.Views.{Plan}
-use Rattle.written_order.specs.Standing.{Setting, Standing}
-use Rattle.written_order.specs.WrittenOrder.{fetch_operation}
+use Rattle.program_order.specs.Standing.{Setting, Standing}
+use Rattle.program_order.specs.WrittenOrder.{fetch_operation}
 
 -- of a load, whose value is taken so, with these registers
 abbrev pub load_plan : meaning.Setting → List ℕ → Load → Taker → Plan

@@ -2,7 +2,7 @@
 use Rattle.std.specs.Prelude.{◌≡◌, List, [], ◌∷◌}
 use Rattle.access_types.specs.declared.history.Happening.{Happening}
 use Rattle.access_types.specs.declared.history.Happening.TheVariants as happenings
-use Rattle.written_order.specs.Standing.{Standing}
+use Rattle.program_order.specs.Standing.{Standing}
 
 -- the task did the same, has the same registers, and the same number of its calls had nothing to end
 pub record StandAlike (one other : Standing) : Type 0 where

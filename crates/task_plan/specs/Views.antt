@@ -3,7 +3,7 @@ use Rattle.std.specs.Prelude.{ℕ, Option}
 use Rattle.access_types.specs.declared.history.Bytes.{Bytes}
 use Rattle.access_types.specs.declared.kind.Kind.{Kind}
 use Rattle.litmus_syntax.specs.Views.{loading_of}
-use Rattle.memory_operation.specs.declared.operation.Operation.{Operation}
+use Rattle.access_run.specs.declared.memory_operation.operation.Operation.{Operation}
 use Rattle.task_plan.specs.Follow as spec
 use Rattle.task_plan.specs.Follow.{Follow}
 use Rattle.task_plan.specs.declared.follow.Taker.{Taker}

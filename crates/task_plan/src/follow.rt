@@ -2,11 +2,11 @@
 
 ghost use Rattle.std.specs.Prelude.{◌≡◌, ◌↔◌, IsTrue};
 ghost use Rattle.task_plan.specs.Follow as spec;
-ghost use Rattle.task_plan.specs.Follow.{so_many_off, taker_off};
+ghost use Rattle.task_plan.specs.Follow.{disable_count, taker_off};
 ghost use Rattle.task_plan.specs.Views.{follow_of, taker_of};
 
 use litmus_syntax::Loading;
-use same_text::is_same_loading;
+use text_walk::same_text::is_same_loading;
 
 /// What takes the value of a load.
 #[derive(Clone, Copy)]
@@ -92,7 +92,7 @@ impl<'a> Taker<'a> {
 impl<'a> Then<'a> {
     /// How often reports are turned off before the access; no more than the largest number.
     pub fn data_races(self) -> u64
-        ensures { result ≡ so_many_off (follow_of self.entry) }
+        ensures { result ≡ disable_count (follow_of self.entry) }
     {
         match self {
             Then::GoesOn | Then::MarksNext => 0,

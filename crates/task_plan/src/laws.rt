@@ -2,14 +2,14 @@
 
 ghost use Rattle.std.specs.Prelude.{◌≡◌, ◌-◌, ◌^◌, ◌<◌, ℕ, List, count_by};
 ghost use Rattle.access_types.specs.declared.history.Happening.{Happening};
-ghost use Rattle.litmus_meaning.specs.Task.{begins_at, has_lock};
+ghost use Rattle.litmus_semantics.specs.Task.{begins_at, has_lock};
 ghost use Rattle.slot_table.specs.declared.records.Record.{Record};
 ghost use Rattle.task_plan.specs.SameProgress.{AreOther, StandAlike};
 ghost use Rattle.task_plan.specs.Keeps.{Keeps};
 ghost use Rattle.task_plan.specs.Plans.{planned_access};
 ghost use Rattle.task_plan.specs.Views.{Plan};
 ghost use Rattle.task_plan.specs.declared.progress.Progress.{Progress};
-ghost use Rattle.written_order.specs.Standing.{Setting, Standing, doing};
+ghost use Rattle.program_order.specs.Standing.{Setting, Standing, doing};
 
 /// Law: of standings that are alike the same is kept, and an access that is planned there is the same.
 pub fn alike_is_kept_alike()

@@ -7,6 +7,7 @@ pub mod laws;
 pub mod locks;
 pub mod plan;
 pub mod progress;
+pub mod task_points;
 
 pub use follow::{Taker, Then};
 pub use locks::{is_lock_at, lock_number};

@@ -1,7 +1,7 @@
 //! The locks among the variables of a program.
 
 ghost use Rattle.std.specs.Prelude.{◌≡◌, ◌↔◌, IsSomeAnd, IsTrue, count_by, slice_get, take};
-ghost use Rattle.written_order.specs.Standing as spec;
+ghost use Rattle.program_order.specs.Standing as spec;
 
 use litmus_syntax::{Contents, Variable};
 

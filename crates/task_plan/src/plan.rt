@@ -2,29 +2,29 @@
 
 ghost use Rattle.std.specs.Prelude.{◌≡◌, None, option_map};
 ghost use Rattle.access_types.specs.declared.kind.Kind.TheVariants as kinds;
-ghost use Rattle.litmus_meaning.specs.Assignments as assignments;
-ghost use Rattle.litmus_meaning.specs.Calls.{check_kind, checked_bytes};
-ghost use Rattle.litmus_meaning.specs.Expressions as expressions;
-ghost use Rattle.litmus_meaning.specs.Loads as loads;
-ghost use Rattle.litmus_meaning.specs.Task as meaning;
+ghost use Rattle.litmus_semantics.specs.Assignments as assignments;
+ghost use Rattle.litmus_semantics.specs.Calls.{check_kind, checked_bytes};
+ghost use Rattle.litmus_semantics.specs.Expressions as expressions;
+ghost use Rattle.litmus_semantics.specs.Loads as loads;
+ghost use Rattle.litmus_semantics.specs.Task as meaning;
 ghost use Rattle.litmus_syntax.specs.Tree.{to_register};
 ghost use Rattle.litmus_syntax.specs.Views.{assignment_of, expression_of, fetch_of, load_of, loading_of, pure_of};
-ghost use Rattle.memory_operation.specs.declared.operation.Change.TheVariants as changes;
-ghost use Rattle.memory_operation.specs.declared.operation.Operation.TheVariants as operations;
-ghost use Rattle.program_layout.specs.Lays.{Lays};
+ghost use Rattle.access_run.specs.declared.memory_operation.operation.Change.TheVariants as changes;
+ghost use Rattle.access_run.specs.declared.memory_operation.operation.Operation.TheVariants as operations;
+ghost use Rattle.prepared_program.specs.program_layout.Lays.{Lays};
 ghost use Rattle.task_plan.specs.Follow.{goes_on};
 ghost use Rattle.task_plan.specs.Plans.{assignment_plan, call_plan, check_plan, load_plan, variable_plan};
 ghost use Rattle.task_plan.specs.Views.{plan_of, taker_of};
-ghost use Rattle.written_order.specs.WrittenOrder.{fetch_operation};
+ghost use Rattle.program_order.specs.WrittenOrder.{fetch_operation};
 
 use crate::follow::{Taker, Then};
+use access_run::memory_operation::{Change, Operation};
 use access_types::{Bytes, Claim, Kind, Operation as Touch};
-use litmus_meaning::pure_value;
+use litmus_semantics::pure_value;
 use litmus_syntax::{
     Assignment, Call, Expression, Fetch, Load, Loading, Pure, ReadForm, WriteForm,
 };
-use memory_operation::{Change, Operation};
-use program_layout::Layout;
+use prepared_program::program_layout::Layout;
 
 /// An access of a statement: its bytes, its kind and its mask, what it does to its bytes, if it
 /// touches them, and what follows on it.

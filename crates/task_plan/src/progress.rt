@@ -3,15 +3,15 @@
 ghost use Rattle.std.specs.Prelude.{◌≡◌, ◌<◌, ℕ, List, [], ◌∷◌, true, IfOk, IsTrue, if◌then◌else◌, count_by};
 ghost use Rattle.access_types.specs.Access.{Access};
 ghost use Rattle.access_types.specs.declared.history.Happening.TheVariants.{Begin, Lock, Unlock};
-ghost use Rattle.litmus_meaning.specs.Task.{begins_at, has_lock};
+ghost use Rattle.litmus_semantics.specs.Task.{begins_at, has_lock};
 ghost use Rattle.slot_table.specs.declared.records.Record.{Record};
 ghost use Rattle.task_plan.specs.Counts.{up_to_last};
 ghost use Rattle.task_plan.specs.Keeps.{Keeps};
 ghost use Rattle.task_plan.specs.Room.{room_of};
-ghost use Rattle.written_order.specs.Standing.{Standing, counting, doing, registered};
-ghost use Rattle.written_order.specs.WrittenOrder.{at_first};
+ghost use Rattle.program_order.specs.Standing.{Standing, counting, doing, registered};
+ghost use Rattle.program_order.specs.WrittenOrder.{at_first};
 
-use list_copy::copied;
+use access_types::list_copy::copied;
 use std::alloc::{AllocError, Global};
 
 /// A task has no more sites than this, and tickets tell so many accesses at one apart.

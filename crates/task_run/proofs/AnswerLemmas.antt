@@ -9,10 +9,10 @@ use Rattle.access_run.proofs.WholeLemmas.{none_more, whole_now}
 use Rattle.access_types.specs.Access as access
 use Rattle.access_types.specs.declared.history.Happening.{Happening}
 use Rattle.access_types.specs.declared.history.Happening.TheVariants as happenings
-use Rattle.memory_operation.specs.Locks.{TakesLock}
-use Rattle.memory_operation.specs.declared.effect.Effect.{Effect}
-use Rattle.memory_operation.specs.declared.operation.Operation.{Operation}
-use Rattle.memory_operation.specs.declared.operation.Operation.TheVariants as operations
+use Rattle.access_run.specs.memory_operation.Locks.{TakesLock}
+use Rattle.access_run.specs.declared.memory_operation.effect.Effect.{Effect}
+use Rattle.access_run.specs.declared.memory_operation.operation.Operation.{Operation}
+use Rattle.access_run.specs.declared.memory_operation.operation.Operation.TheVariants as operations
 use Rattle.setup_access.specs.Check.{Check, Close, Passes}
 use Rattle.setup_access.specs.Checker.{Checks, Closes, Does, Doing, StageLeft}
 use Rattle.setup_access.specs.Fallen.{followed}
@@ -36,8 +36,8 @@ use Rattle.task_run.specs.Stands.{Counts, IsOf, Stands}
 use Rattle.task_run.specs.declared.machine.Machine.{Machine}
 use Rattle.text_walk.specs.Left.{WalkLeft}
 use Rattle.text_walk.specs.declared.walk.Walk.{Walk}
-use Rattle.written_order.specs.Access.{operated}
-use Rattle.written_order.specs.Standing.{BeginsNow, IsDisabled, IsLockAt, Setting, Standing, checks_of, doing, lock_number}
+use Rattle.program_order.specs.Access.{operated}
+use Rattle.program_order.specs.Standing.{BeginsNow, IsDisabled, IsLockAt, Setting, Standing, checks_of, doing, lock_number}
 
 -- only the checker is another, and the access whose begin is the next step
 abbrev pub OtherChecker : Machine → Machine → Type 0

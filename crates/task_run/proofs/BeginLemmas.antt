@@ -13,13 +13,13 @@ use Rattle.access_types.specs.declared.history.Happening.{Happening}
 use Rattle.access_types.specs.declared.history.Happening.TheVariants as happenings
 use Rattle.access_types.specs.declared.history.Mark.TheVariants as marks
 use Rattle.access_types.specs.declared.kind.Kind.{Kind}
-use Rattle.litmus_meaning.specs.Calls.{scoped_access}
-use Rattle.litmus_meaning.specs.Task as meaning
-use Rattle.litmus_meaning.specs.Task.{begins_at, has_lock}
+use Rattle.litmus_semantics.specs.Calls.{scoped_access}
+use Rattle.litmus_semantics.specs.Task as meaning
+use Rattle.litmus_semantics.specs.Task.{begins_at, has_lock}
 use Rattle.litmus_syntax.specs.Tree as tree
 use Rattle.litmus_syntax.specs.declared.statement.Call.TheVariants as calls
-use Rattle.memory_operation.specs.LockLeads.{LockLeads}
-use Rattle.memory_operation.specs.declared.lock.LockWait.{LockWait}
+use Rattle.access_run.specs.memory_operation.LockLeads.{LockLeads}
+use Rattle.access_run.specs.declared.memory_operation.lock.LockWait.{LockWait}
 use Rattle.setup_access.specs.Check.{ChecksOnce, Close, Fallen, Pass, Passes, Rechecks, fallen_of}
 use Rattle.setup_access.specs.Checker.{Checks, Closes}
 use Rattle.setup_access.specs.Leads as checks
@@ -34,7 +34,7 @@ use Rattle.slot_table.specs.declared.step.Step.TheVariants.{Clock}
 use Rattle.task_context.specs.History.{Follows}
 use Rattle.task_plan.proofs.KeepsLemmas.{begun_still, marks_other}
 use Rattle.task_plan.specs.Counts.{up_to_last}
-use Rattle.task_plan.specs.Follow.{Follow, assigned, condition, goes_on, loaded_by, marks_next, nobody, so_many_off, so_often, to_register}
+use Rattle.task_plan.specs.Follow.{Follow, assigned, condition, goes_on, loaded_by, marks_next, nobody, disable_count, so_often, to_register}
 use Rattle.task_plan.specs.Keeps.{Keeps}
 use Rattle.task_plan.specs.Plans.{planned_access}
 use Rattle.task_plan.specs.Views.{Plan, follow_of}
@@ -45,7 +45,7 @@ use Rattle.task_run.proofs.CountsLemmas.{history_on}
 use Rattle.task_run.proofs.EndLemmas.{begins_one}
 use Rattle.task_run.proofs.FollowLemmas.{ends_standing}
 use Rattle.task_run.proofs.PartLemmas.{lock_left, no_unlock_left, unlock_left}
-use Rattle.task_run.proofs.StandsLemmas.{stands_as, stands_keeping}
+use Rattle.task_run.proofs.StandsLemmas.{state_eq, stands_keeping}
 use Rattle.task_run.proofs.ToldLemmas.{before_computes, counts_now, registers_more}
 use Rattle.task_run.specs.Agrees.{Agrees, IsFit}
 use Rattle.task_run.specs.Due.{PartBegins, StatementDue}
@@ -56,12 +56,12 @@ use Rattle.task_run.specs.Stops.{Stops}
 use Rattle.task_run.specs.Told.{nothing}
 use Rattle.task_run.specs.declared.machine.Machine.{Machine}
 use Rattle.task_run.specs.declared.stage.Stage.TheVariants as stages
-use Rattle.text_bounds.specs.Scopes.{is_scoped}
+use Rattle.program_order.specs.text_bounds.Scopes.{is_scoped}
 use Rattle.text_walk.specs.Left.{DueLeft}
 use Rattle.text_walk.specs.declared.due.Due.{Due}
 use Rattle.text_walk.specs.declared.due.Due.TheVariants as dues
 use Rattle.text_walk.specs.declared.walk.Walk.{Walk}
-use Rattle.written_order.specs.Standing.{BeginsNow, Setting, Standing, checks_of, coming, counting, doing, is_lock, lock_number, moments, registered}
+use Rattle.program_order.specs.Standing.{BeginsNow, Setting, Standing, checks_of, coming, counting, doing, is_lock, lock_number, moments, registered}
 
 -- what is due is the part itself, or the text is over
 pub begins_stopped : (s : Setting) (due : Due) (machine : Machine) → Stops s (DueLeft s due machine.walk) machine
@@ -147,8 +147,8 @@ pub few_rep : (kept count : ℕ) → kept ≡ up_to_last count → kept < 256 �
 few_rep kept count is few = omega (arith, is, few)
 
 -- reports are off so often before an access
-pub before_is : (follow : Follow) (before : Standing) (later : List Record) → so_many_off follow ≤ 2 ^ 32
-    → (before_access follow before later).progress ≡ (disabled (so_many_off follow) before later).progress
+pub before_is : (follow : Follow) (before : Standing) (later : List Record) → disable_count follow ≤ 2 ^ 32
+    → (before_access follow before later).progress ≡ (disabled (disable_count follow) before later).progress
 before_is goes_on before later few = ap (λ (d : List Happening). record before.progress { did = d }) (sym (append-nil before.progress.did))
 before_is marks_next before later few = ap (λ (d : List Happening). record before.progress { did = d }) (sym (append-nil before.progress.did))
 before_is (assigned data_race) before later few = refl
@@ -199,10 +199,10 @@ planned_still s plan site count before after later is =
 
 -- an access begins
 module _ (s : Setting) (site : ℕ) (plan : Plan) (a : access.Access) (old off : Machine) (progress : Progress) (checker : Checker) (begun : Begun) (run : AccessRun)
-    (kept : Then) (is_kept : follow_of kept ≡ plan.follow) (fit : IsFit plan.follow plan.operation) (few : so_many_off plan.follow ≤ 2 ^ 32) (walk : off.walk ≡ old.walk)
+    (kept : Then) (is_kept : follow_of kept ≡ plan.follow) (fit : IsFit plan.follow plan.operation) (few : disable_count plan.follow ≤ 2 ^ 32) (walk : off.walk ≡ old.walk)
     (at_site : a.site ≡ site) (in_limits : IsInLimits a) (of_access : begun.access ≡ a)
     (is_planned : (before : Standing) → Stands s before old → a ≡ planned_access s before plan site)
-    (is_off : (before : Standing) (later : List Record) → Stands s before old → Stands s (disabled (so_many_off plan.follow) before later) off)
+    (is_off : (before : Standing) (later : List Record) → Stands s before old → Stands s (disabled (disable_count plan.follow) before later) off)
     (cell : HasCell (checks_of s) a plan.operation)
     (counts_it : (variables : ℕ) (before : Standing) (later : List Record) → Keeps variables before off.progress → Keeps variables (doing before later (happenings.Begin a ∷ [])) progress)
     (decides : (scopes : List Begun) (asked : ℕ) (last : Option Begun) → checks.Rests (checks_of s) scopes asked last off.checker → IsOwn (checks_of s) a
@@ -230,11 +230,11 @@ module _ (s : Setting) (site : ℕ) (plan : Plan) (a : access.Access) (old off :
     where
       a_now : (before : Standing) (later : List Record) → Stands s before old → a ≡ planned_access s (before_access plan.follow before later) plan site
       a_now before later stands = is_planned before stands
-          ∙ planned_still s plan site (so_many_off plan.follow) before (before_access plan.follow before later) later (before_is plan.follow before later few)
+          ∙ planned_still s plan site (disable_count plan.follow) before (before_access plan.follow before later) later (before_is plan.follow before later few)
 
       now_stands : (before : Standing) (later : List Record) → Stands s before old → Stands s (before_access plan.follow before later) off
       now_stands before later stands =
-          stands_as s (disabled (so_many_off plan.follow) before later) (before_access plan.follow before later) off (before_is plan.follow before later few)
+          state_eq s (disabled (disable_count plan.follow) before later) (before_access plan.follow before later) off (before_is plan.follow before later few)
           (before_unbalanced plan.follow before later) (before_scopes plan.follow before later) (before_asked plan.follow before later) (is_off before later stands)
 
       own : (before : Standing) (later : List Record) → Stands s before old → IsOwn (checks_of s) a

@@ -10,8 +10,8 @@ use Rattle.task_run.specs.declared.machine.Machine.{Machine}
 use Rattle.task_run.specs.declared.stage.Stage.{Stage}
 use Rattle.text_walk.proofs.StepsLemmas.{through}
 use Rattle.text_walk.specs.Left.{Same, WalkLeft}
-use Rattle.written_order.specs.Standing.{Setting, Standing}
-use Rattle.written_order.specs.WrittenOrder.{Steps}
+use Rattle.program_order.specs.Standing.{Setting, Standing}
+use Rattle.program_order.specs.WrittenOrder.{Steps}
 
 -- where a task stands is no matter of its walk
 pub walked : (s : Setting) (before : Standing) (old new : Machine) → new ≡ record old { walk = new.walk } → Stands s before old

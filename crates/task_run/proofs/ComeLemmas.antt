@@ -10,8 +10,8 @@ use Rattle.access_run.specs.Whole.{IsWhole, NoneWhole}
 use Rattle.access_run.specs.declared.access.AccessRun.{AccessRun}
 use Rattle.access_run.specs.declared.stage.Stage.{Stage}
 use Rattle.access_run.specs.declared.stage.Stage.TheVariants as stages
-use Rattle.memory_operation.specs.declared.effect.Effect.{Effect}
-use Rattle.memory_operation.specs.declared.operation.Operation.{Operation}
+use Rattle.access_run.specs.declared.memory_operation.effect.Effect.{Effect}
+use Rattle.access_run.specs.declared.memory_operation.operation.Operation.{Operation}
 use Rattle.setup_access.proofs.FallLemmas.{stage_come}
 use Rattle.setup_access.proofs.LeadsLemmas.{outcomes_followed}
 use Rattle.setup_access.specs.Check.{Check, Fallen, Passes}

@@ -4,14 +4,14 @@ use Rattle.access_run.proofs.Copies.{accesses_lead}
 use Rattle.access_types.specs.Access.{Access}
 use Rattle.access_types.specs.declared.history.Happening.TheVariants as happenings
 use Rattle.access_types.specs.declared.history.Mark.TheVariants as marks
-use Rattle.litmus_meaning.specs.Expressions.{loading_value}
-use Rattle.litmus_meaning.specs.Meaning.{Chooses}
-use Rattle.litmus_meaning.specs.Values.{sign_extended}
+use Rattle.litmus_semantics.specs.Expressions.{loading_value}
+use Rattle.litmus_semantics.specs.Meaning.{Chooses}
+use Rattle.litmus_semantics.specs.Values.{sign_extended}
 use Rattle.litmus_syntax.specs.Tree.{Block}
-use Rattle.memory_operation.specs.Locks.{TakesLock}
-use Rattle.memory_operation.specs.declared.effect.Effect.{Effect}
-use Rattle.program_layout.specs.Lays.{Lays}
-use Rattle.program_layout.specs.declared.layout.Layout.{Layout}
+use Rattle.access_run.specs.memory_operation.Locks.{TakesLock}
+use Rattle.access_run.specs.declared.memory_operation.effect.Effect.{Effect}
+use Rattle.prepared_program.specs.program_layout.Lays.{Lays}
+use Rattle.prepared_program.specs.declared.program_layout.layout.Layout.{Layout}
 use Rattle.setup_access.proofs.Copies as checker
 use Rattle.setup_access.specs.Checker.{Checks, Closes}
 use Rattle.setup_access.specs.Records.{MakesDone}
@@ -32,9 +32,9 @@ use Rattle.task_run.specs.declared.run.TaskRun.{TaskRun}
 use Rattle.task_run.specs.declared.stage.Stage.{Stage}
 use Rattle.text_walk.proofs.Copies as walk
 use Rattle.text_walk.specs.Left.{BodyLeft, ClosesNewest, WalkLeft}
-use Rattle.written_order.specs.Access.{Makes}
-use Rattle.written_order.specs.Standing.{IsLockAt, Setting, Standing, checks_of, doing, lock_number, moments, registered}
-use Rattle.written_order.specs.WrittenOrder.{OpensScope, Steps, StepsOfBlock, at_first}
+use Rattle.program_order.specs.Access.{Makes}
+use Rattle.program_order.specs.Standing.{IsLockAt, Setting, Standing, checks_of, doing, lock_number, moments, registered}
+use Rattle.program_order.specs.WrittenOrder.{OpensScope, Steps, StepsOfBlock, at_first}
 
 module _ (machine copy : Machine) (is : IsCopy machine copy) (s : Setting) where
   walk_left : WalkLeft s machine.walk ≡ WalkLeft s copy.walk

@@ -5,12 +5,12 @@ use Rattle.access_types.specs.Access.{Access}
 use Rattle.access_types.specs.History.{History}
 use Rattle.access_types.specs.declared.history.Happening.{Happening}
 use Rattle.access_types.specs.declared.history.Happening.TheVariants as happenings
-use Rattle.litmus_meaning.specs.Task as meaning
-use Rattle.litmus_meaning.specs.Task.{begins_at, has_lock}
-use Rattle.memory_operation.specs.Effects.{moments_of, read_moments, write_moments}
-use Rattle.memory_operation.specs.declared.effect.Effect.{Effect}
-use Rattle.memory_operation.specs.declared.operation.Operation.{Operation}
-use Rattle.memory_operation.specs.declared.operation.Operation.TheVariants as operations
+use Rattle.litmus_semantics.specs.Task as meaning
+use Rattle.litmus_semantics.specs.Task.{begins_at, has_lock}
+use Rattle.access_run.specs.memory_operation.Effects.{moments_of, read_moments, write_moments}
+use Rattle.access_run.specs.declared.memory_operation.effect.Effect.{Effect}
+use Rattle.access_run.specs.declared.memory_operation.operation.Operation.{Operation}
+use Rattle.access_run.specs.declared.memory_operation.operation.Operation.TheVariants as operations
 use Rattle.setup_access.specs.Shown.{context_of}
 use Rattle.slot_table.specs.declared.records.Record.{Record}
 use Rattle.task_context.specs.Context.{Context}
@@ -20,8 +20,8 @@ use Rattle.task_plan.proofs.KeepsLemmas.{keeps_alike, keeps_on}
 use Rattle.task_plan.specs.SameProgress.{AreOther, IsOther}
 use Rattle.task_run.specs.Stands.{Counts}
 use Rattle.task_run.specs.declared.machine.Machine.{Machine}
-use Rattle.written_order.specs.Access.{operated}
-use Rattle.written_order.specs.Standing.{Setting, Standing, doing}
+use Rattle.program_order.specs.Access.{operated}
+use Rattle.program_order.specs.Standing.{Setting, Standing, doing}
 
 -- what a task did, as moments
 abbrev pub history_of : ℕ → List Happening → History

@@ -8,10 +8,10 @@ use Rattle.access_run.specs.Whole.{IsWhole}
 use Rattle.access_run.proofs.CheckFronts.{check, close, framed_checks, makes_access}
 use Rattle.access_types.specs.Access as access
 use Rattle.access_types.specs.declared.history.Happening.TheVariants.{Begin, End}
-use Rattle.memory_operation.specs.Locks.{TakesLock}
-use Rattle.memory_operation.specs.Operations.{Operates}
-use Rattle.memory_operation.specs.declared.effect.Effect.{Effect}
-use Rattle.memory_operation.specs.declared.operation.Operation.{Operation}
+use Rattle.access_run.specs.memory_operation.Locks.{TakesLock}
+use Rattle.access_run.specs.memory_operation.Operations.{Operates}
+use Rattle.access_run.specs.declared.memory_operation.effect.Effect.{Effect}
+use Rattle.access_run.specs.declared.memory_operation.operation.Operation.{Operation}
 use Rattle.setup_access.specs.Check.{Check, Close, Fallen, Passes}
 use Rattle.setup_access.specs.declared.begun.Begun.{Begun}
 use Rattle.setup_access.specs.declared.checker.Checker.{Checker}
@@ -21,9 +21,9 @@ use Rattle.slot_table.specs.declared.step.Answer.{Answer}
 use Rattle.slot_table.specs.declared.step.Answer.TheVariants as answers
 use Rattle.setup_access.specs.Records.{OnFlag}
 use Rattle.text_walk.specs.Left.{ClosesNewest}
-use Rattle.written_order.specs.Access.{Makes, operated}
-use Rattle.written_order.specs.Standing.{BeginsNow, IsDisabled, Setting, Standing, checks_of, doing}
-use Rattle.written_order.specs.WrittenOrder.{OpensScope}
+use Rattle.program_order.specs.Access.{Makes, operated}
+use Rattle.program_order.specs.Standing.{BeginsNow, IsDisabled, Setting, Standing, checks_of, doing}
+use Rattle.program_order.specs.WrittenOrder.{OpensScope}
 
 abbrev pub passes_of : ℕ → List Fallen → Passes
 passes_of asked outcomes = record { outcomes = outcomes; asked = asked }

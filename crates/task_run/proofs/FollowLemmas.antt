@@ -2,11 +2,11 @@
 use Rattle.std.proofs.Common.{◌≡◌, ◌≢◌, ◌↔◌, ◌∙◌, ℕ, Bool, List, [], ◌∷◌, None, Option, Some, inl, inr, refl, subst, sym}
 use Rattle.access_types.specs.declared.history.Happening.TheVariants as happenings
 use Rattle.access_types.specs.declared.history.Mark.TheVariants as marks
-use Rattle.litmus_meaning.specs.Expressions.{loading_value}
-use Rattle.litmus_meaning.specs.Meaning.{Chooses}
-use Rattle.litmus_meaning.specs.Values.{sign_extended}
+use Rattle.litmus_semantics.specs.Expressions.{loading_value}
+use Rattle.litmus_semantics.specs.Meaning.{Chooses}
+use Rattle.litmus_semantics.specs.Values.{sign_extended}
 use Rattle.litmus_syntax.specs.Tree.{Loading}
-use Rattle.memory_operation.specs.declared.effect.Effect.{Effect}
+use Rattle.access_run.specs.declared.memory_operation.effect.Effect.{Effect}
 use Rattle.slot_table.specs.declared.records.Record.{Record}
 use Rattle.task_plan.specs.Follow.{Taker, assigned, condition, goes_on, loaded_by, marks_next, nobody, so_often, to_register}
 use Rattle.task_run.proofs.ToldLemmas.{computes_both, does_now, marks_more, marks_now, registers_more}
@@ -19,8 +19,8 @@ use Rattle.task_run.specs.declared.stage.Stage.{Stage}
 use Rattle.text_walk.proofs.StepsLemmas.{through}
 use Rattle.text_walk.specs.Left.{BodyLeft, Same, WalkLeft}
 use Rattle.text_walk.specs.declared.walk.Walk.{Walk}
-use Rattle.written_order.specs.Standing.{Setting, Standing, doing, registered}
-use Rattle.written_order.specs.WrittenOrder.{Steps}
+use Rattle.program_order.specs.Standing.{Setting, Standing, doing, registered}
+use Rattle.program_order.specs.WrittenOrder.{Steps}
 
 -- what is left is the same in another walk that is the same
 pub walk_as : (s : Setting) (walk other : Walk) → other ≡ walk → (before : Standing) (records : List Record) (after : Standing) (rest : List Record)

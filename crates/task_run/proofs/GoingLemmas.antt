@@ -12,17 +12,17 @@ use Rattle.access_run.specs.declared.stage.Stage.TheVariants.{Check, End, Operat
 use Rattle.access_types.specs.Sites.{AccessMap, map_of}
 use Rattle.litmus_syntax.specs.Limits.{BlockScopes, block_rises}
 use Rattle.litmus_syntax.specs.Tree.{Block}
-use Rattle.memory_operation.proofs.LeadsLemmas as operations_lemmas
-use Rattle.memory_operation.proofs.LockLemmas.{only_try}
-use Rattle.memory_operation.specs.Leads as operations
-use Rattle.memory_operation.specs.Operations.{Operates}
-use Rattle.memory_operation.specs.Stages as operation_stages
-use Rattle.memory_operation.specs.Values.{new_value, with_value}
-use Rattle.memory_operation.specs.declared.lock.LockWait.{LockWait}
-use Rattle.memory_operation.specs.declared.operation.Operation.{Operation}
-use Rattle.memory_operation.specs.declared.run.OperationRun.{OperationRun}
-use Rattle.memory_operation.specs.declared.stage.Stage as operating
-use Rattle.memory_operation.specs.declared.stage.Stage.TheVariants as operating_stages
+use Rattle.access_run.proofs.memory_operation.LeadsLemmas as operations_lemmas
+use Rattle.access_run.proofs.memory_operation.LockLemmas.{only_try}
+use Rattle.access_run.specs.memory_operation.Leads as operations
+use Rattle.access_run.specs.memory_operation.Operations.{Operates}
+use Rattle.access_run.specs.memory_operation.Stages as operation_stages
+use Rattle.access_run.specs.memory_operation.Values.{new_value, with_value}
+use Rattle.access_run.specs.declared.memory_operation.lock.LockWait.{LockWait}
+use Rattle.access_run.specs.declared.memory_operation.operation.Operation.{Operation}
+use Rattle.access_run.specs.declared.memory_operation.run.OperationRun.{OperationRun}
+use Rattle.access_run.specs.declared.memory_operation.stage.Stage as operating
+use Rattle.access_run.specs.declared.memory_operation.stage.Stage.TheVariants as operating_stages
 use Rattle.setup_access.proofs.NextLemmas.{complete_at_rest, only_step}
 use Rattle.setup_access.specs.Checker.{Checks, Closes, Doing}
 use Rattle.setup_access.specs.Kept.{setting_with}
@@ -50,10 +50,10 @@ use Rattle.task_run.specs.Says.{IsGoing, IsGoingIn, Says, StageSays}
 use Rattle.task_run.specs.declared.run.TaskRun.{TaskRun}
 use Rattle.task_run.specs.declared.stage.Stage.{Stage}
 use Rattle.task_run.specs.declared.stage.Stage.TheVariants as stages
-use Rattle.written_order.specs.Standing.{Setting, Standing, checks_of, is_lock, lock_number}
-use Rattle.written_order.specs.Waits as waits
-use Rattle.written_order.specs.Waits.{IsTooMuch, OnlyStep}
-use Rattle.written_order.specs.WrittenOrder.{SpellsAll, WrittenOrder}
+use Rattle.program_order.specs.Standing.{Setting, Standing, checks_of, is_lock, lock_number}
+use Rattle.program_order.specs.Waits as waits
+use Rattle.program_order.specs.Waits.{IsTooMuch, OnlyStep}
+use Rattle.program_order.specs.WrittenOrder.{SpellsAll, WrittenOrder}
 
 -- a check makes the same step whatever accesses the tickets name
 same_step : (kept : kept_settings.Setting) (begun : Begun) (pass : Pass) (one other : AccessMap)

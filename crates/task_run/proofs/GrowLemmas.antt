@@ -4,13 +4,13 @@ use Rattle.std.proofs.lemmas.List.{append-nil}
 use Rattle.access_types.specs.Access as access
 use Rattle.access_types.specs.declared.history.Happening.{Happening}
 use Rattle.access_types.specs.declared.history.Happening.TheVariants as happenings
-use Rattle.litmus_meaning.specs.Meaning.{Chooses}
+use Rattle.litmus_semantics.specs.Meaning.{Chooses}
 use Rattle.litmus_syntax.specs.Tree.{Block}
 use Rattle.litmus_syntax.specs.Views.{block_of}
-use Rattle.memory_operation.specs.Effects.{moments_of, read_moments, write_moments}
-use Rattle.memory_operation.specs.declared.effect.Effect.{Effect}
-use Rattle.memory_operation.specs.declared.operation.Operation.{Operation}
-use Rattle.memory_operation.specs.declared.operation.Operation.TheVariants as operations
+use Rattle.access_run.specs.memory_operation.Effects.{moments_of, read_moments, write_moments}
+use Rattle.access_run.specs.declared.memory_operation.effect.Effect.{Effect}
+use Rattle.access_run.specs.declared.memory_operation.operation.Operation.{Operation}
+use Rattle.access_run.specs.declared.memory_operation.operation.Operation.TheVariants as operations
 use Rattle.setup_access.specs.declared.begun.Begun.{Begun}
 use Rattle.slot_table.specs.declared.records.Record.{Record}
 use Rattle.text_walk.specs.Left.{BlocksLeft, BodyLeft, Closes, ClosesNewest, EndLeft, NothingLeft, OpenLeft, OutsideLeft, Then, WalkLeft}
@@ -19,11 +19,11 @@ use Rattle.text_walk.specs.declared.block.AtEnd.TheVariants as ends
 use Rattle.text_walk.specs.declared.block.Choice.{Choice}
 use Rattle.text_walk.specs.declared.block.OpenBlock.{OpenBlock}
 use Rattle.text_walk.specs.declared.walk.Walk.{Walk}
-use Rattle.written_order.specs.Access.{Makes, operated}
-use Rattle.written_order.specs.Standing.{Setting, Standing, counting, doing}
-use Rattle.written_order.specs.WrittenOrder.{ClosesScope, OpensScope, Steps, StepsOfBlock, StepsOfTurns}
-use Rattle.written_order.proofs.Induction.{Kept, by_block}
-use Rattle.written_order.proofs.WayLemmas.{Begins}
+use Rattle.program_order.specs.Access.{Makes, operated}
+use Rattle.program_order.specs.Standing.{Setting, Standing, counting, doing}
+use Rattle.program_order.specs.WrittenOrder.{ClosesScope, OpensScope, Steps, StepsOfBlock, StepsOfTurns}
+use Rattle.program_order.proofs.Induction.{Kept, by_block}
+use Rattle.program_order.proofs.WayLemmas.{Begins}
 
 pub begins_same : (did all : List Happening) → all ≡ did → Begins did all
 begins_same did all is = ([], is ∙ sym (append-nil did))

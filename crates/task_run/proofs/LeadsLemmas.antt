@@ -15,8 +15,8 @@ use Rattle.task_run.specs.declared.run.TaskRun.{TaskRun}
 use Rattle.text_walk.proofs.StepsLemmas.{through}
 use Rattle.text_walk.specs.Left.{WalkLeft}
 use Rattle.text_walk.specs.declared.walk.Walk.{Walk}
-use Rattle.written_order.specs.Standing.{Setting, Standing}
-use Rattle.written_order.specs.WrittenOrder.{StepsOfBlock, at_first}
+use Rattle.program_order.specs.Standing.{Setting, Standing}
+use Rattle.program_order.specs.WrittenOrder.{StepsOfBlock, at_first}
 
 module _ (s : Setting) (registers : ℕ) (body : Block) (records : List Record) (old : TaskRun) (leads : Leads s registers body records old)
     (part : Part) (is : leads.part ≡ part) where

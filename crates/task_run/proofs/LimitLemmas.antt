@@ -3,7 +3,7 @@ use Rattle.std.proofs.Common.{◌≡◌, ◌<◌, ◌≤◌, All, ℕ, zero, suc
 use Rattle.std.proofs.lemmas.List.{length-map}
 use Rattle.std.proofs.lemmas.List.Elements.{All-head, All-tail}
 use Rattle.std.proofs.lemmas.Option.{slice_get_within}
-use Rattle.litmus_meaning.proofs.LimitLemmas.{few_sites}
+use Rattle.litmus_semantics.proofs.LimitLemmas.{few_sites}
 use Rattle.litmus_syntax.specs.Limits.{KeepsLimits, TaskKeepsLimits}
 use Rattle.litmus_syntax.specs.Sites.{sites_of}
 use Rattle.litmus_syntax.specs.Views.{block_of, program_of, task_of}

@@ -1,23 +1,23 @@
 -- A wait that has had so many vain tries goes on with a step that comes after as many, by the records alone.
 use Rattle.std.proofs.Common.{◌≡◌, ◌<◌, ◌≤◌, ◌+◌, ◌∙◌, ◌++◌, ◌∷◌, [], ℕ, zero, suc, Bool, true, false, IsSomeAnd, List, MatchBool, None, Option, Some, ap, arith, eq-eqb, le_refl, refl, subst, sym, if◌then◌else◌}
 use Rattle.access_types.specs.Access.{Access}
-use Rattle.memory_operation.proofs.LeadsLemmas.{over_is_whole}
-use Rattle.memory_operation.specs.LockLeads.{LockLeads, LockLeft}
-use Rattle.memory_operation.specs.Leads as operations
-use Rattle.memory_operation.specs.Locks.{TakesLock}
-use Rattle.memory_operation.specs.Operations.{Exchanges, OnExchange, OperatesIn}
-use Rattle.memory_operation.specs.Stages as operation_stages
-use Rattle.memory_operation.specs.Values.{is_wanted, new_value, sum_of, with_value}
-use Rattle.memory_operation.specs.Waits as waits
-use Rattle.memory_operation.specs.declared.effect.Effect.{Effect}
-use Rattle.memory_operation.specs.declared.lock.LockWait.{LockWait}
-use Rattle.memory_operation.specs.declared.operation.Change.{Change}
-use Rattle.memory_operation.specs.declared.operation.Change.TheVariants as changes
-use Rattle.memory_operation.specs.declared.operation.Operation.{Operation}
-use Rattle.memory_operation.specs.declared.operation.Operation.TheVariants as kinds
-use Rattle.memory_operation.specs.declared.run.OperationRun.{OperationRun}
-use Rattle.memory_operation.specs.declared.stage.Stage as operating
-use Rattle.memory_operation.specs.declared.stage.Stage.TheVariants as operating_stages
+use Rattle.access_run.proofs.memory_operation.LeadsLemmas.{over_is_whole}
+use Rattle.access_run.specs.memory_operation.LockLeads.{LockLeads, LockLeft}
+use Rattle.access_run.specs.memory_operation.Leads as operations
+use Rattle.access_run.specs.memory_operation.Locks.{TakesLock}
+use Rattle.access_run.specs.memory_operation.Operations.{Exchanges, OnExchange, OperatesIn}
+use Rattle.access_run.specs.memory_operation.Stages as operation_stages
+use Rattle.access_run.specs.memory_operation.Values.{is_wanted, new_value, sum_of, with_value}
+use Rattle.access_run.specs.memory_operation.Waits as waits
+use Rattle.access_run.specs.declared.memory_operation.effect.Effect.{Effect}
+use Rattle.access_run.specs.declared.memory_operation.lock.LockWait.{LockWait}
+use Rattle.access_run.specs.declared.memory_operation.operation.Change.{Change}
+use Rattle.access_run.specs.declared.memory_operation.operation.Change.TheVariants as changes
+use Rattle.access_run.specs.declared.memory_operation.operation.Operation.{Operation}
+use Rattle.access_run.specs.declared.memory_operation.operation.Operation.TheVariants as kinds
+use Rattle.access_run.specs.declared.memory_operation.run.OperationRun.{OperationRun}
+use Rattle.access_run.specs.declared.memory_operation.stage.Stage as operating
+use Rattle.access_run.specs.declared.memory_operation.stage.Stage.TheVariants as operating_stages
 use Rattle.setup_access.proofs.DisciplineLemmas.{on_flag, on_word}
 use Rattle.setup_access.specs.Checker.{Doing}
 use Rattle.setup_access.specs.Leads as checks
@@ -43,7 +43,7 @@ use Rattle.slot_table.specs.declared.step.Step.{Step}
 use Rattle.slot_table.specs.declared.step.Step.TheVariants.{CellExchange, CellLoad, Clear, Clock, Consume, Insert, Load, LockStore, LockTry, Name, PairLoad, Remove, Tell, TryConsume}
 use Rattle.task_run.proofs.PairLemmas.{AreOfOne, GoesOnAt, IsOfIndex, StartsAt}
 use Rattle.task_run.proofs.TriesLemmas.{exchange_ends, onto}
-use Rattle.written_order.specs.Waits.{IsTooMuch, vain_tries, is_tried_again}
+use Rattle.program_order.specs.Waits.{IsTooMuch, vain_tries, is_tried_again}
 
 -- the records go on with a load of the pair at this index
 abbrev pub LoadsNext : ℕ → List Record → Type 0

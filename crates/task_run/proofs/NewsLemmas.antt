@@ -9,8 +9,8 @@ use Rattle.access_run.specs.Whole.{NoneWhole}
 use Rattle.access_run.specs.declared.access.AccessRun.{AccessRun}
 use Rattle.access_types.specs.Access as access
 use Rattle.litmus_syntax.specs.Tree.{Block}
-use Rattle.memory_operation.specs.Operations.{Operates}
-use Rattle.memory_operation.specs.declared.operation.Operation.{Operation}
+use Rattle.access_run.specs.memory_operation.Operations.{Operates}
+use Rattle.access_run.specs.declared.memory_operation.operation.Operation.{Operation}
 use Rattle.setup_access.proofs.LeadsLemmas.{same_ends}
 use Rattle.setup_access.specs.Check.{Check, Close, Fallen, Passes}
 use Rattle.setup_access.specs.Checker.{Checks, Closes, Doing}
@@ -34,7 +34,7 @@ use Rattle.task_run.specs.Part.{Part, closes, makes, opens}
 use Rattle.task_run.specs.declared.machine.Machine.{Machine}
 use Rattle.task_run.specs.declared.run.TaskRun.{TaskRun}
 use Rattle.task_run.specs.declared.stage.Stage.TheVariants as stages
-use Rattle.written_order.specs.Standing.{Setting, Standing, checks_of}
+use Rattle.program_order.specs.Standing.{Setting, Standing, checks_of}
 
 -- the next outcome of the checker is the one that falls
 next_fell : (last : Record) (later : List Record) (limit : ℕ) (outcomes before after : List Fallen) (old new : Checker) (fell : Option Outcome)

@@ -11,12 +11,12 @@ use Rattle.access_run.specs.Moved.{FramedChecks}
 use Rattle.access_types.specs.Access as access
 use Rattle.litmus_syntax.specs.Tree.{Block}
 use Rattle.litmus_syntax.specs.declared.program.Variable.{Variable}
-use Rattle.memory_operation.specs.Leads as operations
-use Rattle.memory_operation.specs.LockLeads.{IsStuckAtLock, LockIsOver, LockLeads, LockLeft, LockSays, OnlyLockStep}
-use Rattle.memory_operation.specs.Locks.{TakesLock}
-use Rattle.memory_operation.specs.Operations.{Operates}
-use Rattle.memory_operation.specs.declared.lock.LockWait.{LockWait}
-use Rattle.memory_operation.specs.declared.operation.Operation.{Operation}
+use Rattle.access_run.specs.memory_operation.Leads as operations
+use Rattle.access_run.specs.memory_operation.LockLeads.{IsStuckAtLock, LockIsOver, LockLeads, LockLeft, LockSays, OnlyLockStep}
+use Rattle.access_run.specs.memory_operation.Locks.{TakesLock}
+use Rattle.access_run.specs.memory_operation.Operations.{Operates}
+use Rattle.access_run.specs.declared.memory_operation.lock.LockWait.{LockWait}
+use Rattle.access_run.specs.declared.memory_operation.operation.Operation.{Operation}
 use Rattle.setup_access.specs.Check.{Check, Close, Passes}
 use Rattle.setup_access.specs.Checker.{Checks, Closes, Doing}
 use Rattle.setup_access.specs.Leads as checks
@@ -30,8 +30,8 @@ use Rattle.slot_table.specs.declared.step.Answer.{Answer}
 use Rattle.slot_table.specs.declared.step.Answer.TheVariants as answers
 use Rattle.slot_table.specs.declared.step.Step.TheVariants.{LockStore, LockTry}
 use Rattle.setup_access.specs.Parts.{made}
-use Rattle.memory_operation.proofs.FrameLemmas.{lock_front}
-use Rattle.memory_operation.proofs.Fronts.{framed}
+use Rattle.access_run.proofs.memory_operation.FrameLemmas.{lock_front}
+use Rattle.access_run.proofs.memory_operation.Fronts.{framed}
 use Rattle.task_plan.specs.Views.{follow_of}
 use Rattle.task_plan.specs.declared.follow.Then.{Then}
 use Rattle.task_run.proofs.LeadsLemmas.{agrees_in}
@@ -49,17 +49,17 @@ use Rattle.task_run.specs.Stands.{IsOf, Stands, StandsBy}
 use Rattle.task_run.specs.declared.machine.Machine.{Machine}
 use Rattle.text_walk.proofs.StepsLemmas.{through}
 use Rattle.text_walk.specs.Left.{Same, WalkLeft}
-use Rattle.written_order.specs.WrittenOrder.{SpellsAll, StepsOfBlock, at_first}
+use Rattle.program_order.specs.WrittenOrder.{SpellsAll, StepsOfBlock, at_first}
 use Rattle.task_run.specs.Agrees.{Agrees, Begins, IsIn, in_part}
 use Rattle.task_run.specs.Leads.{IsStuck, Leads, WaitsTooLong}
-use Rattle.written_order.specs.Waits.{IsTooMuch, OnlyStep, WithinTurns, vain_tries}
+use Rattle.program_order.specs.Waits.{IsTooMuch, OnlyStep, WithinTurns, vain_tries}
 use Rattle.task_run.specs.Says.{IsStopped, Says, StageSays}
 use Rattle.setup_access.specs.Waits.{IsStuckBy}
 use Rattle.task_run.specs.Part.{Part, PartLeft, closes, locks, makes, opens, over, stops, unlocks}
 use Rattle.task_run.specs.declared.run.TaskRun.{TaskRun}
 use Rattle.task_run.specs.declared.stage.Stage.{Stage}
 use Rattle.task_run.specs.declared.stage.Stage.TheVariants as stages
-use Rattle.written_order.specs.Standing.{Setting, Standing, checks_of, is_lock, lock_number}
+use Rattle.program_order.specs.Standing.{Setting, Standing, checks_of, is_lock, lock_number}
 
 -- an access that begins leaves the registers as they are, and how many calls had nothing to end
 pub part_registers : (part : Part) (before : Standing) → (in_part part before).progress.registers ≡ before.progress.registers

@@ -3,17 +3,17 @@ use Rattle.std.proofs.Common.{◌≡◌, ◌↔◌, ◌∙◌, ℕ, Bool, true, 
 use Rattle.access_types.specs.Access as access
 use Rattle.access_types.specs.declared.history.Happening.TheVariants as happenings
 use Rattle.access_types.specs.declared.history.Mark.TheVariants as marks
-use Rattle.litmus_meaning.specs.Expressions.{loading_value, pure_value}
-use Rattle.litmus_meaning.specs.Loads.{load_in, variable_of}
-use Rattle.litmus_meaning.specs.Meaning.{Chooses}
-use Rattle.litmus_meaning.specs.Task.{bytes_in, has_lock}
-use Rattle.litmus_meaning.specs.Values.{sign_extended}
+use Rattle.litmus_semantics.specs.Expressions.{loading_value, pure_value}
+use Rattle.litmus_semantics.specs.Loads.{load_in, variable_of}
+use Rattle.litmus_semantics.specs.Meaning.{Chooses}
+use Rattle.litmus_semantics.specs.Task.{bytes_in, has_lock}
+use Rattle.litmus_semantics.specs.Values.{sign_extended}
 use Rattle.litmus_syntax.specs.Tree.{Load, Loading, Pure}
 use Rattle.litmus_syntax.specs.Tree as tree
 use Rattle.litmus_syntax.specs.declared.statement.Call.TheVariants as calls
-use Rattle.memory_operation.specs.declared.effect.Effect.{Effect}
-use Rattle.memory_operation.specs.declared.operation.Operation.{Operation}
-use Rattle.memory_operation.specs.declared.operation.Operation.TheVariants as operations
+use Rattle.access_run.specs.declared.memory_operation.effect.Effect.{Effect}
+use Rattle.access_run.specs.declared.memory_operation.operation.Operation.{Operation}
+use Rattle.access_run.specs.declared.memory_operation.operation.Operation.TheVariants as operations
 use Rattle.slot_table.specs.declared.records.Record.{Record}
 use Rattle.task_run.specs.Due.{ConditionDue, StatementDue}
 use Rattle.task_plan.specs.Follow.{assigned, condition, goes_on, marks_next, nobody, so_often, to_register}
@@ -22,9 +22,9 @@ use Rattle.task_plan.specs.Plans.{load_plan}
 use Rattle.task_run.specs.Plans.{PlanLeft}
 use Rattle.text_walk.specs.Left.{BodyLeft, WalkLeft}
 use Rattle.text_walk.specs.declared.walk.Walk.{Walk}
-use Rattle.written_order.specs.Access.{Makes, operated}
-use Rattle.written_order.specs.Standing.{Setting, Standing, coming, counting, doing, registered}
-use Rattle.written_order.specs.WrittenOrder.{Only, Steps}
+use Rattle.program_order.specs.Access.{Makes, operated}
+use Rattle.program_order.specs.Standing.{Setting, Standing, coming, counting, doing, registered}
+use Rattle.program_order.specs.WrittenOrder.{Only, Steps}
 
 -- a part from a standing is one from a standing that is the same
 pub on : (N : Steps) {a b : Standing} → a ≡ b → (records : List Record) (after : Standing) (rest : List Record)

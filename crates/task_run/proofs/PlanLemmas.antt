@@ -1,13 +1,13 @@
 -- What is due at a statement is the access that is planned for it.
 use Rattle.std.proofs.Common.{◌≡◌, ◌↔◌, ◌==◌, ℕ, Bool, true, false, IsTrue, List, [], ◌∷◌, MatchBool, None, Option, Some, if◌then◌else◌, refl, subst, sym}
-use Rattle.litmus_meaning.specs.Assignments.{compound_kind, write_kind}
-use Rattle.litmus_meaning.specs.Calls.{check_kind, checked_bytes}
-use Rattle.litmus_meaning.specs.Loads.{exchange_kind, load_in}
+use Rattle.litmus_semantics.specs.Assignments.{compound_kind, write_kind}
+use Rattle.litmus_semantics.specs.Calls.{check_kind, checked_bytes}
+use Rattle.litmus_semantics.specs.Loads.{exchange_kind, load_in}
 use Rattle.access_types.specs.declared.history.Happening.TheVariants as happenings
 use Rattle.access_types.specs.declared.history.Mark.{Mark}
-use Rattle.litmus_meaning.specs.Task.{access_now, bytes_in}
-use Rattle.litmus_meaning.specs.Expressions.{pure_value}
-use Rattle.litmus_meaning.specs.Meaning.{Chooses}
+use Rattle.litmus_semantics.specs.Task.{access_now, bytes_in}
+use Rattle.litmus_semantics.specs.Expressions.{pure_value}
+use Rattle.litmus_semantics.specs.Meaning.{Chooses}
 use Rattle.litmus_syntax.specs.Tree.{Assignment, Fetch, Load, Loading, Pure}
 use Rattle.litmus_syntax.specs.Tree as tree
 use Rattle.litmus_syntax.specs.declared.statement.Barrier.{Barrier}
@@ -31,8 +31,8 @@ use Rattle.task_run.specs.declared.machine.Machine.{Machine}
 use Rattle.task_run.specs.declared.stage.Stage.{Stage}
 use Rattle.text_walk.specs.Left.{BodyLeft, WalkLeft}
 use Rattle.text_walk.specs.declared.walk.Walk.{Walk}
-use Rattle.written_order.specs.Standing.{EndsNothing, Setting, Standing, counting, doing}
-use Rattle.written_order.specs.WrittenOrder.{ChecksAt, Only, Steps, StepsOfCall, fetch_operation}
+use Rattle.program_order.specs.Standing.{EndsNothing, Setting, Standing, counting, doing}
+use Rattle.program_order.specs.WrittenOrder.{ChecksAt, Only, Steps, StepsOfCall, fetch_operation}
 
 -- a load reads
 fetch_fits : (registers : List ℕ) (fetch : Fetch) → Reads (Some (fetch_operation registers fetch))

@@ -1,14 +1,14 @@
 -- In the run of a task's machine the operation of a load reads a value.
 use Rattle.std.proofs.Common.{◌≡◌, ◌∙◌, ℕ, Bool, true, false, List, [], ◌∷◌, MatchBool, None, Option, Some, ap, refl}
 use Rattle.access_types.specs.Access.{Access}
-use Rattle.memory_operation.specs.Effects.{changed}
-use Rattle.memory_operation.specs.Operations.{Ends, Exchanges, OnExchange, Operates}
-use Rattle.memory_operation.specs.Values.{is_wanted}
-use Rattle.memory_operation.specs.declared.effect.Effect.{Effect}
-use Rattle.memory_operation.specs.declared.operation.Change.{Change}
-use Rattle.memory_operation.specs.declared.operation.Change.TheVariants as changes
-use Rattle.memory_operation.specs.declared.operation.Operation.{Operation}
-use Rattle.memory_operation.specs.declared.operation.Operation.TheVariants as operations
+use Rattle.access_run.specs.memory_operation.Effects.{changed}
+use Rattle.access_run.specs.memory_operation.Operations.{Ends, Exchanges, OnExchange, Operates}
+use Rattle.access_run.specs.memory_operation.Values.{is_wanted}
+use Rattle.access_run.specs.declared.memory_operation.effect.Effect.{Effect}
+use Rattle.access_run.specs.declared.memory_operation.operation.Change.{Change}
+use Rattle.access_run.specs.declared.memory_operation.operation.Change.TheVariants as changes
+use Rattle.access_run.specs.declared.memory_operation.operation.Operation.{Operation}
+use Rattle.access_run.specs.declared.memory_operation.operation.Operation.TheVariants as operations
 use Rattle.setup_access.specs.Records.{MakesWord, OnWord}
 use Rattle.setup_access.specs.Setting.{Setting}
 use Rattle.setup_access.specs.Values.{value_in}

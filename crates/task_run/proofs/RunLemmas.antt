@@ -10,12 +10,12 @@ use Rattle.access_run.specs.declared.access.AccessRun.{AccessRun}
 use Rattle.access_types.specs.Access as access
 use Rattle.access_types.specs.declared.history.Happening.TheVariants as happenings
 use Rattle.litmus_syntax.specs.Tree.{Block}
-use Rattle.memory_operation.specs.LockLeads.{LockLeads}
-use Rattle.memory_operation.specs.Locks.{TakesLock}
-use Rattle.memory_operation.specs.Operations.{Operates}
-use Rattle.memory_operation.specs.declared.effect.Effect.{Effect}
-use Rattle.memory_operation.specs.declared.lock.LockWait.{LockWait}
-use Rattle.memory_operation.specs.declared.operation.Operation.{Operation}
+use Rattle.access_run.specs.memory_operation.LockLeads.{LockLeads}
+use Rattle.access_run.specs.memory_operation.Locks.{TakesLock}
+use Rattle.access_run.specs.memory_operation.Operations.{Operates}
+use Rattle.access_run.specs.declared.memory_operation.effect.Effect.{Effect}
+use Rattle.access_run.specs.declared.memory_operation.lock.LockWait.{LockWait}
+use Rattle.access_run.specs.declared.memory_operation.operation.Operation.{Operation}
 use Rattle.setup_access.specs.Check.{Check, Close}
 use Rattle.setup_access.specs.Checker.{Checks, Closes, Doing}
 use Rattle.setup_access.specs.Leads as checks
@@ -57,9 +57,9 @@ use Rattle.task_run.specs.declared.stage.Stage.TheVariants as stages
 use Rattle.text_walk.proofs.StepsLemmas.{through}
 use Rattle.text_walk.specs.Left.{WalkLeft}
 use Rattle.text_walk.specs.declared.walk.Walk.{Walk}
-use Rattle.written_order.specs.Access.{operated}
-use Rattle.written_order.specs.Standing.{Setting, Standing, checks_of, doing, lock_number}
-use Rattle.written_order.specs.Waits.{is_tried_again}
+use Rattle.program_order.specs.Access.{operated}
+use Rattle.program_order.specs.Standing.{Setting, Standing, checks_of, doing, lock_number}
+use Rattle.program_order.specs.Waits.{is_tried_again}
 
 -- what is there is within the list
 pub in_list : {A : Type 0} (xs : List A) (index : ℕ) (P : A → Type 0) → IsSomeAnd (slice_get xs index) P → index < length xs

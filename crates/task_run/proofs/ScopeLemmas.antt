@@ -5,20 +5,20 @@ use Rattle.std.proofs.lemmas.List.{length-append}
 use Rattle.access_types.specs.Access as access
 use Rattle.access_types.specs.declared.history.Happening.{Happening}
 use Rattle.access_types.specs.declared.history.Happening.TheVariants as happenings
-use Rattle.litmus_meaning.specs.Task as meaning
-use Rattle.memory_operation.specs.Effects.{moments_of, read_moments, write_moments}
-use Rattle.memory_operation.specs.declared.effect.Effect.{Effect}
-use Rattle.memory_operation.specs.declared.operation.Operation.{Operation}
-use Rattle.memory_operation.specs.declared.operation.Operation.TheVariants as operations
+use Rattle.litmus_semantics.specs.Task as meaning
+use Rattle.access_run.specs.memory_operation.Effects.{moments_of, read_moments, write_moments}
+use Rattle.access_run.specs.declared.memory_operation.effect.Effect.{Effect}
+use Rattle.access_run.specs.declared.memory_operation.operation.Operation.{Operation}
+use Rattle.access_run.specs.declared.memory_operation.operation.Operation.TheVariants as operations
 use Rattle.setup_access.specs.declared.begun.Begun.{Begun}
 use Rattle.slot_table.specs.declared.records.Record.{Record}
 use Rattle.task_run.specs.Stops.{AreScoped, ScopesAreTold}
 use Rattle.task_run.specs.Told.{Computes, nothing, one_more}
-use Rattle.text_bounds.proofs.Scopes as bounds
-use Rattle.text_bounds.specs.Scopes.{AreOfNoScope, in_force, is_scoped}
-use Rattle.written_order.specs.Access.{operated}
-use Rattle.written_order.specs.Standing.{Standing, coming, counting}
-use Rattle.written_order.specs.WrittenOrder.{at_first}
+use Rattle.program_order.proofs.text_bounds.Scopes as bounds
+use Rattle.program_order.specs.text_bounds.Scopes.{AreOfNoScope, in_force, is_scoped}
+use Rattle.program_order.specs.Access.{operated}
+use Rattle.program_order.specs.Standing.{Standing, coming, counting}
+use Rattle.program_order.specs.WrittenOrder.{at_first}
 
 -- the task did more, and no scoped assertion began or ended
 scopes_still : (before after : Standing) (does : List Happening) → after.scopes ≡ before.scopes → in_force after.progress.did ≡ in_force before.progress.did

@@ -2,8 +2,8 @@
 use Rattle.std.proofs.Common.{◌≡◌, ◌∙◌, List, Option, refl, sym, ap}
 use Rattle.access_run.specs.declared.access.AccessRun.{AccessRun}
 use Rattle.access_types.specs.Access as access
-use Rattle.memory_operation.specs.declared.lock.LockWait.{LockWait}
-use Rattle.memory_operation.specs.declared.operation.Operation.{Operation}
+use Rattle.access_run.specs.declared.memory_operation.lock.LockWait.{LockWait}
+use Rattle.access_run.specs.declared.memory_operation.operation.Operation.{Operation}
 use Rattle.slot_table.specs.declared.records.Record.{Record}
 use Rattle.std.specs.Prelude.{ℕ}
 use Rattle.task_plan.specs.Follow.{Follow}
@@ -14,7 +14,7 @@ use Rattle.task_run.specs.Part.{Part, closes, locks, makes, opens, over, stops, 
 use Rattle.task_run.specs.declared.machine.Machine.{Machine}
 use Rattle.task_run.specs.declared.stage.Stage.{Stage}
 use Rattle.task_run.specs.declared.stage.Stage.TheVariants as stages
-use Rattle.written_order.specs.Standing.{Setting, Standing}
+use Rattle.program_order.specs.Standing.{Setting, Standing}
 
 module _ (s : Setting) (before : Standing) (mine : List Record) (machine : Machine) (stage : Stage) where
   pub in_opening : (part : Part) → IsIn s part before mine machine stage → stage ≡ stages.Opening → (a : access.Access) × (part ≡ opens a)

@@ -22,8 +22,8 @@ use Rattle.task_plan.specs.declared.progress.Progress.{Progress}
 use Rattle.task_run.proofs.CountsLemmas.{counts_as, history_of, history_on}
 use Rattle.task_run.specs.Stands.{AfterMark, Stands}
 use Rattle.task_run.specs.declared.machine.Machine.{Machine}
-use Rattle.written_order.specs.Standing.{EndsNothing, IsDisabled, IsNested, Setting, Standing, checks_of, doing}
-use Rattle.written_order.specs.WrittenOrder.{marked_so_often}
+use Rattle.program_order.specs.Standing.{EndsNothing, IsDisabled, IsNested, Setting, Standing, checks_of, doing}
+use Rattle.program_order.specs.WrittenOrder.{marked_so_often}
 
 -- a checker rests with another context too
 rests_with : (s : settings.Setting) (scopes : List Begun) (asked : ℕ) (last : Option Begun) (checker : Checker) (context : Context)
@@ -38,9 +38,9 @@ rests_with s scopes asked last checker context rests = record {
 }
 
 -- it stands where it stands: how it came there is no matter
-pub stands_as : (s : Setting) (before after : Standing) (machine : Machine) → after.progress ≡ before.progress → after.unbalanced ≡ before.unbalanced
+pub state_eq : (s : Setting) (before after : Standing) (machine : Machine) → after.progress ≡ before.progress → after.unbalanced ≡ before.unbalanced
     → after.scopes ≡ before.scopes → after.asked ≡ before.asked → Stands s before machine → Stands s after machine
-stands_as s before after machine same count scopes asked stands = record {
+state_eq s before after machine same count scopes asked stands = record {
   of = stands.of;
   counts = counts_as s before machine stands.counts after same count (ap (λ (l : List Begun). length l) scopes);
   rests = (
@@ -100,7 +100,7 @@ stands_keeping s before after machine progress did scopes asked keeps stands = r
 pub stands_still : (s : Setting) (before : Standing) (later : List Record) (mark : Happening) (machine : Machine) → Stands s before machine
     → Stands s (marked_so_often 0 mark before later) machine
 stands_still s before later mark machine stands =
-    stands_as s before (marked_so_often 0 mark before later) machine
+    state_eq s before (marked_so_often 0 mark before later) machine
     (ap (λ (d : List Happening). record before.progress { did = d }) (append-nil before.progress.did)) refl refl refl stands
 
 -- one mark more
@@ -112,7 +112,7 @@ stands_more s before later count m old new goes stands =
     let so_far : Standing = marked_so_often count mark before later in
     let did : before.progress.did ++ replicate (count + 1) mark ≡ (before.progress.did ++ replicate count mark) ++ mark ∷ [] =
     ap (λ (l : List Happening). before.progress.did ++ l) (sym (replicate_more count mark)) ∙ sym (append_assoc before.progress.did (replicate count mark) (mark ∷ [])) in
-    stands_as s (doing so_far later (mark ∷ [])) (marked_so_often (count + 1) mark before later) new
+    state_eq s (doing so_far later (mark ∷ [])) (marked_so_often (count + 1) mark before later) new
     (ap (λ (d : List Happening). record before.progress { did = d }) did) refl refl refl (goes s so_far later stands)
 
 -- whether reports are off, and whether the task is in a region

@@ -13,24 +13,24 @@ use Rattle.access_types.specs.declared.history.Mark.{Mark}
 use Rattle.access_types.specs.declared.history.Mark.TheVariants as marks
 use Rattle.access_types.specs.declared.kind.Kind.{Kind}
 use Rattle.access_run.specs.Leads.{HasCell}
-use Rattle.litmus_meaning.specs.Calls.{scoped_access}
-use Rattle.litmus_meaning.specs.Task as meaning
+use Rattle.litmus_semantics.specs.Calls.{scoped_access}
+use Rattle.litmus_semantics.specs.Task as meaning
 use Rattle.litmus_syntax.specs.Tree as tree
 use Rattle.litmus_syntax.specs.Tree.{Assignment, Load, Loading, Pure}
 use Rattle.litmus_syntax.specs.declared.program.Variable.{Variable}
-use Rattle.litmus_meaning.specs.Loads.{load_in}
+use Rattle.litmus_semantics.specs.Loads.{load_in}
 use Rattle.litmus_syntax.specs.declared.statement.Call.{Call}
 use Rattle.litmus_syntax.specs.declared.statement.Call.TheVariants as calls
-use Rattle.memory_operation.specs.Operations.{Operates}
-use Rattle.memory_operation.specs.declared.effect.Effect.{Effect}
-use Rattle.memory_operation.specs.declared.operation.Operation.{Operation}
+use Rattle.access_run.specs.memory_operation.Operations.{Operates}
+use Rattle.access_run.specs.declared.memory_operation.effect.Effect.{Effect}
+use Rattle.access_run.specs.declared.memory_operation.operation.Operation.{Operation}
 use Rattle.setup_access.specs.Setting as settings
 use Rattle.setup_access.specs.Shown.{context_of}
 use Rattle.setup_access.specs.declared.begun.Begun.{Begun}
 use Rattle.slot_table.specs.declared.records.Record.{Record}
 use Rattle.task_context.proofs.Moments.{marks_of-append, marks_of-one}
 use Rattle.task_context.proofs.Surpluses.{surplus-le}
-use Rattle.task_plan.specs.Follow.{Follow, Taker, assigned, condition, goes_on, loaded_by, marks_next, nobody, so_many_off, so_often, to_register}
+use Rattle.task_plan.specs.Follow.{Follow, Taker, assigned, condition, goes_on, loaded_by, marks_next, nobody, disable_count, so_often, to_register}
 use Rattle.task_plan.specs.Plans.{assignment_plan, call_plan, load_plan, planned_access}
 use Rattle.task_plan.specs.Views.{Plan}
 use Rattle.task_run.proofs.BeginLemmas.{planned_still}
@@ -43,16 +43,16 @@ use Rattle.task_run.specs.Plans.{LoadLeft, PlanLeft}
 use Rattle.task_run.specs.Stands.{Stands}
 use Rattle.task_run.specs.Stops.{CanBegin, Stops}
 use Rattle.task_run.specs.declared.machine.Machine.{Machine}
-use Rattle.text_bounds.proofs.Scopes.{one_more}
-use Rattle.text_bounds.specs.Passes.{PassesALimit, disables, nest_opens, scopes}
-use Rattle.text_bounds.specs.Scopes.{is_scoped}
+use Rattle.program_order.proofs.text_bounds.Scopes.{one_more}
+use Rattle.program_order.specs.text_bounds.Passes.{PassesALimit, disables, nest_opens, scopes}
+use Rattle.program_order.specs.text_bounds.Scopes.{is_scoped}
 use Rattle.task_run.proofs.GrowLemmas.{GoesOn, begins_on, choice_grows, makes_grow, opens_grow, walk_grows}
 use Rattle.text_walk.specs.Left.{DueLeft}
 use Rattle.text_walk.specs.declared.due.Due.TheVariants as dues
 use Rattle.text_walk.specs.declared.walk.Walk.{Walk}
-use Rattle.written_order.proofs.WayLemmas.{Begins}
-use Rattle.written_order.specs.Standing.{BeginsNow, Setting, Standing, checks_of, counting, is_lock, moments}
-use Rattle.written_order.specs.WrittenOrder.{Steps}
+use Rattle.program_order.proofs.WayLemmas.{Begins}
+use Rattle.program_order.specs.Standing.{BeginsNow, Setting, Standing, checks_of, counting, is_lock, moments}
+use Rattle.program_order.specs.WrittenOrder.{Steps}
 
 -- what holds anyhow holds where there is an error
 pub on_err : {T E P : Type 0} (r : Result T E) → P → OnErr r P
@@ -178,7 +178,7 @@ follows_grow s walk (loaded_by size data_races taker) effect before records afte
 
 -- how often reports are off before an access
 off_before : (follow : Follow) (before : Standing) (later : List Record)
-    → (often : ℕ) × (so_many_off follow ≤ often) × ((before_access follow before later).progress ≡ (disabled often before later).progress)
+    → (often : ℕ) × (disable_count follow ≤ often) × ((before_access follow before later).progress ≡ (disabled often before later).progress)
 off_before goes_on before later = (0, omega arith, ap (λ (d : List Happening). record before.progress { did = d }) (sym (append-nil before.progress.did)))
 off_before marks_next before later = (0, omega arith, ap (λ (d : List Happening). record before.progress { did = d }) (sym (append-nil before.progress.did)))
 off_before (assigned data_race) before later = (so_often data_race, omega arith, refl)
@@ -232,7 +232,7 @@ pub plan_stops : (s : Setting) (site : ℕ) (plan : Plan) (machine : Machine)
 plan_stops s site plan machine never = stops_never s (PlanLeft s machine.walk site plan) machine
     (λ before stands later end h. never before stands (plan_can s machine.walk site plan before later end h, plan_cell s machine.walk site plan before later end h))
 
-pub plan_stops_off : (s : Setting) (site : ℕ) (plan : Plan) (machine : Machine) → 2 ^ 32 < (context_of machine.checker).disable_count + so_many_off plan.follow
+pub plan_stops_off : (s : Setting) (site : ℕ) (plan : Plan) (machine : Machine) → 2 ^ 32 < (context_of machine.checker).disable_count + disable_count plan.follow
     → Stops s (PlanLeft s machine.walk site plan) machine
 plan_stops_off s site plan machine more before stands told later end h =
     let off = off_before plan.follow before later in

@@ -13,14 +13,14 @@ use Rattle.access_run.specs.declared.stage.Stage.TheVariants as accessing
 use Rattle.access_types.specs.Access as access
 use Rattle.litmus_syntax.specs.Limits.{BlockScopes, block_rises}
 use Rattle.litmus_syntax.specs.Tree.{Block}
-use Rattle.memory_operation.proofs.LeadsLemmas as operations_lemmas
-use Rattle.memory_operation.proofs.LockLemmas.{only_try, taken_whole}
-use Rattle.memory_operation.specs.LockLeads.{LockLeads}
-use Rattle.memory_operation.specs.Leads as operations
-use Rattle.memory_operation.specs.Locks.{TakesLock}
-use Rattle.memory_operation.specs.declared.lock.LockWait.{LockWait}
-use Rattle.memory_operation.specs.declared.operation.Operation.{Operation}
-use Rattle.memory_operation.specs.declared.run.OperationRun.{OperationRun}
+use Rattle.access_run.proofs.memory_operation.LeadsLemmas as operations_lemmas
+use Rattle.access_run.proofs.memory_operation.LockLemmas.{only_try, taken_whole}
+use Rattle.access_run.specs.memory_operation.LockLeads.{LockLeads}
+use Rattle.access_run.specs.memory_operation.Leads as operations
+use Rattle.access_run.specs.memory_operation.Locks.{TakesLock}
+use Rattle.access_run.specs.declared.memory_operation.lock.LockWait.{LockWait}
+use Rattle.access_run.specs.declared.memory_operation.operation.Operation.{Operation}
+use Rattle.access_run.specs.declared.memory_operation.run.OperationRun.{OperationRun}
 use Rattle.setup_access.proofs.NextLemmas.{only_step}
 use Rattle.setup_access.specs.Check.{Check, Close, Passes}
 use Rattle.setup_access.specs.Checker.{Checks, Closes, Doing}
@@ -49,13 +49,13 @@ use Rattle.task_run.specs.declared.machine.Machine.{Machine}
 use Rattle.task_run.specs.declared.run.TaskRun.{TaskRun}
 use Rattle.task_run.specs.declared.stage.Stage.{Stage}
 use Rattle.task_run.specs.declared.stage.Stage.TheVariants as stages
-use Rattle.text_bounds.proofs.Passes.{passes_none}
+use Rattle.program_order.proofs.text_bounds.Passes.{passes_none}
 use Rattle.text_walk.specs.Left.{DueLeft}
 use Rattle.text_walk.specs.declared.due.Due.{Due}
-use Rattle.written_order.specs.Standing.{Setting, Standing, checks_of, lock_number}
-use Rattle.written_order.specs.Waits as waits
-use Rattle.written_order.specs.Waits.{IsTooMuch, OnlyStep}
-use Rattle.written_order.specs.WrittenOrder.{SpellsAll, WrittenOrder}
+use Rattle.program_order.specs.Standing.{Setting, Standing, checks_of, lock_number}
+use Rattle.program_order.specs.Waits as waits
+use Rattle.program_order.specs.Waits.{IsTooMuch, OnlyStep}
+use Rattle.program_order.specs.WrittenOrder.{SpellsAll, WrittenOrder}
 
 loads_next : (task index : ℕ) (records : List Record) → checks.GoOn task (PairLoad index) records → LoadsNext index records
 loads_next task index [] h = h

@@ -2,7 +2,7 @@
 use Rattle.std.specs.Option.{is_some}
 use Rattle.std.proofs.Common.{◌≡◌, ◌↔◌, ◌∙◌, ℕ, Bool, IsFalse, IsTrue, List, [], ◌∷◌, None, Option, ap, false, not, refl, subst, sym, true}
 use Rattle.access_types.specs.Access as access
-use Rattle.memory_operation.specs.declared.operation.Operation.{Operation}
+use Rattle.access_run.specs.declared.memory_operation.operation.Operation.{Operation}
 use Rattle.setup_access.specs.declared.begun.Begun.{Begun}
 use Rattle.slot_table.specs.declared.records.Record.{Record}
 use Rattle.task_plan.specs.Follow.{Follow}
@@ -15,7 +15,7 @@ use Rattle.task_run.specs.declared.news.News.{News}
 use Rattle.task_run.specs.declared.run.TaskRun.{TaskRun}
 use Rattle.task_run.specs.declared.stage.Stage.{Stage}
 use Rattle.task_run.specs.declared.stage.Stage.TheVariants as stages
-use Rattle.written_order.specs.Standing.{BeginsNow, Setting, Standing}
+use Rattle.program_order.specs.Standing.{BeginsNow, Setting, Standing}
 
 -- no access begins in this stage
 abbrev pub IsQuiet : Stage → Type 0

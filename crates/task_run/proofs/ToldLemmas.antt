@@ -6,12 +6,12 @@ use Rattle.access_types.specs.declared.history.Happening.{Happening}
 use Rattle.access_types.specs.declared.history.Happening.TheVariants as happenings
 use Rattle.access_types.specs.declared.history.Mark.{Mark}
 use Rattle.access_types.specs.declared.history.Mark.TheVariants as marks
-use Rattle.litmus_meaning.specs.Task as meaning
-use Rattle.memory_operation.specs.Effects.{read_moments}
-use Rattle.memory_operation.specs.Operations.{Operates}
-use Rattle.memory_operation.specs.declared.effect.Effect.{Effect}
-use Rattle.memory_operation.specs.declared.operation.Operation.{Operation}
-use Rattle.memory_operation.specs.declared.operation.Operation.TheVariants as operations
+use Rattle.litmus_semantics.specs.Task as meaning
+use Rattle.access_run.specs.memory_operation.Effects.{read_moments}
+use Rattle.access_run.specs.memory_operation.Operations.{Operates}
+use Rattle.access_run.specs.declared.memory_operation.effect.Effect.{Effect}
+use Rattle.access_run.specs.declared.memory_operation.operation.Operation.{Operation}
+use Rattle.access_run.specs.declared.memory_operation.operation.Operation.TheVariants as operations
 use Rattle.setup_access.specs.Check.{Fallen}
 use Rattle.setup_access.specs.Fallen.{followed}
 use Rattle.setup_access.specs.Setting as settings
@@ -20,10 +20,10 @@ use Rattle.slot_table.specs.declared.records.Record.{Record}
 use Rattle.task_plan.specs.Follow.{Follow, assigned, condition, goes_on, loaded_by, marks_next, nobody, so_often, to_register}
 use Rattle.task_run.specs.Part.{before_access}
 use Rattle.task_run.specs.Told.{AllFellFrom, AllFrom, Computes, IsTold, last_of, nothing, one_more}
-use Rattle.text_bounds.specs.Scopes.{AreOfNoScope}
-use Rattle.written_order.specs.Access.{operated}
-use Rattle.written_order.specs.Standing.{Point, Standing, coming, counting, doing, registered}
-use Rattle.written_order.specs.WrittenOrder.{at_first, first_point}
+use Rattle.program_order.specs.text_bounds.Scopes.{AreOfNoScope}
+use Rattle.program_order.specs.Access.{operated}
+use Rattle.program_order.specs.Standing.{Point, Standing, coming, counting, doing, registered}
+use Rattle.program_order.specs.WrittenOrder.{at_first, first_point}
 
 -- what is computed at once
 pub does_more : (later : List Record) (before between : Standing) (does : List Happening) → AreOfNoScope does → Computes later before between

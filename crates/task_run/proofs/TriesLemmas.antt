@@ -9,22 +9,22 @@ use Rattle.access_run.specs.declared.stage.Stage as access_stages
 use Rattle.access_run.specs.declared.stage.Stage.TheVariants.{Check, End, Operate, Over}
 use Rattle.access_types.specs.Access.{Access}
 use Rattle.access_types.specs.Sites.{map_of}
-use Rattle.memory_operation.specs.LockLeads.{IsStuckAtLock, LockSays}
-use Rattle.memory_operation.specs.Leads as operations
-use Rattle.memory_operation.specs.Locks.{TakesLock}
-use Rattle.memory_operation.specs.Operations.{Exchanges, Operates, OperatesIn}
-use Rattle.memory_operation.specs.Stages as operation_stages
-use Rattle.memory_operation.specs.Values.{is_wanted, new_value, with_value}
-use Rattle.memory_operation.specs.Effects.{and_then, changed}
-use Rattle.memory_operation.specs.Waits as waits
-use Rattle.memory_operation.specs.declared.effect.Effect.{Effect}
-use Rattle.memory_operation.specs.declared.lock.LockWait.{LockWait}
-use Rattle.memory_operation.specs.declared.operation.Change.{Change}
-use Rattle.memory_operation.specs.declared.operation.Operation.{Operation}
-use Rattle.memory_operation.specs.declared.operation.Operation.TheVariants as kinds
-use Rattle.memory_operation.specs.declared.run.OperationRun.{OperationRun}
-use Rattle.memory_operation.specs.declared.stage.Stage as operating
-use Rattle.memory_operation.specs.declared.stage.Stage.TheVariants as operating_stages
+use Rattle.access_run.specs.memory_operation.LockLeads.{IsStuckAtLock, LockSays}
+use Rattle.access_run.specs.memory_operation.Leads as operations
+use Rattle.access_run.specs.memory_operation.Locks.{TakesLock}
+use Rattle.access_run.specs.memory_operation.Operations.{Exchanges, Operates, OperatesIn}
+use Rattle.access_run.specs.memory_operation.Stages as operation_stages
+use Rattle.access_run.specs.memory_operation.Values.{is_wanted, new_value, with_value}
+use Rattle.access_run.specs.memory_operation.Effects.{and_then, changed}
+use Rattle.access_run.specs.memory_operation.Waits as waits
+use Rattle.access_run.specs.declared.memory_operation.effect.Effect.{Effect}
+use Rattle.access_run.specs.declared.memory_operation.lock.LockWait.{LockWait}
+use Rattle.access_run.specs.declared.memory_operation.operation.Change.{Change}
+use Rattle.access_run.specs.declared.memory_operation.operation.Operation.{Operation}
+use Rattle.access_run.specs.declared.memory_operation.operation.Operation.TheVariants as kinds
+use Rattle.access_run.specs.declared.memory_operation.run.OperationRun.{OperationRun}
+use Rattle.access_run.specs.declared.memory_operation.stage.Stage as operating
+use Rattle.access_run.specs.declared.memory_operation.stage.Stage.TheVariants as operating_stages
 use Rattle.setup_access.specs.Checker.{Doing}
 use Rattle.setup_access.specs.Kept.{setting_with}
 use Rattle.setup_access.specs.Leads as checks
@@ -49,7 +49,7 @@ use Rattle.slot_table.specs.declared.step.Answer.TheVariants as answers
 use Rattle.slot_table.specs.declared.step.Step.{Step}
 use Rattle.slot_table.specs.declared.step.Step.TheVariants.{CellExchange, CellLoad, Clear, Clock, Consume, Insert, Load, LockStore, LockTry, Name, PairLoad, Remove, Tell, TryConsume}
 use Rattle.task_run.proofs.WaitLemmas.{check_says}
-use Rattle.written_order.specs.Waits.{IsTooMuch, vain_tries, is_tried_again}
+use Rattle.program_order.specs.Waits.{IsTooMuch, vain_tries, is_tried_again}
 
 -- records, the oldest first, before others, which stand with the latest first
 abbrev pub onto : List Record → List Record → List Record

@@ -6,11 +6,11 @@ use Rattle.access_run.specs.Leads as accesses
 use Rattle.access_run.specs.declared.stage.Stage as access_stages
 use Rattle.access_run.specs.declared.stage.Stage.TheVariants.{Check, End, Operate, Over}
 use Rattle.access_types.specs.Sites.{map_of}
-use Rattle.memory_operation.specs.Locks.{TakesLock}
-use Rattle.memory_operation.specs.Stages as operation_stages
-use Rattle.memory_operation.specs.declared.run.OperationRun.{OperationRun}
-use Rattle.memory_operation.specs.declared.stage.Stage as operating
-use Rattle.memory_operation.specs.declared.stage.Stage.TheVariants as operating_stages
+use Rattle.access_run.specs.memory_operation.Locks.{TakesLock}
+use Rattle.access_run.specs.memory_operation.Stages as operation_stages
+use Rattle.access_run.specs.declared.memory_operation.run.OperationRun.{OperationRun}
+use Rattle.access_run.specs.declared.memory_operation.stage.Stage as operating
+use Rattle.access_run.specs.declared.memory_operation.stage.Stage.TheVariants as operating_stages
 use Rattle.setup_access.proofs.DisciplineLemmas.{on_flag}
 use Rattle.setup_access.specs.Kept.{setting_with}
 use Rattle.setup_access.specs.Leads as checks
@@ -31,7 +31,7 @@ use Rattle.slot_table.specs.declared.step.Answer.TheVariants as answers
 use Rattle.slot_table.specs.declared.step.Step.{Step}
 use Rattle.slot_table.specs.declared.step.Step.TheVariants.{CellExchange, CellLoad, Clear, Clock, Consume, Insert, Load, LockStore, LockTry, Name, PairLoad, Remove, Tell, TryConsume}
 use Rattle.task_run.specs.Leads.{EndInNoWait}
-use Rattle.written_order.specs.Waits.{is_no, is_refused, tries_lock, vain_tries, is_tried_again}
+use Rattle.program_order.specs.Waits.{is_no, is_refused, tries_lock, vain_tries, is_tried_again}
 
 -- the step tries no lock
 abbrev pub IsNoTry : Step → Type 0

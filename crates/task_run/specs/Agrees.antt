@@ -4,13 +4,13 @@ use Rattle.access_run.specs.Leads.{AccessIsDone, AccessLeads}
 use Rattle.access_run.specs.Whole.{NoneWhole}
 use Rattle.access_run.specs.declared.access.AccessRun.{AccessRun}
 use Rattle.access_types.specs.declared.history.Happening.TheVariants.{Begin}
-use Rattle.litmus_meaning.specs.Task.{has_lock}
-use Rattle.memory_operation.specs.LockLeads.{LockLeads}
-use Rattle.memory_operation.specs.Locks.{TakesLock}
-use Rattle.memory_operation.specs.declared.lock.LockWait.{LockWait}
-use Rattle.memory_operation.specs.declared.operation.Change.TheVariants as changes
-use Rattle.memory_operation.specs.declared.operation.Operation.{Operation}
-use Rattle.memory_operation.specs.declared.operation.Operation.TheVariants as operations
+use Rattle.litmus_semantics.specs.Task.{has_lock}
+use Rattle.access_run.specs.memory_operation.LockLeads.{LockLeads}
+use Rattle.access_run.specs.memory_operation.Locks.{TakesLock}
+use Rattle.access_run.specs.declared.memory_operation.lock.LockWait.{LockWait}
+use Rattle.access_run.specs.declared.memory_operation.operation.Change.TheVariants as changes
+use Rattle.access_run.specs.declared.memory_operation.operation.Operation.{Operation}
+use Rattle.access_run.specs.declared.memory_operation.operation.Operation.TheVariants as operations
 use Rattle.setup_access.specs.Check.{Check, Close}
 use Rattle.setup_access.specs.Checker.{Checks, Closes}
 use Rattle.setup_access.specs.Leads as checks
@@ -26,10 +26,10 @@ use Rattle.task_plan.specs.declared.follow.Then.{Then}
 use Rattle.task_run.specs.declared.machine.Machine.{Machine}
 use Rattle.task_run.specs.declared.stage.Stage.{Stage}
 use Rattle.task_run.specs.declared.stage.Stage.TheVariants as stages
-use Rattle.written_order.specs.Standing.{BeginsNow, IsDisabled, IsLockAt, Setting, Standing, checks_of, doing, lock_number}
-use Rattle.text_bounds.specs.Scopes.{is_scoped}
+use Rattle.program_order.specs.Standing.{BeginsNow, IsDisabled, IsLockAt, Setting, Standing, checks_of, doing, lock_number}
+use Rattle.program_order.specs.text_bounds.Scopes.{is_scoped}
 use Rattle.text_walk.specs.Left.{DueLeft}
-use Rattle.written_order.specs.WrittenOrder.{Steps}
+use Rattle.program_order.specs.WrittenOrder.{Steps}
 
 -- where the task stands while it is in the part: an access begins with it
 abbrev pub in_part : Part → Standing → Standing

@@ -1,6 +1,6 @@
 -- How what is due in a text begins.
 use Rattle.std.specs.Prelude.{ℕ, List, MatchOption, Option}
-use Rattle.litmus_meaning.specs.Meaning.{Chooses}
+use Rattle.litmus_semantics.specs.Meaning.{Chooses}
 use Rattle.litmus_syntax.specs.Tree.{Expression, Statement}
 use Rattle.slot_table.specs.declared.records.Record.{Record}
 use Rattle.task_run.specs.Agrees.{Begins}
@@ -10,8 +10,8 @@ use Rattle.task_run.specs.declared.machine.Machine.{Machine}
 use Rattle.task_run.specs.declared.stage.Stage.{Stage}
 use Rattle.text_walk.specs.Left.{BodyLeft, Then, WalkLeft}
 use Rattle.text_walk.specs.declared.walk.Walk.{Walk}
-use Rattle.written_order.specs.Standing.{Setting, Standing}
-use Rattle.written_order.specs.WrittenOrder.{Steps, StepsOf, StepsOfExpression}
+use Rattle.program_order.specs.Standing.{Setting, Standing}
+use Rattle.program_order.specs.WrittenOrder.{Steps, StepsOf, StepsOfExpression}
 
 -- a statement, and then what is left of the text
 abbrev pub StatementDue : Setting → Statement → ℕ → Walk → Steps

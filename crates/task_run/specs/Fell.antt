@@ -3,7 +3,7 @@ use Rattle.std.specs.Prelude.{◌≡◌, ◌==◌, ◌++◌, ℕ, List, [], ◌�
 use Rattle.std.specs.List.{filter}
 use Rattle.std.specs.Option.{option_to_list}
 use Rattle.litmus_syntax.specs.Tree.{Block}
-use Rattle.memory_operation.specs.declared.effect.Effect.{Effect}
+use Rattle.access_run.specs.declared.memory_operation.effect.Effect.{Effect}
 use Rattle.setup_access.specs.Check.{Fallen}
 use Rattle.setup_access.specs.Fallen.{outcomes_in}
 use Rattle.setup_access.specs.Parts.{made}
@@ -16,9 +16,9 @@ use Rattle.task_run.specs.Leads.{Leads}
 use Rattle.task_run.specs.Part.{Part, closes, makes, opens}
 use Rattle.task_run.specs.Says.{Says}
 use Rattle.task_run.specs.declared.run.TaskRun.{TaskRun}
-use Rattle.written_order.specs.Access.{Makes}
-use Rattle.written_order.specs.Standing.{Setting, Standing}
-use Rattle.written_order.specs.WrittenOrder.{ClosesScope, OpensScope}
+use Rattle.program_order.specs.Access.{Makes}
+use Rattle.program_order.specs.Standing.{Setting, Standing}
+use Rattle.program_order.specs.WrittenOrder.{ClosesScope, OpensScope}
 
 abbrev pub fell_of : TaskRun → Option Outcome
 fell_of run = run.news.fell

@@ -1,6 +1,6 @@
 -- What an access has to give to what follows on it.
 use Rattle.std.specs.Prelude.{◌≡◌, ℕ, Some}
-use Rattle.memory_operation.specs.declared.effect.Effect.{Effect}
+use Rattle.access_run.specs.declared.memory_operation.effect.Effect.{Effect}
 use Rattle.task_plan.specs.Follow.{Follow, loaded_by}
 
 -- a value was read, where one is taken

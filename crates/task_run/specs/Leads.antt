@@ -2,7 +2,7 @@
 use Rattle.std.specs.Prelude.{◌≡◌, ◌↔◌, ◌++◌, ℕ, List, [], ◌∷◌, Option, None, Some, reverse}
 use Rattle.litmus_syntax.specs.Tree.{Block}
 use Rattle.access_run.specs.Leads.{AccessIsStuck}
-use Rattle.memory_operation.specs.LockLeads.{IsStuckAtLock}
+use Rattle.access_run.specs.memory_operation.LockLeads.{IsStuckAtLock}
 use Rattle.setup_access.specs.Parts.{made}
 use Rattle.setup_access.specs.Waits.{IsStuckBy}
 use Rattle.setup_access.specs.declared.begun.Begun.{Begun}
@@ -16,9 +16,9 @@ use Rattle.task_run.specs.Says.{Says}
 use Rattle.task_run.specs.Stops.{ScopesAreTold}
 use Rattle.task_run.specs.Told.{IsTold}
 use Rattle.task_run.specs.declared.run.TaskRun.{TaskRun}
-use Rattle.written_order.specs.Standing.{BeginsNow, Setting, Standing, checks_of, lock_number}
-use Rattle.written_order.specs.Waits.{vain_tries}
-use Rattle.written_order.specs.WrittenOrder.{StepsOfBlock, at_first}
+use Rattle.program_order.specs.Standing.{BeginsNow, Setting, Standing, checks_of, lock_number}
+use Rattle.program_order.specs.Waits.{vain_tries}
+use Rattle.program_order.specs.WrittenOrder.{StepsOfBlock, at_first}
 
 -- these records, the oldest first, end in no vain try of a lock
 abbrev pub EndInNoWait : List Record → Type 0

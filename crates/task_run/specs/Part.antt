@@ -3,12 +3,12 @@ use Rattle.std.specs.Prelude.{◌≡◌, ℕ, List, [], ◌∷◌, Option, Some}
 use Rattle.access_types.specs.Access.{Access}
 use Rattle.access_types.specs.declared.history.Happening.TheVariants as happenings
 use Rattle.access_types.specs.declared.history.Mark.TheVariants as marks
-use Rattle.litmus_meaning.specs.Expressions.{loading_value}
-use Rattle.litmus_meaning.specs.Meaning.{Chooses}
-use Rattle.litmus_meaning.specs.Values.{sign_extended}
-use Rattle.memory_operation.specs.Locks.{TakesLock}
-use Rattle.memory_operation.specs.declared.effect.Effect.{Effect}
-use Rattle.memory_operation.specs.declared.operation.Operation.{Operation}
+use Rattle.litmus_semantics.specs.Expressions.{loading_value}
+use Rattle.litmus_semantics.specs.Meaning.{Chooses}
+use Rattle.litmus_semantics.specs.Values.{sign_extended}
+use Rattle.access_run.specs.memory_operation.Locks.{TakesLock}
+use Rattle.access_run.specs.declared.memory_operation.effect.Effect.{Effect}
+use Rattle.access_run.specs.declared.memory_operation.operation.Operation.{Operation}
 use Rattle.setup_access.specs.Records.{MakesDone}
 use Rattle.setup_access.specs.declared.begun.Begun.{Begun}
 use Rattle.slot_table.specs.declared.records.Record.{Record}
@@ -17,9 +17,9 @@ use Rattle.task_plan.specs.Follow.{Follow, Taker, assigned, condition, goes_on, 
 use Rattle.text_walk.specs.Left.{BodyLeft, ClosesNewest, DueLeft, NothingLeft, WalkLeft}
 use Rattle.text_walk.specs.declared.due.Due.{Due}
 use Rattle.text_walk.specs.declared.walk.Walk.{Walk}
-use Rattle.written_order.specs.Access.{Makes}
-use Rattle.written_order.specs.Standing.{IsLockAt, Setting, Standing, doing, lock_number, registered}
-use Rattle.written_order.specs.WrittenOrder.{OpensScope, Steps, marked_so_often}
+use Rattle.program_order.specs.Access.{Makes}
+use Rattle.program_order.specs.Standing.{IsLockAt, Setting, Standing, doing, lock_number, registered}
+use Rattle.program_order.specs.WrittenOrder.{OpensScope, Steps, marked_so_often}
 
 -- reports are turned off, or on again, so many times over
 abbrev pub disabled : ℕ → Standing → List Record → Standing

@@ -8,8 +8,8 @@ use Rattle.task_plan.specs.Plans.{load_plan, planned_access}
 use Rattle.task_plan.specs.Views.{Plan}
 use Rattle.task_run.specs.Part.{Part, PartLeft, before_access, makes}
 use Rattle.text_walk.specs.declared.walk.Walk.{Walk}
-use Rattle.written_order.specs.Standing.{Setting, Standing}
-use Rattle.written_order.specs.WrittenOrder.{Steps}
+use Rattle.program_order.specs.Standing.{Setting, Standing}
+use Rattle.program_order.specs.WrittenOrder.{Steps}
 
 -- the part of a text that makes the access that is planned, where the task stands so
 abbrev pub planned : Setting → Standing → Plan → ℕ → Part

@@ -1,14 +1,14 @@
 -- The step that a machine is before.
 use Rattle.std.specs.Prelude.{◌≡◌, count_by, take}
 use Rattle.access_run.specs.Leads.{AccessSays}
-use Rattle.memory_operation.specs.LockLeads.{LockSays}
+use Rattle.access_run.specs.memory_operation.LockLeads.{LockSays}
 use Rattle.setup_access.specs.Leads as checks
 use Rattle.slot_table.specs.declared.step.Step.{Step}
 use Rattle.slot_table.specs.declared.step.Step.TheVariants.{LockStore}
 use Rattle.task_run.specs.declared.run.TaskRun.{TaskRun}
 use Rattle.task_run.specs.declared.stage.Stage.{Stage}
 use Rattle.task_run.specs.declared.stage.Stage.TheVariants as stages
-use Rattle.written_order.specs.Standing.{is_lock}
+use Rattle.program_order.specs.Standing.{is_lock}
 
 -- a task in a stage is before this step
 abbrev pub StageSays : Stage → TaskRun → Step → Type 0

@@ -3,7 +3,7 @@ use Rattle.std.specs.Prelude.{◌≡◌, ◌↔◌, List, [], ◌∷◌, Option,
 use Rattle.std.specs.Arc.{arc_value}
 use Rattle.access_types.specs.declared.history.Happening.TheVariants as happenings
 use Rattle.access_types.specs.declared.history.Mark.{Mark}
-use Rattle.program_layout.specs.Lays.{Lays}
+use Rattle.prepared_program.specs.program_layout.Lays.{Lays}
 use Rattle.setup_access.specs.Leads as checks
 use Rattle.setup_access.specs.Shown.{context_of}
 use Rattle.setup_access.specs.declared.begun.Begun.{Begun}
@@ -11,8 +11,8 @@ use Rattle.slot_table.specs.declared.records.Record.{Record}
 use Rattle.task_context.specs.History.{LeadsTo}
 use Rattle.task_plan.specs.Keeps.{Keeps}
 use Rattle.task_run.specs.declared.machine.Machine.{Machine}
-use Rattle.written_order.specs.Standing.{Setting, Standing, checks_of, doing, moments}
-use Rattle.written_order.specs.WrittenOrder.{Steps}
+use Rattle.program_order.specs.Standing.{Setting, Standing, checks_of, doing, moments}
+use Rattle.program_order.specs.WrittenOrder.{Steps}
 
 -- the machine is of this task, and goes by the same
 pub record IsOf (s : Setting) (machine : Machine) : Type 0 where

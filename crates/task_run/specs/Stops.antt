@@ -5,10 +5,10 @@ use Rattle.setup_access.specs.declared.begun.Begun.{Begun}
 use Rattle.slot_table.specs.declared.records.Record.{Record}
 use Rattle.task_run.specs.Stands.{Stands}
 use Rattle.task_run.specs.declared.machine.Machine.{Machine}
-use Rattle.text_bounds.specs.Passes.{PassesALimit}
-use Rattle.text_bounds.specs.Scopes.{in_force, is_scoped}
-use Rattle.written_order.specs.Standing.{Setting, Standing}
-use Rattle.written_order.specs.WrittenOrder.{Steps}
+use Rattle.program_order.specs.text_bounds.Passes.{PassesALimit}
+use Rattle.program_order.specs.text_bounds.Scopes.{in_force, is_scoped}
+use Rattle.program_order.specs.Standing.{Setting, Standing}
+use Rattle.program_order.specs.WrittenOrder.{Steps}
 
 -- each of these is a scoped assertion
 abbrev pub AreScoped : List Begun → Type 0

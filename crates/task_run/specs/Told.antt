@@ -1,12 +1,12 @@
 -- Where a task stands is told by its own way.
 use Rattle.std.specs.Prelude.{◌≡◌, ◌≤◌, ◌++◌, ℕ, Bool, List, [], ◌∷◌, length}
 use Rattle.access_types.specs.declared.history.Happening.{Happening}
-use Rattle.litmus_meaning.specs.Task.{Progress}
+use Rattle.litmus_semantics.specs.Task.{Progress}
 use Rattle.setup_access.specs.Check.{Fallen}
 use Rattle.slot_table.specs.declared.records.Record.{Record}
-use Rattle.text_bounds.specs.Scopes.{AreOfNoScope}
-use Rattle.written_order.specs.Standing.{Point, Standing, coming, counting}
-use Rattle.written_order.specs.WrittenOrder.{first_point}
+use Rattle.program_order.specs.text_bounds.Scopes.{AreOfNoScope}
+use Rattle.program_order.specs.Standing.{Point, Standing, coming, counting}
+use Rattle.program_order.specs.WrittenOrder.{first_point}
 
 -- what a task computes with these records still to come, from where it stood to where it stands then: no scoped
 -- assertion begins or ends in it

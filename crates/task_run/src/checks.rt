@@ -3,7 +3,7 @@
 ghost use Rattle.std.specs.Prelude.{◌≡◌, ◌+◌, ◌-◌, ◌<◌, ◌↔◌, ◌++◌, ◌∷◌, [], ℕ, List, IsTrue, None, Option, Some, length, slice_get};
 ghost use Rattle.std.specs.Arc.{arc_value};
 ghost use Rattle.access_run.specs.Leads.{AccessLeads, AccessSays};
-ghost use Rattle.memory_operation.specs.declared.operation.Operation.{Operation};
+ghost use Rattle.access_run.specs.declared.memory_operation.operation.Operation.{Operation};
 ghost use Rattle.setup_access.specs.Checker.{Doing};
 ghost use Rattle.setup_access.specs.Leads as checks;
 ghost use Rattle.setup_access.specs.OwnAccesses.{IsOwn};

@@ -8,11 +8,11 @@ ghost use Rattle.task_run.specs.Part.{FollowLeft, TakerLeft};
 ghost use Rattle.task_run.specs.Room.{room_of};
 ghost use Rattle.task_run.specs.Stands.{StandsBy};
 ghost use Rattle.task_plan.specs.Views.{follow_of, taker_of};
-ghost use Rattle.written_order.specs.Standing.{Setting, Standing};
+ghost use Rattle.program_order.specs.Standing.{Setting, Standing};
 
 use crate::machine::Machine;
-use litmus_meaning::{loading_value, sign_extended};
-use memory_operation::Effect;
+use access_run::memory_operation::Effect;
+use litmus_semantics::{loading_value, sign_extended};
 use task_plan::follow::so_often;
 use task_plan::{Taker, Then};
 

@@ -8,9 +8,9 @@ ghost use Rattle.slot_table.specs.declared.step.Step.{Step};
 ghost use Rattle.task_run.specs.Leads.{IsStuck, Leads};
 ghost use Rattle.task_run.specs.Says.{IsStopped, Says};
 ghost use Rattle.task_run.specs.declared.run.TaskRun.{TaskRun};
-ghost use Rattle.written_order.specs.Standing.{Setting};
-ghost use Rattle.written_order.specs.Waits as waits;
-ghost use Rattle.written_order.specs.WrittenOrder.{WrittenOrder};
+ghost use Rattle.program_order.specs.Standing.{Setting};
+ghost use Rattle.program_order.specs.Waits as waits;
+ghost use Rattle.program_order.specs.WrittenOrder.{WrittenOrder};
 
 /// Law: a machine is before one step at most.
 pub fn one_step_is_next()

@@ -15,4 +15,4 @@ mod stage;
 
 pub use laws::{no_task_stops, one_step_is_next, too_long_a_wait_is_told_by_the_records};
 pub use run::TaskRun;
-pub use task_points::{After, Before};
+pub use task_plan::task_points::{After, Before};

@@ -2,7 +2,7 @@
 
 use access_types::Sites;
 use litmus_syntax::Variable;
-use program_layout::Layout;
+use prepared_program::program_layout::Layout;
 use setup_access::{Begun, Checker, Rules};
 use std::sync::Arc;
 use task_plan::Progress;

@@ -14,7 +14,7 @@ ghost use Rattle.task_run.specs.Part.{disabled, enabled};
 ghost use Rattle.task_run.specs.Room.{room_of};
 ghost use Rattle.task_run.specs.Stands.{AfterMark, Stands};
 ghost use Rattle.task_run.specs.Stops.{Stops};
-ghost use Rattle.written_order.specs.Standing.{EndsNothing, Setting, Standing, counting, doing, is_lock, lock_number};
+ghost use Rattle.program_order.specs.Standing.{EndsNothing, Setting, Standing, counting, doing, is_lock, lock_number};
 
 use crate::machine::{Beyond, Machine};
 use access_types::Mark;

@@ -8,15 +8,15 @@ use crate::machine::Machine;
 use crate::news::News;
 use crate::stage::Stage;
 use access_run::AccessRun;
+use access_run::memory_operation::LockWait;
 use litmus_syntax::Program;
-use memory_operation::LockWait;
-use program_sites::{Prepared, RunError, Settings};
+use prepared_program::program_sites::{Prepared, RunError, Settings};
 use setup_access::{Begun, Outcome};
 use slot_table::{Answer, Step};
 use std::alloc::{AllocError, Global};
 use std::sync::Arc;
 use task_plan::Progress;
-use task_points::{After, Before, Latest};
+use task_plan::task_points::{After, Before, Latest};
 use text_walk::Walk;
 
 /// A task of a program, from its first statement to its last: the step that it makes next, and what it
@@ -33,12 +33,12 @@ impl<'a> TaskRun<'a> {
     ghost use Rattle.litmus_syntax.specs.Limits.{BlockScopes, KeepsLimits, block_rises};
     ghost use Rattle.litmus_syntax.specs.Tree.{Block};
     ghost use Rattle.litmus_syntax.specs.Views.{block_of, program_of};
-    ghost use Rattle.program_layout.specs.Places.{AreFit, places_of};
+    ghost use Rattle.prepared_program.specs.program_layout.Places.{AreFit, places_of};
     ghost use Rattle.litmus_syntax.specs.declared.program.Task.{Task};
-    ghost use Rattle.program_sites.specs.Errors.{IsOfPreparing};
-    ghost use Rattle.program_sites.specs.Prepared.{IsPrepared, IsReady, sites_in};
-    ghost use Rattle.program_sites.specs.Sites.{AreSitesOf};
-    ghost use Rattle.program_sites.specs.declared.settings.Settings.{Settings};
+    ghost use Rattle.prepared_program.specs.program_sites.Errors.{IsOfPreparing};
+    ghost use Rattle.prepared_program.specs.program_sites.Prepared.{IsPrepared, IsReady, sites_in};
+    ghost use Rattle.prepared_program.specs.program_sites.Sites.{AreSitesOf};
+    ghost use Rattle.prepared_program.specs.declared.program_sites.settings.Settings.{Settings};
     ghost use Rattle.task_run.specs.First.{setting_of};
     ghost use Rattle.slot_table.specs.Answer.{Answers};
     ghost use Rattle.slot_table.specs.declared.records.Record.{Record};
@@ -53,16 +53,16 @@ impl<'a> TaskRun<'a> {
     ghost use Rattle.setup_access.specs.declared.begun.Begun.{Begun};
     ghost use Rattle.task_run.specs.Points.{HasMade, Stepped, kept_by, last_was, next_is};
     ghost use Rattle.task_run.specs.Room.{room_of, task_room};
-    ghost use Rattle.written_order.specs.Waits.{OnlyStep, WithinTurns};
+    ghost use Rattle.program_order.specs.Waits.{OnlyStep, WithinTurns};
     ghost use Rattle.setup_access.specs.Parts.{made};
     ghost use Rattle.slot_table.specs.declared.step.Answer.{Answer};
-    ghost use Rattle.program_sites.specs.declared.error.RunError.TheVariants.{BadPlace, BadSlots};
+    ghost use Rattle.prepared_program.specs.declared.program_sites.error.RunError.TheVariants.{BadPlace, BadSlots};
     ghost use Rattle.access_run.specs.declared.access.AccessRun as accesses;
-    ghost use Rattle.memory_operation.specs.declared.lock.LockWait as locks;
+    ghost use Rattle.access_run.specs.declared.memory_operation.lock.LockWait as locks;
     ghost use Rattle.task_run.specs.declared.stage.Stage.TheVariants.{Closing, Locking, Making, Opening, Unlocking};
-    ghost use Rattle.written_order.specs.Standing.{Setting};
-    ghost use Rattle.written_order.specs.Waits as waits;
-    ghost use Rattle.written_order.specs.WrittenOrder.{SpellsAll, WrittenOrder};
+    ghost use Rattle.program_order.specs.Standing.{Setting};
+    ghost use Rattle.program_order.specs.Waits as waits;
+    ghost use Rattle.program_order.specs.WrittenOrder.{SpellsAll, WrittenOrder};
 
     /// The task of this number before its first step. It takes all its room, and no call after it takes memory.
     ///

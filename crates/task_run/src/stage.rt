@@ -3,7 +3,7 @@
 ghost use Rattle.std.specs.Prelude.{◌≡◌};
 
 use access_run::AccessRun;
-use memory_operation::LockWait;
+use access_run::memory_operation::LockWait;
 use task_plan::Then;
 
 /// What a task is doing: a part of its text with at least one step, or nothing more.

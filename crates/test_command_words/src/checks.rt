@@ -2,7 +2,7 @@
 
 use crate::words::{ask, refuse};
 use clap::error::ErrorKind;
-use command_words::request::{CheckRequest, Request};
+use cli::request::{CheckRequest, Request};
 use std::alloc::{AllocError, Global};
 use std::test::Fail;
 use watch_word::Layout;

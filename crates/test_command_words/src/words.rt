@@ -1,7 +1,7 @@
 //! What words ask for, and which make no sense.
 
 use clap::error::ErrorKind;
-use command_words::request::{
+use cli::request::{
     ReplayRequest, Request, RunOptions, RunRequest, SearchRequest, StepRequest, Switches, asked,
 };
 use std::alloc::Global;

@@ -3,7 +3,7 @@
 use crate::lists::play;
 use crate::refusal::Refusal;
 use crate::row::{Row, number};
-use oracle_headline::{Came, Told};
+use oracle_soundness::oracle_headline::{Came, Told};
 use setup_access::Outcome;
 use slot_table::{Answer, Record, Step};
 use std::alloc::Global;

@@ -4,9 +4,9 @@ ghost use Rattle.std.specs.Prelude.{◌≤◌};
 
 use crate::refusal::Refusal;
 use access_types::{Access, Bytes, Happening, Mark, Moment, Sites, ticket};
-use oracle_headline::armings::last_arming;
-use oracle_headline::meetings::in_hand;
-use oracle_headline::{Armed, Came, Told};
+use oracle_soundness::oracle_headline::armings::last_arming;
+use oracle_soundness::oracle_headline::meetings::in_hand;
+use oracle_soundness::oracle_headline::{Armed, Came, Told};
 use setup_access::{Checker, Rules};
 use slot_table::{Answer, Board, PlainBoard, Record, Shape, Step};
 use std::alloc::{AllocError, Global};

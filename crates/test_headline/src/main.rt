@@ -11,8 +11,8 @@ mod trial;
 mod wanted;
 
 use bend::bent;
-use oracle_headline::Told;
-use oracle_headline::meetings::setters_heard;
+use oracle_soundness::oracle_headline::Told;
+use oracle_soundness::oracle_headline::meetings::setters_heard;
 use orders::in_every_order;
 use refusal::Refusal;
 use row::Row;

@@ -3,7 +3,7 @@
 use crate::lists::{Program, play};
 use crate::refusal::Refusal;
 use crate::row::Row;
-use oracle_headline::{Told, holds};
+use oracle_soundness::oracle_headline::{Told, holds};
 use setup_access::Outcome;
 use std::alloc::Global;
 

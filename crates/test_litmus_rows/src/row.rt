@@ -1,10 +1,10 @@
 //! Rows: texts, and what comes of them.
 
 use crate::frame::{Kind, kind_of};
+use diagnostics::refusal_text::refusal_text;
 use litmus_lex::{column_of, line_of};
 use litmus_parse::{ParseError, Program, Reading, Refused, parse, print, read_text};
 use litmus_syntax::Statement;
-use refusal_text::refusal_text;
 use std::alloc::{AllocError, Global};
 use test_escapes::unescaped;
 

@@ -5,7 +5,7 @@ use crate::setting::{CELLS, Setting};
 use crate::steps::record_of;
 use crate::words::Fault;
 use access_types::{Sites, TASKS};
-use oracle_checks::{Reading, read_check};
+use oracle_steps::oracle_checks::{Reading, read_check};
 use setup_access::{Checker, CheckerError};
 use slot_table::Record;
 use std::alloc::Global;

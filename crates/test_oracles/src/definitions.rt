@@ -3,7 +3,9 @@
 use crate::accesses::{access_of, bytes_of};
 use crate::words::{Fault, Words};
 use access_types::Moment;
-use oracle_definitions::{content_after, counted_as_marked, in_progress, silenced, true_race};
+use oracle_soundness::oracle_definitions::{
+    content_after, counted_as_marked, in_progress, silenced, true_race,
+};
 use std::alloc::{AllocError, Global};
 
 /// The answer to what a word asks of a history.

@@ -4,7 +4,7 @@ use crate::accesses::access_of;
 use crate::steps::{answer_of, outcome_of, step_of};
 use crate::words::{Fault, Words, index_of};
 use access_types::Access;
-use oracle_checks::Reading;
+use oracle_steps::oracle_checks::Reading;
 use setup_access::Outcome;
 use slot_table::{Answer, Step};
 use std::alloc::{AllocError, Global};

@@ -7,7 +7,7 @@ use crate::moves::{Act, Came, Move};
 use crate::setting::{CELLS, Setting};
 use crate::words::{Fault, small_of};
 use access_types::{Access, Sites, TASKS, ticket};
-use oracle_checks::{Reading, read_on};
+use oracle_steps::oracle_checks::{Reading, read_on};
 use setup_access::{Checker, CheckerError};
 use slot_table::{Board, BoardError, PlainBoard, Record, Shape, Step};
 use std::alloc::Global;

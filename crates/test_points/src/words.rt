@@ -1,7 +1,7 @@
 //! Boards by their numbers: each word tells them apart, but for the clock.
 
-use known_points::KnownWords;
 use slot_table::{Board, PlainBoard, Shape, Step};
+use state_search::visited_set::KnownWords;
 use std::test::Fail;
 
 /// The word of a plain read of 4 bytes at 0x10000.

@@ -3,8 +3,8 @@
 use crate::same::same;
 use access_types::Bytes;
 use litmus_syntax::{Contents, Name, Variable};
-use program_layout::layout::{Layout, LayoutError};
-use program_layout::place::Place;
+use prepared_program::program_layout::layout::{Layout, LayoutError};
+use prepared_program::program_layout::place::Place;
 use std::alloc::{AllocError, Global};
 use std::test::Fail;
 

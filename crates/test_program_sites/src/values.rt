@@ -2,9 +2,9 @@
 
 use crate::same::{same, same_at};
 use access_types::{Bytes, Claim, Kind, Operation};
-use litmus_meaning::expression::pure_value;
-use litmus_meaning::site::{Site, text_sites};
-use litmus_meaning::value::{cut, sign_extended};
+use litmus_semantics::expression::pure_value;
+use litmus_semantics::site::{Site, text_sites};
+use litmus_semantics::value::{cut, sign_extended};
 use litmus_syntax::BinaryOperator::{
     Add, BitAnd, BitOr, BitXor, Equal, Greater, GreaterOrEqual, Less, LessOrEqual, Multiply,
     NotEqual, Subtract,

@@ -3,8 +3,8 @@
 use crate::runs::{Meeting, RACE, THOUSAND, TWO_STUCK, Unseen, has, parsed, settings, wait};
 use crate::same::same;
 use litmus_step::Prepared;
-use run_tally::{Hooks, Progress, Times, run_text_often, run_text_with};
-use runner::{Gate, NoStall, Open, Point, RunError, Stall, Turn, run_batch};
+use run_stats::{Hooks, Progress, Times, run_text_often, run_text_with};
+use runner::{Gate, HookPoint, NoStall, Open, RunError, RunIndex, Stall, run_batch};
 use std::sync::atomic::{AtomicU64, Ordering};
 use std::test::Fail;
 use trace_replay::{Accepted, replay};
@@ -93,8 +93,8 @@ impl<'a> Hooks for Meetings<'a> {
 }
 
 impl<'a> Gate for CountedMeeting<'a> {
-    fn pass(&self, task: usize, point: Point) {
-        if point == Point::Begin {
+    fn pass(&self, task: usize, point: HookPoint) {
+        if point == HookPoint::Begin {
             let begins = if task == 0 {
                 &self.counts.reader_begins
             } else {
@@ -105,7 +105,7 @@ impl<'a> Gate for CountedMeeting<'a> {
         if self.holds {
             self.meeting.pass(task, point);
         }
-        if (task, point) == (1, Point::End) {
+        if (task, point) == (1, HookPoint::End) {
             self.written.store(1, Ordering::SeqCst);
         }
     }
@@ -152,11 +152,11 @@ impl<'a> Hooks for ReaderAhead<'a> {
 }
 
 impl<'a> Gate for RunOf<'a> {
-    fn pass(&self, task: usize, point: Point) {
-        if (task, point) == (0, Point::Begin) {
+    fn pass(&self, task: usize, point: HookPoint) {
+        if (task, point) == (0, HookPoint::Begin) {
             self.counts.reader_begins.fetch_add(1, Ordering::SeqCst);
         }
-        if (task, point, self.number) == (1, Point::Begin, 1)
+        if (task, point, self.number) == (1, HookPoint::Begin, 1)
             && !wait(&self.counts.reader_begins, 3)
         {
             self.counts.ran_out.fetch_add(1, Ordering::SeqCst);
@@ -282,8 +282,8 @@ fn a_long_delay_lasts_until_nobody_can_come(rt: HostRuntime) -> Result<(), Fail>
 }
 
 /// The turn of a number in which a task starts first.
-fn turn(number: u64, first: usize) -> Turn {
-    Turn { number, first }
+fn turn(number: u64, first: usize) -> RunIndex {
+    RunIndex { number, first }
 }
 
 /// Each run of a batch has words, a gate and a stall of its own: in each the race is found once.

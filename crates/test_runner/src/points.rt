@@ -2,7 +2,7 @@
 
 use crate::runs::{RACE, parsed, settings, wait};
 use crate::same::same;
-use runner::{Gate, NoStall, Point, Stall, run_once};
+use runner::{Gate, HookPoint, NoStall, Stall, run_once};
 use std::sync::atomic::{AtomicU64, Ordering};
 use std::test::Fail;
 
@@ -37,12 +37,12 @@ impl Places {
         place.store(before.wrapping_add(1), Ordering::SeqCst);
     }
 
-    fn passes(&self, point: Point) {
+    fn passes(&self, point: HookPoint) {
         match point {
-            Point::Begin => self.comes(&self.begin),
-            Point::Armed => self.comes(&self.armed),
-            Point::Taken => self.comes(&self.taken),
-            Point::End => self.comes(&self.end),
+            HookPoint::Begin => self.comes(&self.begin),
+            HookPoint::Armed => self.comes(&self.armed),
+            HookPoint::Taken => self.comes(&self.taken),
+            HookPoint::End => self.comes(&self.end),
         }
     }
 
@@ -93,12 +93,12 @@ impl Crossing {
 }
 
 impl Gate for Crossing {
-    fn pass(&self, task: usize, point: Point) {
+    fn pass(&self, task: usize, point: HookPoint) {
         self.of(task).passes(point);
         match (task, point) {
-            (0, Point::Armed) => self.hold(&self.writer.taken),
-            (1, Point::Begin) => self.hold(&self.reader.armed),
-            (1, Point::Taken) => self.hold(&self.reader.end),
+            (0, HookPoint::Armed) => self.hold(&self.writer.taken),
+            (1, HookPoint::Begin) => self.hold(&self.reader.armed),
+            (1, HookPoint::Taken) => self.hold(&self.reader.end),
             _ => {}
         }
     }
@@ -124,13 +124,13 @@ struct InTurn {
 }
 
 impl Gate for InTurn {
-    fn pass(&self, task: usize, point: Point) {
+    fn pass(&self, task: usize, point: HookPoint) {
         let crossing = &self.crossing;
         crossing.of(task).passes(point);
         match (task, point) {
-            (0, Point::Begin) => crossing.hold(&crossing.writer.begin),
-            (1, Point::Begin) => crossing.hold(&crossing.reader.end),
-            (0, Point::End) => crossing.hold(&crossing.writer.end),
+            (0, HookPoint::Begin) => crossing.hold(&crossing.writer.begin),
+            (1, HookPoint::Begin) => crossing.hold(&crossing.reader.end),
+            (0, HookPoint::End) => crossing.hold(&crossing.writer.end),
             _ => {}
         }
     }

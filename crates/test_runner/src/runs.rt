@@ -7,9 +7,9 @@ ghost use Rattle.litmus_syntax.specs.Views.{program_of};
 use crate::same::same;
 use litmus_parse::{ParseError, Program, parse};
 use litmus_step::{Prepared, Settings};
-use run_tally::{Delay, EngineError, Progress, Times, Written, run_text_often};
+use run_stats::{Delay, EngineError, Progress, Times, Written, run_text_often};
 use runner::{
-    Gate, NoStall, Open, Point, RunError, RunResult, Stall, Turn, run_once, run_prepared,
+    Gate, HookPoint, NoStall, Open, RunError, RunIndex, RunResult, Stall, run_once, run_prepared,
 };
 use std::alloc::{AllocError, Global};
 use std::sync::Wait;
@@ -128,13 +128,13 @@ impl Meeting {
 }
 
 impl Gate for Meeting {
-    fn pass(&self, task: usize, point: Point) {
+    fn pass(&self, task: usize, point: HookPoint) {
         match (task, point) {
-            (0, Point::Armed) => {
+            (0, HookPoint::Armed) => {
                 self.armed.fetch_add(1, Ordering::SeqCst);
             }
-            (1, Point::Begin) => self.hold(&self.armed),
-            (1, Point::Taken) => {
+            (1, HookPoint::Begin) => self.hold(&self.armed),
+            (1, HookPoint::Taken) => {
                 self.told.fetch_add(1, Ordering::SeqCst);
             }
             _ => {}
@@ -158,8 +158,8 @@ struct Behind {
 }
 
 impl Gate for Behind {
-    fn pass(&self, task: usize, point: Point) {
-        if (task, point) == (1, Point::Begin) && !wait(&self.over, 1) {
+    fn pass(&self, task: usize, point: HookPoint) {
+        if (task, point) == (1, HookPoint::Begin) && !wait(&self.over, 1) {
             self.ran_out.fetch_add(1, Ordering::SeqCst);
         }
     }
@@ -183,8 +183,8 @@ struct Start {
 }
 
 impl Gate for Start {
-    fn pass(&self, _task: usize, point: Point) {
-        if point == Point::Begin {
+    fn pass(&self, _task: usize, point: HookPoint) {
+        if point == HookPoint::Begin {
             self.there.fetch_add(1, Ordering::SeqCst);
             if !wait(&self.there, 16) {
                 self.ran_out.fetch_add(1, Ordering::SeqCst);
@@ -349,9 +349,9 @@ fn each_arming_stalls_once(rt: HostRuntime) -> Result<(), Fail> {
 #[test]
 fn a_delay_counts_its_turns(rt: HostRuntime) -> Result<(), Fail> {
     let delay = Delay::new(64, 2, 1);
-    delay.pass(1, Point::End);
-    delay.pass(0, Point::Begin);
-    delay.pass(1, Point::Begin);
+    delay.pass(1, HookPoint::End);
+    delay.pass(0, HookPoint::Begin);
+    delay.pass(1, HookPoint::Begin);
     delay.stall(0, 0);
     same(&rt, delay.turns(), 64);
     delay.over(1);
@@ -377,7 +377,7 @@ fn any_task_may_start_first(rt: HostRuntime) -> Result<(), Fail> {
     let settings = settings(alloc, false, 1_000_000_000);
     let prepared = Prepared::new(alloc, &program, &settings)?;
     for first in 0..18 {
-        let turn = Turn { number: 5, first };
+        let turn = RunIndex { number: 5, first };
         let ran = run_prepared(
             &rt, alloc, &program, &settings, &prepared, turn, &NoStall, &Open,
         )?;

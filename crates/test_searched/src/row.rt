@@ -3,7 +3,7 @@
 use crate::texts::Texts;
 use litmus_parse::{ParseError, parse};
 use litmus_step::{RunError, Settings};
-use oracle_searched::searched_schedules;
+use oracle_steps::oracle_searched::searched_schedules;
 use std::alloc::{AllocError, Global};
 use thiserror::Error;
 use watch_word::Layout;

@@ -7,7 +7,7 @@ ghost use Rattle.litmus_syntax.specs.Limits.{KeepsLimits};
 ghost use Rattle.litmus_syntax.specs.Views.{program_of};
 
 use litmus_parse::{ParseError, Program, parse};
-use program_sites::{RunError, Settings};
+use prepared_program::program_sites::{RunError, Settings};
 use std::alloc::Global;
 use std::process::ExitCode;
 use task_run::TaskRun;

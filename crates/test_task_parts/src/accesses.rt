@@ -4,8 +4,8 @@ use crate::fault::Fault;
 use crate::notation::{Phrase, cut, kind_of, push_flag, push_step, push_two};
 use crate::script::{Asked, Made, begin_word, make_other, push_made};
 use access_run::AccessRun;
+use access_run::memory_operation::Operation;
 use access_types::{Access, Kind, Sites};
-use memory_operation::Operation;
 use setup_access::{Checker, Rules};
 use slot_table::{Board, PlainBoard, Shape};
 use std::alloc::{AllocError, Global};
@@ -117,9 +117,9 @@ fn push_outcomes(came: &mut String, checker: &Checker) -> Result<(), AllocError>
 /// Writes whether the checker stands as when the access began, the access too, and whether this is still the last one.
 fn push_as_first(came: &mut String, scene: &Scene) -> Result<(), AllocError> {
     let (checker, run) = &scene.first;
-    push_flag(came, scene.checker.stands_as(checker))?;
+    push_flag(came, scene.checker.state_eq(checker))?;
     came.push(',')?;
-    push_flag(came, scene.run.stands_as(run))?;
+    push_flag(came, scene.run.state_eq(run))?;
     came.push(',')?;
     push_flag(came, scene.checker.began_as(checker))
 }

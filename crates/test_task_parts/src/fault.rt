@@ -2,7 +2,7 @@
 
 use access_types::AccessError;
 use litmus_parse::ParseError;
-use program_layout::LayoutError;
+use prepared_program::program_layout::LayoutError;
 use setup_access::CheckerError;
 use slot_table::BoardError;
 use std::alloc::{AllocError, AllocFailed};

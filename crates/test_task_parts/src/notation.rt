@@ -1,8 +1,8 @@
 //! How numbers, steps, kinds and operations are written in rows.
 
 use crate::fault::Fault;
+use access_run::memory_operation::{Change, Operation};
 use access_types::{Claim, Kind, Operation as Touch};
-use memory_operation::{Change, Operation};
 use slot_table::{Answer, Step};
 use std::alloc::AllocError;
 

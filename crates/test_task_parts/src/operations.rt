@@ -3,8 +3,8 @@
 use crate::fault::Fault;
 use crate::notation::{Phrase, cut, number, push_flag, push_optional, push_step, push_two, short};
 use crate::script::{Asked, Made, begin_word, make_other, push_made};
+use access_run::memory_operation::{LockWait, OperationRun};
 use access_types::{Access, Kind, Operation as Touch};
-use memory_operation::{LockWait, OperationRun};
 use setup_access::source::Source;
 use slot_table::{Board, PlainBoard, Shape};
 use std::alloc::Global;

@@ -8,8 +8,8 @@ use crate::process::{body_of, program_of, walk_of};
 use crate::script::{Asked, begin_word};
 use litmus_parse::Program;
 use litmus_syntax::Statement;
-use same_text::is_same_block;
 use std::alloc::Global;
+use text_walk::same_text::is_same_block;
 use text_walk::{Due, Walk};
 
 /// What stands between two texts of a row.
@@ -131,7 +131,7 @@ fn stand_alike(
 ) -> Result<bool, Fault> {
     let one = walked(alloc, one, steps.number(0)?)?;
     let other = walked(alloc, other, steps.number(1)?)?;
-    Ok(one.stands_as(&other))
+    Ok(one.state_eq(&other))
 }
 
 /// Where a task stands behind so many steps, of which each condition holds; a last one isn't said to hold yet.

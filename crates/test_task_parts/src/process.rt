@@ -3,7 +3,7 @@
 use crate::fault::Fault;
 use litmus_parse::{Program, parse};
 use litmus_syntax::Statement;
-use program_layout::Layout;
+use prepared_program::program_layout::Layout;
 use std::alloc::Global;
 use text_walk::Walk;
 use text_walk::count::sites_in;

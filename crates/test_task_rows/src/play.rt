@@ -6,10 +6,10 @@ ghost use Rattle.litmus_syntax.specs.Views.{program_of};
 
 use crate::notation::Story;
 use litmus_parse::{ParseError, Program, parse};
-use program_sites::{Prepared, RunError, Settings};
+use option_lists::step_schedule::{Entry, Schedule};
+use prepared_program::program_sites::{Prepared, RunError, Settings};
 use slot_table::{Answer, Board, BoardError, PlainBoard, Shape, Step};
 use std::alloc::{AllocError, Global};
-use step_schedule::{Entry, Schedule};
 use task_run::TaskRun;
 use thiserror::Error;
 

@@ -2,11 +2,11 @@
 
 use crate::play::{PlayError, Scene, played};
 use crate::texts::Texts;
-use place_list::parse_places;
-use program_layout::Place;
-use program_sites::Settings;
+use option_lists::place_list::parse_places;
+use option_lists::step_schedule::Schedule;
+use prepared_program::program_layout::Place;
+use prepared_program::program_sites::Settings;
 use std::alloc::{AllocError, Global};
-use step_schedule::Schedule;
 use watch_word::Layout;
 
 /// The rules and the schedule of a text of one task.

@@ -1,13 +1,13 @@
 //! Rows: texts with settings, place lists and schedules, and what is said of them.
 
-use list_faults::{place_fault, schedule_fault};
-use place_list::parse_places;
-use program_layout::Place;
-use program_sites::{RunError, Settings};
+use diagnostics::option_diagnostics::{place_fault, schedule_fault};
+use diagnostics::text_check::{Check, calls, check_text};
+use option_lists::place_list::parse_places;
+use option_lists::step_schedule::{Entry, Schedule};
+use prepared_program::program_layout::Place;
+use prepared_program::program_sites::{RunError, Settings};
 use std::alloc::{AllocError, Global};
-use step_schedule::{Entry, Schedule};
 use test_escapes::unescaped;
-use text_check::{Check, calls, check_text};
 use watch_word::Layout;
 
 /// What a row is about.

@@ -1,6 +1,6 @@
 //! Lists of records that are bent at one place.
 
-use oracle_accesses::reading::Reading;
+use oracle_steps::oracle_accesses::reading::Reading;
 use slot_table::{Answer, Record, Step};
 use std::alloc::{AllocError, Global};
 

@@ -7,8 +7,8 @@ use crate::numbers::{number, numbers, small};
 use crate::row::program_of;
 use access_types::Bytes;
 use litmus_syntax::Task;
-use oracle_meaning::text::means;
-use oracle_meaning::walk::{Given, NoMeaning};
+use oracle_semantics::oracle_meaning::text::means;
+use oracle_semantics::oracle_meaning::walk::{Given, NoMeaning};
 use std::alloc::Global;
 use std::fmt::Write;
 

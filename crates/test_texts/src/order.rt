@@ -6,8 +6,8 @@ use crate::happenings::show_walk;
 use crate::numbers::small;
 use crate::row::program_of;
 use crate::steps::records_of;
-use oracle_order::text::spells;
-use oracle_order::walk::{Given, NotSpelled};
+use oracle_semantics::oracle_order::text::spells;
+use oracle_semantics::oracle_order::walk::{Given, NotSpelled};
 use std::alloc::Global;
 use std::fmt::Write;
 

@@ -4,7 +4,7 @@ use crate::blocks::{Block, Blocks};
 use crate::fault::Fault;
 use crate::{accesses, meaning, order, sources, tokens};
 use litmus_parse::{Program, parse};
-use printed_bytes::read_back;
+use print_roundtrip::printed_bytes::read_back;
 use std::alloc::{AllocError, Global};
 use std::fmt::Write;
 

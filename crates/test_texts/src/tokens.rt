@@ -2,7 +2,7 @@
 
 use crate::fault::Fault;
 use crate::numbers::number;
-use litmus_lex::{Lexeme, Part, Place, Token, line_of, next_token, read_head};
+use litmus_lex::{Lexeme, Part, SourcePosition, Token, line_of, next_token, read_head};
 use std::alloc::Global;
 use std::fmt::Write;
 use test_escapes::unescaped;
@@ -42,9 +42,12 @@ fn token_at(text: &[u8], part: Part, at: usize) -> Result<Lexeme<'_>, Fault> {
                 return Err(Fault::NoRow);
             }
             let part = Part::Body(depth);
-            Ok(next_token(text, Place { at, part }))
+            Ok(next_token(text, SourcePosition { at, part }))
         }
-        Part::Head | Part::Init | Part::Between => Ok(next_token(text, Place { at, part })),
+        Part::Head | Part::Init | Part::Between => Ok(next_token(
+            text,
+            SourcePosition { at, part },
+        )),
     }
 }
 

@@ -5,7 +5,7 @@ use crate::trace::Trace;
 use report_text::Line;
 use std::alloc::{AllocError, Global};
 use test_escapes::unescaped;
-use trace_lines::{Shape, read_head, read_line};
+use trace_replay::trace_lines::{Shape, read_head, read_line};
 use watch_word::Layout;
 
 /// The shape of a trace with one line.

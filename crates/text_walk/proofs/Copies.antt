@@ -1,8 +1,8 @@
 -- What is so of a walk is so of its copy.
 use Rattle.std.proofs.Common.{◌≡◌, ◌+◌, ℕ, List, MatchOption, Option, refl, subst, sym}
 use Rattle.litmus_syntax.specs.Views.{expression_of, statement_of}
-use Rattle.litmus_meaning.specs.Calls.{scoped_access}
-use Rattle.litmus_meaning.specs.Meaning.{Chooses}
+use Rattle.litmus_semantics.specs.Calls.{scoped_access}
+use Rattle.litmus_semantics.specs.Meaning.{Chooses}
 use Rattle.setup_access.specs.declared.begun.Begun.{Begun}
 use Rattle.slot_table.specs.declared.records.Record.{Record}
 use Rattle.text_walk.specs.Capacity.{room_of}
@@ -14,8 +14,8 @@ use Rattle.text_walk.specs.declared.block.OpenBlock.{OpenBlock}
 use Rattle.text_walk.specs.declared.due.Due.{Due}
 use Rattle.text_walk.specs.declared.due.Due.TheVariants as dues
 use Rattle.text_walk.specs.declared.walk.Walk.{Walk}
-use Rattle.written_order.specs.Standing.{Setting, Standing, registered}
-use Rattle.written_order.specs.WrittenOrder.{OpensScope, Steps, StepsOf, StepsOfExpression}
+use Rattle.program_order.specs.Standing.{Setting, Standing, registered}
+use Rattle.program_order.specs.WrittenOrder.{OpensScope, Steps, StepsOf, StepsOfExpression}
 
 -- a block of the choice is left where there is one, and what is outside of it
 abbrev choosing : Setting → (Choice → OpenBlock) → List OpenBlock → Option Choice → Steps

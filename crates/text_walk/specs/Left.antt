@@ -3,8 +3,8 @@ use Rattle.std.specs.Prelude.{◌≡◌, ◌↔◌, ◌+◌, ◌-◌, ◌++◌, 
 use Rattle.litmus_syntax.specs.Sites.{sites_of}
 use Rattle.litmus_syntax.specs.Tree.{Block, Expression, Statement}
 use Rattle.litmus_syntax.specs.Views.{block_of, expression_of, statement_of}
-use Rattle.litmus_meaning.specs.Calls.{Scoped, scoped_access, scoped_assertion}
-use Rattle.litmus_meaning.specs.Meaning.{Chooses, after_condition}
+use Rattle.litmus_semantics.specs.Calls.{Scoped, scoped_access, scoped_assertion}
+use Rattle.litmus_semantics.specs.Meaning.{Chooses, after_condition}
 use Rattle.setup_access.specs.declared.begun.Begun.{Begun}
 use Rattle.slot_table.specs.declared.records.Record.{Record}
 use Rattle.text_walk.specs.declared.block.AtEnd.{AtEnd}
@@ -14,8 +14,8 @@ use Rattle.text_walk.specs.declared.due.Due.TheVariants as dues
 use Rattle.text_walk.specs.declared.block.Loop.{Loop}
 use Rattle.text_walk.specs.declared.block.OpenBlock.{OpenBlock}
 use Rattle.text_walk.specs.declared.walk.Walk.{Walk}
-use Rattle.written_order.specs.Standing.{Setting, Standing, registered}
-use Rattle.written_order.specs.WrittenOrder.{ClosesScope, OpensScope, Steps, StepsInBlock, StepsOf, StepsOfBlock, StepsOfExpression, StepsOfTurns}
+use Rattle.program_order.specs.Standing.{Setting, Standing, registered}
+use Rattle.program_order.specs.WrittenOrder.{ClosesScope, OpensScope, Steps, StepsInBlock, StepsOf, StepsOfBlock, StepsOfExpression, StepsOfTurns}
 
 -- two parts of a text have the same steps
 abbrev pub Same : Steps → Steps → Type 0

@@ -5,6 +5,7 @@ mod block;
 pub mod count;
 pub mod due;
 mod places;
+pub mod same_text;
 pub mod walk;
 
 pub use due::Due;

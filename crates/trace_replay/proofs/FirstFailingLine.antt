@@ -8,15 +8,15 @@ use Rattle.report_text.specs.Standing.{Stands}
 use Rattle.report_text.specs.TraceText.{Head, end_line, first, head_text, second}
 use Rattle.report_text.specs.Truth.{IsTrueEnd, IsTrueLine}
 use Rattle.report_text.specs.declared.line.Line.{Line}
-use Rattle.trace_lines.specs.FieldReaders.{past}
-use Rattle.trace_lines.specs.HeadReading as heads
-use Rattle.trace_lines.specs.HeadReading.{HeadFailsAt}
-use Rattle.trace_lines.specs.LineReaders.{line_at}
-use Rattle.trace_lines.specs.Plain.{IsPlainForm, KeepLimits, plain_line}
-use Rattle.trace_lines.specs.Reading.{IsLineAt, Reads}
-use Rattle.trace_lines.proofs.LineTexts.{line_there}
-use Rattle.trace_lines.proofs.TrueBegins.{few_lines, has_bytes, keep_limits}
-use Rattle.trace_lines.proofs.Words.{same_given}
+use Rattle.trace_replay.specs.trace_lines.FieldReaders.{past}
+use Rattle.trace_replay.specs.trace_lines.HeadReading as heads
+use Rattle.trace_replay.specs.trace_lines.HeadReading.{HeadFailsAt}
+use Rattle.trace_replay.specs.trace_lines.LineReaders.{line_at}
+use Rattle.trace_replay.specs.trace_lines.Plain.{IsPlainForm, KeepLimits, plain_line}
+use Rattle.trace_replay.specs.trace_lines.Reading.{IsLineAt, Reads}
+use Rattle.trace_replay.proofs.trace_lines.LineTexts.{line_there}
+use Rattle.trace_replay.proofs.trace_lines.TrueBegins.{few_lines, has_bytes, keep_limits}
+use Rattle.trace_replay.proofs.trace_lines.Words.{same_given}
 use Rattle.trace_replay.specs.Answer.{IsAccepted, IsRefused, IsRefusedLine, accepted_of}
 use Rattle.trace_replay.specs.declared.accepted.Accepted.{Accepted}
 use Rattle.trace_replay.specs.declared.accepted.TraceError.{TraceError}

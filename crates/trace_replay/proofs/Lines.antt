@@ -20,7 +20,7 @@ use Rattle.report_text.specs.Truth.{hit_in, hits_in, origin_of, origins_in, pair
 use Rattle.report_text.specs.declared.line.Line.{Line}
 use Rattle.report_text.specs.declared.line.Line.TheVariants as lines
 use Rattle.report_text.proofs.TrueLines.{accesses-append, arms-append, reports-append, takes-append}
-use Rattle.trace_lines.proofs.TrueBegins.{arms_within}
+use Rattle.trace_replay.proofs.trace_lines.TrueBegins.{arms_within}
 use Rattle.trace_replay.specs.Accesses.{AreKept}
 use Rattle.trace_replay.specs.Armings.{AreArmings}
 use Rattle.trace_replay.specs.Story.{CountsLines, Knows, Tells}

@@ -18,18 +18,18 @@ use Rattle.report_text.specs.Truth.{IsTrueEnd, IsTrueLine}
 use Rattle.report_text.specs.declared.line.Line.{Line}
 use Rattle.report_text.specs.declared.line.Line.TheVariants as lines
 use Rattle.report_text.proofs.TrueLines.{accesses-append}
-use Rattle.trace_lines.specs.FieldReaders.{past}
-use Rattle.trace_lines.specs.HeadReading.{shape_at}
-use Rattle.trace_lines.specs.LineReaders.{line_at}
-use Rattle.trace_lines.specs.Plain.{KeepLimits, plain_access, plain_line, without_scope}
-use Rattle.trace_lines.specs.Reading.{IsPlain}
-use Rattle.trace_lines.specs.declared.head.Shape.{Shape}
-use Rattle.trace_lines.proofs.HeadTexts.{shape_there}
-use Rattle.trace_lines.proofs.LineTexts.{line_there, mask_kept}
-use Rattle.trace_lines.proofs.PlainForms.{access_text, form}
-use Rattle.trace_lines.proofs.PlainTruth.{all_to, end_from, end_to, stands_from, stands_to, true_from}
-use Rattle.trace_lines.proofs.TrueBegins.{keep_limits}
-use Rattle.trace_lines.proofs.Words.{past_there, same_given}
+use Rattle.trace_replay.specs.trace_lines.FieldReaders.{past}
+use Rattle.trace_replay.specs.trace_lines.HeadReading.{shape_at}
+use Rattle.trace_replay.specs.trace_lines.LineReaders.{line_at}
+use Rattle.trace_replay.specs.trace_lines.Plain.{KeepLimits, plain_access, plain_line, without_scope}
+use Rattle.trace_replay.specs.trace_lines.Reading.{IsPlain}
+use Rattle.trace_replay.specs.declared.trace_lines.head.Shape.{Shape}
+use Rattle.trace_replay.proofs.trace_lines.HeadTexts.{shape_there}
+use Rattle.trace_replay.proofs.trace_lines.LineTexts.{line_there, mask_kept}
+use Rattle.trace_replay.proofs.trace_lines.PlainForms.{access_text, form}
+use Rattle.trace_replay.proofs.trace_lines.PlainTruth.{all_to, end_from, end_to, stands_from, stands_to, true_from}
+use Rattle.trace_replay.proofs.trace_lines.TrueBegins.{keep_limits}
+use Rattle.trace_replay.proofs.trace_lines.Words.{past_there, same_given}
 use Rattle.trace_replay.specs.Answer.{IsAccepted, IsAnswerTo, IsRefused, accepted_of}
 use Rattle.trace_replay.specs.declared.accepted.Accepted.{Accepted}
 use Rattle.trace_replay.specs.declared.accepted.TraceError.{TraceError}

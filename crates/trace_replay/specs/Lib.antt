@@ -5,3 +5,4 @@ pub mod Accesses
 pub mod Told
 pub mod Story
 pub mod Answer
+pub mod trace_lines

@@ -10,6 +10,7 @@ mod pass;
 mod story;
 mod table;
 mod told;
+pub mod trace_lines;
 
 pub use accepted::{Accepted, TraceError};
 pub use pass::{SIZE_LIMIT, replay};

@@ -4,8 +4,8 @@ ghost use Rattle.std.specs.Prelude.{◌≡◌, ◌≢◌, ◌↔◌, ◌++◌, �
 ghost use Rattle.report_text.specs.Faults.{BeginsTruly, BeginsWithLine, HeadStands, next_line, size_limit};
 ghost use Rattle.report_text.specs.TraceText.{head_text};
 ghost use Rattle.report_text.specs.declared.line.Line.{Line};
-ghost use Rattle.trace_lines.specs.HeadReading.{head_of};
-ghost use Rattle.trace_lines.specs.Reading.{IsPlain};
+ghost use Rattle.trace_replay.specs.trace_lines.HeadReading.{head_of};
+ghost use Rattle.trace_replay.specs.trace_lines.Reading.{IsPlain};
 ghost use Rattle.trace_replay.specs.Answer.{IsAccepted, IsAnswerTo, IsRefused, IsTakenIn};
 ghost use Rattle.trace_replay.specs.Story.{Tells};
 ghost use Rattle.trace_replay.specs.declared.accepted.TraceError.TheVariants.{OutOfMemory};
@@ -13,10 +13,10 @@ ghost use Rattle.trace_replay.specs.declared.accepted.TraceError.TheVariants.{Ou
 use crate::accepted::{Accepted, TraceError};
 use crate::laws::bytes_have_one_answer;
 use crate::story::Story;
+use crate::trace_lines::laws::plain_lines_stand;
+use crate::trace_lines::{Head, read_end, read_head, read_line};
 use report_text::Line;
 use std::alloc::Global;
-use trace_lines::laws::plain_lines_stand;
-use trace_lines::{Head, read_end, read_head, read_line};
 
 /// A trace has at most so many bytes.
 pub const SIZE_LIMIT: usize = 33_554_432;

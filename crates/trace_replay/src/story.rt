@@ -9,8 +9,8 @@ ghost use Rattle.report_text.specs.TraceText as trace;
 ghost use Rattle.report_text.specs.Truth.{ArmIsTrue, IsTrueEnd, IsTrueLine, OutcomeIsTrue, ReportIsTrue, TellOfTheSame};
 ghost use Rattle.report_text.specs.declared.line.Line.{Line};
 ghost use Rattle.report_text.specs.declared.line.Line.TheVariants as lines;
-ghost use Rattle.trace_lines.specs.HeadReading.{head_of};
-ghost use Rattle.trace_lines.specs.Reading.{AccessIsPlain, ArmIsPlain, IsPlain, ReportIsPlain};
+ghost use Rattle.trace_replay.specs.trace_lines.HeadReading.{head_of};
+ghost use Rattle.trace_replay.specs.trace_lines.Reading.{AccessIsPlain, ArmIsPlain, IsPlain, ReportIsPlain};
 ghost use Rattle.watch_word.specs.Word.{WordOf};
 ghost use Rattle.trace_replay.specs.Answer.{accepted_of};
 ghost use Rattle.trace_replay.specs.Story.{Knows, Tells};
@@ -19,11 +19,11 @@ use crate::accepted::Accepted;
 use crate::accesses::Accesses;
 use crate::armings::Armings;
 use crate::told::Told;
+use crate::trace_lines::{Head, Shape};
 use access_types::{Arm, ArmOutcome, Report, Stamped, Take};
 use report_text::Line;
 use report_text::truth::{letters_agree, may_hit, may_see, may_watch, race_by_stamps};
 use std::alloc::{AllocError, Global};
-use trace_lines::{Head, Shape};
 use watch_word::{decode_in, words_read_back};
 
 /// What is kept of the lines of a trace that were read.

@@ -1,7 +1,7 @@
 -- by their spans
 use Rattle.std.proofs.Common.{arith, length}
-use Rattle.litmus_meaning.specs.RunOfProgram.{setting_of}
-use Rattle.run_lists.specs.Run.{idle, task_of}
+use Rattle.litmus_semantics.specs.RunOfProgram.{setting_of}
+use Rattle.executions.specs.run_lists.Run.{idle, task_of}
 use Rattle.accepted_traces.proofs.Spans.{all_fitting, all_other}
 use Rattle.accepted_traces.proofs.laws.accesses_of_runs_fit.Goals as goal
 

@@ -5,8 +5,8 @@ use Rattle.accepted_traces.proofs.Parted.{all_reported, counts_add, measures_ali
 use Rattle.accepted_traces.proofs.Sections.{hold_all}
 use Rattle.accepted_traces.proofs.laws.traces_in_either_order_are_true.Goals as goal
 use Rattle.accepted_traces.specs.Parts.{AreParts, ReportFits}
-use Rattle.run_kept.specs.Setters.{AreReports}
-use Rattle.run_lists.specs.Reports.{reports_of}
+use Rattle.log_correctness.specs.Setters.{AreReports}
+use Rattle.executions.specs.run_lists.Reports.{reports_of}
 use Rattle.report_text.specs.TraceText.{second, written_lines}
 use Rattle.report_text.specs.Truth.{is_pair, race_in, unknown_in}
 use Rattle.access_types.specs.declared.report.Report.{Report}

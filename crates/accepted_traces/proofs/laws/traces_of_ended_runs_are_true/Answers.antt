@@ -3,9 +3,9 @@ use Rattle.accepted_traces.proofs.Final.{arm_fits, takes_fit}
 use Rattle.accepted_traces.proofs.Reports.{reports_fit}
 use Rattle.accepted_traces.proofs.Sections.{hold_all}
 use Rattle.report_text.specs.TraceText.{second, written_lines}
-use Rattle.run_lists.specs.Reports.{reports_of}
-use Rattle.litmus_meaning.specs.RunOfProgram.{setting_of}
-use Rattle.run_lists.specs.Run.{first_cells, idle, locks_of, task_of}
+use Rattle.executions.specs.run_lists.Reports.{reports_of}
+use Rattle.litmus_semantics.specs.RunOfProgram.{setting_of}
+use Rattle.executions.specs.run_lists.Run.{first_cells, idle, locks_of, task_of}
 use Rattle.std.proofs.Common.{arith, refl}
 use Rattle.accepted_traces.proofs.laws.traces_of_ended_runs_are_true.Goals as goal
 

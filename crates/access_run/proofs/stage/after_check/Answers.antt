@@ -3,8 +3,8 @@ use Rattle.std.proofs.Common.{◌≡◌, ◌++◌, ◌∷◌, [], None, false, s
 use Rattle.std.proofs.lemmas.List.{append-nil}
 use Rattle.access_run.specs.Leads.{IsReady, Runs, same_effect}
 use Rattle.access_run.specs.Whole.{IsWhole}
-use Rattle.memory_operation.specs.Effects.{nothing}
-use Rattle.memory_operation.specs.Operations.{Operates}
+use Rattle.access_run.specs.memory_operation.Effects.{nothing}
+use Rattle.access_run.specs.memory_operation.Operations.{Operates}
 use Rattle.setup_access.specs.Checker.{Checks}
 use Rattle.access_run.proofs.LeadsLemmas.{checked_now, not_operated, nothing_operated, still_checked}
 use Rattle.access_run.proofs.stage.after_check.Goals as goal

@@ -1,6 +1,6 @@
 -- what was found of the file
 use Rattle.std.proofs.Common.{◌≡◌, ◌∙◌, ℕ, List, Err, Option, ap, inl, inr, refl, subst, sym}
-use Rattle.check_output.specs.Found.{Gave, Lost}
+use Rattle.diagnostics.specs.check_output.Found.{Gave, Lost}
 use Rattle.litmus_command.proofs.CheckLemmas.{lost_and_told, on_err, read_and_told, same_but_reads}
 use Rattle.litmus_command.specs.Check.{IsLeftOver, IsToldOf, IsToldOfLost, Whole, once_told, whole_of}
 use Rattle.litmus_command.specs.Told.{heard}
@@ -8,7 +8,7 @@ use Rattle.report_text.specs.Sink.{CountsFailure}
 use Rattle.litmus_command.specs.Files as events
 use Rattle.litmus_command.specs.declared.complaint.Complaint.{Complaint}
 use Rattle.litmus_parse.specs.Text.{file_bytes}
-use Rattle.text_check.specs.Check.{IsCheckOf}
+use Rattle.diagnostics.specs.text_check.Check.{IsCheckOf}
 use Rattle.litmus_command.proofs.check.check_file.Goals as goal
 
 pub returns-in_err-complaint-in-Err-CannotRead-clause-over : goal.returns-in_err-complaint-in-Err-CannotRead-clause-over

@@ -1,6 +1,6 @@
 -- the calls were written, as far as standard output took them
 use Rattle.std.proofs.Common.{◌∙◌, ℕ, List, ap, inl, inr, refl, subst}
-use Rattle.command_words.specs.declared.request.Request.TheVariants.{Calls}
+use Rattle.cli.specs.declared.request.Request.TheVariants.{Calls}
 use Rattle.litmus_command.proofs.CommandLemmas.{fails_to_write}
 use Rattle.litmus_command.proofs.check.list_calls.Goals as goal
 use Rattle.report_text.specs.Sink.{HoldsBeginning, appended}

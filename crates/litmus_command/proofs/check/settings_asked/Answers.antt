@@ -1,13 +1,13 @@
 -- Where a list isn't read, the text spells none.
 use Rattle.std.proofs.Common.{◌≡◌, ◌∙◌, None, Some, ap, inl, inr, sym}
 use Rattle.std.specs.Option.{option_map}
-use Rattle.list_faults.specs.Places as places
-use Rattle.list_faults.specs.Schedules as schedules
+use Rattle.diagnostics.specs.option_diagnostics.Places as places
+use Rattle.diagnostics.specs.option_diagnostics.Schedules as schedules
 use Rattle.litmus_command.proofs.CheckLemmas.{is_missing, is_there, list_fault}
 use Rattle.litmus_command.proofs.ListLemmas.{some_item_is_no_entry, some_item_is_no_place}
 use Rattle.litmus_command.specs.Lists.{SpellsNoPlaces, SpellsNoSchedule}
 use Rattle.litmus_command.specs.declared.command.Failure.TheVariants.{BadPlace, BadSchedule}
-use Rattle.step_schedule.specs.Schedule.{entries_of}
+use Rattle.option_lists.specs.step_schedule.Schedule.{entries_of}
 use Rattle.litmus_command.proofs.check.settings_asked.Goals as goal
 
 pub returns-then-is_none-clause-at_fault : goal.returns-then-is_none-clause-at_fault

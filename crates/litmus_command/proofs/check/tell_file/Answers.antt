@@ -1,7 +1,7 @@
 -- what was told is what is to be told of the file
 use Rattle.std.proofs.Common.{ap, subst}
-use Rattle.check_output.specs.Output.{IsMadeOf}
-use Rattle.check_output.specs.declared.file.Comes.{Comes}
+use Rattle.diagnostics.specs.check_output.Output.{IsMadeOf}
+use Rattle.diagnostics.specs.declared.check_output.file.Comes.{Comes}
 use Rattle.litmus_command.proofs.CheckLemmas.{told_misplaced, told_refused}
 use Rattle.litmus_command.specs.Check.{Whole}
 use Rattle.litmus_command.proofs.check.tell_file.Goals as goal

@@ -1,8 +1,8 @@
 -- each command ends as its status says
 use Rattle.std.proofs.Common.{subst, sym}
-use Rattle.command_words.specs.Bounds.{MayBeAsked}
-use Rattle.command_words.specs.declared.request.Request.{Request}
-use Rattle.command_words.specs.declared.request.Request.TheVariants.{Calls, Replay, Run, Search, Show, Step}
+use Rattle.cli.specs.Bounds.{MayBeAsked}
+use Rattle.cli.specs.declared.request.Request.{Request}
+use Rattle.cli.specs.declared.request.Request.TheVariants.{Calls, Replay, Run, Search, Show, Step}
 use Rattle.litmus_command.proofs.CarryLemmas.{carried_check, carried_kept}
 use Rattle.litmus_command.proofs.command.carry_out.Goals as goal
 use Rattle.litmus_command.specs.Check.{Whole, whole_of}

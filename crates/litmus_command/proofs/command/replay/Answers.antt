@@ -1,6 +1,6 @@
 -- what is said of a trace that is accepted was written
 use Rattle.std.proofs.Common.{◌≡◌, ◌∙◌, ℕ, Err, List, Ok, Option, ap, inl, inr, refl, subst}
-use Rattle.command_words.specs.declared.request.Request.TheVariants.{Replay}
+use Rattle.cli.specs.declared.request.Request.TheVariants.{Replay}
 use Rattle.litmus_command.proofs.CommandLemmas.{err_ends, fails_of_file, fails_to_write, fails_unread, is_read_so}
 use Rattle.litmus_command.proofs.ResultLemmas.{replays_no_read, replays_no_sink}
 use Rattle.litmus_command.proofs.command.replay.Goals as goal

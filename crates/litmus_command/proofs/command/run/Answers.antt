@@ -1,7 +1,7 @@
 -- what was asked for was run, and what is left of it was given
 use Rattle.std.proofs.Common.{◌≡◌, ℕ, Bool, Err, List, Ok, Option, false, is_some, refl, rules, subst}
 use Rattle.std.specs.Option.{option_map}
-use Rattle.command_words.specs.declared.request.Request.TheVariants.{Run}
+use Rattle.cli.specs.declared.request.Request.TheVariants.{Run}
 use Rattle.litmus_command.proofs.CommandLemmas.{done_with, ends_given, err_ends, fails_early, fails_of_file, fails_unread, is_read_so}
 use Rattle.litmus_command.proofs.ResultLemmas.{engine_no_read, spells_none_often, writes_no_sink}
 use Rattle.litmus_command.proofs.command.run.Goals as goal
@@ -9,11 +9,11 @@ use Rattle.litmus_command.specs.Check.{Whole, whole_of}
 use Rattle.litmus_command.specs.Command.{AreLeft, read_failure, state_in, status_of, trace_path}
 use Rattle.litmus_command.specs.declared.command.Failure.TheVariants.{Engine}
 use Rattle.litmus_command.specs.declared.desk.ReadFault.TheVariants as fault
-use Rattle.run_tally.specs.Errors.{IsRefused}
-use Rattle.run_tally.specs.Output.{TextLeaves}
-use Rattle.run_tally.specs.declared.times.Times.{Times}
+use Rattle.run_stats.specs.Errors.{IsRefused}
+use Rattle.run_stats.specs.Output.{TextLeaves}
+use Rattle.run_stats.specs.declared.times.Times.{Times}
 use Rattle.litmus_parse.specs.Text.{file_bytes}
-use Rattle.program_sites.specs.declared.settings.Settings.{Settings}
+use Rattle.prepared_program.specs.declared.program_sites.settings.Settings.{Settings}
 
 -- what is left is left as it was asked for
 leaves_as_asked : {read text : List ℕ} {settings : Settings} {given times : Times} {given_traced traced raced : Bool} {output : List ℕ}
@@ -68,7 +68,7 @@ returns g c =
     let request = c.args.request.now in
     let before : Whole = seen c.args.desk.now in
     let middle : Whole = seen c.read_file.new.self in
-    let after : Whole = seen c.give.new.desk in
+    let after : Whole = seen c.emit.new.desk in
     let written = c.in_ok-written.written in
     let output = written.output.items in
     let trace = option_map (λ bytes. bytes.items) written.trace in
@@ -83,8 +83,8 @@ returns g c =
     (is_read_so before middle request.file.now file_bytes text c.read_file.ensures.written
     c.read_file.ensures.failures c.in_ok-text.ensures.gave c.read_file.ensures.told
     (c.in_ok-text.ensures.works (λ h. let no : Ok c.in_ok-text.text ≡ Err fault.CannotRead = h in cc)))
-    c.give.ensures.told c.give.ensures.faults
+    c.emit.ensures.told c.emit.ensures.faults
     (λ given. done_with (Run request) written.raced (state_in before) (state_in after)
     (record { text = text; output = output; trace = trace; left = left; given = given }))
     (λ part. record { text = text; raced = written.raced; output = output; trace = trace; left = left; given = part })
-    c.give.result c.give.ensures.status c.give.ensures.given c.give.ensures.failed c.give.ensures.part
+    c.emit.result c.emit.ensures.status c.emit.ensures.given c.emit.ensures.failed c.emit.ensures.part

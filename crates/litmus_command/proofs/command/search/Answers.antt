@@ -1,8 +1,8 @@
 -- what was asked for was searched, and what is left of that was given
 use Rattle.std.proofs.Common.{◌≡◌, ℕ, Bool, Err, List, Ok, Option, ap, arith, refl, subst}
 use Rattle.std.specs.Option.{option_map}
-use Rattle.command_words.specs.declared.request.Request.TheVariants.{Search}
-use Rattle.command_words.specs.declared.request.SearchRequest.{SearchRequest}
+use Rattle.cli.specs.declared.request.Request.TheVariants.{Search}
+use Rattle.cli.specs.declared.request.SearchRequest.{SearchRequest}
 use Rattle.litmus_command.proofs.CommandLemmas.{ends_given, err_ends, fails_early, fails_of_file, fails_unread, found_with, is_read_so}
 use Rattle.litmus_command.proofs.ResultLemmas.{engine_no_read, spells_none_searched, writes_no_sink}
 use Rattle.litmus_command.proofs.command.search.Goals as goal
@@ -11,7 +11,7 @@ use Rattle.litmus_command.specs.Command.{IsFound, IsSearchedFor, read_failure, s
 use Rattle.litmus_command.specs.declared.command.Failure.TheVariants.{Engine}
 use Rattle.litmus_command.specs.declared.desk.ReadFault.TheVariants as fault
 use Rattle.litmus_parse.specs.Text.{file_bytes}
-use Rattle.program_sites.specs.declared.settings.Settings.{Settings}
+use Rattle.prepared_program.specs.declared.program_sites.settings.Settings.{Settings}
 use Rattle.search_output.specs.Texts.{IsRefused}
 
 -- what is found in what was read is found in this text
@@ -62,7 +62,7 @@ returns g c =
     let request = c.args.request.now in
     let before : Whole = seen c.args.desk.now in
     let middle : Whole = seen c.read_file.new.self in
-    let after : Whole = seen c.give.new.desk in
+    let after : Whole = seen c.emit.new.desk in
     let written = c.in_ok-found.found.written in
     let output = written.output.items in
     let trace = option_map (λ bytes. bytes.items) written.trace in
@@ -78,11 +78,11 @@ returns g c =
     (is_read_so before middle request.file.now file_bytes text c.read_file.ensures.written
     c.read_file.ensures.failures c.in_ok-text.ensures.gave c.read_file.ensures.told
     (c.in_ok-text.ensures.works (λ h. let no : Ok c.in_ok-text.text ≡ Err fault.CannotRead = h in cc)))
-    c.give.ensures.told c.give.ensures.faults
+    c.emit.ensures.told c.emit.ensures.faults
     (λ given. found_with request written.raced stopped (state_in before) (state_in after)
     (record { text = text; output = output; trace = trace; left = left; given = given }))
     (λ part. (stopped, record { text = text; raced = written.raced; output = output; trace = trace; left = left; given = part }))
-    c.give.result c.give.ensures.status c.give.ensures.given c.give.ensures.failed c.give.ensures.part
+    c.emit.result c.emit.ensures.status c.emit.ensures.given c.emit.ensures.failed c.emit.ensures.part
 
 -- there is a vain try at least
 pub search_for-requires : goal.search_for-requires

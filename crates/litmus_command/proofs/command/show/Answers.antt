@@ -1,7 +1,7 @@
 -- a trace that is accepted was drawn, and what is left of that was given
 use Rattle.std.proofs.Common.{◌≡◌, ℕ, Bool, Err, List, Ok, Option, false, is_some, refl, rules, subst}
 use Rattle.std.specs.Option.{option_map}
-use Rattle.command_words.specs.declared.request.Request.TheVariants.{Show}
+use Rattle.cli.specs.declared.request.Request.TheVariants.{Show}
 use Rattle.litmus_command.proofs.CommandLemmas.{done_with, ends_given, err_ends, fails_of_file, fails_unread, is_read_so}
 use Rattle.litmus_command.proofs.ResultLemmas.{draws_no_read, draws_no_sink}
 use Rattle.litmus_command.proofs.command.show.Goals as goal
@@ -11,7 +11,7 @@ use Rattle.litmus_command.specs.Show.{IsDrawn}
 use Rattle.litmus_command.specs.declared.command.Failure.TheVariants.{Picture}
 use Rattle.litmus_command.specs.declared.desk.ReadFault.TheVariants as fault
 use Rattle.picture_text.specs.declared.cells.Style.{Style}
-use Rattle.picture.specs.Drawn.{IsUndrawn}
+use Rattle.timeline.specs.picture.Drawn.{IsUndrawn}
 use Rattle.report_text.specs.Faults.{size_limit}
 
 -- what is drawn is drawn as it was asked for
@@ -54,7 +54,7 @@ returns g c =
     let request = c.args.request.now in
     let before : Whole = seen c.args.desk.now in
     let middle : Whole = seen c.read_file.new.self in
-    let after : Whole = seen c.give.new.desk in
+    let after : Whole = seen c.emit.new.desk in
     let written = c.in_ok-written.written in
     let output = written.output.items in
     let trace = option_map (λ bytes. bytes.items) written.trace in
@@ -70,8 +70,8 @@ returns g c =
     (is_read_so before middle request.trace.now size_limit text c.read_file.ensures.written
     c.read_file.ensures.failures c.in_ok-bytes.ensures.gave c.read_file.ensures.told
     (c.in_ok-bytes.ensures.works (λ h. let no : Ok c.in_ok-bytes.bytes ≡ Err fault.CannotRead = h in cc)))
-    c.give.ensures.told c.give.ensures.faults
+    c.emit.ensures.told c.emit.ensures.faults
     (λ given. done_with (Show request) written.raced (state_in before) (state_in after)
     (record { text = text; output = output; trace = trace; left = left; given = given }))
     (λ part. record { text = text; raced = written.raced; output = output; trace = trace; left = left; given = part })
-    c.give.result c.give.ensures.status c.give.ensures.given c.give.ensures.failed c.give.ensures.part
+    c.emit.result c.emit.ensures.status c.emit.ensures.given c.emit.ensures.failed c.emit.ensures.part

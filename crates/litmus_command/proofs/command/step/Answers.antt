@@ -1,7 +1,7 @@
 -- what was asked for was run, and what is left of it was given
 use Rattle.std.proofs.Common.{◌≡◌, ◌∙◌, Err, Ok, ap, false, is_some, refl, rules, subst}
 use Rattle.std.specs.Option.{option_map}
-use Rattle.command_words.specs.declared.request.Request.TheVariants.{Step}
+use Rattle.cli.specs.declared.request.Request.TheVariants.{Step}
 use Rattle.litmus_command.proofs.CommandLemmas.{done_with, ends_given, err_ends, fails_early, fails_of_file, fails_unread, is_read_so}
 use Rattle.litmus_command.proofs.ResultLemmas.{engine_no_read, some_items, spells_none, writes_no_sink}
 use Rattle.litmus_command.proofs.command.step.Goals as goal
@@ -11,7 +11,7 @@ use Rattle.litmus_command.specs.Engine.{IsRefused, TextLeaves}
 use Rattle.litmus_command.specs.declared.command.Failure.TheVariants.{Engine}
 use Rattle.litmus_command.specs.declared.desk.ReadFault.TheVariants as fault
 use Rattle.litmus_parse.specs.Text.{file_bytes}
-use Rattle.step_schedule.specs.Schedule.{entries_of}
+use Rattle.option_lists.specs.step_schedule.Schedule.{entries_of}
 
 pub returns-in_err-settings : goal.returns-in_err-settings
 returns-in_err-settings g c =
@@ -60,7 +60,7 @@ returns g c =
     let request = c.args.request.now in
     let before : Whole = seen c.args.desk.now in
     let middle : Whole = seen c.read_file.new.self in
-    let after : Whole = seen c.give.new.desk in
+    let after : Whole = seen c.emit.new.desk in
     let written = c.in_ok-written.written in
     let output = written.output.items in
     let trace = option_map (λ bytes. bytes.items) written.trace in
@@ -79,8 +79,8 @@ returns g c =
     (is_read_so before middle request.file.now file_bytes text c.read_file.ensures.written
     c.read_file.ensures.failures c.in_ok-text.ensures.gave c.read_file.ensures.told
     (c.in_ok-text.ensures.works (λ h. let no : Ok c.in_ok-text.text ≡ Err fault.CannotRead = h in cc)))
-    c.give.ensures.told c.give.ensures.faults
+    c.emit.ensures.told c.emit.ensures.faults
     (λ given. done_with (Step request) written.raced (state_in before) (state_in after)
     (record { text = text; output = output; trace = trace; left = left; given = given }))
     (λ part. record { text = text; raced = written.raced; output = output; trace = trace; left = left; given = part })
-    c.give.result c.give.ensures.status c.give.ensures.given c.give.ensures.failed c.give.ensures.part
+    c.emit.result c.emit.ensures.status c.emit.ensures.given c.emit.ensures.failed c.emit.ensures.part

@@ -10,11 +10,11 @@ use Rattle.litmus_step.specs.Runs.{run_of, tasks_of}
 use Rattle.litmus_step.specs.Steps.{tasks_in}
 use Rattle.litmus_step.specs.Turns.{known_of, point}
 use Rattle.litmus_syntax.specs.Views.{task_of}
-use Rattle.program_sites.specs.Prepared.{sites_in}
-use Rattle.program_sites.specs.declared.error.RunError.TheVariants.{BadSchedule, OutOfMemory, Stuck}
+use Rattle.prepared_program.specs.program_sites.Prepared.{sites_in}
+use Rattle.prepared_program.specs.declared.program_sites.error.RunError.TheVariants.{BadSchedule, OutOfMemory, Stuck}
 use Rattle.run_output.specs.declared.error.EngineError.TheVariants.{Run}
-use Rattle.step_schedule.specs.Order.{IsOrder}
-use Rattle.step_schedule.specs.Schedule.{entries_of, names_stranger}
+use Rattle.option_lists.specs.step_schedule.Order.{IsOrder}
+use Rattle.option_lists.specs.step_schedule.Schedule.{entries_of, names_stranger}
 
 is_false : (said : Bool) → (IsTrue said → ⊥) → said ≡ false
 is_false true isnt = absurd (isnt refl)

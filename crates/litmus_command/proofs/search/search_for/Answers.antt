@@ -1,12 +1,12 @@
 -- what is found is found as it was asked
 use Rattle.std.proofs.Common.{◌≡◌, ℕ, Bool, IfOk, List, Option, Result, subst, sym}
 use Rattle.std.specs.Option.{option_map}
-use Rattle.command_words.specs.declared.request.SearchRequest.{SearchRequest}
-use Rattle.command_words.specs.declared.request.Switches.{Switches}
-use Rattle.command_words.specs.declared.request.Switches.TheVariants as switches
+use Rattle.cli.specs.declared.request.SearchRequest.{SearchRequest}
+use Rattle.cli.specs.declared.request.Switches.{Switches}
+use Rattle.cli.specs.declared.request.Switches.TheVariants as switches
 use Rattle.litmus_command.proofs.search.search_for.Goals as goal
 use Rattle.litmus_command.specs.Command.{IsSearchedFor}
-use Rattle.program_sites.specs.declared.settings.Settings.{Settings}
+use Rattle.prepared_program.specs.declared.program_sites.settings.Settings.{Settings}
 use Rattle.run_output.specs.declared.error.EngineError.{EngineError}
 use Rattle.search_all.specs.Texts.{AllIsSearched}
 use Rattle.search_all.specs.declared.wanted.AllWanted.{AllWanted}

@@ -3,7 +3,7 @@ use Rattle.std.proofs.Common.{◌≡◌, All, map}
 use Rattle.std.specs.Str.{IsUtf8}
 use Rattle.litmus_cursor.specs.declared.cursor.Refusal.TheVariants.{OutOfMemory}
 use Rattle.litmus_cursor.specs.Front.{now}
-use Rattle.litmus_parts.proofs.Refusals.{err_holds}
+use Rattle.litmus_declarations.proofs.Refusals.{err_holds}
 use Rattle.litmus_parse.proofs.Refusals.{name_there}
 use Rattle.litmus_parse.proofs.text.names_of.Goals as goal
 

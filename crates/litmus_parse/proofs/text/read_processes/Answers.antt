@@ -9,7 +9,7 @@ use Rattle.litmus_cursor.specs.declared.cursor.Refusal.TheVariants.{OutOfMemory}
 use Rattle.litmus_cursor.specs.Words.{Symbol}
 use Rattle.litmus_expression.specs.declared.process.Process.{Process}
 use Rattle.litmus_expression.specs.States.{State, state_of}
-use Rattle.litmus_parts.specs.ItemReader.{Heading, heading_of}
+use Rattle.litmus_declarations.specs.ItemReader.{Heading, heading_of}
 use Rattle.litmus_parse.specs.ProcessReader.{Course, process_at, processes_at, unbegun}
 use Rattle.litmus_parse.specs.TextReader.{bodies_of}
 use Rattle.litmus_parse.proofs.ProcessUnrolled.{bodies_more, no_more, none_at_all, read_more, refused, states_more, too_many}

@@ -3,7 +3,7 @@ use Rattle.std.proofs.Common.{arith, inl, inr}
 use Rattle.std.proofs.lemmas.Option.{slice_get_cases}
 use Rattle.litmus_step.proofs.FirstLemmas.{first_leads}
 use Rattle.litmus_step.proofs.first.first_task.Goals as goal
-use Rattle.program_sites.specs.Prepared.{sites_in}
+use Rattle.prepared_program.specs.program_sites.Prepared.{sites_in}
 
 pub returns-clause-led : goal.returns-clause-led
 returns-clause-led c = λ settings prepared.

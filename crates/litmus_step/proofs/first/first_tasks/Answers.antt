@@ -5,7 +5,7 @@ use Rattle.litmus_syntax.specs.Views.{task_of}
 use Rattle.litmus_step.proofs.FirstLemmas.{each_push}
 use Rattle.litmus_step.proofs.first.first_tasks.Goals as goal
 use Rattle.litmus_step.specs.Leads.{LeadsTask}
-use Rattle.program_sites.specs.Prepared.{sites_in}
+use Rattle.prepared_program.specs.program_sites.Prepared.{sites_in}
 use Rattle.litmus_step.specs.Runs.{run_of}
 use Rattle.task_run.specs.Points.{HasMade}
 use Rattle.task_run.specs.declared.run.TaskRun.{TaskRun}

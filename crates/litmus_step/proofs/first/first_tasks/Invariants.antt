@@ -2,9 +2,9 @@
 use Rattle.std.proofs.Common.{◌≡◌, ◌≤◌, [], ℕ, Some, slice_get, vec_capacity, vec_len}
 use Rattle.litmus_step.proofs.first.first_tasks.Given as goal
 use Rattle.litmus_step.specs.Leads.{LeadsTask}
-use Rattle.program_sites.specs.Prepared.{IsPrepared, sites_in}
+use Rattle.prepared_program.specs.program_sites.Prepared.{IsPrepared, sites_in}
 use Rattle.litmus_step.specs.Runs.{run_of}
-use Rattle.program_sites.specs.declared.settings.Settings.{Settings}
+use Rattle.prepared_program.specs.declared.program_sites.settings.Settings.{Settings}
 use Rattle.task_run.specs.Points.{HasMade}
 use Rattle.task_run.specs.declared.run.TaskRun.{TaskRun}
 

@@ -3,8 +3,8 @@ use Rattle.std.proofs.Common.{length, reverse, subst, sym}
 use Rattle.litmus_step.proofs.ReaderLemmas.{body_keeps, noted_along}
 use Rattle.litmus_step.proofs.laws.logs_give_what_the_list_has.Goals as goal
 use Rattle.litmus_step.specs.Kept.{accesses_kept, watches_kept}
-use Rattle.run_lists.specs.Run.{task_of, task_setting}
-use Rattle.run_kept.specs.Lists.{AreAccessesOf, AreArmsOf, AreTakesOf}
+use Rattle.executions.specs.run_lists.Run.{task_of, task_setting}
+use Rattle.log_correctness.specs.Lists.{AreAccessesOf, AreArmsOf, AreTakesOf}
 use Rattle.slot_table.specs.Records.{records_of}
 
 pub returns-clause-accesses : goal.returns-clause-accesses

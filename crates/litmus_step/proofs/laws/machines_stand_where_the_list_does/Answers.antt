@@ -2,7 +2,7 @@
 use Rattle.std.proofs.Common.{length, reverse}
 use Rattle.litmus_step.proofs.ReaderLemmas.{body_keeps, few_rises}
 use Rattle.litmus_step.proofs.laws.machines_stand_where_the_list_does.Goals as goal
-use Rattle.run_lists.specs.Run.{task_of, task_setting}
+use Rattle.executions.specs.run_lists.Run.{task_of, task_setting}
 use Rattle.slot_table.specs.Records.{records_of}
 
 pub returns-clause-registers : goal.returns-clause-registers

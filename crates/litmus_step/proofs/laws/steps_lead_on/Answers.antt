@@ -1,6 +1,6 @@
 -- By the laws on answers and on the words that steps name.
 use Rattle.std.proofs.Common.{length}
-use Rattle.run_lists.specs.Run.{task_of, task_setting}
+use Rattle.executions.specs.run_lists.Run.{task_of, task_setting}
 use Rattle.litmus_step.proofs.StepLemmas.{AnAnswerLeadsOn, StepsNameWords, goes_on_with, leads_more, names_word}
 use Rattle.litmus_step.proofs.laws.steps_lead_on.Goals as goal
 

@@ -3,7 +3,7 @@ use Rattle.std.proofs.Common.{◌≡◌, ◌∙◌, arith, length, refl, subst, 
 use Rattle.std.proofs.lemmas.Option.{slice_get_read}
 use Rattle.litmus_step.proofs.ReaderLemmas.{by_one_more}
 use Rattle.litmus_step.proofs.logs.accesses_of.Goals as goal
-use Rattle.run_kept.specs.Lists.{AreAccessesOf, ByTask}
+use Rattle.log_correctness.specs.Lists.{AreAccessesOf, ByTask}
 
 pub loop-log-preserved : goal.loop-log-preserved
 loop-log-preserved c = λ run records list limits logs.

@@ -3,9 +3,9 @@ use Rattle.std.proofs.Common.{List}
 use Rattle.litmus_step.proofs.logs.arms_of.Given as goal
 use Rattle.litmus_step.specs.Kept.{AreLogs}
 use Rattle.litmus_syntax.specs.Limits.{KeepsLimits}
-use Rattle.run_lists.specs.Run.{Run}
-use Rattle.run_lists.specs.RunList.{RunList}
-use Rattle.run_kept.specs.Lists.{AreArmsOf, ByTask}
+use Rattle.executions.specs.run_lists.Run.{Run}
+use Rattle.executions.specs.run_lists.RunList.{RunList}
+use Rattle.log_correctness.specs.Lists.{AreArmsOf, ByTask}
 use Rattle.slot_table.specs.declared.records.Record.{Record}
 
 abbrev pub invariant-loop-log : goal.invariant-loop-log

@@ -2,7 +2,7 @@
 use Rattle.std.proofs.Common.{◌≡◌, ◌∙◌, arith, length, refl, subst}
 use Rattle.std.proofs.lemmas.Option.{slice_get_read}
 use Rattle.litmus_step.proofs.logs.counters_of.Goals as goal
-use Rattle.run_kept.specs.Totals.{CountsTasks}
+use Rattle.log_correctness.specs.Totals.{CountsTasks}
 
 pub loop-log-init : goal.loop-log-init
 loop-log-init c = λ run records list logs.

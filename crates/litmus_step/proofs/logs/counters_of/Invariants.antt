@@ -2,9 +2,9 @@
 use Rattle.std.proofs.Common.{List}
 use Rattle.litmus_step.proofs.logs.counters_of.Given as goal
 use Rattle.litmus_step.specs.Kept.{AreLogs}
-use Rattle.run_lists.specs.Run.{Run}
-use Rattle.run_lists.specs.RunList.{RunList}
-use Rattle.run_kept.specs.Totals.{CountsTasks}
+use Rattle.executions.specs.run_lists.Run.{Run}
+use Rattle.executions.specs.run_lists.RunList.{RunList}
+use Rattle.log_correctness.specs.Totals.{CountsTasks}
 use Rattle.slot_table.specs.declared.records.Record.{Record}
 
 abbrev pub invariant-loop-log : goal.invariant-loop-log

@@ -1,6 +1,6 @@
 -- one item more, or a failure within it
 use Rattle.std.proofs.Common.{arith, subst, sym}
-use Rattle.picture.specs.Running.{IsInOrder}
+use Rattle.timeline.specs.picture.Running.{IsInOrder}
 use Rattle.picture_text.specs.Lines.{column_text}
 use Rattle.report_text.proofs.SinkSteps.{fails_item, writes_error}
 use Rattle.picture_text.proofs.lines.write_cells.Goals as goal

@@ -1,6 +1,6 @@
 -- the pieces spell the line
 use Rattle.std.proofs.Common.{◌∙◌, ap}
-use Rattle.picture.specs.Words.{outcome_words}
+use Rattle.timeline.specs.picture.Words.{outcome_words}
 use Rattle.report_text.proofs.SinkSteps.{writes_same}
 use Rattle.picture_text.proofs.Spelled.{watch_is}
 use Rattle.picture_text.proofs.watches.write_watch.Goals as goal

@@ -3,8 +3,8 @@ use Rattle.std.proofs.Common.{List, arith, take}
 use Rattle.std.specs.List.{flat_map}
 use Rattle.picture_text.specs.Watches.{watch_text}
 use Rattle.report_text.specs.Sink.{Takes}
-use Rattle.picture.specs.declared.watches.Watch.{Watch}
-use Rattle.picture.proofs.Steps.{next_too}
+use Rattle.timeline.specs.declared.picture.watches.Watch.{Watch}
+use Rattle.timeline.proofs.picture.Steps.{next_too}
 use Rattle.report_text.proofs.SinkSteps.{fails_item, takes_more, writes_error}
 use Rattle.picture_text.proofs.watches.write_watches.Goals as goal
 

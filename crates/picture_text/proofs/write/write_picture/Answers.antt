@@ -1,8 +1,8 @@
 -- each part is what its call left, up to the one that failed
 use Rattle.std.proofs.Common.{List, subst, sym}
 use Rattle.std.specs.Prelude.{All}
-use Rattle.picture.specs.Running.{IsInOrder}
-use Rattle.picture.specs.declared.columns.Column.{Column}
+use Rattle.timeline.specs.picture.Running.{IsInOrder}
+use Rattle.timeline.specs.declared.picture.columns.Column.{Column}
 use Rattle.report_text.proofs.SinkSteps.{fails_first, fails_second, writes_after, writes_error}
 use Rattle.picture_text.proofs.write.write_picture.Goals as goal
 

@@ -3,7 +3,7 @@ use Rattle.std.proofs.Common.{◌≡◌, ◌<◌, ◌+◌, ◌++◌, ◌∙◌, 
 use Rattle.std.proofs.lemmas.Option.{slice_get-map, slice_get_read}
 use Rattle.std.specs.List.{flat_map}
 use Rattle.std.specs.Option.{option_map}
-use Rattle.litmus_meaning.proofs.LimitLemmas.{few_sites}
+use Rattle.litmus_semantics.proofs.LimitLemmas.{few_sites}
 use Rattle.litmus_syntax.specs.Limits.{TaskKeepsLimits}
 use Rattle.litmus_syntax.specs.Sites.{sites_of}
 use Rattle.litmus_syntax.specs.Views.{block_of, task_of}

@@ -1,10 +1,10 @@
 -- A text has as many sites as statements with an access, wherever its variables stand.
 use Rattle.std.proofs.Common.{◌≡◌, ◌∙◌, [], List, ap, length, refl, subst, sym}
-use Rattle.litmus_meaning.proofs.LimitLemmas.{all_loops_fit}
-use Rattle.litmus_meaning.proofs.TextSitesLemmas.{block_length}
-use Rattle.litmus_meaning.specs.Task.{Setting}
-use Rattle.litmus_meaning.specs.TextSites.{AllLoopsFit, block_sites}
-use Rattle.litmus_meaning.specs.declared.site.Site.{Site}
+use Rattle.litmus_semantics.proofs.LimitLemmas.{all_loops_fit}
+use Rattle.litmus_semantics.proofs.TextSitesLemmas.{block_length}
+use Rattle.litmus_semantics.specs.Task.{Setting}
+use Rattle.litmus_semantics.specs.TextSites.{AllLoopsFit, block_sites}
+use Rattle.litmus_semantics.specs.declared.site.Site.{Site}
 use Rattle.litmus_syntax.specs.Sites.{sites_of}
 use Rattle.litmus_syntax.specs.Views.{block_of}
 use Rattle.litmus_syntax.specs.declared.statement.Statement.{Statement}

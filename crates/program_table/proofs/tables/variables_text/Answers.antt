@@ -1,6 +1,6 @@
 -- The lines are those of the variables where these stand.
 use Rattle.std.proofs.Common.{◌≡◌, ◌++◌, ◌∙◌, ℕ, [], List, ap, codes}
-use Rattle.program_layout.specs.Places.{places_of}
+use Rattle.prepared_program.specs.program_layout.Places.{places_of}
 use Rattle.program_table.specs.Table.{variables_text}
 use Rattle.program_table.proofs.tables.variables_text.Goals as goal
 

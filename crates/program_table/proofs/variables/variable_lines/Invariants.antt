@@ -1,7 +1,7 @@
 -- The lines so far, and those of the variables to come, are all.
 use Rattle.std.proofs.Common.{◌≡◌, ◌++◌, List, drop}
-use Rattle.litmus_meaning.specs.Layout.{Place}
-use Rattle.program_layout.specs.Lays.{Lays}
+use Rattle.litmus_semantics.specs.Layout.{Place}
+use Rattle.prepared_program.specs.program_layout.Lays.{Lays}
 use Rattle.program_table.specs.Variables.{lines_from}
 use Rattle.program_table.proofs.variables.variable_lines.Given as goal
 

@@ -1,10 +1,10 @@
 -- a variable's value in the cells is the content of its bytes
 use Rattle.std.proofs.Common.{◌∙◌, [], List, ℕ, refl, subst, sym}
-use Rattle.program_layout.specs.Places.{places_of}
+use Rattle.prepared_program.specs.program_layout.Places.{places_of}
 use Rattle.litmus_step.specs.Runs.{run_of}
-use Rattle.run_headline.proofs.CellBlocks.{cells_are_blocks}
-use Rattle.run_headline.specs.Cells.{CellsHold, memory_after, run_cells}
-use Rattle.run_lists.specs.Told.{history_of}
+use Rattle.soundness.proofs.CellBlocks.{cells_are_blocks}
+use Rattle.soundness.specs.Cells.{CellsHold, memory_after, run_cells}
+use Rattle.executions.specs.run_lists.Told.{history_of}
 use Rattle.run_output.proofs.CellValues.{variable_told}
 use Rattle.run_output.proofs.finals.finals_at.Goals as goal
 

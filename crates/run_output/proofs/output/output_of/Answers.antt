@@ -1,6 +1,6 @@
 -- what is found of the run is written
 use Rattle.std.proofs.Common.{◌≡◌, ◌∙◌, ap, rules}
-use Rattle.program_sites.specs.Prepared.{sites_in}
+use Rattle.prepared_program.specs.program_sites.Prepared.{sites_in}
 use Rattle.run_output.proofs.output.output_of.Goals as goal
 use Rattle.run_output.specs.Output.{output_text}
 

@@ -1,7 +1,7 @@
 -- one run more
 use Rattle.std.proofs.Common.{◌≡◌, ◌∙◌, ◌∷◌, ◌++◌, [], List, Some, ap, arith, map, slice_get, subst, sym}
 use Rattle.std.proofs.lemmas.List.{map-append}
-use Rattle.program_sites.specs.Prepared.{sites_in}
+use Rattle.prepared_program.specs.program_sites.Prepared.{sites_in}
 use Rattle.litmus_step.proofs.FirstLemmas.{each_push}
 use Rattle.runner.proofs.BatchLemmas.{more_starts, no_starts}
 use Rattle.runner.proofs.first.first_runs.Goals as goal

@@ -1,8 +1,8 @@
 -- Each run so far has its words and its tasks, and there is room for the rest.
 use Rattle.std.proofs.Common.{◌≡◌, ◌≤◌, [], map, vec_capacity, vec_len}
-use Rattle.program_sites.specs.Prepared.{IsPrepared, sites_in}
-use Rattle.program_sites.specs.declared.settings.Settings.{Settings}
-use Rattle.run_lists.specs.RunList.{RunList}
+use Rattle.prepared_program.specs.program_sites.Prepared.{IsPrepared, sites_in}
+use Rattle.prepared_program.specs.declared.program_sites.settings.Settings.{Settings}
+use Rattle.executions.specs.run_lists.RunList.{RunList}
 use Rattle.litmus_step.specs.Runs.{CanBeMade, run_of}
 use Rattle.runner.proofs.first.first_runs.Given as goal
 use Rattle.runner.specs.Starts.{AreStartsOfEach}

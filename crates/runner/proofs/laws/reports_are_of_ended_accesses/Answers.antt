@@ -1,7 +1,7 @@
 -- By the laws on what records tell, on stamps, and on the two sides of reports.
 use Rattle.accepted_traces.proofs.Reports.{reports_fit}
-use Rattle.litmus_meaning.specs.RunOfProgram.{setting_of}
-use Rattle.run_lists.specs.Run.{idle, task_of}
+use Rattle.litmus_semantics.specs.RunOfProgram.{setting_of}
+use Rattle.executions.specs.run_lists.Run.{idle, task_of}
 use Rattle.runner.proofs.laws.reports_are_of_ended_accesses.Goals as goal
 
 pub returns : goal.returns

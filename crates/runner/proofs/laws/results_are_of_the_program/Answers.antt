@@ -1,9 +1,9 @@
 -- By the list, all tasks of which have ended.
 use Rattle.std.proofs.Common.{[], List, refl, subst, sym}
 use Rattle.litmus_step.specs.Runs.{tasks_of}
-use Rattle.run_headline.specs.Cells.{CellsHold, memory_after, run_cells}
-use Rattle.run_headline.specs.Reported.{IsTrueReport}
-use Rattle.run_lists.specs.Told.{history_of}
+use Rattle.soundness.specs.Cells.{CellsHold, memory_after, run_cells}
+use Rattle.soundness.specs.Reported.{IsTrueReport}
+use Rattle.executions.specs.run_lists.Told.{history_of}
 use Rattle.accepted_traces.proofs.Parted.{all_reported}
 use Rattle.runner.proofs.laws.results_are_of_the_program.Goals as goal
 

@@ -1,7 +1,7 @@
 -- By the laws on answers, on the words that steps name, and on what is noted.
 use Rattle.std.proofs.Common.{length}
 use Rattle.litmus_step.proofs.StepLemmas.{AnAnswerLeadsOn, StepsNameWords}
-use Rattle.run_lists.specs.Run.{task_of, task_setting}
+use Rattle.executions.specs.run_lists.Run.{task_of, task_setting}
 use Rattle.runner.proofs.LedLemmas.{is_allowed, leads_more, names_word}
 use Rattle.runner.proofs.laws.seats_lead_on.Goals as goal
 

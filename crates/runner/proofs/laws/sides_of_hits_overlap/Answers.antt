@@ -2,8 +2,8 @@
 use Rattle.std.proofs.Common.{drop, get_or, suc, take}
 use Rattle.std.proofs.Math.Seq.{split_at}
 use Rattle.accepted_traces.proofs.Final.{arm_fits}
-use Rattle.run_lists.specs.Run.{first_cells, idle, locks_of, task_of}
-use Rattle.litmus_meaning.specs.RunOfProgram.{setting_of}
+use Rattle.executions.specs.run_lists.Run.{first_cells, idle, locks_of, task_of}
+use Rattle.litmus_semantics.specs.RunOfProgram.{setting_of}
 use Rattle.runner.proofs.HitLemmas.{arm_overlaps}
 use Rattle.runner.proofs.laws.sides_of_hits_overlap.Goals as goal
 

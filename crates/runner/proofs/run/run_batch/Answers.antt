@@ -3,8 +3,8 @@ use Rattle.std.proofs.Common.{◌≡◌, ◌∙◌, ℕ, List, Result, Vec, ap, 
 use Rattle.std.proofs.lemmas.List.{length-map}
 use Rattle.std.proofs.lemmas.Option.{slice_get_within}
 use Rattle.std.specs.Global.{Global}
-use Rattle.program_sites.specs.Prepared.{sites_in}
-use Rattle.program_sites.specs.declared.error.RunError.{RunError}
+use Rattle.prepared_program.specs.program_sites.Prepared.{sites_in}
+use Rattle.prepared_program.specs.declared.program_sites.error.RunError.{RunError}
 use Rattle.litmus_step.specs.Runs.{run_of, tasks_of}
 use Rattle.litmus_syntax.specs.Views.{task_of}
 use Rattle.litmus_syntax.specs.declared.program.Task.{Task}

@@ -5,8 +5,8 @@ use Rattle.std.specs.Vec.Iter.{into_iter_items}
 use Rattle.litmus_step.proofs.FirstLemmas.{each_push}
 use Rattle.runner.proofs.OutcomeLemmas.{all_are_found, err_holds, is_in_vain, named_at, refused_so, same_error, through_below}
 use Rattle.runner.proofs.together.all_found.Goals as goal
-use Rattle.program_sites.specs.declared.error.RunError.{RunError}
-use Rattle.program_sites.specs.declared.error.RunError.TheVariants.{OutOfMemory, Stuck}
+use Rattle.prepared_program.specs.declared.program_sites.error.RunError.{RunError}
+use Rattle.prepared_program.specs.declared.program_sites.error.RunError.TheVariants.{OutOfMemory, Stuck}
 use Rattle.runner.specs.declared.seated.Found.{Found}
 
 stands : (c : goal.After-drop-found) → slice_get c.args.outcomes.items (length c.loop-outcome.found.items) ≡ Some (Err c.in_err-outcome.field-0.0)

@@ -2,7 +2,7 @@
 use Rattle.std.proofs.Common.{◌≡◌, ◌≤◌, ◌+◌, ℕ, Ok, Result, Some, slice_get, vec_capacity, vec_len}
 use Rattle.std.specs.Vec.Iter.{into_iter_items, into_iter_len}
 use Rattle.runner.proofs.together.all_found.Given as goal
-use Rattle.program_sites.specs.declared.error.RunError.{RunError}
+use Rattle.prepared_program.specs.declared.program_sites.error.RunError.{RunError}
 use Rattle.runner.specs.declared.seated.Found.{Found}
 
 abbrev pub invariant-loop-outcome : goal.invariant-loop-outcome

@@ -1,16 +1,16 @@
 -- By the one list of all seats.
 use Rattle.std.proofs.Common.{◌≡◌, ◌⊎◌, ◌∙◌, ℕ, Err, List, ap, flat_map, inl, inr, length, subst, sym}
 use Rattle.std.proofs.lemmas.Result.{err_from_is_err_and}
-use Rattle.program_sites.specs.Prepared.{sites_in}
+use Rattle.prepared_program.specs.program_sites.Prepared.{sites_in}
 use Rattle.litmus_step.specs.Runs.{run_of}
-use Rattle.run_lists.specs.Run.{Run}
+use Rattle.executions.specs.run_lists.Run.{Run}
 use Rattle.runner.proofs.OutcomeLemmas.{all_are_here, at_the_table, err_holds, same_error}
 use Rattle.runner.proofs.ResultLemmas.{is_of}
 use Rattle.runner.proofs.together.result_of.Goals as goal
 use Rattle.runner.specs.Found.{IsOfThreads, calls_below}
 use Rattle.runner.specs.Result.{IsRunOnce}
-use Rattle.program_sites.specs.declared.error.RunError.{RunError}
-use Rattle.program_sites.specs.declared.error.RunError.TheVariants.{OutOfMemory, Stuck}
+use Rattle.prepared_program.specs.declared.program_sites.error.RunError.{RunError}
+use Rattle.prepared_program.specs.declared.program_sites.error.RunError.TheVariants.{OutOfMemory, Stuck}
 use Rattle.runner.specs.declared.result.RunResult.{RunResult}
 use Rattle.runner.specs.declared.seated.Found.{Found}
 use Rattle.shared_table.specs.Given.{Given, first_words}

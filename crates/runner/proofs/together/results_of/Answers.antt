@@ -3,12 +3,12 @@ use Rattle.std.proofs.Common.{◌≡◌, ◌∙◌, [], ℕ, suc, IfOk, List, Re
 use Rattle.std.proofs.lemmas.List.{length-map}
 use Rattle.std.proofs.lemmas.Option.{get_or_from_slice_get}
 use Rattle.std.specs.Vec.Iter.{into_iter_items}
-use Rattle.program_sites.specs.declared.error.RunError.{RunError}
+use Rattle.prepared_program.specs.declared.program_sites.error.RunError.{RunError}
 use Rattle.litmus_step.proofs.FirstLemmas.{each_push}
 use Rattle.runner.proofs.together.results_of.Goals as goal
 use Rattle.runner.specs.Result.{IsResultOf}
 use Rattle.runner.specs.declared.result.RunResult.{RunResult}
-use Rattle.runner.specs.declared.run.Turn.{Turn}
+use Rattle.runner.specs.declared.run.RunIndex.{RunIndex}
 use Rattle.shared_table.specs.Seats.{Opened}
 
 pub loop-table-init : goal.loop-table-init
@@ -69,15 +69,15 @@ loop-table-preserved c =
       rest_rows = λ at row is. subst (λ (n : ℕ). slice_get rows n ≡ Some row) (omega (arith, pushed.len))
           (was.rest_rows (suc at) row (ap (λ (xs : List _). slice_get (map (λ row. row.items) xs) (suc at)) next.0 ∙ is));
       each = subst (λ (all : List (Result RunResult RunError)). (at : ℕ) (result : Result RunResult RunError) → slice_get all at ≡ Some result
-          → (turn : Turn) → slice_get c.args.turns.now at ≡ Some turn → IsResultOf c.args.program.now c.args.settings.now turn result) (sym pushed.items)
-          (each_push (λ at result. (turn : Turn) → slice_get c.args.turns.now at ≡ Some turn → IsResultOf c.args.program.now c.args.settings.now turn result)
+          → (turn : RunIndex) → slice_get c.args.turns.now at ≡ Some turn → IsResultOf c.args.program.now c.args.settings.now turn result) (sym pushed.items)
+          (each_push (λ at result. (turn : RunIndex) → slice_get c.args.turns.now at ≡ Some turn → IsResultOf c.args.program.now c.args.settings.now turn result)
           c.loop-table.results.items c.result_of.result was.each
           (λ turn is.
           let here : slice_get c.args.turns.now c.len.result ≡ Some turn =
           subst (λ (n : ℕ). slice_get c.args.turns.now n ≡ Some turn) (omega (arith, c.len.ensures, c.loop-table.results.ok.0)) is in
           record {
             once = c.result_of.ensures.once;
-            number = subst (λ (t : Turn). IfOk c.result_of.result (λ ran. ran.number ≡ t.number))
+            number = subst (λ (t : RunIndex). IfOk c.result_of.result (λ ran. ran.number ≡ t.number))
                 (get_or_from_slice_get c.args.turns.now c.len.result turn _ here) c.result_of.ensures.number;
             errors = c.result_of.ensures.errors;
             stuck = c.result_of.ensures.stuck;

@@ -1,11 +1,11 @@
 -- Each result so far is of its turn, and there is a row of outcomes for each table that is left.
 use Rattle.std.proofs.Common.{◌≡◌, ◌≤◌, ◌+◌, ℕ, List, Result, Some, map, slice_get, vec_capacity, vec_len}
 use Rattle.std.specs.Vec.Iter.{into_iter_items, into_iter_len}
-use Rattle.program_sites.specs.declared.error.RunError.{RunError}
+use Rattle.prepared_program.specs.declared.program_sites.error.RunError.{RunError}
 use Rattle.runner.proofs.together.results_of.Given as goal
 use Rattle.runner.specs.Result.{IsResultOf}
 use Rattle.runner.specs.declared.result.RunResult.{RunResult}
-use Rattle.runner.specs.declared.run.Turn.{Turn}
+use Rattle.runner.specs.declared.run.RunIndex.{RunIndex}
 use Rattle.runner.specs.declared.seated.Found.{Found}
 use Rattle.shared_table.specs.Seats.{Opened}
 
@@ -19,5 +19,5 @@ invariant-loop-table l = record {
   rest_rows : (at : ℕ) (row : List (Result Found RunError)) → slice_get (map (λ row. row.items) (into_iter_items l.rows)) at ≡ Some row
       → slice_get (map (λ row. row.items) (into_iter_items l.initial.rows)) (vec_len l.results + at) ≡ Some row;
   each : (at : ℕ) (result : Result RunResult RunError) → slice_get l.results.items at ≡ Some result
-      → (turn : Turn) → slice_get l.turns at ≡ Some turn → IsResultOf l.program l.settings turn result;
+      → (turn : RunIndex) → slice_get l.turns at ≡ Some turn → IsResultOf l.program l.settings turn result;
 }

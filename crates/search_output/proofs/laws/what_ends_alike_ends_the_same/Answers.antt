@@ -1,12 +1,12 @@
 -- Equal cells hold equal contents, and ended tasks stand at their ends.
 use Rattle.std.proofs.Common.{◌∙◌, [], ℕ, List, ap, refl, sym}
-use Rattle.run_headline.proofs.CellBlocks.{cells_are_blocks}
-use Rattle.run_lists.specs.Told.{history_of}
+use Rattle.soundness.proofs.CellBlocks.{cells_are_blocks}
+use Rattle.executions.specs.run_lists.Told.{history_of}
 use Rattle.run_output.proofs.CellValues.{variable_told}
 use Rattle.run_output.specs.Finals.{value_in_cells}
 use Rattle.litmus_step.specs.Runs.{HasEnded, run_of}
-use Rattle.run_lists.specs.Run.{first_words}
-use Rattle.run_lists.specs.RunList.{RunList}
+use Rattle.executions.specs.run_lists.Run.{first_words}
+use Rattle.executions.specs.run_lists.RunList.{RunList}
 use Rattle.search_output.proofs.EndLemmas.{SameRegisters, SameVariables, end_the_same}
 use Rattle.search_output.proofs.laws.what_ends_alike_ends_the_same.Goals as goal
 use Rattle.slot_table.specs.Records.{words_after}

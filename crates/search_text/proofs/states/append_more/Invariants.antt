@@ -1,7 +1,7 @@
 -- The text so far and that of the locations to come are the text of all.
 use Rattle.std.proofs.Common.{◌≡◌, ◌++◌, drop}
 use Rattle.std.specs.String.{string_bytes}
-use Rattle.final_condition.specs.Holds.{register_of, variable_of}
+use Rattle.litmus_semantics.specs.final_condition.Holds.{register_of, variable_of}
 use Rattle.litmus_syntax.specs.Views.{program_of}
 use Rattle.search_text.specs.States.{more_text}
 use Rattle.search_text.proofs.states.append_more.Given as goal

@@ -3,7 +3,7 @@ use Rattle.std.proofs.Common.{◌≡◌, ◌+◌, false, true, refl}
 use Rattle.setup_access.specs.Kept.{setting_with}
 use Rattle.setup_access.specs.declared.outcome.Outcome.TheVariants.{Unencodable}
 use Rattle.setup_access.specs.declared.pass.Pass.TheVariants as passes
-use Rattle.index_order.specs.declared.place.Place.TheVariants.{First}
+use Rattle.slot_table.specs.declared.index_order.place.ProbeIndex.TheVariants.{First}
 use Rattle.setup_access.specs.declared.setup.Setup.TheVariants.{Insert}
 use Rattle.setup_access.proofs.PassLemmas.{going_left, through, unencodable_left, unsettled_left, watched_left}
 use Rattle.setup_access.proofs.setup.setup_watchpoint.Goals as goal

@@ -1,9 +1,9 @@
 -- Its variables have names of their own, so places that fit lay each at a multiple of its size.
 use Rattle.std.proofs.Common.{◌<◌, ◌≡◌, arith, length, subst, sym}
-use Rattle.litmus_meaning.specs.RunOfProgram.{setting_of}
-use Rattle.litmus_meaning.specs.Task as meaning
-use Rattle.program_layout.specs.Aligned.{AreAligned}
-use Rattle.program_layout.specs.Places.{places_of}
+use Rattle.litmus_semantics.specs.RunOfProgram.{setting_of}
+use Rattle.litmus_semantics.specs.Task as meaning
+use Rattle.prepared_program.specs.program_layout.Aligned.{AreAligned}
+use Rattle.prepared_program.specs.program_layout.Places.{places_of}
 use Rattle.task_laws.proofs.PlacedLemmas.{aligned_placed}
 use Rattle.task_laws.proofs.spelled.variables_of_programs_are_placed.Goals as goal
 

@@ -1,7 +1,7 @@
 -- no last line, a false one, or more behind it
 use Rattle.std.proofs.Common.{◌∙◌, arith, length, sym, true≢false}
 use Rattle.std.proofs.lemmas.Bool.{eqb-false}
-use Rattle.trace_lines.specs.HeadReading.{head_of}
+use Rattle.trace_replay.specs.trace_lines.HeadReading.{head_of}
 use Rattle.trace_replay.proofs.FirstFailingLine.{at_false_end, at_no_end, past_end}
 use Rattle.trace_replay.proofs.pass.end.Goals as goal
 

@@ -1,8 +1,8 @@
 -- line by line
 use Rattle.std.proofs.Common.{◌++◌, ◌∷◌, [], arith, refl}
 use Rattle.report_text.specs.TraceText.{head_text}
-use Rattle.trace_lines.specs.HeadReading.{head_of}
-use Rattle.trace_lines.proofs.TrueBegins.{few_lines}
+use Rattle.trace_replay.specs.trace_lines.HeadReading.{head_of}
+use Rattle.trace_replay.proofs.trace_lines.TrueBegins.{few_lines}
 use Rattle.trace_replay.specs.Answer.{GoesOn}
 use Rattle.trace_replay.proofs.FirstFailingLine.{begun, low_number, next_number, none_begins, one_line_more, refused, shorter}
 use Rattle.trace_replay.proofs.pass.read_lines.Goals as goal

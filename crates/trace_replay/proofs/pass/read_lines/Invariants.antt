@@ -3,7 +3,7 @@ use Rattle.std.proofs.Common.{◌≡◌, ◌++◌, List, length}
 use Rattle.report_text.specs.Faults.{BeginsTruly, next_line}
 use Rattle.report_text.specs.TraceText.{head_text}
 use Rattle.report_text.specs.declared.line.Line.{Line}
-use Rattle.trace_lines.specs.HeadReading.{head_of}
+use Rattle.trace_replay.specs.trace_lines.HeadReading.{head_of}
 use Rattle.trace_replay.specs.Story.{Tells}
 use Rattle.trace_replay.proofs.pass.read_lines.Given as goal
 

@@ -1,6 +1,6 @@
 -- the line stands, is true and is kept
 use Rattle.report_text.specs.Standing.{Stands}
-use Rattle.trace_lines.specs.HeadReading.{head_of}
+use Rattle.trace_replay.specs.trace_lines.HeadReading.{head_of}
 use Rattle.trace_replay.proofs.pass.take_in.Goals as goal
 
 pub returns : goal.returns

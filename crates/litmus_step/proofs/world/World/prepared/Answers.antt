@@ -7,7 +7,7 @@ use Rattle.litmus_step.proofs.AccessLemmas.{all_begun, each_kept, few_begun, few
 use Rattle.litmus_step.proofs.MakeLemmas.{first_kept, first_points, first_world}
 use Rattle.litmus_step.proofs.world.World.prepared.Goals as goal
 use Rattle.litmus_step.specs.Leads.{LeadsToAll}
-use Rattle.program_sites.specs.Prepared.{sites_in}
+use Rattle.prepared_program.specs.program_sites.Prepared.{sites_in}
 use Rattle.litmus_step.specs.Runs.{run_of}
 
 pub first_logs-requires : goal.first_logs-requires

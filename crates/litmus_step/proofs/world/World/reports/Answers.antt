@@ -3,8 +3,8 @@ use Rattle.std.proofs.Common.{vec_capacity}
 use Rattle.litmus_step.proofs.KeptLemmas.{all_of_front, all_reported}
 use Rattle.litmus_step.proofs.world.World.reports.Goals as goal
 use Rattle.litmus_step.specs.Kept.{reports_kept}
-use Rattle.run_headline.specs.Reported.{IsTrueReport}
-use Rattle.run_lists.specs.Reports.{reports_of}
+use Rattle.soundness.specs.Reported.{IsTrueReport}
+use Rattle.executions.specs.run_lists.Reports.{reports_of}
 
 pub returns-clause-told : goal.returns-clause-told
 returns-clause-told c = λ run records leads.

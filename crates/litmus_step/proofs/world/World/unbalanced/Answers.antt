@@ -3,7 +3,7 @@ use Rattle.std.proofs.Common.{◌≡◌, ◌∙◌, List, Some, ap, arith, lengt
 use Rattle.std.proofs.lemmas.Option.{slice_get_read}
 use Rattle.litmus_step.proofs.ReaderLemmas.{unbalanced_more}
 use Rattle.litmus_step.proofs.world.World.unbalanced.Goals as goal
-use Rattle.run_kept.specs.Totals.{unbalanced_below}
+use Rattle.log_correctness.specs.Totals.{unbalanced_below}
 use Rattle.task_run.specs.declared.run.TaskRun.{TaskRun}
 
 pub loop-run-preserved : goal.loop-run-preserved

@@ -2,8 +2,8 @@
 use Rattle.std.proofs.Common.{◌≡◌, List}
 use Rattle.litmus_step.proofs.world.World.unbalanced.Given as goal
 use Rattle.litmus_step.specs.Steps.{LeadsTo}
-use Rattle.run_lists.specs.Run.{Run}
-use Rattle.run_kept.specs.Totals.{unbalanced_below}
+use Rattle.executions.specs.run_lists.Run.{Run}
+use Rattle.log_correctness.specs.Totals.{unbalanced_below}
 use Rattle.slot_table.specs.declared.records.Record.{Record}
 
 abbrev pub invariant-loop-run : goal.invariant-loop-run

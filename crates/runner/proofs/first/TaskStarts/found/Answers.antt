@@ -2,7 +2,7 @@
 use Rattle.std.proofs.Common.{◌≡◌, ◌<◌, ◌∙◌, [], ℕ, suc, List, Result, Some, ap, arith, length, slice_get, slice_index_or, subst, sym}
 use Rattle.std.proofs.lemmas.Option.{slice_get-get_or}
 use Rattle.std.specs.Vec.Iter.{into_iter_items}
-use Rattle.program_sites.specs.declared.error.RunError.{RunError}
+use Rattle.prepared_program.specs.declared.program_sites.error.RunError.{RunError}
 use Rattle.litmus_step.proofs.FirstLemmas.{each_push}
 use Rattle.litmus_step.specs.Runs.{tasks_of}
 use Rattle.runner.proofs.BatchLemmas.{some_same}

@@ -1,7 +1,7 @@
 -- What came of the task in the runs so far is an outcome of it in each, and there is room for the rest.
 use Rattle.std.proofs.Common.{◌≡◌, ◌≤◌, ◌+◌, ℕ, Result, Some, slice_get, vec_capacity, vec_len}
 use Rattle.std.specs.Vec.Iter.{into_iter_items, into_iter_len}
-use Rattle.program_sites.specs.declared.error.RunError.{RunError}
+use Rattle.prepared_program.specs.declared.program_sites.error.RunError.{RunError}
 use Rattle.runner.proofs.first.TaskStarts.found.Given as goal
 use Rattle.runner.specs.Starts.{IsOutcome}
 use Rattle.runner.specs.Terms.{run_of_batch}

@@ -1,10 +1,10 @@
 -- By the records at the seat, which reach the machine.
 use Rattle.std.proofs.Common.{◌≡◌, ◌∙◌, false, inl, inr, length, reverse, sym, true, vec_capacity}
-use Rattle.run_lists.specs.Run.{task_of, task_setting}
+use Rattle.executions.specs.run_lists.Run.{task_of, task_setting}
 use Rattle.runner.proofs.SeatedLemmas.{HasRegisters, is_found, seat_reaches}
 use Rattle.runner.proofs.seated.SeatedTask.found.Goals as goal
 use Rattle.runner.specs.Terms.{run_by}
-use Rattle.written_order.specs.WrittenOrder.{SpellsAll}
+use Rattle.program_order.specs.WrittenOrder.{SpellsAll}
 
 pub returns-then-stuck-clause-stuck : goal.returns-then-stuck-clause-stuck
 returns-then-stuck-clause-stuck c = λ terms are seated vain.

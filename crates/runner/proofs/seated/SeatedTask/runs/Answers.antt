@@ -4,7 +4,7 @@ use Rattle.runner.proofs.seated.SeatedTask.runs.Goals as goal
 use Rattle.runner.specs.Found.{IsInVain}
 use Rattle.runner.specs.Seated.{IsSeated}
 use Rattle.runner.specs.Terms.{run_by}
-use Rattle.program_sites.specs.declared.error.RunError.TheVariants.{Stuck}
+use Rattle.prepared_program.specs.declared.program_sites.error.RunError.TheVariants.{Stuck}
 
 pub returns-clause-stuck : goal.returns-clause-stuck
 returns-clause-stuck g c =

@@ -2,10 +2,10 @@
 use Rattle.std.proofs.Common.{◌≡◌, ◌∙◌, ap, fold, sym, if◌then◌else◌, true, false}
 use Rattle.report_text.specs.Groups.{first_seen, one_more}
 use Rattle.search_text.proofs.FoundLemmas.{finds_on}
-use Rattle.search_text.specs.Found.{ends_so, is_none, option_again, state_in}
+use Rattle.search_text.specs.SearchFindings.{ends_so, is_none, option_again, state_in}
 use Rattle.search_text.specs.Seen.{sighted}
 use Rattle.search_text.specs.Texts.{ending_of}
-use Rattle.search_text.proofs.found.Found.add.Goals as goal
+use Rattle.search_text.proofs.found.SearchFindings.add.Goals as goal
 
 pub returns : goal.returns
 returns c = λ lists one finds texts schedule ending.

@@ -1,6 +1,6 @@
 -- each part is joined
 use Rattle.search_text.proofs.JoinLemmas.{finds_join}
-use Rattle.search_text.proofs.found.Found.join.Goals as goal
+use Rattle.search_text.proofs.found.SearchFindings.join.Goals as goal
 
 pub returns : goal.returns
 returns c = λ lists more first second.

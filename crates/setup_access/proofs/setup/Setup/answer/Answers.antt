@@ -4,7 +4,7 @@ use Rattle.setup_access.specs.Kept.{setting_with}
 use Rattle.setup_access.proofs.FallLemmas.{consumed_falls, hit_falls, inserted_falls}
 use Rattle.setup_access.proofs.SetupLemmas.{consumed_left, hit_left, inserted_left, named_left, new_left, old_left, vain_left}
 use Rattle.setup_access.specs.Found.{finder_half}
-use Rattle.index_order.specs.Indices.{try_index}
+use Rattle.slot_table.specs.index_order.Indices.{try_index}
 use Rattle.setup_access.specs.Setting.{slot_of}
 use Rattle.setup_access.specs.Values.{source_of}
 use Rattle.setup_access.specs.Verdicts.{UntouchedOutcome}

@@ -1,7 +1,7 @@
 -- The access is the one that is planned: as many began at its site before as are kept.
 use Rattle.std.proofs.Common.{◌∙◌, ◌<◌, ap, arith, count_by, length, subst, sym}
 use Rattle.access_types.specs.Access.{IsInLimits}
-use Rattle.litmus_meaning.specs.Task.{begins_at}
+use Rattle.litmus_semantics.specs.Task.{begins_at}
 use Rattle.task_plan.specs.Plans.{planned_access}
 use Rattle.task_plan.specs.Views.{plan_of}
 use Rattle.task_run.proofs.BeginLemmas.{few_rep}

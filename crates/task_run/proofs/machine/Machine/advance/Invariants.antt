@@ -7,7 +7,7 @@ use Rattle.task_run.specs.Stands.{StandsBy}
 use Rattle.task_run.proofs.machine.Machine.advance.Given as goal
 use Rattle.text_walk.specs.Cost.{walk_cost}
 use Rattle.text_walk.specs.Left.{WalkLeft}
-use Rattle.written_order.specs.Standing.{Setting, Standing}
+use Rattle.program_order.specs.Standing.{Setting, Standing}
 
 abbrev pub invariant-loop-next : goal.invariant-loop-next
 invariant-loop-next l = record {

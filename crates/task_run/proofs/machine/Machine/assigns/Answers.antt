@@ -3,7 +3,7 @@ use Rattle.std.proofs.Common.{◌∙◌, ℕ, List, ap, length, subst, sym}
 use Rattle.std.proofs.lemmas.Result.{IfOk-weaker}
 use Rattle.std.specs.Option.{option_map}
 use Rattle.litmus_syntax.specs.Views.{assignment_of}
-use Rattle.program_layout.specs.Lays.{Lays}
+use Rattle.prepared_program.specs.program_layout.Lays.{Lays}
 use Rattle.task_plan.specs.Plans.{assignment_plan}
 use Rattle.task_plan.specs.Views.{plan_of}
 use Rattle.task_run.proofs.PlanLemmas.{begins_assignment}

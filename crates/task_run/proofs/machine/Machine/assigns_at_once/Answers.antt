@@ -2,7 +2,7 @@
 use Rattle.task_run.proofs.StopLemmas.{on_err}
 use Rattle.std.proofs.Common.{◌≡◌, ◌↔◌, ◌∙◌, ℕ, List, [], ap, length, refl, subst, sym}
 use Rattle.access_types.specs.declared.history.Mark.TheVariants as marks
-use Rattle.litmus_meaning.specs.Expressions.{pure_value}
+use Rattle.litmus_semantics.specs.Expressions.{pure_value}
 use Rattle.litmus_syntax.specs.Tree as tree
 use Rattle.litmus_syntax.specs.Views.{pure_of}
 use Rattle.slot_table.specs.declared.records.Record.{Record}
@@ -19,7 +19,7 @@ use Rattle.setup_access.specs.Shown.{context_of}
 use Rattle.task_run.proofs.StopLemmas.{at_once_stops}
 use Rattle.task_run.proofs.machine.Machine.assigns_at_once.Goals as goal
 use Rattle.text_walk.specs.Left.{WalkLeft}
-use Rattle.written_order.specs.Standing.{Standing, registered}
+use Rattle.program_order.specs.Standing.{Standing, registered}
 
 pub returns-clause-begins : goal.returns-clause-begins
 returns-clause-begins c = λ s site before stands.

@@ -8,7 +8,7 @@ use Rattle.task_context.specs.Context.{Context}
 use Rattle.task_context.specs.History.{LeadsTo}
 use Rattle.task_run.proofs.TellLemmas.{not_heard}
 use Rattle.task_run.proofs.machine.Machine.begun.Goals as goal
-use Rattle.written_order.specs.Standing.{moments}
+use Rattle.program_order.specs.Standing.{moments}
 
 pub returns-clause-begins : goal.returns-clause-begins
 returns-clause-begins c = λ s before stands own.

@@ -3,7 +3,7 @@ use Rattle.task_run.proofs.StopLemmas.{on_err}
 use Rattle.std.proofs.lemmas.Result.{IfOk-weaker}
 use Rattle.task_run.proofs.PlanLemmas.{ends_barrier, ends_mark}
 use Rattle.std.proofs.lemmas.Result.{IfErr-weaker}
-use Rattle.litmus_meaning.specs.Task as meaning
+use Rattle.litmus_semantics.specs.Task as meaning
 use Rattle.litmus_syntax.specs.declared.statement.Call.{Call}
 use Rattle.litmus_syntax.specs.declared.statement.Call.TheVariants as calls
 use Rattle.std.proofs.Common.{◌≡◌, ◌==◌, ◌∙◌, ℕ, Bool, true, false, None, Some, if◌then◌else◌, ap, inl, inr, refl, sym}

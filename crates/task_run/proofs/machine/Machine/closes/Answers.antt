@@ -2,7 +2,7 @@
 use Rattle.task_run.proofs.BeginLemmas.{begins_closing}
 use Rattle.task_run.proofs.StopLemmas.{closing_never}
 use Rattle.task_run.proofs.machine.Machine.closes.Goals as goal
-use Rattle.written_order.specs.Standing.{checks_of}
+use Rattle.program_order.specs.Standing.{checks_of}
 
 pub returns-clause-begins : goal.returns-clause-begins
 returns-clause-begins c = λ s. begins_closing s c.args.self.now c.close_scoped.new.self c.if-self-eq0.false (c.close_scoped.ensures.closes (checks_of s)) c.close_scoped.ensures.context

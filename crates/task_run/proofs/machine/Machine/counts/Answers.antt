@@ -4,7 +4,7 @@ use Rattle.access_types.specs.declared.history.Happening.TheVariants as happenin
 use Rattle.task_plan.proofs.KeepsLemmas.{keeps_alike}
 use Rattle.task_run.proofs.StandsLemmas.{stands_keeping}
 use Rattle.task_run.proofs.machine.Machine.counts.Goals as goal
-use Rattle.written_order.specs.Standing.{counting, doing}
+use Rattle.program_order.specs.Standing.{counting, doing}
 
 pub returns-then-ends_nothing-clause-stands : goal.returns-then-ends_nothing-clause-stands
 returns-then-ends_nothing-clause-stands c = λ s before later mark stands. rw c.if-ends_nothing.true

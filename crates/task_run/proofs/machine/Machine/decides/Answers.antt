@@ -1,6 +1,6 @@
 -- The walk goes on where the condition says.
 use Rattle.std.proofs.Common.{◌∙◌, ℕ, List, [], ap, length, refl, sym}
-use Rattle.litmus_meaning.specs.Expressions.{pure_value}
+use Rattle.litmus_semantics.specs.Expressions.{pure_value}
 use Rattle.litmus_syntax.specs.Views.{pure_of}
 use Rattle.task_run.proofs.BeginsLemmas.{walked}
 use Rattle.task_run.proofs.FollowLemmas.{chosen_fails, chosen_holds}

@@ -6,7 +6,7 @@ use Rattle.task_run.specs.Part.{disabled}
 use Rattle.task_run.specs.Room.{room_of}
 use Rattle.task_run.specs.Stands.{Stands}
 use Rattle.task_run.proofs.machine.Machine.disable.Given as goal
-use Rattle.written_order.specs.Standing.{Setting, Standing}
+use Rattle.program_order.specs.Standing.{Setting, Standing}
 
 abbrev pub invariant-loop : goal.invariant-loop
 invariant-loop l = record {

@@ -1,6 +1,6 @@
 -- What follows on an access.
 use Rattle.std.proofs.Common.{ℕ, refl, subst}
-use Rattle.litmus_meaning.specs.Values.{sign_extended}
+use Rattle.litmus_semantics.specs.Values.{sign_extended}
 use Rattle.task_plan.specs.Views.{taker_of}
 use Rattle.task_run.proofs.FollowLemmas.{follows_assignment, follows_load, follows_mark, follows_nothing}
 use Rattle.task_run.specs.Due.{EndsAtOnce}

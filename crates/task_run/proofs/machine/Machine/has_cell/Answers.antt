@@ -1,7 +1,7 @@
 -- The checker says where the value of an access lies.
 use Rattle.std.proofs.Common.{◌∙◌, IsSome, refl, subst, sym}
 use Rattle.task_run.proofs.machine.Machine.has_cell.Goals as goal
-use Rattle.written_order.specs.Standing.{checks_of}
+use Rattle.program_order.specs.Standing.{checks_of}
 
 pub returns-in-Some : goal.returns-in-Some
 returns-in-Some c = λ s before stands. rw c.in-Some.is (

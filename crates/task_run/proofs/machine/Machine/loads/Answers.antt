@@ -2,7 +2,7 @@
 use Rattle.std.proofs.Common.{◌∙◌, ℕ, List, ap, length, subst, sym}
 use Rattle.std.proofs.lemmas.Result.{IfOk-weaker}
 use Rattle.litmus_syntax.specs.Views.{load_of}
-use Rattle.program_layout.specs.Lays.{Lays}
+use Rattle.prepared_program.specs.program_layout.Lays.{Lays}
 use Rattle.task_plan.specs.Plans.{load_plan}
 use Rattle.task_plan.specs.Views.{plan_of, taker_of}
 use Rattle.task_run.proofs.PlanLemmas.{begins_load}

@@ -10,7 +10,7 @@ use Rattle.task_run.proofs.StopLemmas.{plan_stops, plan_stops_off}
 use Rattle.task_run.specs.Part.{disabled}
 use Rattle.task_run.specs.Stands.{Stands}
 use Rattle.task_run.proofs.machine.Machine.makes.Goals as goal
-use Rattle.written_order.specs.Standing.{checks_of}
+use Rattle.program_order.specs.Standing.{checks_of}
 
 pub returns-clause-begins : goal.returns-clause-begins
 returns-clause-begins c = λ s fit before stands.

@@ -1,9 +1,9 @@
 -- The part is the check of the scoped assertion.
 use Rattle.task_run.proofs.StopLemmas.{on_err}
 use Rattle.std.proofs.Common.{◌<◌, ◌≢◌, ◌∙◌, [], None, Some, ap, subst, sym}
-use Rattle.litmus_meaning.specs.Task.{access_now}
-use Rattle.program_layout.specs.Lays.{Lays}
-use Rattle.program_layout.specs.declared.layout.Layout.{Layout}
+use Rattle.litmus_semantics.specs.Task.{access_now}
+use Rattle.prepared_program.specs.program_layout.Lays.{Lays}
+use Rattle.prepared_program.specs.declared.program_layout.layout.Layout.{Layout}
 use Rattle.task_run.proofs.BeginLemmas.{begins_opening, proper}
 use Rattle.task_run.proofs.machine.Machine.opens.Goals as goal
 use Rattle.task_run.proofs.StopLemmas.{opening_never, opening_stops}
@@ -14,7 +14,7 @@ use Rattle.task_run.specs.declared.machine.Machine.{Machine}
 use Rattle.task_run.specs.declared.stage.Stage.TheVariants as stages
 use Rattle.text_walk.specs.Left.{DueLeft}
 use Rattle.text_walk.specs.declared.due.Due.TheVariants as dues
-use Rattle.written_order.specs.Standing.{Standing, checks_of}
+use Rattle.program_order.specs.Standing.{Standing, checks_of}
 
 pub returns-clause-begins : goal.returns-clause-begins
 returns-clause-begins c = λ s.

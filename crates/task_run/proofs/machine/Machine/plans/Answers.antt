@@ -2,7 +2,7 @@
 use Rattle.std.proofs.Common.{◌∙◌, ℕ, [], None, ap, refl, subst, sym}
 use Rattle.std.proofs.lemmas.Result.{IfOk-weaker}
 use Rattle.std.specs.Option.{option_map}
-use Rattle.program_layout.specs.Lays.{Lays}
+use Rattle.prepared_program.specs.program_layout.Lays.{Lays}
 use Rattle.task_plan.specs.Views.{plan_of}
 use Rattle.litmus_syntax.specs.Tree as tree
 use Rattle.litmus_syntax.specs.declared.statement.Call.{Call}
@@ -13,7 +13,7 @@ use Rattle.task_run.proofs.machine.Machine.plans.Goals as goal
 use Rattle.task_run.specs.Due.{PartBegins, StatementDue}
 use Rattle.task_run.specs.Plans.{ChecksNoByte}
 use Rattle.task_run.specs.declared.machine.Machine.{Machine}
-use Rattle.written_order.specs.Standing.{Setting}
+use Rattle.program_order.specs.Standing.{Setting}
 
 -- a check of no byte is over at once
 checks_nothing : (s : Setting) (call : Call) (site : ℕ) (machine : Machine) → ChecksNoByte call

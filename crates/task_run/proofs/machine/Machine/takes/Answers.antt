@@ -1,6 +1,6 @@
 -- Who takes the value of a load.
 use Rattle.std.proofs.Common.{◌∙◌, ℕ, List, ap, length, refl, subst, sym}
-use Rattle.litmus_meaning.specs.Expressions.{loading_value}
+use Rattle.litmus_semantics.specs.Expressions.{loading_value}
 use Rattle.litmus_syntax.specs.Views.{loading_of}
 use Rattle.task_run.proofs.BeginsLemmas.{walked}
 use Rattle.task_run.proofs.FollowLemmas.{takes_failing, takes_holding, takes_nobody, takes_register}
@@ -8,7 +8,7 @@ use Rattle.task_run.proofs.StandsLemmas.{stands_keeping}
 use Rattle.task_run.specs.Part.{enabled}
 use Rattle.task_run.specs.Stands.{Stands}
 use Rattle.task_run.proofs.machine.Machine.takes.Goals as goal
-use Rattle.written_order.specs.Standing.{registered}
+use Rattle.program_order.specs.Standing.{registered}
 
 pub returns-in-Nobody-clause-stands : goal.returns-in-Nobody-clause-stands
 returns-in-Nobody-clause-stands c = λ s before stands. rw c.in-Nobody.is (takes_nobody s c.args.self.now.walk before c.args.self.now c.args.loaded refl stands)

@@ -4,7 +4,7 @@ use Rattle.task_plan.proofs.KeepsLemmas.{keeps_alike}
 use Rattle.task_run.proofs.BeginLemmas.{begins_unlocking, ends_unlocking}
 use Rattle.task_run.proofs.StandsLemmas.{stands_keeping}
 use Rattle.task_run.proofs.machine.Machine.unlocks.Goals as goal
-use Rattle.written_order.specs.Standing.{coming, counting}
+use Rattle.program_order.specs.Standing.{coming, counting}
 use Rattle.std.proofs.Common.{true}
 
 pub returns-then-has_lock-clause-begins : goal.returns-then-has_lock-clause-begins

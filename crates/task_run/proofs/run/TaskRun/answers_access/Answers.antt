@@ -11,7 +11,7 @@ use Rattle.task_plan.specs.declared.follow.Then.{Then}
 use Rattle.task_run.specs.Says.{StageSays}
 use Rattle.task_run.specs.declared.stage.Stage.TheVariants as stages
 use Rattle.task_run.proofs.run.TaskRun.answers_access.Goals as goal
-use Rattle.written_order.specs.Standing.{checks_of}
+use Rattle.program_order.specs.Standing.{checks_of}
 
 pub returns-in-Making-stage-clause-leads : goal.returns-in-Making-stage-clause-leads
 returns-in-Making-stage-clause-leads c = λ s registers body records step leads says.

@@ -16,7 +16,7 @@ use Rattle.task_run.specs.declared.run.TaskRun.{TaskRun}
 use Rattle.task_run.specs.declared.stage.Stage.{Stage}
 use Rattle.task_run.specs.declared.stage.Stage.TheVariants as stages
 use Rattle.text_walk.specs.Left.{WalkLeft}
-use Rattle.written_order.specs.Standing.{Setting, Standing, checks_of}
+use Rattle.program_order.specs.Standing.{Setting, Standing, checks_of}
 
 closes_else : (stage : Stage) → (stage ≡ stages.Opening) ⊎ (stage ≡ stages.Closing) → ¬ (stage ≡ stages.Opening) → stage ≡ stages.Closing
 closes_else stage (inl is) not = absurd (not is)

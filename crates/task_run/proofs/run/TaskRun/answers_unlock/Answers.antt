@@ -6,7 +6,7 @@ use Rattle.slot_table.specs.declared.step.Step.TheVariants.{LockStore}
 use Rattle.task_run.proofs.RunLemmas.{unlock_ended}
 use Rattle.task_run.specs.Says.{StageSays}
 use Rattle.task_run.proofs.run.TaskRun.answers_unlock.Goals as goal
-use Rattle.written_order.specs.Standing.{is_lock}
+use Rattle.program_order.specs.Standing.{is_lock}
 
 pub returns-clause-leads : goal.returns-clause-leads
 returns-clause-leads c = λ is s registers body records step leads says.

@@ -1,6 +1,6 @@
 -- By the task of a program that is made ready.
 use Rattle.task_run.proofs.run.TaskRun.new.Goals as goal
-use Rattle.program_sites.specs.Prepared.{sites_in}
+use Rattle.prepared_program.specs.program_sites.Prepared.{sites_in}
 
 pub returns-clause-leads : goal.returns-clause-leads
 returns-clause-leads c =

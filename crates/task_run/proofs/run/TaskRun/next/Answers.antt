@@ -1,13 +1,13 @@
 -- The step of the part under way is the only one that the text goes on with.
 use Rattle.std.proofs.Common.{◌≡◌, ◌∙◌, ℕ, IfSome, IsNone, None, Some, ap, false, inl, inr, refl, subst, sym, true}
 use Rattle.access_run.specs.Leads.{AccessOnlyStep}
-use Rattle.memory_operation.specs.LockLeads.{LockSays, OnlyLockStep}
+use Rattle.access_run.specs.memory_operation.LockLeads.{LockSays, OnlyLockStep}
 use Rattle.setup_access.specs.Leads as checks
 use Rattle.slot_table.specs.declared.step.Step.TheVariants.{LockStore}
-use Rattle.written_order.specs.Waits.{OnlyStep}
+use Rattle.program_order.specs.Waits.{OnlyStep}
 use Rattle.task_run.specs.Says.{IsGoingIn, StageSays}
 use Rattle.task_run.specs.declared.stage.Stage.TheVariants as stages
-use Rattle.written_order.specs.Standing.{checks_of}
+use Rattle.program_order.specs.Standing.{checks_of}
 use Rattle.task_run.proofs.NextLemmas.{closing_none, closing_only, locking_none, locking_only, making_none, making_only, none_left, opening_none, opening_only, over_spelled, some_says, step_only, unlocking_only, unlocking_stuck, within_on}
 use Rattle.task_run.proofs.StuckLemmas.{over_by_records}
 use Rattle.task_run.proofs.run.TaskRun.next.Goals as goal

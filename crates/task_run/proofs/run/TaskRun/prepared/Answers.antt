@@ -3,19 +3,19 @@ use Rattle.std.proofs.Common.{◌≡◌, ◌<◌, ◌∙◌, [], List, None, Som
 use Rattle.std.proofs.lemmas.Option.{slice_get_read}
 use Rattle.litmus_syntax.specs.Views.{block_of}
 use Rattle.litmus_syntax.specs.declared.program.Task.{Task}
-use Rattle.program_layout.specs.Lays.{Lays}
-use Rattle.program_layout.specs.Places.{places_of}
-use Rattle.program_layout.specs.declared.layout.Layout.{Layout}
-use Rattle.program_sites.specs.Prepared.{sites_in}
+use Rattle.prepared_program.specs.program_layout.Lays.{Lays}
+use Rattle.prepared_program.specs.program_layout.Places.{places_of}
+use Rattle.prepared_program.specs.declared.program_layout.layout.Layout.{Layout}
+use Rattle.prepared_program.specs.program_sites.Prepared.{sites_in}
 use Rattle.task_run.proofs.LimitLemmas.{few_task_sites, few_tasks}
 use Rattle.task_run.proofs.NextLemmas.{first_stands, starts}
 use Rattle.task_run.proofs.run.TaskRun.prepared.Goals as goal
 use Rattle.task_run.specs.First.{setting_of}
 use Rattle.task_run.specs.Leads.{Leads}
 use Rattle.task_run.specs.declared.machine.Machine.{Machine}
-use Rattle.task_points.specs.declared.points.Latest.TheVariants.{Other}
+use Rattle.task_plan.specs.declared.task_points.points.Latest.TheVariants.{Other}
 use Rattle.task_run.specs.declared.run.TaskRun.{TaskRun}
-use Rattle.written_order.specs.Standing.{Setting}
+use Rattle.program_order.specs.Standing.{Setting}
 
 some_same : {X : Type 0} (one other : X) → Some one ≡ Some other → one ≡ other
 some_same one other same = cc

@@ -8,9 +8,9 @@ use Rattle.task_run.proofs.NextLemmas.{closing_stuck, locking_stuck, making_stuc
 use Rattle.task_run.proofs.run.TaskRun.stuck.Goals as goal
 use Rattle.task_run.specs.Leads.{IsStuck, Leads}
 use Rattle.task_run.specs.declared.run.TaskRun.{TaskRun}
-use Rattle.written_order.specs.Standing.{Setting, checks_of}
-use Rattle.written_order.specs.Waits as waits
-use Rattle.written_order.specs.WrittenOrder.{WrittenOrder}
+use Rattle.program_order.specs.Standing.{Setting, checks_of}
+use Rattle.program_order.specs.Waits as waits
+use Rattle.program_order.specs.WrittenOrder.{WrittenOrder}
 
 -- what says that the part waits too long says it of the records
 by_records : (Says : Type 0) (run : TaskRun)

@@ -3,7 +3,7 @@ use Rattle.std.proofs.Common.{sym, subst}
 use Rattle.std.specs.List.{flat_map}
 use Rattle.report_text.specs.Standing.{arms_of, reports_of, takes_of}
 use Rattle.report_text.specs.Truth.{IsTrueEnd, hits_in, origins_in, pairs_in, race_in, unknown_in}
-use Rattle.trace_lines.specs.HeadReading.{head_of}
+use Rattle.trace_replay.specs.trace_lines.HeadReading.{head_of}
 use Rattle.trace_replay.proofs.story.Story.may_end.Goals as goal
 
 pub returns-in-Second : goal.returns-in-Second

@@ -11,8 +11,8 @@ use denote.Struct.Declared as declared
 use denote.Struct.Field.{shr_ref_field, shr_slice_field}
 use denote.Struct.Tuple.{type_at}
 use mir.Syntax.{named}
-use Rattle.program_sites.specs.contracts.prepared.Prepared as prepared_row
-use Rattle.program_sites.specs.contracts.settings.Settings as settings_row
+use Rattle.prepared_program.specs.contracts.program_sites.prepared.Prepared as prepared_row
+use Rattle.prepared_program.specs.contracts.program_sites.settings.Settings as settings_row
 use Rattle.litmus_syntax.specs.contracts.program.Program as program_row
 use Rattle.runner.specs.contracts.first.TaskStarts as start_row
 use Rattle.shared_table.specs.contracts.table.SharedTable as table_row
@@ -23,10 +23,10 @@ use denote.Param.Send.{AllSend, IsSend, arg_send, param_send, recorded_send, shr
 use denote.Struct.Struct.{Struct}
 use Rattle.litmus_step.proofs.FirstLemmas.{each_push}
 use Rattle.litmus_step.specs.Runs.{run_of, tasks_of}
-use Rattle.run_lists.specs.Run.{Run}
-use Rattle.program_sites.proofs.prepared.Prepared.TheSendSync as prepared
-use Rattle.program_sites.specs.Prepared.{sites_in}
-use Rattle.program_sites.proofs.settings.Settings.TheSendSync as settings
+use Rattle.executions.specs.run_lists.Run.{Run}
+use Rattle.prepared_program.proofs.program_sites.prepared.Prepared.TheSendSync as prepared
+use Rattle.prepared_program.specs.program_sites.Prepared.{sites_in}
+use Rattle.prepared_program.proofs.program_sites.settings.Settings.TheSendSync as settings
 use Rattle.litmus_syntax.proofs.Shared.{program_shared}
 use Rattle.runner.proofs.first.TaskStarts.TheSendSync as start
 use Rattle.shared_table.proofs.table.SharedTable.TheSendSync as table

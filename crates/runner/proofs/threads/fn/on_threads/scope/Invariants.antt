@@ -1,7 +1,7 @@
 -- Each thread so far promises what comes of its start, and there is room for the rest.
 use Rattle.std.proofs.Common.{◌≡◌, ◌≤◌, ◌+◌, ◌++◌, ℕ, Some, map, slice_get, vec_capacity, vec_len}
 use Rattle.std.specs.Vec.Iter.{into_iter_items, into_iter_len}
-use Rattle.program_sites.specs.Prepared.{sites_in}
+use Rattle.prepared_program.specs.program_sites.Prepared.{sites_in}
 use Rattle.litmus_step.specs.Runs.{run_of, tasks_of}
 use Rattle.runner.proofs.threads.fn.on_threads.scope.Given as goal
 use Rattle.runner.specs.Starts.{AreSomeStarts}

@@ -1,0 +1,20 @@
+-- each command adds its shape
+use Rattle.std.proofs.Common.{◌∙◌, ap, map, refl, true}
+use Rattle.std.proofs.lemmas.Result.{IfOk-weaker}
+use Rattle.clap.specs.Simple.{app_of_fields, on_top}
+use Rattle.cli.proofs.request.program.Goals as goal
+
+pub returns : goal.returns
+returns c =
+    let first = ap app_of_fields c.subcommand_required.ensures
+    ∙ ap (on_top (λ shape. record shape { subcommand_required = true })) c.named-top.ensures in
+    let e1 = c.with_subcommand-command.ensures _ _ first c.step_command.ensures refl in
+    let e2 = c.with_subcommand-command-2.ensures _ _ e1 c.run_command.ensures refl in
+    let e3 = c.with_subcommand-command-3.ensures _ _ e2 c.search_command.ensures refl in
+    let e4 = c.with_subcommand-command-4.ensures _ _ e3 c.replay_command.ensures refl in
+    let e5 = c.with_subcommand-command-5.ensures _ _ e4 c.show_command.ensures refl in
+    IfOk-weaker c.with_subcommand.result _ _ (λ command adds. record {
+      sizes = c.as_slice-sizes.result;
+      sizes_are = ap (map (λ size. size.now)) c.as_slice-sizes.ensures;
+      is = adds;
+    }) (c.with_subcommand.ensures _ _ e5 c.check_command.ensures refl)

@@ -1,0 +1,57 @@
+-- Within which bounds the numbers of options are.
+use Rattle.std.specs.Prelude.{◌<◌, ◌≤◌, length}
+use Rattle.cli.specs.declared.request.CheckRequest.{CheckRequest}
+use Rattle.cli.specs.declared.request.RunOptions.{RunOptions}
+use Rattle.cli.specs.declared.request.Request.{Request}
+use Rattle.cli.specs.declared.request.Request.TheVariants as requests
+use Rattle.cli.specs.declared.request.RunRequest.{RunRequest}
+use Rattle.cli.specs.declared.request.SearchRequest.{SearchRequest}
+use Rattle.cli.specs.declared.request.Switches.{Switches}
+use Rattle.cli.specs.declared.request.Switches.TheVariants as switches
+
+-- from 3 to 1,024 page slots, at most 1,000,000 accesses skipped, and from 1 to 1,000,000,000 vain tries of a wait
+pub record KeepsBounds (options : RunOptions) : Type 0 where
+  pub slots_from : 3 ≤ options.slots
+  pub slots_to : options.slots ≤ 1024
+  pub skip : options.skip ≤ 1000000
+  pub turns_from : 1 ≤ options.turns
+  pub turns_to : options.turns ≤ 1000000000
+
+-- and from 1 to 100,000 runs, of which 1 to 64 side by side, with a delay of at most 1,000,000 loads
+pub record KeepsRunBounds (request : RunRequest) : Type 0 where
+  pub runs : 1 ≤ request.runs
+  pub runs_to : request.runs ≤ 100000
+  pub delay : request.delay ≤ 1000000
+  pub jobs : 1 ≤ request.jobs
+  pub jobs_to : request.jobs ≤ 64
+  pub options : KeepsBounds request.options
+
+-- at most 16 switches, or no bound on them
+abbrev pub KeepsSwitches : Switches → Type 0
+KeepsSwitches (switches.AtMost number) = number ≤ 16
+KeepsSwitches switches.All = Unit {0}
+
+-- and so many switches, in from 1 to 1,000,000,000 schedules, or states, by 1 to 64 threads
+pub record KeepsSearchBounds (request : SearchRequest) : Type 0 where
+  pub switches : KeepsSwitches request.switches
+  pub limit : 1 ≤ request.limit
+  pub limit_to : request.limit ≤ 1000000000
+  pub jobs : 1 ≤ request.jobs
+  pub jobs_to : request.jobs ≤ 64
+  pub options : KeepsBounds request.options
+
+-- one file at least, and from 3 to 1,024 page slots
+pub record KeepsCheckBounds (request : CheckRequest) : Type 0 where
+  pub some : 0 < length request.files.items
+  pub slots_from : 3 ≤ request.slots
+  pub slots_to : request.slots ≤ 1024
+
+-- what may be asked: numbers within their bounds
+abbrev pub MayBeAsked : Request → Type 0
+MayBeAsked (requests.Step request) = KeepsBounds request.options
+MayBeAsked (requests.Run request) = KeepsRunBounds request
+MayBeAsked (requests.Search request) = KeepsSearchBounds request
+MayBeAsked (requests.Replay request) = Unit {0}
+MayBeAsked (requests.Show request) = Unit {0}
+MayBeAsked (requests.Check request) = KeepsCheckBounds request
+MayBeAsked requests.Calls = Unit {0}

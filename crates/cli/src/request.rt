@@ -1,0 +1,671 @@
+//! What the words ask for.
+
+ghost use Rattle.std.specs.Prelude.{◌≡◌, ◌≢◌, ◌↔◌, ◌≤◌, ◌<◌, ℕ, IfErr, IfOk, IfSome, IsSome, IsTrue, Some, [], codes, length, map, true};
+ghost use Rattle.cli.specs.Bounds.{KeepsBounds, KeepsCheckBounds, KeepsRunBounds, KeepsSearchBounds, KeepsSwitches, MayBeAsked};
+ghost use Rattle.cli.specs.Words.{AreSizes, Ask, AskCheck, AskOptions, AskRun, AskSearch, AskShow, AskStep, AskSwitches};
+ghost use Rattle.cli.specs.Words.{IsArg, IsAskedBy, IsAskedOf, IsGiven, IsLayout, IsNumber, IsProgram, MayFail, words_of};
+ghost use Rattle.cli.specs.Words.{check_app, default_rule, flag_rule, name_rule, number_rule, replay_app, run_app, search_app, show_app, step_app};
+ghost use Rattle.cli.specs.Words.{text_rule, with_options, word_rule, words_rule};
+ghost use Rattle.clap.specs.Words.{App, Rule, app_of, first_of, found_of, kind_of, new_app, rows_of, subcommand_rows_of, with_rule, with_subcommand};
+
+use crate::help;
+use clap::builder::ValueParser;
+use clap::error::ErrorKind;
+use clap::{Arg, ArgAction, ArgMatches, Command};
+use std::alloc::{AllocError, Global};
+use std::convert::AsStr;
+use watch_word::Layout;
+
+/// The fewest and the most runs.
+const RUNS: (u64, u64) = (1, 100_000);
+
+/// The fewest and the most loads of a delay.
+const DELAY: (u64, u64) = (0, 1_000_000);
+
+/// The fewest and the most runs side by side, and the fewest and the most threads of a search.
+const JOBS: (u64, u64) = (1, 64);
+
+/// The fewest and the most switches from task to task, where there are so many at most.
+const AT_MOST: (u64, u64) = (0, 16);
+
+/// The fewest and the most schedules that a search may go through, or states.
+const LIMIT: (u64, u64) = (1, 1_000_000_000);
+
+/// The fewest and the most page slots.
+const SLOTS: (u64, u64) = (3, 1024);
+
+/// The fewest and the most accesses skipped between two that are watched.
+const SKIP: (u64, u64) = (0, 1_000_000);
+
+/// The fewest and the most vain tries of a wait.
+const TURNS: (u64, u64) = (1, 1_000_000_000);
+
+/// How many bits a watch word can have.
+static BITS: [&str; 2] = ["64", "32"];
+
+/// What the program is asked to do.
+#[derive(Debug, Drop, PartialEq, Eq)]
+pub enum Request<'a> {
+    /// To step the program of a litmus file.
+    Step(StepRequest<'a>),
+    /// To run the program of a litmus file on threads.
+    Run(RunRequest<'a>),
+    /// To step the program of a litmus file under all schedules, or those with few switches.
+    Search(SearchRequest<'a>),
+    /// To check a trace.
+    Replay(ReplayRequest<'a>),
+    /// To draw a trace.
+    Show(ShowRequest<'a>),
+    /// To say what litmus files mean to the program, or why they are refused.
+    Check(CheckRequest<'a>),
+    /// To list the calls that are read in litmus files.
+    Calls,
+}
+
+/// What `replay` is asked to do.
+#[derive(Clone, Copy, Debug, PartialEq, Eq)]
+pub struct ReplayRequest<'a> {
+    /// The name of the file that has the trace.
+    pub trace: &'a str,
+}
+
+/// What `show` is asked to do.
+#[derive(Clone, Copy, Debug, PartialEq, Eq)]
+pub struct ShowRequest<'a> {
+    /// The name of the file that has the trace.
+    pub trace: &'a str,
+    /// The name of the file that a picture goes to as well, if it goes to one.
+    pub svg: Option<&'a str>,
+    /// Whether the text is drawn with ASCII alone.
+    pub ascii: bool,
+}
+
+/// What `step` is asked to do.
+#[derive(Clone, Copy, Debug, PartialEq, Eq)]
+pub struct StepRequest<'a> {
+    /// The name of the litmus file.
+    pub file: &'a str,
+    /// The text of the schedule.
+    pub schedule: &'a str,
+    /// What `run` could be given as well.
+    pub options: RunOptions<'a>,
+}
+
+/// What `run` is asked to do.
+#[derive(Clone, Copy, Debug, PartialEq, Eq)]
+pub struct RunRequest<'a> {
+    /// The name of the litmus file.
+    pub file: &'a str,
+    /// How many runs there are to be.
+    pub runs: u64,
+    /// How many turns the delay of a watch takes at most.
+    pub delay: u64,
+    /// How many runs are made side by side.
+    pub jobs: u64,
+    /// Whether the first run with a report is the last.
+    pub stop_at_first: bool,
+    /// Whether runs in which a task gets stuck are counted, and the others go on.
+    pub keep_going: bool,
+    /// What `step` could be given as well.
+    pub options: RunOptions<'a>,
+}
+
+/// How often a schedule that is searched may switch from task to task.
+#[derive(Clone, Copy, Debug, PartialEq, Eq)]
+pub enum Switches {
+    /// So often at most.
+    AtMost(u64),
+    /// Without a bound: all schedules are searched.
+    All,
+}
+
+/// What `search` is asked to do.
+#[derive(Clone, Copy, Debug, PartialEq, Eq)]
+pub struct SearchRequest<'a> {
+    /// The name of the litmus file.
+    pub file: &'a str,
+    /// How often a schedule may switch from task to task.
+    pub switches: Switches,
+    /// After how many schedules the search stops, though others remain: after how many states, where all schedules are
+    /// searched.
+    pub limit: u64,
+    /// How many threads share the work. Where all schedules are searched, one works, whatever this is.
+    pub jobs: u64,
+    /// What `step` could be given as well.
+    pub options: RunOptions<'a>,
+}
+
+/// What `check` is asked to do.
+#[derive(Debug, Drop, PartialEq, Eq)]
+pub struct CheckRequest<'a> {
+    /// The names of the litmus files: one at least.
+    pub files: Vec<&'a str>,
+    /// Whether the printed form is wanted too.
+    pub print: bool,
+    /// The text of the schedule.
+    pub schedule: &'a str,
+    /// The text of the place list.
+    pub places: &'a str,
+    /// How many page slots there are.
+    pub slots: usize,
+    /// How many bits a watch word has.
+    pub layout: Layout,
+}
+
+/// The options that `step`, `run` and `search` all have.
+#[derive(Clone, Copy, Debug, PartialEq, Eq)]
+pub struct RunOptions<'a> {
+    /// The text of the place list.
+    pub places: &'a str,
+    /// The name of the file that the trace goes to, if it goes to one.
+    pub trace: Option<&'a str>,
+    /// How many page slots there are.
+    pub slots: usize,
+    /// How many accesses are skipped between two that are watched.
+    pub skip: u64,
+    /// Whether skips are drawn at random.
+    pub randomize: bool,
+    /// The seed of the generator that skips are drawn from.
+    pub seed: u64,
+    /// Whether aligned plain writes can race, and hits are reported where the value is the same.
+    pub strict: bool,
+    /// How many bits a watch word has.
+    pub layout: Layout,
+    /// At so many vain tries of one wait a task is stuck.
+    pub turns: u64,
+}
+
+/// What the words ask for; the first of them is the program's name. An error is a mistake in them, or asks for help.
+pub fn asked<'a, S: AsStr>(alloc: Global, words: &'a [S]) -> Result<Request<'a>, clap::Error>
+    ensures bounds { IfOk result MayBeAsked }
+    ensures asked { IfOk result (Ask (map S.text words.entry.now)) }
+    ensures fails { IfErr result (λ error. MayFail (map S.text words.entry.now) (kind_of error)) }
+{
+    let matches = program(alloc)?.try_get_matches_from(words)?;
+    let request = request_of(alloc, &matches)?;
+    if let Some(request) = request {
+        return Ok(request);
+    }
+    Err(refused(alloc, &matches)?)
+}
+
+/// What is said where a command's own rules let words through, and yet they ask for nothing. Of all commands `search`
+/// and `check` alone do so.
+fn refused(alloc: Global, matches: &ArgMatches<'_>) -> Result<clap::Error, AllocError>
+    ensures { IfOk result (λ error. kind_of error ≡ ErrorKind.ValueValidation) }
+{
+    match matches.subcommand() {
+        Some(("search", values)) => switches_refused(alloc, values),
+        _ => {
+            let files_or_calls = "'check' takes one FILE or more, or --calls and no FILE";
+            program(alloc)?.error(ErrorKind::ValueValidation, files_or_calls)
+        }
+    }
+}
+
+/// What is said of a value of `--switches` that asks for nothing.
+fn switches_refused(alloc: Global, search: &ArgMatches<'_>) -> Result<clap::Error, AllocError>
+    ensures { IfOk result (λ error. kind_of error ≡ ErrorKind.ValueValidation) }
+{
+    let value = search.get_str("switches").unwrap_or("");
+    let why = format!(in alloc;
+        "invalid value '{value}' for '--switches <N>': not all, and no number in 0..=16"
+    )?;
+    program(alloc)?.error(ErrorKind::ValueValidation, why.as_str())
+}
+
+/// What is asked, by the values of the words.
+fn request_of<'a>(
+    alloc: Global,
+    matches: &ArgMatches<'a>,
+) -> Result<Option<Request<'a>>, AllocError>
+    ensures bounds { IfOk result (λ request. IfSome request MayBeAsked) }
+    ensures asked { IfOk result (λ request. IfSome request (IsAskedOf (subcommand_rows_of matches.now))) }
+    ensures complete { (request : Request) → MayBeAsked request → IsAskedOf (subcommand_rows_of matches.now) request
+        → IfOk result IsSome }
+{
+    match matches.subcommand() {
+        Some(("check", values)) => check_asked(alloc, values),
+        Some((name, values)) => Ok(run_or_trace(name, values)),
+        None => Ok(None),
+    }
+}
+
+/// What a command of this name is asked to do, by its values: one that runs a litmus file or reads a trace.
+fn run_or_trace<'a>(name: &str, values: &ArgMatches<'a>) -> Option<Request<'a>>
+    ensures bounds { IfSome result MayBeAsked }
+    ensures asked { IfSome result (IsAskedBy name.now (rows_of (found_of values.now))) }
+    ensures complete { (request : Request) → MayBeAsked request → IsAskedBy name.now (rows_of (found_of values.now)) request
+        → name.now ≢ codes "check" → IsSome result }
+{
+    match name {
+        "step" => Some(Request::Step(step_request(values)?)),
+        "run" => Some(Request::Run(run_request(values)?)),
+        "search" => Some(Request::Search(search_request(values)?)),
+        "replay" => Some(Request::Replay(ReplayRequest {
+            trace: values.get_str("TRACE")?,
+        })),
+        "show" => Some(Request::Show(show_request(values)?)),
+        _ => None,
+    }
+}
+
+/// What `check` is asked to do, by the values of its options: to check files, or, by `--calls` and no file, to list
+/// the calls that are read.
+fn check_asked<'a>(alloc: Global, check: &ArgMatches<'a>) -> Result<Option<Request<'a>>, AllocError>
+    ensures bounds { IfOk result (λ request. IfSome request MayBeAsked) }
+    ensures asked { IfOk result (λ request. IfSome request (IsAskedBy (codes "check") (rows_of (found_of check.now)))) }
+    ensures complete { (request : Request) → MayBeAsked request
+        → IsAskedBy (codes "check") (rows_of (found_of check.now)) request → IfOk result IsSome }
+{
+    let files = words_given(alloc, check, "FILE")?;
+    match (files.is_empty(), is_given(check, "calls")) {
+        (true, true) => Ok(Some(Request::Calls)),
+        (false, false) => Ok(check_request(files, check)),
+        _ => Ok(None),
+    }
+}
+
+/// What `check` is asked to do with these files, by the values of its options.
+fn check_request<'a>(files: Vec<&'a str>, check: &ArgMatches<'a>) -> Option<Request<'a>>
+    requires some { 0 < length files.items }
+    requires files { map (λ file. file.now) files.items ≡ words_of (codes "FILE") (rows_of (found_of check.now)) }
+    requires uncalled { ¬ IsGiven (rows_of (found_of check.now)) (codes "calls") }
+    ensures bounds { IfSome result MayBeAsked }
+    ensures asked { IfSome result (IsAskedBy (codes "check") (rows_of (found_of check.now))) }
+    ensures complete { (request : CheckRequest) → KeepsCheckBounds request → AskCheck (rows_of (found_of check.now)) request
+        → IsSome result }
+{
+    Some(Request::Check(CheckRequest {
+        files,
+        print: check.get_flag("print"),
+        schedule: check.get_str("schedule")?,
+        places: check.get_str("place")?,
+        slots: number(check, "slots", SLOTS)? as usize,
+        layout: layout(check)?,
+    }))
+}
+
+/// The words that are given for an argument.
+fn words_given<'a>(
+    alloc: Global,
+    matches: &ArgMatches<'a>,
+    name: &str,
+) -> Result<Vec<&'a str>, AllocError>
+    ensures { IfOk result (λ words. map (λ word. word.now) words.items
+        ≡ words_of name.now (rows_of (found_of matches.now))) }
+{
+    match matches.get_strs(name) {
+        Some(words) => Vec::from_slice(alloc, words),
+        None => Ok(Vec::new(alloc)),
+    }
+}
+
+/// Whether an option that stands alone is given.
+fn is_given(matches: &ArgMatches<'_>, option: &str) -> bool
+    ensures { IsTrue result ↔ IsGiven (rows_of (found_of matches.now)) option.now }
+{
+    has_value(matches, option, "true")
+}
+
+/// Whether the first value of an option is this word.
+fn has_value(matches: &ArgMatches<'_>, option: &str, word: &str) -> bool
+    ensures { IsTrue result ↔ (first_of option.now (rows_of (found_of matches.now)) ≡ Some word.now) }
+{
+    match matches.get_str(option) {
+        Some(value) => value == word,
+        None => false,
+    }
+}
+
+/// What `step` is asked to do, by the values of its options.
+fn step_request<'a>(step: &ArgMatches<'a>) -> Option<StepRequest<'a>>
+    ensures bounds { IfSome result (λ request. KeepsBounds request.options) }
+    ensures asked { IfSome result (AskStep (rows_of (found_of step.now))) }
+    ensures complete { (request : StepRequest) → KeepsBounds request.options → AskStep (rows_of (found_of step.now)) request
+        → IsSome result }
+{
+    Some(StepRequest {
+        file: step.get_str("FILE")?,
+        schedule: step.get_str("schedule")?,
+        options: options(step)?,
+    })
+}
+
+/// What `run` is asked to do, by the values of its options.
+fn run_request<'a>(run: &ArgMatches<'a>) -> Option<RunRequest<'a>>
+    ensures bounds { IfSome result KeepsRunBounds }
+    ensures asked { IfSome result (AskRun (rows_of (found_of run.now))) }
+    ensures complete { (request : RunRequest) → KeepsRunBounds request → AskRun (rows_of (found_of run.now)) request → IsSome result }
+{
+    Some(RunRequest {
+        file: run.get_str("FILE")?,
+        runs: number(run, "runs", RUNS)?,
+        delay: number(run, "delay", DELAY)?,
+        jobs: number(run, "jobs", JOBS)?,
+        stop_at_first: run.get_flag("stop-at-first"),
+        keep_going: run.get_flag("keep-going"),
+        options: options(run)?,
+    })
+}
+
+/// What `search` is asked to do, by the values of its options.
+fn search_request<'a>(search: &ArgMatches<'a>) -> Option<SearchRequest<'a>>
+    ensures bounds { IfSome result KeepsSearchBounds }
+    ensures asked { IfSome result (AskSearch (rows_of (found_of search.now))) }
+    ensures complete { (request : SearchRequest) → KeepsSearchBounds request → AskSearch (rows_of (found_of search.now)) request
+        → IsSome result }
+{
+    Some(SearchRequest {
+        file: search.get_str("FILE")?,
+        switches: switches_asked(search)?,
+        limit: number(search, "limit", LIMIT)?,
+        jobs: number(search, "jobs", JOBS)?,
+        options: options(search)?,
+    })
+}
+
+/// How often a schedule that is searched may switch, by the value of `--switches`.
+fn switches_asked(search: &ArgMatches<'_>) -> Option<Switches>
+    ensures bounds { IfSome result KeepsSwitches }
+    ensures asked { IfSome result (AskSwitches (rows_of (found_of search.now))) }
+    ensures complete { (switches : Switches) → KeepsSwitches switches → AskSwitches (rows_of (found_of search.now)) switches
+        → IsSome result }
+{
+    if has_value(search, "switches", "all") {
+        return Some(Switches::All);
+    }
+    Some(Switches::AtMost(number(search, "switches", AT_MOST)?))
+}
+
+/// What `show` is asked to do, by the values of its options.
+fn show_request<'a>(show: &ArgMatches<'a>) -> Option<ShowRequest<'a>>
+    ensures asked { IfSome result (AskShow (rows_of (found_of show.now))) }
+    ensures complete { (request : ShowRequest) → AskShow (rows_of (found_of show.now)) request → IsSome result }
+{
+    Some(ShowRequest {
+        trace: show.get_str("TRACE")?,
+        svg: show.get_str("svg"),
+        ascii: show.get_flag("ascii"),
+    })
+}
+
+/// The options that `step`, `run` and `search` all have, by their values.
+fn options<'a>(matches: &ArgMatches<'a>) -> Option<RunOptions<'a>>
+    ensures bounds { IfSome result KeepsBounds }
+    ensures asked { IfSome result (AskOptions (rows_of (found_of matches.now))) }
+    ensures complete { (options : RunOptions) → KeepsBounds options → AskOptions (rows_of (found_of matches.now)) options
+        → IsSome result }
+{
+    Some(RunOptions {
+        places: matches.get_str("place")?,
+        trace: matches.get_str("trace"),
+        slots: number(matches, "slots", SLOTS)? as usize,
+        skip: number(matches, "skip", SKIP)?,
+        randomize: matches.get_flag("randomize"),
+        seed: number(matches, "seed", (0, u64::MAX))?,
+        strict: matches.get_flag("strict"),
+        layout: layout(matches)?,
+        turns: number(matches, "turns", TURNS)?,
+    })
+}
+
+/// The number of an option, within its bounds.
+fn number(matches: &ArgMatches<'_>, option: &str, bounds: (u64, u64)) -> Option<u64>
+    ensures within { IfSome result (λ number. (bounds.0 ≤ number) × (number ≤ bounds.1)) }
+    ensures asked { IfSome result (IsNumber (rows_of (found_of matches.now)) option.now) }
+    ensures complete { (number : ℕ) → bounds.0 ≤ number → number ≤ bounds.1 → IsNumber (rows_of (found_of matches.now)) option.now number
+        → IsSome result }
+{
+    let number = matches.get_one::<u64>(option)?;
+    (bounds.0 <= number && number <= bounds.1).then_some(number)
+}
+
+/// How many bits a watch word is to have.
+fn layout(matches: &ArgMatches<'_>) -> Option<Layout>
+    ensures asked { IfSome result (IsLayout (rows_of (found_of matches.now)) (codes "word")) }
+    ensures complete { (layout : Layout) → IsLayout (rows_of (found_of matches.now)) (codes "word") layout → IsSome result }
+{
+    let bits = matches.get_str("word")?;
+    Some(if bits == "32" {
+        Layout::W32
+    } else {
+        Layout::W64
+    })
+}
+
+/// The words that the program knows.
+fn program<'a>(alloc: Global) -> Result<Command<'a>, AllocError>
+    ensures { IfOk result IsProgram }
+{
+    let sizes = BITS.as_slice();
+    let top = named(alloc, "kcsan_litmus", help::PROGRAM, help::AFTER_PROGRAM);
+    let command = Ok(top.subcommand_required(true));
+    let command = with_subcommand(command, step_command(alloc, sizes));
+    let command = with_subcommand(command, run_command(alloc, sizes));
+    let command = with_subcommand(command, search_command(alloc, sizes));
+    let command = with_subcommand(command, replay_command(alloc));
+    let command = with_subcommand(command, show_command(alloc));
+    with_subcommand(command, check_command(alloc, sizes))
+}
+
+/// A command of this name, with what help says of it and behind its options.
+fn named<'a>(alloc: Global, name: &'a str, about: &'a str, after: &'a str) -> Command<'a>
+    ensures { app_of result ≡ new_app name.entry.now }
+{
+    Command::new(alloc, name).about(about).after_help(after)
+}
+
+/// A command with one more argument. Want of memory is passed on, so that functions that add many arguments have one
+/// way out: many ways out, each with a command to drop, are dear to prove.
+fn with_argument<'a>(
+    command: Result<Command<'a>, AllocError>,
+    argument: Arg<'a>,
+) -> Result<Command<'a>, AllocError>
+    ensures { (app : App) (rule : Rule) → IfOk command.entry (λ before. app_of before ≡ app) → IsArg rule argument.entry
+        → IfOk result (λ more. app_of more ≡ with_rule app rule) }
+{
+    command?.arg(argument)
+}
+
+/// A command with one more subcommand. Want of memory is passed on.
+fn with_subcommand<'a>(
+    command: Result<Command<'a>, AllocError>,
+    subcommand: Result<Command<'a>, AllocError>,
+) -> Result<Command<'a>, AllocError>
+    ensures { (app sub : App) → IfOk command.entry (λ before. app_of before ≡ app) → IfOk subcommand.entry (λ one. app_of one ≡ sub)
+        → sub.top.is_plain ≡ true → IfOk result (λ more. app_of more ≡ with_subcommand app sub.top) }
+{
+    command?.subcommand(subcommand?)
+}
+
+/// `replay`, with its file.
+fn replay_command<'a>(alloc: Global) -> Result<Command<'a>, AllocError>
+    ensures { IfOk result (λ command. app_of command ≡ replay_app) }
+{
+    let command = named(alloc, "replay", help::REPLAY, help::AFTER_REPLAY);
+    with_argument(Ok(command), file(alloc, "TRACE", help::REPLAYED))
+}
+
+/// `show`, with its file and its options.
+fn show_command<'a>(alloc: Global) -> Result<Command<'a>, AllocError>
+    ensures { IfOk result (λ command. app_of command ≡ show_app) }
+{
+    let command = Ok(named(alloc, "show", help::SHOW, help::AFTER_SHOW));
+    let command = with_argument(command, file(alloc, "TRACE", help::REPLAYED));
+    let command = with_argument(command, text_option(alloc, "svg", "PATH", help::SVG));
+    with_argument(command, flag(alloc, "ascii", help::ASCII))
+}
+
+/// `check`, with its files and its options; its `--word` takes one of these names.
+fn check_command<'a>(
+    alloc: Global,
+    sizes: &'static [&'static str],
+) -> Result<Command<'a>, AllocError>
+    ensures { IfOk result (λ command. app_of command ≡ check_app sizes.entry) }
+{
+    let command = Ok(named(alloc, "check", help::CHECK, help::AFTER_CHECK));
+    let command = with_argument(command, files(alloc, "FILE", help::FILES));
+    let command = with_argument(command, flag(alloc, "print", help::PRINT));
+    let command = with_argument(command, flag(alloc, "calls", help::CALLS));
+    let schedule = list_option(alloc, "schedule", "S", help::CHECK_SCHEDULE);
+    let command = with_argument(command, schedule);
+    let command = with_argument(command, list_option(alloc, "place", "LIST", help::PLACE));
+    let slots = number_option(alloc, "slots", help::SLOTS, SLOTS, "64");
+    let command = with_argument(command, slots);
+    with_argument(command, word_option(alloc, sizes))
+}
+
+/// The files that a command is about, where it may be about none.
+fn files<'a>(alloc: Global, name: &'a str, help: &'a str) -> Arg<'a>
+    ensures { IsArg (words_rule name.entry.now) result }
+{
+    Arg::new(alloc, name).help(help).action(ArgAction::Append)
+}
+
+/// The file that a command is about.
+fn file<'a>(alloc: Global, name: &'a str, help: &'a str) -> Arg<'a>
+    ensures { IsArg (word_rule name.entry.now) result }
+{
+    Arg::new(alloc, name)
+        .help(help)
+        .required(true)
+        .action(ArgAction::Set)
+}
+
+/// `step`, with its file and its options; its `--word` takes one of these names.
+fn step_command<'a>(
+    alloc: Global,
+    sizes: &'static [&'static str],
+) -> Result<Command<'a>, AllocError>
+    ensures { IfOk result (λ command. app_of command ≡ step_app sizes.entry) }
+{
+    let command = Ok(named(alloc, "step", help::STEP, help::AFTER_STEP));
+    let command = with_argument(command, file(alloc, "FILE", help::FILE));
+    let command = with_argument(command, list_option(alloc, "schedule", "S", help::SCHEDULE));
+    with_shared(alloc, command, sizes)
+}
+
+/// `run`, with its file and its options; its `--word` takes one of these names.
+fn run_command<'a>(alloc: Global, sizes: &'static [&'static str]) -> Result<Command<'a>, AllocError>
+    ensures { IfOk result (λ command. app_of command ≡ run_app sizes.entry) }
+{
+    let command = Ok(named(alloc, "run", help::RUN, help::AFTER_RUN));
+    let command = with_argument(command, file(alloc, "FILE", help::FILE));
+    let runs = number_option(alloc, "runs", help::RUNS, RUNS, "100");
+    let command = with_argument(command, runs);
+    let delay = number_option(alloc, "delay", help::DELAY, DELAY, "64");
+    let command = with_argument(command, delay);
+    let jobs = number_option(alloc, "jobs", help::JOBS, JOBS, "1");
+    let command = with_argument(command, jobs);
+    let command = with_argument(command, flag(alloc, "stop-at-first", help::STOP_AT_FIRST));
+    let command = with_argument(command, flag(alloc, "keep-going", help::KEEP_GOING));
+    with_shared(alloc, command, sizes)
+}
+
+/// `search`, with its file and its options; its `--word` takes one of these names.
+fn search_command<'a>(
+    alloc: Global,
+    sizes: &'static [&'static str],
+) -> Result<Command<'a>, AllocError>
+    ensures { IfOk result (λ command. app_of command ≡ search_app sizes.entry) }
+{
+    let command = Ok(named(alloc, "search", help::SEARCH, help::AFTER_SEARCH));
+    let command = with_argument(command, file(alloc, "FILE", help::FILE));
+    let switches = default_option(alloc, "switches", "N", help::SWITCHES, "2");
+    let command = with_argument(command, switches);
+    let limit = number_option(alloc, "limit", help::LIMIT, LIMIT, "1000000");
+    let command = with_argument(command, limit);
+    let jobs = number_option(alloc, "jobs", help::SEARCH_JOBS, JOBS, "1");
+    let command = with_argument(command, jobs);
+    with_shared(alloc, command, sizes)
+}
+
+/// A command with the options that `step`, `run` and `search` all have. Want of memory is passed on.
+fn with_shared<'a>(
+    alloc: Global,
+    command: Result<Command<'a>, AllocError>,
+    sizes: &'static [&'static str],
+) -> Result<Command<'a>, AllocError>
+    ensures { (app : App) → IfOk command.entry (λ before. app_of before ≡ app)
+        → IfOk result (λ more. app_of more ≡ with_options app sizes.entry) }
+{
+    let command = with_argument(command, list_option(alloc, "place", "LIST", help::PLACE));
+    let command = with_argument(command, text_option(alloc, "trace", "PATH", help::TRACE));
+    let slots = number_option(alloc, "slots", help::SLOTS, SLOTS, "64");
+    let command = with_argument(command, slots);
+    let skip = number_option(alloc, "skip", help::SKIP, SKIP, "0");
+    let command = with_argument(command, skip);
+    let command = with_argument(command, flag(alloc, "randomize", help::RANDOMIZE));
+    let seed = number_option(alloc, "seed", help::SEED, (0, u64::MAX), "1");
+    let command = with_argument(command, seed);
+    let command = with_argument(command, flag(alloc, "strict", help::STRICT));
+    let command = with_argument(command, word_option(alloc, sizes));
+    let turns = number_option(alloc, "turns", help::TURNS, TURNS, "1000000");
+    with_argument(command, turns)
+}
+
+/// An option that takes a text.
+fn text_option<'a>(alloc: Global, name: &'a str, value: &'a str, help: &'a str) -> Arg<'a>
+    ensures { IsArg (text_rule name.entry.now) result }
+{
+    Arg::new(alloc, name)
+        .long(name)
+        .value_name(value)
+        .help(help)
+        .action(ArgAction::Set)
+}
+
+/// An option that takes a text, and has one where it isn't given.
+fn default_option<'a>(
+    alloc: Global,
+    name: &'a str,
+    value: &'a str,
+    help: &'a str,
+    default: &'a str,
+) -> Arg<'a>
+    ensures { IsArg (default_rule name.entry.now default.entry.now) result }
+{
+    text_option(alloc, name, value, help).default_value(default)
+}
+
+/// An option that takes a list, which is empty where it isn't given.
+fn list_option<'a>(alloc: Global, name: &'a str, value: &'a str, help: &'a str) -> Arg<'a>
+    ensures { IsArg (default_rule name.entry.now []) result }
+{
+    text_option(alloc, name, value, help).default_value("")
+}
+
+/// `--word`, which takes one of these names.
+fn word_option(alloc: Global, sizes: &'static [&'static str]) -> Arg<'static>
+    ensures { IsArg (name_rule (codes "word") sizes.entry (codes "64")) result }
+{
+    text_option(alloc, "word", "BITS", help::WORD)
+        .value_parser(sizes)
+        .default_value("64")
+}
+
+/// An option that takes a number within bounds.
+fn number_option<'a>(
+    alloc: Global,
+    name: &'a str,
+    help: &'a str,
+    bounds: (u64, u64),
+    default: &'a str,
+) -> Arg<'a>
+    ensures { IsArg (number_rule name.entry.now bounds.0 bounds.1 default.entry.now) result }
+{
+    text_option(alloc, name, "N", help)
+        .value_parser(ValueParser::Unsigned(bounds.0, bounds.1))
+        .default_value(default)
+}
+
+/// An option that stands alone.
+fn flag<'a>(alloc: Global, name: &'a str, help: &'a str) -> Arg<'a>
+    ensures { IsArg (flag_rule name.entry.now) result }
+{
+    Arg::new(alloc, name)
+        .long(name)
+        .help(help)
+        .action(ArgAction::SetTrue)
+}

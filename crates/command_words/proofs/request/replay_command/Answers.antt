@@ -1,6 +1,0 @@
--- each argument adds its rule
-use Rattle.std.proofs.Common.{◌≡◌}
-use Rattle.command_words.proofs.request.replay_command.Goals as goal
-
-pub returns : goal.returns
-returns c = c.with_argument.ensures _ _ c.named-command.ensures c.file.ensures

@@ -1,4 +1,0 @@
-//! The grammar of litmus texts, tried on small lists of symbols that were worked out by hand.
-#![tactic(auto)]
-
-pub mod laws;

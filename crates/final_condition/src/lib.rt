@@ -1,6 +1,0 @@
-//! Whether the condition of a litmus program holds where a run of it has ended.
-#![tactic(auto)]
-
-pub mod condition;
-
-pub use condition::{Finals, holds};

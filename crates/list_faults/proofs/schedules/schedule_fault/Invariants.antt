@@ -1,9 +1,0 @@
--- Each item so far is read.
-use Rattle.std.proofs.Common.{◌≡◌, ◌<◌, List, Some, ℕ, slice_get}
-use Rattle.list_faults.specs.Item.{items_of}
-use Rattle.list_faults.specs.Schedules.{Reads}
-use Rattle.list_faults.proofs.schedules.schedule_fault.Given as goal
-
-abbrev pub invariant-loop-number : goal.invariant-loop-number
-invariant-loop-number l =
-    (k : ℕ) (other : List ℕ) → k < l.number → slice_get (items_of l.text) k ≡ Some other → Reads other

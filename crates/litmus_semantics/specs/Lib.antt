@@ -1,0 +1,11 @@
+pub mod Values
+pub mod Expressions
+pub mod Layout
+pub mod Task
+pub mod Loads
+pub mod Assignments
+pub mod Calls
+pub mod Meaning
+pub mod RunOfProgram
+pub mod TextSites
+pub mod final_condition

@@ -1,0 +1,2 @@
+pub mod step_schedule
+pub mod place_list

@@ -1,0 +1,5 @@
+//! In which order the tasks of a program are stepped.
+
+pub mod schedule;
+
+pub use schedule::{Entry, Schedule};

@@ -1,5 +1,0 @@
--- The access is the one that begins now.
-use Rattle.oracle_meaning.proofs.call.checks_at.Goals as goal
-
-pub returns-clause-means : goal.returns-clause-means
-returns-clause-means c = λ s is. rw (c.in_ok-access.ensures s is) at c.checks.ensures.comes

@@ -1,0 +1,2 @@
+pub mod oracle_meaning
+pub mod oracle_order

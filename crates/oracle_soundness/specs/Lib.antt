@@ -1,0 +1,2 @@
+pub mod oracle_headline
+pub mod oracle_headline_laws

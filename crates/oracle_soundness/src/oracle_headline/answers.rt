@@ -1,0 +1,53 @@
+//! Which armings have one answer, a report or a named discard.
+
+ghost use Rattle.std.specs.Prelude.{◌≡◌, All, IsTrue, count_by};
+ghost use Rattle.oracle_soundness.specs.oracle_headline.Tried.{Answered, IsAnswered, account_of, answers};
+
+use crate::oracle_headline::meetings::Meeting;
+use crate::oracle_headline::told::{Came, Told};
+use setup_access::Outcome;
+
+/// What came is a report of two sides or a named discard, for the arming.
+fn answers(index: usize, number: usize, came: &Came) -> bool
+    ensures { result ≡ answers index number came.now }
+{
+    let is_answer = matches!(came.outcome, Outcome::Report { .. } | Outcome::Dropped(_));
+    match came.arming {
+        Some(arming) => is_answer && arming.index == index && arming.number == number,
+        None => false,
+    }
+}
+
+/// How many answers the arming has.
+fn answers_to(told: &Told, index: usize, number: usize) -> usize
+    ensures { result ≡ count_by (answers index number) told.now.outcomes.items }
+{
+    let outcomes = told.outcomes.as_slice().iter();
+    outcomes.filter(|came| answers(index, number, came)).count()
+}
+
+/// It has one.
+pub fn is_answered(told: &Told, index: usize, number: usize) -> bool
+    ensures { IsTrue result → Answered (account_of told.now) index number }
+{
+    answers_to(told, index, number) == 1
+}
+
+/// The meeting's arming has one answer.
+fn is_answered_met(told: &Told, met: &Meeting) -> bool
+    ensures { IsTrue result → IsAnswered (account_of told.now) met.now }
+{
+    is_answered(told, met.index, met.number)
+}
+
+/// Each of these meetings has one answer.
+pub fn all_answered(told: &Told, met: &[Meeting]) -> bool
+    ensures { IsTrue result → All (IsAnswered (account_of told.now)) met.now }
+{
+    for meeting in met {
+        if !is_answered_met(told, meeting) {
+            return false;
+        }
+    }
+    true
+}

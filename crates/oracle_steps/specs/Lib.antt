@@ -1,0 +1,3 @@
+pub mod oracle_checks
+pub mod oracle_accesses
+pub mod oracle_searched

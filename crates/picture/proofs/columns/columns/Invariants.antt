@@ -1,8 +1,0 @@
--- the columns of the tasks so far
-use Rattle.std.proofs.Common.{take}
-use Rattle.std.specs.List.{AllZip}
-use Rattle.picture.specs.Columns.{IsColumnOf, tasks}
-use Rattle.picture.proofs.columns.columns.Given as goal
-
-abbrev pub invariant-loop-task : goal.invariant-loop-task
-invariant-loop-task l = AllZip (IsColumnOf l.accesses) (take l.task-index tasks) l.columns.items

@@ -1,9 +1,0 @@
--- the pieces spell the text
-use Rattle.std.proofs.Common.{append_assoc, append-nil}
-use Rattle.report_text.proofs.SinkSteps.{writes_same}
-use Rattle.picture_svg.proofs.Spelled.{looks_are}
-use Rattle.picture_svg.proofs.write.write_front.Goals as goal
-
-pub returns : goal.returns
-returns g c = writes_same g.K.Sink.written g.K.Sink.failures _ _ _ _ _
-    (simp (c.saturating_add.ensures, looks_are, append_assoc, append-nil)) c.write_pieces.ensures

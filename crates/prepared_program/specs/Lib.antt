@@ -1,0 +1,2 @@
+pub mod program_layout
+pub mod program_sites

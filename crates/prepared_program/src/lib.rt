@@ -1,0 +1,6 @@
+//! What a litmus program comes to under the settings of its runs: where its variables stand, and which accesses it can
+//! make.
+#![tactic(auto)]
+
+pub mod program_layout;
+pub mod program_sites;

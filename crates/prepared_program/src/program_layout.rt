@@ -1,0 +1,9 @@
+//! Where the variables of a litmus program stand in memory.
+
+pub mod laws;
+pub mod layout;
+pub mod place;
+
+pub use laws::{variables_are_aligned, variables_lie_in_one_cell};
+pub use layout::{Layout, LayoutError};
+pub use place::Place;

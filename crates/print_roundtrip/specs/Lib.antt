@@ -1,0 +1,2 @@
+pub mod printed_texts
+pub mod printed_bytes

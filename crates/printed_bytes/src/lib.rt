@@ -1,7 +1,0 @@
-//! What is true of the bytes of the printed form of litmus programs, and programs read back from it.
-#![tactic(auto)]
-
-mod back;
-pub mod laws;
-
-pub use back::read_back;

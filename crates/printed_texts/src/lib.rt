@@ -1,4 +1,0 @@
-//! What is true of the printed form of litmus programs and of their grammar. No code.
-#![tactic(auto)]
-
-pub mod laws;

@@ -1,6 +1,0 @@
--- The places left are fewer.
-use Rattle.std.proofs.Common.{length}
-use Rattle.program_layout.proofs.place.+are_fit.Given as goal
-
-abbrev pub decreases-are_fit : goal.decreases-are_fit
-decreases-are_fit l = length l.places.now

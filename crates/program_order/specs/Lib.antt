@@ -1,0 +1,6 @@
+pub mod Standing
+pub mod Access
+pub mod WrittenOrder
+pub mod Waits
+pub mod Told
+pub mod text_bounds

@@ -1,0 +1,11 @@
+//! The order in which a task of a litmus program makes its steps, from its first statement to its
+//! last, and what is true of it.
+#![tactic(auto)]
+
+pub mod laws;
+pub mod text_bounds;
+
+pub use laws::{
+    beginnings_are_in_the_written_order, parts_of_a_text_leave_the_scopes,
+    the_written_order_keeps_the_discipline, what_is_done_is_meant,
+};

@@ -1,4 +1,0 @@
-//! What the clock's stamps tell: nothing that a task goes by. No code.
-#![tactic(auto)]
-
-pub mod laws;

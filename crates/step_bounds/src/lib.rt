@@ -1,4 +1,0 @@
-//! How many steps the tasks of a program make, at most. No code.
-#![tactic(auto)]
-
-pub mod laws;

@@ -1,0 +1,9 @@
+-- those so far are drawn
+use Rattle.std.proofs.Common.{take}
+use Rattle.report_text.specs.Sink.{Takes}
+use Rattle.timeline.specs.picture_svg.Marks.{rows_marks}
+use Rattle.timeline.proofs.picture_svg.marks.write_rows.Given as goal
+
+abbrev pub invariant-loop-place : goal.invariant-loop-place
+invariant-loop-place g l =
+    Takes g.K.Sink.written g.K.Sink.failures (rows_marks l.rows 0 (take l.place l.rows)) l.fn.sink l.sink

@@ -1,0 +1,10 @@
+-- those so far are written
+use Rattle.std.proofs.Common.{take}
+use Rattle.std.specs.List.{flat_map}
+use Rattle.report_text.specs.Sink.{Takes}
+use Rattle.timeline.specs.picture_svg.Svg.{heading}
+use Rattle.timeline.proofs.picture_svg.write.write_headings.Given as goal
+
+abbrev pub invariant-loop-column : goal.invariant-loop-column
+invariant-loop-column g l =
+    Takes g.K.Sink.written g.K.Sink.failures (flat_map (heading) (take l.column-index l.columns)) l.fn.sink l.sink

@@ -1,0 +1,19 @@
+-- The watchpoints of a picture, and who took them.
+use Rattle.std.specs.Prelude.{◌≡◌, List}
+use Rattle.access_types.specs.Arms.{Arm}
+use Rattle.access_types.specs.Stamped.{Stamped}
+use Rattle.access_types.specs.Takes.{Take}
+use Rattle.trace_replay.specs.Accesses.{IsNamed}
+use Rattle.timeline.specs.declared.picture.watches.Taking.{Taking}
+use Rattle.timeline.specs.declared.picture.watches.Watch.{Watch}
+
+-- the watchpoint is that of the arm, with the access that set it up
+pub record IsWatchOf (accesses : List Stamped) (arm : Arm) (watch : Watch) : Type 0 where
+  pub arm_is : watch.arm ≡ arm
+  pub setter_is : IsNamed accesses arm.setter watch.setter
+
+-- it is the taking of the take, with the access that took, and the one that had set up
+pub record IsTakingOf (accesses : List Stamped) (take : Take) (taking : Taking) : Type 0 where
+  pub take_is : taking.take ≡ take
+  pub finder_is : IsNamed accesses take.finder taking.finder
+  pub setter_is : IsNamed accesses take.setter taking.setter

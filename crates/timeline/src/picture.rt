@@ -1,0 +1,17 @@
+//! The picture of a trace: which access was in progress when, what it watched and took, and what was reported.
+
+mod columns;
+mod draw;
+mod error;
+mod named;
+mod parts;
+mod rows;
+mod watches;
+pub mod words;
+
+pub use columns::Column;
+pub use draw::{ACCESS_LIMIT, Picture, picture_of};
+pub use error::PictureError;
+pub use rows::{Mark, Row, rows_before};
+pub use trace_replay::TraceError;
+pub use watches::{Taking, Watch};

@@ -1,0 +1,5 @@
+use Rattle.worked_examples.proofs.example_traces.Told.{far_index_false}
+use Rattle.worked_examples.proofs.example_traces.examples.far_index_is_false.Goals as goal
+
+pub returns : goal.returns
+returns c = far_index_false

@@ -1,0 +1,5 @@
+use Rattle.worked_examples.proofs.example_traces.Told.{taken_twice_false}
+use Rattle.worked_examples.proofs.example_traces.examples.taken_twice_is_false.Goals as goal
+
+pub returns : goal.returns
+returns c = taken_twice_false

@@ -1,0 +1,2 @@
+pub mod example_grammar
+pub mod example_traces

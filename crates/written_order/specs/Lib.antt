@@ -1,5 +1,0 @@
-pub mod Standing
-pub mod Access
-pub mod WrittenOrder
-pub mod Waits
-pub mod Told
