@@ -1,4 +1,4 @@
--- The armings of a run list whose tasks have ended may stand in a trace, and are true there.
+-- The armings of an execution whose tasks have ended may stand in a trace, and are true there.
 use Rattle.std.proofs.Common.{◌≡◌, ◌==◌, ◌⊎◌, ◌∙◌, ◌++◌, ◌∷◌, [], Bool, true, false, inl, inr, ℕ, suc, All, Contains, IsTrue, List, MatchBool, None, Option}
 use Rattle.std.proofs.Common.{Some, ap, append_assoc, append-nil, arith, if◌then◌else◌, length, map, refl, slice_index_or, subst, sym}
 use Rattle.std.specs.List.{filter}
@@ -7,11 +7,11 @@ use Rattle.std.proofs.lemmas.Bool.Decides.{eqb_tells}
 use Rattle.std.proofs.lemmas.List.{length-append}
 use Rattle.std.proofs.lemmas.List.Elements.{All-append, All-cons, All-contains, All-contains_itself, All-nil, Contains-append_left, Contains-append_right}
 use Rattle.access_types.specs.Arms.{Arm}
-use Rattle.executions.specs.run_lists.Run.{Run, first_cells, locks_of, task_setting}
-use Rattle.executions.specs.run_lists.RunList.{RunList}
-use Rattle.executions.specs.run_lists.Told.{Armed, OutcomeAt, armed_by, armed_in, came_next, outcome_at, outcomes_by, outcomes_of}
-use Rattle.executions.proofs.run_lists.CheckFacts.{back}
-use Rattle.executions.proofs.run_lists.OwnLasts.{one_arming, own_word, stands_later}
+use Rattle.executions.specs.execution.Run.{Run, first_cells, locks_of, task_setting}
+use Rattle.executions.specs.execution.Execution.{Execution}
+use Rattle.executions.specs.execution.Observed.{Armed, OutcomeAt, armed_by, armed_in, came_next, outcome_at, outcomes_by, outcomes_of}
+use Rattle.executions.proofs.execution.CheckFacts.{back}
+use Rattle.executions.proofs.execution.OwnLasts.{one_arming, own_word, stands_later}
 use Rattle.log_correctness.specs.Lists.{AreArmsAt, AreArmsBy, IsArm, verdicts_by}
 use Rattle.soundness.specs.Watches.{IfVerdict, IsOfWatch, is_verdict}
 use Rattle.soundness.proofs.Finds.{back_is}
@@ -128,7 +128,7 @@ same_end (x ∷ first) later (y ∷ other) others is long = same_end first later
 
 -- ---- verdicts
 
-module _ (run : Run) (records : List Record) (list : RunList run records) where
+module _ (run : Run) (records : List Record) (list : Execution run records) where
   outcomes_more : (later earlier : List Record) → (more : List OutcomeAt) × (outcomes_by list (later ++ earlier) ≡ outcomes_by list earlier ++ more)
   outcomes_more [] earlier = ([], sym (append-nil (outcomes_by list earlier)))
   outcomes_more (latest ∷ later) earlier =

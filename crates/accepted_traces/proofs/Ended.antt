@@ -1,4 +1,4 @@
--- Accesses that are in progress in a run list whose tasks have ended are among those that have ended.
+-- Accesses that are in progress in an execution whose tasks have ended are among those that have ended.
 use Rattle.std.proofs.Common.{◌≡◌, ◌≢◌, ◌<◌, ◌≤◌, ◌+◌, ◌^◌, ◌⊎◌, ◌∙◌, ◌++◌, ◌∷◌, [], drop, inl, inr, ℕ, suc, zero, Contains, List, ap, append_assoc, append-nil}
 use Rattle.std.proofs.Common.{arith, length, refl, subst, sym, take, Bool, true, false, if◌then◌else◌, nat_eq}
 use Rattle.std.proofs.lemmas.Bool.{eq-eqb, eqb-false, eqb-true}
@@ -13,11 +13,11 @@ use Rattle.access_types.specs.declared.history.Moment.{Moment}
 use Rattle.report_text.specs.Truth.{AreInProgressAtOnce}
 use Rattle.litmus_semantics.specs.RunOfProgram.{setting_of}
 use Rattle.litmus_semantics.specs.TextSites.{FitsTickets, block_sites}
-use Rattle.executions.specs.run_lists.Run.{Run, task_of, task_setting}
-use Rattle.executions.specs.run_lists.RunList.{RunList}
-use Rattle.executions.specs.run_lists.Told.{first_moments, history_by, history_of, made_by, moments_of}
-use Rattle.executions.proofs.run_lists.Histories.{did_of_all, of_both, of_task}
-use Rattle.executions.proofs.run_lists.Intervals.{Has, contains_has, has_contains, has_either, has_first, has_last}
+use Rattle.executions.specs.execution.Run.{Run, task_of, task_setting}
+use Rattle.executions.specs.execution.Execution.{Execution}
+use Rattle.executions.specs.execution.Observed.{first_moments, history_by, history_of, made_by, moments_of}
+use Rattle.executions.proofs.execution.Histories.{did_of_all, of_both, of_task}
+use Rattle.executions.proofs.execution.Intervals.{Has, contains_has, has_contains, has_either, has_first, has_last}
 use Rattle.log_correctness.specs.Decided.{IsStampedSo}
 use Rattle.log_correctness.specs.Lists.{AreAccesses, AreAccessesOf, ByTask}
 use Rattle.log_correctness.specs.Spans.{HappensAt, IsSpan}
@@ -27,9 +27,9 @@ use Rattle.slot_table.specs.declared.step.Answer.TheVariants as answers
 use Rattle.slot_table.specs.declared.step.Step.TheVariants as steps
 use Rattle.log_correctness.specs.Stamps.{is_clock, stamps_in}
 use Rattle.log_correctness.proofs.Clock.{event_turns, turns, turns_both, turns_of_marks}
-use Rattle.executions.proofs.run_lists.Begun.{once}
+use Rattle.executions.proofs.execution.Begun.{once}
 use Rattle.program_order.specs.Standing as tasks
-use Rattle.program_order.specs.Told.{did_by, did_next}
+use Rattle.program_order.specs.TaskObserved.{did_by, did_next}
 use Rattle.accepted_traces.proofs.Spans as spans
 use Rattle.accepted_traces.proofs.Spans.{IsTurn, clock_step}
 
@@ -109,7 +109,7 @@ ends_first s before next made a event has =
           )
     ]
 
-module _ (run : Run) (records : List Record) (list : RunList run records) (each : EachDoesItsEvent list records)
+module _ (run : Run) (records : List Record) (list : Execution run records) (each : EachDoesItsEvent list records)
     (stamps : (later earlier : List Record) (latest : Record) → records ≡ later ++ latest ∷ earlier → latest.step ≡ steps.Clock
     → latest.answer ≡ answers.Word (stamps_in earlier)) (few : stamps_in records < 2 ^ 64)
     (first : (task : ℕ) → AreMarks (did_by (list.tasks task) 0)) where

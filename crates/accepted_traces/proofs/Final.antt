@@ -1,4 +1,4 @@
--- The accesses, armings, takings and reports of a run list whose tasks have ended are the parts of one true trace.
+-- The accesses, armings, takings and reports of an execution whose tasks have ended are the parts of one true trace.
 use Rattle.std.proofs.Common.{◌≡◌, ◌≢◌, ◌<◌, ◌≤◌, ◌==◌, ◌&&◌, ◌+◌, ◌^◌, ◌⊎◌, ◌∙◌, ◌++◌, ◌∷◌, [], Bool, true, false, inl, inr, ℕ, suc, zero, All, AllPairs}
 use Rattle.std.proofs.Common.{Contains, IsTrue, List, Some, ap, append_assoc, arith, count_by, if◌then◌else◌, length, map, refl, reverse, slice_index_or, subst}
 use Rattle.std.proofs.Common.{sym}
@@ -21,10 +21,10 @@ use Rattle.access_types.specs.declared.kind.Kind.TheVariants as kinds
 use Rattle.litmus_semantics.specs.RunOfProgram.{setting_of}
 use Rattle.litmus_semantics.specs.TextSites.{FitsTickets, block_sites}
 use Rattle.report_text.specs.Truth.{AreOneBag, IsIndexOf, hit_in, hits_in, is_take}
-use Rattle.executions.specs.run_lists.Run.{Run, first_cells, locks_of, task_of, task_setting}
-use Rattle.executions.specs.run_lists.RunList.{RunList}
-use Rattle.executions.specs.run_lists.Told.{OutcomeAt, history_of, made_by, outcomes_of}
-use Rattle.executions.proofs.run_lists.OwnLasts.{one_arming, own_latest, stands_later}
+use Rattle.executions.specs.execution.Run.{Run, first_cells, locks_of, task_of, task_setting}
+use Rattle.executions.specs.execution.Execution.{Execution}
+use Rattle.executions.specs.execution.Observed.{OutcomeAt, history_of, made_by, outcomes_of}
+use Rattle.executions.proofs.execution.OwnLasts.{one_arming, own_latest, stands_later}
 use Rattle.log_correctness.specs.Lists.{AreAccesses, AreArms, AreArmsBy, AreArmsOf, ByTask, verdicts_by}
 use Rattle.soundness.specs.Events.{AreMarks, EachDoesItsEvent}
 use Rattle.soundness.specs.Joined.{IfAnswersBoth}
@@ -44,7 +44,7 @@ use Rattle.watch_word.specs.declared.layout.Layout.TheVariants.{W64, W32}
 use Rattle.log_correctness.specs.Stamps.{stamps_in}
 use Rattle.log_correctness.specs.Watched.{FitsItsTask, IfTold, IfWatched}
 use Rattle.program_order.specs.Standing.{checks_of}
-use Rattle.program_order.specs.Told.{did_by}
+use Rattle.program_order.specs.TaskObserved.{did_by}
 use Rattle.accepted_traces.specs.Parts.{ArmFits, OfNamed, OutcomeFits, TakeFits}
 use Rattle.accepted_traces.proofs.Arms as arming
 use Rattle.accepted_traces.proofs.Arms.{arming_of}
@@ -170,7 +170,7 @@ hit_of t (a ∷ arms) some = by a.outcome refl (hit_of t arms)
             let w : ◌≡◌ {A = ℕ} (if is_take t (record { finder = finder; index = a.index; setter = a.setter }) then 1 else 0) 0 = rw none refl in
             shift (more (omega (arith, some, parts (became.Hit finder result) is, counts (is_take t) (record { finder = finder; index = a.index; setter = a.setter }) [], w)))
 
-module _ (run : Run) (records : List Record) (list : RunList run records) (each : EachDoesItsEvent list records)
+module _ (run : Run) (records : List Record) (list : Execution run records) (each : EachDoesItsEvent list records)
     (stamps : (later earlier : List Record) (latest : Record) → records ≡ later ++ latest ∷ earlier → latest.step ≡ steps.Clock
     → latest.answer ≡ answers.Word (stamps_in earlier)) (few : stamps_in records < 2 ^ 64)
     (first : (task : ℕ) → AreMarks (did_by (list.tasks task) 0))

@@ -18,12 +18,12 @@ use Rattle.access_types.specs.declared.arms.HitResult.TheVariants as results
 use Rattle.litmus_semantics.specs.RunOfProgram.{setting_of}
 use Rattle.litmus_semantics.specs.TextSites.{FitsTickets, block_sites}
 use Rattle.report_text.specs.Truth.{IsIndexOf, ResultAgrees}
-use Rattle.executions.specs.run_lists.Answers.{AnswersTaking, is_answer}
-use Rattle.executions.specs.run_lists.Run.{Run, task_of, task_setting}
-use Rattle.executions.specs.run_lists.RunList.{RunList}
-use Rattle.executions.specs.run_lists.Told.{Armed, OutcomeAt, history_of, outcomes_of}
-use Rattle.executions.proofs.run_lists.Intervals.{Has, contains_has}
-use Rattle.executions.proofs.run_lists.OwnLasts.{one_arming, stands_later, still_told}
+use Rattle.executions.specs.execution.Answers.{AnswersTaking, is_answer}
+use Rattle.executions.specs.execution.Run.{Run, task_of, task_setting}
+use Rattle.executions.specs.execution.Execution.{Execution}
+use Rattle.executions.specs.execution.Observed.{Armed, OutcomeAt, history_of, outcomes_of}
+use Rattle.executions.proofs.execution.Intervals.{Has, contains_has}
+use Rattle.executions.proofs.execution.OwnLasts.{one_arming, stands_later, still_told}
 use Rattle.log_correctness.specs.Lists.{AreAccesses, Became, IsHit}
 use Rattle.soundness.specs.Events.{AreMarks, EachDoesItsEvent}
 use Rattle.soundness.specs.Joined.{AnswersBoth}
@@ -52,7 +52,7 @@ use Rattle.value_filter.specs.declared.verdict.Verdict.TheVariants as verdict
 use Rattle.log_correctness.specs.Stamps.{stamps_in}
 use Rattle.log_correctness.specs.Watched.{IfTold}
 use Rattle.program_order.specs.Standing.{checks_of}
-use Rattle.program_order.specs.Told.{did_by}
+use Rattle.program_order.specs.TaskObserved.{did_by}
 use Rattle.accepted_traces.specs.Parts.{IsNamed, OutcomeFits}
 use Rattle.accepted_traces.proofs.Ended as ended
 use Rattle.accepted_traces.proofs.Watches.{found_at, looked_index}
@@ -204,9 +204,9 @@ one_met (x ∷ xs) differ m n h g same = elim h [
 same_armed : (p q : Armed) → ◌≡◌ {A = Option Armed} (Some p) (Some q) → p ≡ q
 same_armed p q e = cc
 
--- ---- a run list whose tasks have ended
+-- ---- an execution whose tasks have ended
 
-module _ (run : Run) (records : List Record) (list : RunList run records) (each : EachDoesItsEvent list records)
+module _ (run : Run) (records : List Record) (list : Execution run records) (each : EachDoesItsEvent list records)
     (stamps : (later earlier : List Record) (latest : Record) → records ≡ later ++ latest ∷ earlier → latest.step ≡ steps.Clock
     → latest.answer ≡ answers.Word (stamps_in earlier)) (few : stamps_in records < 2 ^ 64)
     (first : (task : ℕ) → AreMarks (did_by (list.tasks task) 0))

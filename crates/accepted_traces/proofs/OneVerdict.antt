@@ -15,18 +15,18 @@ use Rattle.access_types.specs.declared.history.Happening.TheVariants as happenin
 use Rattle.litmus_semantics.specs.RunOfProgram.{setting_of}
 use Rattle.litmus_semantics.specs.TextSites.{FitsTickets, block_sites}
 use Rattle.litmus_semantics.proofs.TicketLemmas.{own_tickets}
-use Rattle.executions.specs.run_lists.Run.{Run, task_of, task_setting}
-use Rattle.executions.specs.run_lists.RunList.{RunList}
-use Rattle.executions.specs.run_lists.Told.{OutcomeAt, armed_by, came_next, made_by, outcome_at}
-use Rattle.executions.proofs.run_lists.Histories.{front_of}
-use Rattle.executions.proofs.run_lists.OwnLasts.{own_latest}
+use Rattle.executions.specs.execution.Run.{Run, task_of, task_setting}
+use Rattle.executions.specs.execution.Execution.{Execution}
+use Rattle.executions.specs.execution.Observed.{OutcomeAt, armed_by, came_next, made_by, outcome_at}
+use Rattle.executions.proofs.execution.Histories.{front_of}
+use Rattle.executions.proofs.execution.OwnLasts.{own_latest}
 use Rattle.log_correctness.specs.Lists.{verdicts_by}
 use Rattle.soundness.specs.Watches.{is_verdict}
 use Rattle.setup_access.specs.Check.{Fallen}
 use Rattle.slot_table.specs.Records.{records_of}
 use Rattle.slot_table.specs.declared.records.Record.{Record}
 use Rattle.log_correctness.proofs.OneVerdictAtMost.{begins_with, few_verdicts, is_verdict_of}
-use Rattle.program_order.specs.Told.{fell_next, to_come}
+use Rattle.program_order.specs.TaskObserved.{fell_next, to_come}
 use Rattle.program_order.proofs.MeaningLemmas.{whole_means}
 
 -- ---- counts
@@ -160,7 +160,7 @@ same_test : (v n t : Bool) → (v && (n && t)) ≡ ((v && n) && t)
 same_test true n t = refl
 same_test false n t = refl
 
-module _ (run : Run) (records : List Record) (list : RunList run records) where
+module _ (run : Run) (records : List Record) (list : Execution run records) where
   -- verdicts of the task that fell by then are among all that fall in its text
   few_by : (ticket task : ℕ) (later earlier : List Record) → records ≡ later ++ earlier
       → count_by (is_of ticket) (verdicts_by list task earlier)

@@ -10,9 +10,9 @@ use Rattle.std.proofs.lemmas.List.Sums.{length-filter}
 use Rattle.access_types.specs.Ticket.{task_in}
 use Rattle.access_types.specs.declared.report.Report.{Report}
 use Rattle.log_correctness.specs.Setters.{is_by, reports_by, setter_of}
-use Rattle.executions.specs.run_lists.Reports.{reports_of}
-use Rattle.executions.specs.run_lists.Run.{Run}
-use Rattle.executions.specs.run_lists.RunList.{RunList}
+use Rattle.executions.specs.execution.Reports.{reports_of}
+use Rattle.executions.specs.execution.Run.{Run}
+use Rattle.executions.specs.execution.Execution.{Execution}
 use Rattle.log_correctness.specs.Lists.{ByTask}
 use Rattle.log_correctness.specs.Noted.{AreNoted, Notes}
 use Rattle.soundness.proofs.Watches.{is_below}
@@ -146,11 +146,11 @@ no_steps n task (latest ∷ earlier) below beyond =
     same ∙ no_steps n task earlier (λ later before one is. below (latest ∷ later) before one (ap (λ (r : List Record). latest ∷ r) is)) beyond
 
 abbrev pub ReportsItsOwn : Type 0
-ReportsItsOwn = (run : Run) (records : List Record) (list : RunList run records) (task : ℕ) (noted : List Noted) → Notes list task noted
+ReportsItsOwn = (run : Run) (records : List Record) (list : Execution run records) (task : ℕ) (noted : List Noted) → Notes list task noted
     → reports_by task (reports_of list) ≡ reported_in noted
 
 -- nor whose watchpoint a report is of
-pub none_reported : ReportsItsOwn → (run : Run) (records : List Record) (list : RunList run records) (task : ℕ)
+pub none_reported : ReportsItsOwn → (run : Run) (records : List Record) (list : Execution run records) (task : ℕ)
     → length run.program.tasks ≤ task → reports_by task (reports_of list) ≡ []
 none_reported own run records list task beyond =
     let none : records_of task records ≡ [] = no_steps (length run.program.tasks) task records
@@ -158,7 +158,7 @@ none_reported own run records list task beyond =
     own run records list task [] (subst (λ (r : List Record). AreNoted (list.tasks task) r []) (sym none) tt)
 
 -- what is so of all reports of the list is so of those that stand by task
-pub all_reported : {run : Run} {records : List Record} (list : RunList run records) (P : Report → Type 0) (tasks : ℕ) (all : List Report)
+pub all_reported : {run : Run} {records : List Record} (list : Execution run records) (P : Report → Type 0) (tasks : ℕ) (all : List Report)
     → ByTask (λ task own. own ≡ reports_by task (reports_of list)) tasks all → All P (reports_of list) → All P all
 all_reported list P zero all none every = subst (λ (rs : List Report). All P rs) (sym none) (λ k d within. absurd (omega (arith, within)))
 all_reported list P (suc tasks) all are every =

@@ -1,4 +1,4 @@
--- The reports of a run list whose tasks have ended may stand in a trace, and are true there.
+-- The reports of an execution whose tasks have ended may stand in a trace, and are true there.
 use Rattle.std.proofs.Common.{◌≡◌, ◌≢◌, ◌<◌, ◌+◌, ◌*◌, ◌^◌, ◌∙◌, ◌∷◌, ◌++◌, length, [], inl, inr, ℕ, suc, zero, All, Bool, Contains, IsTrue, List, None, Option}
 use Rattle.std.proofs.Common.{Some, ap, arith, false, refl, subst, sym, take, true}
 use Rattle.std.proofs.Math.Nat.{pow-suc}
@@ -24,11 +24,11 @@ use Rattle.report_text.specs.Truth.{IsLoadable, MaySee, RaceByStamps}
 use Rattle.soundness.specs.Reported.{IsOfOutcome}
 use Rattle.soundness.specs.Watched.{ChangedInWatch, IfUnknownInWatch, NamesWatched}
 use Rattle.soundness.proofs.Memories.{HoldsBytes, first_bytes}
-use Rattle.executions.specs.run_lists.Reports.{reported, reports_of}
-use Rattle.executions.specs.run_lists.Run.{Run, task_of, task_setting}
-use Rattle.executions.specs.run_lists.RunList.{RunList}
-use Rattle.executions.specs.run_lists.Told.{OutcomeAt, history_of, outcomes_of}
-use Rattle.executions.specs.run_lists.TwoSides.{IfTwoSided, NamesBoth, NamesTwoSides}
+use Rattle.executions.specs.execution.Reports.{reported, reports_of}
+use Rattle.executions.specs.execution.Run.{Run, task_of, task_setting}
+use Rattle.executions.specs.execution.Execution.{Execution}
+use Rattle.executions.specs.execution.Observed.{OutcomeAt, history_of, outcomes_of}
+use Rattle.executions.specs.execution.TwoSides.{IfTwoSided, NamesBoth, NamesTwoSides}
 use Rattle.log_correctness.specs.Lists.{AreAccesses}
 use Rattle.soundness.specs.Events.{AreMarks, EachDoesItsEvent}
 use Rattle.soundness.specs.Watches.{is_verdict}
@@ -44,7 +44,7 @@ use Rattle.slot_table.specs.declared.step.Step.TheVariants as steps
 use Rattle.log_correctness.specs.Stamps.{stamps_in}
 use Rattle.log_correctness.specs.Watched.{IfWatched}
 use Rattle.program_order.specs.Standing.{checks_of}
-use Rattle.program_order.specs.Told.{did_by}
+use Rattle.program_order.specs.TaskObserved.{did_by}
 use Rattle.accepted_traces.specs.Parts.{OfNamed, ReportFits}
 use Rattle.accepted_traces.proofs.Ended as ended
 use Rattle.accepted_traces.proofs.Hits as hits
@@ -108,7 +108,7 @@ differ_mask None old new not h = h
 differ_mask (Some zero) old new not h = absurd (not refl)
 differ_mask (Some (suc n)) old new not h = rw (ne_eqb (suc n) 0 (λ e. omega (arith, e))) h
 
-module _ (run : Run) (records : List Record) (list : RunList run records) (each : EachDoesItsEvent list records)
+module _ (run : Run) (records : List Record) (list : Execution run records) (each : EachDoesItsEvent list records)
     (stamps : (later earlier : List Record) (latest : Record) → records ≡ later ++ latest ∷ earlier → latest.step ≡ steps.Clock
     → latest.answer ≡ answers.Word (stamps_in earlier)) (few : stamps_in records < 2 ^ 64)
     (first : (task : ℕ) → AreMarks (did_by (list.tasks task) 0))

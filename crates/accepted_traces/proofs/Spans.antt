@@ -1,4 +1,4 @@
--- The stamps, the names and the letters of the accesses that have ended in a run list.
+-- The stamps, the names and the letters of the accesses that have ended in an execution.
 use Rattle.std.proofs.Common.{◌≡◌, ◌≢◌, ◌<◌, ◌≤◌, ◌+◌, ◌^◌, ◌⊎◌, ◌∙◌, ◌++◌, ◌∷◌, [], inl, inr, ℕ, suc, zero, Bool, true, false, All, AllPairs, IsTrue, List}
 use Rattle.std.proofs.Common.{Some, ap, append_assoc, append-nil, arith, if◌then◌else◌, length, refl, reverse, slice_get, slice_index_or, subst, sym, unwrap_or}
 use Rattle.std.proofs.lemmas.List.{length-append}
@@ -18,12 +18,12 @@ use Rattle.litmus_semantics.specs.RunOfProgram.{setting_of}
 use Rattle.litmus_semantics.specs.TextSites.{FitsTickets, block_sites}
 use Rattle.litmus_semantics.proofs.TicketLemmas.{own_tickets}
 use Rattle.report_text.specs.Standing.{LettersAgree}
-use Rattle.executions.specs.run_lists.Run.{Run, task_of, task_setting}
-use Rattle.executions.specs.run_lists.RunList.{RunList}
-use Rattle.executions.specs.run_lists.Told.{history_by, history_of, made_by, moments_of}
-use Rattle.executions.proofs.run_lists.Histories.{did_more, did_of_all, did_then}
-use Rattle.executions.proofs.run_lists.Intervals.{Has, has_last}
-use Rattle.executions.proofs.run_lists.OwnLasts.{own_latest, own_split}
+use Rattle.executions.specs.execution.Run.{Run, task_of, task_setting}
+use Rattle.executions.specs.execution.Execution.{Execution}
+use Rattle.executions.specs.execution.Observed.{history_by, history_of, made_by, moments_of}
+use Rattle.executions.proofs.execution.Histories.{did_more, did_of_all, did_then}
+use Rattle.executions.proofs.execution.Intervals.{Has, has_last}
+use Rattle.executions.proofs.execution.OwnLasts.{own_latest, own_split}
 use Rattle.log_correctness.specs.Decided.{IsStampedSo}
 use Rattle.log_correctness.specs.Spans.{HappensAt, IsSpan}
 use Rattle.log_correctness.specs.Lists.{AreAccesses, AreAccessesOf, ByTask}
@@ -37,8 +37,8 @@ use Rattle.slot_table.specs.declared.step.Step.TheVariants as steps
 use Rattle.log_correctness.specs.Stamps.{is_clock, stamps_in}
 use Rattle.log_correctness.proofs.Checked.{all_fit, all_later}
 use Rattle.log_correctness.proofs.Clock.{event_turns, one_more, turns, turns_both, turns_of_marks}
-use Rattle.executions.proofs.run_lists.Begun.{once}
-use Rattle.program_order.specs.Told.{did_by, did_next}
+use Rattle.executions.proofs.execution.Begun.{once}
+use Rattle.program_order.specs.TaskObserved.{did_by, did_next}
 use Rattle.program_order.proofs.MeaningLemmas.{whole_means}
 use Rattle.program_order.proofs.WayLemmas.{Begins}
 use Rattle.accepted_traces.specs.Parts.{AccessFits, AreOther, HasLowMask}
@@ -117,7 +117,7 @@ assertion_counts atomic a before is (marked.within_next not w n) = not is
 assertion_counts atomic a before is (marked.in_nest not n) = not is
 assertion_counts atomic a before is (marked.in_flat not n) = not is
 
-module _ (run : Run) (records : List Record) (list : RunList run records) (each : EachDoesItsEvent list records)
+module _ (run : Run) (records : List Record) (list : Execution run records) (each : EachDoesItsEvent list records)
     (stamps : (later earlier : List Record) (latest : Record) → records ≡ later ++ latest ∷ earlier → latest.step ≡ steps.Clock
     → latest.answer ≡ answers.Word (stamps_in earlier)) (few : stamps_in records < 2 ^ 64) where
   each_at : (later : List Record) (latest : Record) (earlier : List Record) → EachDoesItsEvent list (later ++ latest ∷ earlier)

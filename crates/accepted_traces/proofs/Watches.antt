@@ -4,7 +4,7 @@ use Rattle.std.proofs.lemmas.Bool.{eq-eqb}
 use Rattle.access_types.specs.Access.{Access}
 use Rattle.access_types.specs.Ticket.{ticket_number}
 use Rattle.report_text.specs.Truth.{IsIndexOf}
-use Rattle.executions.proofs.run_lists.CheckFacts.{back}
+use Rattle.executions.proofs.execution.CheckFacts.{back}
 use Rattle.setup_access.specs.Find.{LooksUp}
 use Rattle.setup_access.specs.Found.{Hears, finder_half}
 use Rattle.setup_access.specs.Parts.{made}
@@ -76,7 +76,8 @@ module _ (s : Setting) (a : Access) where
   abbrev word : ℕ
   word = word_of s.rules.layout a
 
-  -- after these own records the task has an arming in hand at the index, which is the last there, under the access's word
+  -- after these own records the task has an arming in hand at the index, which is the last there, under the access's
+  -- word
   pub record HasIt (index : ℕ) (own : List Record) : Type 0 where
     pub part : Part
     pub hand : in_hand own ≡ Some (record { index = index; part = part })

@@ -16,8 +16,8 @@ use Rattle.access_run.specs.declared.memory_operation.operation.Change.TheVarian
 use Rattle.access_run.specs.declared.memory_operation.operation.Operation.{Operation}
 use Rattle.access_run.specs.declared.memory_operation.operation.Operation.TheVariants as kinds
 use Rattle.access_run.specs.declared.memory_operation.run.OperationRun.{OperationRun}
-use Rattle.access_run.specs.declared.memory_operation.stage.Stage as code
-use Rattle.access_run.specs.declared.memory_operation.stage.Stage.TheVariants as operating
+use Rattle.access_run.specs.declared.memory_operation.stage.OperationStage as code
+use Rattle.access_run.specs.declared.memory_operation.stage.OperationStage.TheVariants as operating
 use Rattle.setup_access.specs.Check.{Check, Passes}
 use Rattle.setup_access.specs.Checker.{Checks}
 use Rattle.setup_access.specs.OwnAccesses.{AreOwn, IsOwn}
@@ -33,8 +33,8 @@ use Rattle.slot_table.specs.declared.step.Step.TheVariants.{CellExchange, CellLo
 use Rattle.access_run.specs.Access.{MakesAccess}
 use Rattle.access_run.specs.Leads.{HasCell, IsReady, Runs, StageLeads}
 use Rattle.access_run.specs.Moved.{moved}
-use Rattle.access_run.specs.declared.stage.Stage.{Stage}
-use Rattle.access_run.specs.declared.stage.Stage.TheVariants as stages
+use Rattle.access_run.specs.declared.stage.AccessStage.{AccessStage}
+use Rattle.access_run.specs.declared.stage.AccessStage.TheVariants as stages
 use Rattle.access_run.proofs.CheckEnds.{check_ends, some_check}
 use Rattle.access_run.proofs.LeadsLemmas.{check_joined, operates_joined}
 
@@ -65,7 +65,7 @@ module _ (task : ℕ) (a : Access) (source : Source) where
   some_operation (kinds.Change change) =
       let last = exchanged change 0 in (made task (CellLoad source.cell) (answers.Word 0) ∷ last.0, last.1, (refl, refl, last.2))
 
-  stage_left : (stage : code.Stage) → Ending (StageLeft task a source stage)
+  stage_left : (stage : code.OperationStage) → Ending (StageLeft task a source stage)
   stage_left operating.Over = ([], nothing, (refl, refl))
   stage_left (operating.Load operation) = some_operation operation
   stage_left (operating.Exchange change seen tries) = exchanged change seen
@@ -139,7 +139,7 @@ module _ (s : Setting) (scopes : List Begun) (begun : Begun) (asked : ℕ) (oper
       (check.0 ++ (operates.0 ++ ends_clock), joined check.0 operates.0 check.1 operates.1 check.2 operates.2)
 
   -- what leads to an access can be completed
-  pub access_ends : (records : List Record) (stage : Stage) (checker : Checker) → StageLeads s scopes begun asked operation records stage checker
+  pub access_ends : (records : List Record) (stage : AccessStage) (checker : Checker) → StageLeads s scopes begun asked operation records stage checker
       → (later : List Record) × Whole (records ++ later)
   access_ends records (stages.Check run) checker leads =
       let check = check_ends s scopes (Checks begun) asked records checker leads.0 in

@@ -27,8 +27,8 @@ use Rattle.setup_access.specs.declared.setup.Setup.TheVariants as setups
 use Rattle.setup_access.specs.declared.source.Source.{Source}
 use Rattle.setup_access.specs.declared.stage.Role.{Role}
 use Rattle.setup_access.specs.declared.stage.Role.TheVariants as roles
-use Rattle.setup_access.specs.declared.stage.Stage.{Stage}
-use Rattle.setup_access.specs.declared.stage.Stage.TheVariants as stages
+use Rattle.setup_access.specs.declared.stage.CheckStage.{CheckStage}
+use Rattle.setup_access.specs.declared.stage.CheckStage.TheVariants as stages
 use Rattle.slot.specs.Pair.{Halves}
 use Rattle.slot_table.specs.declared.records.Record.{Record}
 use Rattle.slot_table.specs.declared.step.Answer.TheVariants as answers
@@ -256,7 +256,7 @@ module _ (s : Setting) (scopes : List Begun) where
   role_ends (roles.Scope number) settled asked = rechecked s (drop (number + 1) scopes) asked []
   role_ends roles.Closing settled asked = (made s.task steps.Clock (answers.Word 0) ∷ [], none_asked asked, (refl, (refl, refl, refl)))
 
-  pub stage_ends : (stage : Stage) (asked : ℕ) → SomeAre (λ records all. StageLeft s scopes stage asked records all)
+  pub stage_ends : (stage : CheckStage) (asked : ℕ) → SomeAre (λ records all. StageLeft s scopes stage asked records all)
   stage_ends stages.Rest asked = ([], none_asked asked, (refl, refl))
   stage_ends (stages.Begin begun) asked = stamped begun asked
   stage_ends (stages.Check role begun pass) asked =

@@ -2,8 +2,8 @@
 use Rattle.std.proofs.Common.{◌∙◌, ℕ, List, Option, Some}
 use Rattle.access_run.specs.Leads.{AccessIsComplete, AccessLeads, AccessSays, IsChecked, StageLeads, StageSays}
 use Rattle.access_run.specs.declared.access.AccessRun.{AccessRun}
-use Rattle.access_run.specs.declared.stage.Stage.{Stage}
-use Rattle.access_run.specs.declared.stage.Stage.TheVariants as stages
+use Rattle.access_run.specs.declared.stage.AccessStage.{AccessStage}
+use Rattle.access_run.specs.declared.stage.AccessStage.TheVariants as stages
 use Rattle.access_run.specs.declared.memory_operation.effect.Effect.{Effect}
 use Rattle.access_run.specs.declared.memory_operation.operation.Operation.{Operation}
 use Rattle.setup_access.specs.Checker.{Checks}
@@ -37,7 +37,7 @@ module _ (checker copy : Checker) (same : IsCopy checker copy) where
       rests = copies_rest checker copy same s scopes complete.now (Some begun) complete.rests;
     }
 
-    pub stage_by_copy : (operation : Option Operation) (records : List Record) (stage : Stage)
+    pub stage_by_copy : (operation : Option Operation) (records : List Record) (stage : AccessStage)
         → StageLeads s scopes begun asked operation records stage checker → StageLeads s scopes begun asked operation records stage copy
     stage_by_copy operation records (stages.Check run) leads = (copies_lead checker copy same s scopes (Checks begun) asked records leads.0, leads.1, leads.2)
     stage_by_copy operation records (stages.Operate run) leads =
@@ -53,7 +53,7 @@ module _ (checker copy : Checker) (same : IsCopy checker copy) where
       end = leads.end;
     }
 
-  pub stage_says : (stage : Stage) (step : Step) → StageSays stage checker step → StageSays stage copy step
+  pub stage_says : (stage : AccessStage) (step : Step) → StageSays stage checker step → StageSays stage copy step
   stage_says (stages.Check run) step says = copies_say checker copy same step says
   stage_says (stages.Operate run) step says = says
   stage_says (stages.End effect) step says = says

@@ -5,8 +5,8 @@ use Rattle.access_run.specs.Access.{MakesAccess}
 use Rattle.access_run.specs.Leads.{AccessIsComplete, AccessIsDone, AccessIsOver, AccessIsStuck, AccessOnlyStep, HasCell, IsChecked, IsStuckIn, Runs, StageLeads, WaitsTooLong, in_check, in_operation, same_effect}
 use Rattle.access_run.specs.Moved.{moved}
 use Rattle.access_run.specs.Whole.{IsWhole, NoneWhole}
-use Rattle.access_run.specs.declared.stage.Stage.{Stage}
-use Rattle.access_run.specs.declared.stage.Stage.TheVariants as stages
+use Rattle.access_run.specs.declared.stage.AccessStage.{AccessStage}
+use Rattle.access_run.specs.declared.stage.AccessStage.TheVariants as stages
 use Rattle.access_types.specs.Access.{Access}
 use Rattle.access_run.specs.memory_operation.Leads as operations
 use Rattle.access_run.specs.memory_operation.Effects.{nothing}
@@ -28,7 +28,7 @@ use Rattle.setup_access.specs.Waits.{IsStuckBy}
 use Rattle.setup_access.specs.declared.begun.Begun.{Begun}
 use Rattle.setup_access.specs.declared.checker.Checker.{Checker}
 use Rattle.setup_access.specs.declared.source.Source.{Source}
-use Rattle.setup_access.specs.declared.stage.Stage.TheVariants as check_stages
+use Rattle.setup_access.specs.declared.stage.CheckStage.TheVariants as check_stages
 use Rattle.setup_access.proofs.LeadsLemmas.{outcomes_followed}
 use Rattle.slot_table.specs.Answer.{IsWord}
 use Rattle.slot_table.specs.declared.records.Record.{Record}
@@ -208,14 +208,14 @@ module _ (s : Setting) (scopes : List Begun) (begun : Begun) (asked : ℕ) (oper
       (λ stuck. record { going = checking records leads.1; waits = in_check leads.1 stuck }, λ stuck. check_waits records leads.1 stuck.waits)
 
   pub check_over : (records : List Record) (checker : Checker) (run : Option OperationRun) → StageLeads s scopes begun asked operation records (stages.Check run) checker
-      → checks.IsOver s scopes (Checks begun) asked records ↔ AccessIsOver s scopes begun asked operation records
+      → checks.IsOperationOver s scopes (Checks begun) asked records ↔ AccessIsOver s scopes begun asked operation records
   check_over records checker run leads = (to, from)
     where
-      to : checks.IsOver s scopes (Checks begun) asked records → AccessIsOver s scopes begun asked operation records
+      to : checks.IsOperationOver s scopes (Checks begun) asked records → AccessIsOver s scopes begun asked operation records
       to (inl done) = absurd (leads.1 records [] done.0 (sym (append-nil records)) done.1)
       to (inr stuck) = inr ((check_stuck records checker run leads).0 stuck)
 
-      from : AccessIsOver s scopes begun asked operation records → checks.IsOver s scopes (Checks begun) asked records
+      from : AccessIsOver s scopes begun asked operation records → checks.IsOperationOver s scopes (Checks begun) asked records
       from (inl done) = absurd (checking records leads.1 done)
       from (inr stuck) = inr ((check_stuck records checker run leads).1 stuck)
 
@@ -382,7 +382,7 @@ module _ (s : Setting) (scopes : List Begun) (begun : Begun) (asked : ℕ) (oper
   over_done records checker effect leads = (passes_of leads.now leads.fallen, effect, leads.makes)
 
   -- only at that stage is it done
-  pub over_where_done : (records : List Record) (checker : Checker) (stage : Stage) → StageLeads s scopes begun asked operation records stage checker
+  pub over_where_done : (records : List Record) (checker : Checker) (stage : AccessStage) → StageLeads s scopes begun asked operation records stage checker
       → AccessIsDone s scopes begun asked operation records → (effect : Effect) × (stage ≡ stages.Over effect)
   over_where_done records checker (stages.Check run) leads done = absurd (check_going records checker run leads done)
   over_where_done records checker (stages.Operate run) leads done = absurd (operate_going records checker run leads done)
@@ -410,7 +410,7 @@ module _ (s : Setting) (scopes : List Begun) (begun : Begun) (asked : ℕ) (oper
 
   pub run_over : (records : List Record) (checker : Checker) (run : OperationRun) (turns : ℕ) (Says : Type 0) → StageLeads s scopes begun asked operation records (stages.Operate run) checker
       → turns ≡ s.rules.turns
-      → ((source : Source) (of : Operation) (done : List Record) → operations.Leads s.task begun.access source of done run → Says ↔ operations.IsOver turns s.task begun.access source of done)
+      → ((source : Source) (of : Operation) (done : List Record) → operations.Leads s.task begun.access source of done run → Says ↔ operations.IsOperationOver turns s.task begun.access source of done)
       → Says ↔ AccessIsOver s scopes begun asked operation records
   run_over records checker run turns Says leads turns_is says =
       let own = of_operation operation leads.1 leads.5 leads.4 in
@@ -426,8 +426,8 @@ module _ (s : Setting) (scopes : List Begun) (begun : Begun) (asked : ℕ) (oper
           → Says ↔ IsStuckIn s begun.access kind done
       of_operation None done runs none = absurd runs
       of_operation (Some of) done runs none =
-          let here : Says ↔ operations.IsOver s.rules.turns s.task begun.access runs.0 of done =
-          subst (λ n. Says ↔ operations.IsOver n s.task begun.access runs.0 of done) turns_is (says runs.0 of done runs.2) in (
+          let here : Says ↔ operations.IsOperationOver s.rules.turns s.task begun.access runs.0 of done =
+          subst (λ n. Says ↔ operations.IsOperationOver n s.task begun.access runs.0 of done) turns_is (says runs.0 of done runs.2) in (
             λ h. elim (here.0 h) [
               | inl all ↦ absurd (none done [] all.0 (sym (append-nil done)) (runs.0, runs.1, all.1))
               | inr stuck ↦ (runs.0, runs.1, stuck)

@@ -4,7 +4,7 @@ use Rattle.access_types.specs.Access.{Access}
 use Rattle.access_types.specs.Ticket.{ticket_number}
 use Rattle.access_run.proofs.memory_operation.Fronts.{Front, front_first, front_map, front_none, front_then, front_word}
 use Rattle.setup_access.specs.Find.{LooksUp}
-use Rattle.setup_access.specs.Found.{FoundWatchpoint, Hears, Takes, Tells, TellsTo, finder_half, setter_half}
+use Rattle.setup_access.specs.Found.{FoundWatchpoint, Hears, Takes, FinderTells, TellsTo, finder_half, setter_half}
 use Rattle.setup_access.specs.Hits.{Hits}
 use Rattle.setup_access.specs.Records.{MakesDone, OnHalves}
 use Rattle.setup_access.specs.Setting.{Setting, slot_of, try_order}
@@ -67,18 +67,18 @@ module _ (s : Setting) (a : Access) where
       (λ after l. (outcome ≡ Told (record { setter = setter; finder = ticket_number a })) × (l ≡ after)) records rest h
       (λ after got. front_none (outcome ≡ Told (record { setter = setter; finder = ticket_number a })) after rest got.0 got.1)
 
-  tells : (index : ℕ) (outcome : Outcome) (records rest : List Record) → Tells s a index records outcome rest
-      → Front (λ r l. Tells s a index r outcome l) records rest
+  tells : (index : ℕ) (outcome : Outcome) (records rest : List Record) → FinderTells s a index records outcome rest
+      → Front (λ r l. FinderTells s a index r outcome l) records rest
   tells index outcome records rest h = front_then (λ r m. Hears setter_half s.task index r h.0 m) (λ m l. TellsTo s a index h.0.setter m outcome l)
-      (λ r l. Tells s a index r outcome l) records h.1 rest
+      (λ r l. FinderTells s a index r outcome l) records h.1 rest
       (hears setter_half s.task index h.0 records h.1 h.2) (tells_to index h.0.setter outcome h.1 rest h.3)
       (λ r m l first second. (h.0, m, first, second))
 
   takes : (found : Watchpoint) (outcome : Outcome) (records rest : List Record) → Takes s a found records outcome rest
       → Front (λ r l. Takes s a found r outcome l) records rest
   takes found outcome records rest h = front_flag s.task (TryConsume found.index found.word)
-      (λ taken later l. MatchBool taken (Tells s a found.index later outcome l) ((outcome ≡ Lost) × (l ≡ later))) records rest h
-      (λ taken later got. front_if taken (λ r l. Tells s a found.index r outcome l) (λ r l. (outcome ≡ Lost) × (l ≡ r)) later rest got
+      (λ taken later l. MatchBool taken (FinderTells s a found.index later outcome l) ((outcome ≡ Lost) × (l ≡ later))) records rest h
+      (λ taken later got. front_if taken (λ r l. FinderTells s a found.index r outcome l) (λ r l. (outcome ≡ Lost) × (l ≡ r)) later rest got
       (tells found.index outcome later rest) (λ lost. front_none (outcome ≡ Lost) later rest lost.0 lost.1))
 
   found_by : (mask : Option ℕ) (found : Watchpoint) (outcome : Outcome) (records rest : List Record)

@@ -5,8 +5,8 @@ use Rattle.access_run.specs.Moved.{moved}
 use Rattle.access_run.specs.Stamps.{first_stamp, last_stamp}
 use Rattle.access_run.specs.Whole.{IsWhole, NoneWhole}
 use Rattle.access_run.specs.declared.access.AccessRun.{AccessRun}
-use Rattle.access_run.specs.declared.stage.Stage.{Stage}
-use Rattle.access_run.specs.declared.stage.Stage.TheVariants as stages
+use Rattle.access_run.specs.declared.stage.AccessStage.{AccessStage}
+use Rattle.access_run.specs.declared.stage.AccessStage.TheVariants as stages
 use Rattle.access_types.specs.Access.{Access}
 use Rattle.access_run.specs.memory_operation.Leads as operations
 use Rattle.access_run.specs.memory_operation.Operations.{Operates}
@@ -78,7 +78,7 @@ pub record AccessIsComplete (s : Setting) (scopes : List Begun) (begun : Begun) 
 
 -- An access leads, by these records, to a stage: in its check they aren't the whole of it yet; then
 -- they are the check and what was made of the operation; at the end they are both; and then all.
-abbrev pub StageLeads : Setting → List Begun → Begun → ℕ → Option Operation → List Record → Stage
+abbrev pub StageLeads : Setting → List Begun → Begun → ℕ → Option Operation → List Record → AccessStage
     → Checker → Type 0
 StageLeads s scopes begun asked operation records (stages.Check run) checker =
     checks.Leads s scopes (Checks begun) asked records checker
@@ -95,14 +95,14 @@ StageLeads s scopes begun asked operation records (stages.Over effect) checker =
     AccessIsComplete s scopes begun asked operation records effect checker
 
 -- at this stage the access isn't over
-abbrev pub IsUnderWay : Stage → Type 0
+abbrev pub IsUnderWay : AccessStage → Type 0
 IsUnderWay (stages.Check run) = Unit {0}
 IsUnderWay (stages.Operate run) = Unit {0}
 IsUnderWay (stages.End effect) = Unit {0}
 IsUnderWay (stages.Over effect) = ⊥
 
 -- the stamp of the end is there once the access is over: the one that the last record answers
-abbrev pub HasEndStamp : Stage → List Record → Option ℕ → Type 0
+abbrev pub HasEndStamp : AccessStage → List Record → Option ℕ → Type 0
 HasEndStamp (stages.Check run) records stamp = stamp ≡ None
 HasEndStamp (stages.Operate run) records stamp = stamp ≡ None
 HasEndStamp (stages.End effect) records stamp = stamp ≡ None
@@ -118,7 +118,7 @@ pub record AccessLeads (s : Setting) (scopes : List Begun) (begun : Begun) (aske
   pub end : HasEndStamp run.stage records run.stamps.end
 
 -- a stage is before this step
-abbrev pub StageSays : Stage → Checker → Step → Type 0
+abbrev pub StageSays : AccessStage → Checker → Step → Type 0
 StageSays (stages.Check run) checker step = checks.Says checker step
 StageSays (stages.Operate run) checker step = operations.Says run step
 StageSays (stages.End effect) checker step = step ≡ Clock
@@ -149,7 +149,7 @@ IsStuckIn s a (Some operation) records =
     (source : Source) × (source_of s a ≡ Some source)
     × operations.IsStuck s.rules.turns s.task a source operation records
 
--- its check isn't over and waits, or its operation does, and had so many vain tries as the rules allow
+-- its check isn't over and waits, or its operation does, and had so many failed tries as the rules allow
 pub data WaitsTooLong (s : Setting) (scopes : List Begun) (begun : Begun) (asked : ℕ)
     (operation : Option Operation) (records : List Record) : Type 0 where
   in_check : NoneWhole (Check s scopes begun asked) records → IsStuckBy s.rules.turns records

@@ -27,7 +27,7 @@ ghost use Rattle.slot_table.specs.declared.records.Record.{Record};
 
 /// Law: what leads to a checker can be completed, and some records are a check, and some a close, of an
 /// access of the task.
-pub fn checks_can_be_completed()
+pub fn law_checks_can_be_completed()
     ensures leads { (s : Setting) (scopes : List Begun) (doing : Doing) (asked : ℕ) (records : List Record) (checker : Checker)
         → Leads s scopes doing asked records checker
         → (later : List Record) × (passes : Passes) × Does s scopes doing asked (records ++ later) passes }
@@ -38,14 +38,14 @@ pub fn checks_can_be_completed()
 {}
 
 /// Law: by records that lead to a checker one list of outcomes has fallen, and no other.
-pub fn outcomes_that_fell_are_known()
+pub fn law_outcomes_that_fell_are_known()
     ensures { (s : Setting) (scopes : List Begun) (doing : Doing) (asked : ℕ) (records : List Record) (checker : Checker) (first second : List Fallen)
         → Leads s scopes doing asked records checker → HaveFallen s scopes doing asked records first
         → HaveFallen s scopes doing asked records second → first ≡ second }
 {}
 
 /// Law: what leads to an operation on memory can be completed, and some records are an operation.
-pub fn operations_can_be_completed()
+pub fn law_operations_can_be_completed()
     ensures leads { (task : ℕ) (a : accesses.Access) (source : Source) (operation : Operation) (records : List Record) (run : OperationRun)
         → operations.Leads task a source operation records run
         → (later : List Record) × (effect : Effect) × OperatesIn task a source operation (records ++ later) effect [] }
@@ -54,7 +54,7 @@ pub fn operations_can_be_completed()
 {}
 
 /// Law: what leads to a wait for a lock can be completed, and some records are tries that take it.
-pub fn tries_of_a_lock_can_be_completed()
+pub fn law_tries_of_a_lock_can_be_completed()
     ensures leads { (task lock : ℕ) (records : List Record) (wait : LockWait) → LockLeads task lock records wait
         → (later : List Record) × TakesLock task lock (records ++ later) [] }
     ensures first { (task lock : ℕ) → (records : List Record) × TakesLock task lock records [] }
@@ -62,7 +62,7 @@ pub fn tries_of_a_lock_can_be_completed()
 
 /// Law: what leads to an access can be completed, and some records are an access of the task whose bytes
 /// lie in a cell, if it has an operation.
-pub fn accesses_can_be_completed()
+pub fn law_accesses_can_be_completed()
     ensures leads { (s : Setting) (scopes : List Begun) (begun : Begun) (asked : ℕ) (operation : Option Operation)
         (records : List Record) (run : runs.AccessRun) (checker : Checker)
         → AccessLeads s scopes begun asked operation records run checker → (later : List Record)

@@ -10,17 +10,17 @@ ghost use Rattle.setup_access.specs.Setting.{Setting};
 ghost use Rattle.setup_access.specs.declared.begun.Begun.{Begun};
 
 /// Law: a check ends where it ends, whatever follows.
-pub fn checks_are_framed()
+pub fn law_checks_are_framed()
     ensures { (s : Setting) (scopes : List Begun) (begun : Begun) (asked : ℕ) → FramedChecks (Check s scopes begun asked) }
 {}
 
 /// Law: so does the close of a scoped assertion.
-pub fn closes_are_framed()
+pub fn law_closes_are_framed()
     ensures { (s : Setting) (scope : Begun) (silenced : Bool) (asked : ℕ) → FramedChecks (Close s scope silenced asked) }
 {}
 
 /// Law: so does an access.
-pub fn accesses_are_framed()
+pub fn law_accesses_are_framed()
     ensures { (s : Setting) (scopes : List Begun) (begun : Begun) (asked : ℕ) (operation : Option Operation) (effect : Effect)
         → FramedChecks (λ records passes rest. MakesAccess s scopes begun asked operation records passes effect rest) }
 {}

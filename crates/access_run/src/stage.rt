@@ -3,7 +3,7 @@
 ghost use Rattle.std.specs.Prelude.{◌<◌, ◌++◌, ◌∷◌, [], ℕ, IfSome, List, Option, unwrap_or};
 ghost use Rattle.access_run.specs.Leads.{HasCell, IsChecked, IsReady, IsUnderWay, Runs, StageLeads};
 ghost use Rattle.access_run.specs.Whole.{NoneWhole};
-ghost use Rattle.access_run.specs.declared.stage.Stage.TheVariants as stages;
+ghost use Rattle.access_run.specs.declared.stage.AccessStage.TheVariants as stages;
 ghost use Rattle.access_run.specs.memory_operation.Operations.{Operates};
 ghost use Rattle.access_run.specs.declared.memory_operation.operation.Operation as kinds;
 ghost use Rattle.setup_access.specs.Check.{Check};
@@ -20,7 +20,7 @@ use setup_access::Checker;
 
 /// What an access does next.
 #[derive(Clone, Copy, PartialEq, Eq)]
-pub enum Stage {
+pub enum AccessStage {
     /// Its check, which its task's checker makes; then this operation on memory, if it has one.
     Check(Option<OperationRun>),
     /// Its operation.
@@ -48,7 +48,7 @@ pub(crate) fn ready(
 
 /// What follows on a step of the check, where the check is over. Where it goes on nothing is copied: most steps are
 /// such.
-pub(crate) fn after_check(checker: &Checker, run: &Option<OperationRun>) -> Option<Stage>
+pub(crate) fn after_check(checker: &Checker, run: &Option<OperationRun>) -> Option<AccessStage>
     ensures going { IfSome result IsUnderWay }
     ensures leads { (s : Setting) (scopes : List Begun) (begun : Begun) (asked : ℕ) (operation : Option kinds.Operation) (records : List Record) (last : Record)
         → Leads s scopes (Checks begun) asked (records ++ last ∷ []) checker.now
@@ -59,8 +59,8 @@ pub(crate) fn after_check(checker: &Checker, run: &Option<OperationRun>) -> Opti
         return None;
     }
     match run {
-        Some(run) => Some(Stage::Operate(*run)),
-        None => Some(Stage::End(Effect {
+        Some(run) => Some(AccessStage::Operate(*run)),
+        None => Some(AccessStage::End(Effect {
             read: None,
             written: None,
         })),
@@ -68,7 +68,7 @@ pub(crate) fn after_check(checker: &Checker, run: &Option<OperationRun>) -> Opti
 }
 
 /// What follows on a step of the operation, where that is over.
-pub(crate) fn after_step(run: &OperationRun) -> Option<Stage>
+pub(crate) fn after_step(run: &OperationRun) -> Option<AccessStage>
     ensures going { IfSome result IsUnderWay }
     ensures leads { (s : Setting) (scopes : List Begun) (begun : Begun) (asked : ℕ) (operation : Option kinds.Operation)
         (checked done : List Record) (last : Record) (checker : checkers.Checker)
@@ -79,5 +79,5 @@ pub(crate) fn after_step(run: &OperationRun) -> Option<Stage>
     if !run.is_over() {
         return None;
     }
-    Some(Stage::End(run.effect()))
+    Some(AccessStage::End(run.effect()))
 }

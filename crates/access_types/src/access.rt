@@ -198,7 +198,7 @@ impl Access {
 }
 
 /// Law: the limits of accesses, as numbers.
-pub fn limits_are_numbers()
+pub fn law_limits_are_numbers()
     ensures tasks { TASKS ≡ 16 }
     ensures sites { SITES ≡ 256 }
     ensures addresses { ADDRESS_END ≡ 2 ^ 63 }

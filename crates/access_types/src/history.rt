@@ -55,32 +55,32 @@ pub struct Moment {
 }
 
 /// Law: a true race is symmetric.
-pub fn races_are_symmetric()
+pub fn law_races_are_symmetric()
     ensures { (plain_writes_atomic : Bool) (history : History) (s f : spec.Access)
         → TrueRace plain_writes_atomic history s f → TrueRace plain_writes_atomic history f s }
 {}
 
 /// Law: the content after no moments is the initial content.
-pub fn content_begins_with_the_initial()
+pub fn law_content_begins_with_the_initial()
     ensures { (initial : Memory) (history : History) (bytes : Bytes)
         → content initial history 0 bytes ≡ value_from initial bytes.addr bytes.size }
 {}
 
 /// Law: the bytes of a value that was laid down are read back, up to their size.
-pub fn laid_bytes_are_read_back()
+pub fn law_laid_bytes_are_read_back()
     ensures { (memory : Memory) (bytes : Bytes) (value : ℕ)
         → value_from (laid memory bytes value) bytes.addr bytes.size ≡ value % 256 ^ bytes.size }
 {}
 
 /// Law: a value that is laid down leaves other bytes as they are.
-pub fn other_bytes_stay()
+pub fn law_other_bytes_stay()
     ensures { (memory : Memory) (bytes other : Bytes) (value : ℕ) → AreApart bytes other
         → value_from (laid memory bytes value) other.addr other.size
         ≡ value_from memory other.addr other.size }
 {}
 
 /// Law: an access that has ended is not in progress at any later moment.
-pub fn ended_accesses_stay_ended()
+pub fn law_ended_accesses_stay_ended()
     ensures { (history : History) (a : spec.Access) (k later : ℕ)
         → Contains (take k history) (ending a) → k ≤ later → ¬ InProgress history a later }
 {}

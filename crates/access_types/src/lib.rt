@@ -14,7 +14,7 @@ pub mod takes;
 pub mod tickets;
 
 pub use access::{
-    ADDRESS_END, Access, AccessError, SITES, TASKS, conflicts, limits_are_numbers, overlaps,
+    ADDRESS_END, Access, AccessError, SITES, TASKS, conflicts, law_limits_are_numbers, overlaps,
 };
 pub use arms::{Arm, ArmOutcome, HitResult};
 pub use history::{Bytes, Happening, Mark, Moment};
@@ -23,4 +23,4 @@ pub use report::{Report, ValueChange};
 pub use sites::Sites;
 pub use stamped::Stamped;
 pub use takes::Take;
-pub use tickets::{rep_of, site_of, task_of, ticket, tickets_differ, tickets_read_back};
+pub use tickets::{law_tickets_differ, law_tickets_read_back, rep_of, site_of, task_of, ticket};

@@ -45,12 +45,12 @@ pub fn rep_of(ticket: u32) -> u32
 }
 
 /// Law: an access's ticket is above 0 and below 2^32, and gives its task, site and repetition back.
-pub fn tickets_read_back()
+pub fn law_tickets_read_back()
     ensures { (a : spec.Access) → IsInLimits a → ReadsBack a }
 {}
 
 /// Law: accesses that differ in task, site or repetition have different tickets.
-pub fn tickets_differ()
+pub fn law_tickets_differ()
     ensures { (a b : spec.Access) → IsInLimits a → IsInLimits b → ticket_number a ≡ ticket_number b
         → AreOneTurn a b }
 {}

@@ -9,7 +9,7 @@ use Rattle.std.specs.Str.Parse.{IsNumeral, digits_value, without_leading_plus}
 use Rattle.clap.specs.Words.{ReadsOne, Row, Text, first_of, first_value, is_simple, is_simple_and_free, matched_of, one_text, raw_values, rows_of, subcommand_of}
 use Rattle.clap.specs.declared.parser.matches.Found.{Found}
 use Rattle.clap.proofs.WalkLemmas.{first_value-rows, one_text-rows, raw_values-rows}
-use Rattle.cli.specs.Bounds.{KeepsSwitches}
+use Rattle.cli.specs.Bounds.{KeepsPreemptions}
 use Rattle.cli.specs.Words.{AreSizes, Ask, AskSwitches, IsAskedBy, IsAskedOf, IsFlag, IsNumber, program_app, words_of}
 use Rattle.cli.specs.declared.request.Request.{Request}
 use Rattle.cli.specs.declared.request.Request.TheVariants as requests
@@ -97,10 +97,10 @@ number_same gives spelled found option result number other some value asks =
     spelled asks.text number (subst (ReadsOne gives asks.text) some (value asks.text read)) ∙ asks.spelled
 
 -- where the value of `--switches` is neither a number within its bounds nor `all`, it asks for nothing
-pub no_switches : (values : List Row) → ((number : ℕ) → number ≤ 16 → IsNumber values (codes "switches") number → ⊥)
-    → (first_of (codes "switches") values ≡ Some (codes "all") → ⊥) → (asked : Switches) → KeepsSwitches asked → AskSwitches values asked → ⊥
-no_switches values no_number not_all (switches.AtMost number) bound asks = no_number number bound asks
-no_switches values no_number not_all switches.All bound asks = not_all asks
+pub no_preemptions : (values : List Row) → ((number : ℕ) → number ≤ 16 → IsNumber values (codes "switches") number → ⊥)
+    → (first_of (codes "switches") values ≡ Some (codes "all") → ⊥) → (asked : Switches) → KeepsPreemptions asked → AskSwitches values asked → ⊥
+no_preemptions values no_number not_all (switches.AtMost number) bound asks = no_number number bound asks
+no_preemptions values no_number not_all switches.All bound asks = not_all asks
 
 -- whether an option that stands alone is set
 pub flag_read : (found : Found) (option : Text) (set : Bool) → (one_text found option ≡ None → set ≡ false)

@@ -9,7 +9,7 @@ use Rattle.cli.specs.declared.request.SearchRequest.{SearchRequest}
 use Rattle.cli.specs.declared.request.Switches.{Switches}
 use Rattle.cli.specs.declared.request.Switches.TheVariants as switches
 
--- from 3 to 1,024 page slots, at most 1,000,000 accesses skipped, and from 1 to 1,000,000,000 vain tries of a wait
+-- from 3 to 1,024 page slots, at most 1,000,000 accesses skipped, and from 1 to 1,000,000,000 failed tries of a wait
 pub record KeepsBounds (options : RunOptions) : Type 0 where
   pub slots_from : 3 ≤ options.slots
   pub slots_to : options.slots ≤ 1024
@@ -26,14 +26,14 @@ pub record KeepsRunBounds (request : RunRequest) : Type 0 where
   pub jobs_to : request.jobs ≤ 64
   pub options : KeepsBounds request.options
 
--- at most 16 switches, or no bound on them
-abbrev pub KeepsSwitches : Switches → Type 0
-KeepsSwitches (switches.AtMost number) = number ≤ 16
-KeepsSwitches switches.All = Unit {0}
+-- at most 16 preemptions, or no bound on them
+abbrev pub KeepsPreemptions : Switches → Type 0
+KeepsPreemptions (switches.AtMost number) = number ≤ 16
+KeepsPreemptions switches.All = Unit {0}
 
--- and so many switches, in from 1 to 1,000,000,000 schedules, or states, by 1 to 64 threads
+-- and so many preemptions, in from 1 to 1,000,000,000 schedules, or states, by 1 to 64 threads
 pub record KeepsSearchBounds (request : SearchRequest) : Type 0 where
-  pub switches : KeepsSwitches request.switches
+  pub switches : KeepsPreemptions request.switches
   pub limit : 1 ≤ request.limit
   pub limit_to : request.limit ≤ 1000000000
   pub jobs : 1 ≤ request.jobs

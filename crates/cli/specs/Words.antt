@@ -76,7 +76,8 @@ step_app sizes =
     (word_rule (codes "FILE")))
     (default_rule (codes "schedule") [])) sizes
 
--- `run`, with its file, how many runs there are, the delay of a watch, how many runs are made side by side, where they end, and those options
+-- `run`, with its file, how many runs there are, the delay of a watch, how many runs are made side by side, where they
+-- end, and those options
 abbrev pub run_app : Bor (List (Bor Text)) → App
 run_app sizes =
     with_options (with_rule (with_rule (with_rule (with_rule (with_rule (with_rule (new_app (codes "run"))
@@ -87,8 +88,8 @@ run_app sizes =
     (flag_rule (codes "stop-at-first")))
     (flag_rule (codes "keep-going"))) sizes
 
--- `search`, with its file, how many switches a schedule has at most, after how many schedules or states the search stops, how many threads
--- share the work, and those options; what `--switches` takes is said below
+-- `search`, with its file, how many preemptions a schedule has at most, after how many schedules or states the search
+-- stops, how many threads share the work, and those options; what `--switches` takes is said below
 abbrev pub search_app : Bor (List (Bor Text)) → App
 search_app sizes =
     with_options (with_rule (with_rule (with_rule (with_rule (new_app (codes "search"))
@@ -108,8 +109,8 @@ show_app = with_rule (with_rule (with_rule (new_app (codes "show"))
     (text_rule (codes "svg")))
     (flag_rule (codes "ascii"))
 
--- `check`, with its files, whether the printed form is wanted, whether the calls that are read are, and the options by which accesses have
--- addresses and watch words
+-- `check`, with its files, whether the printed form is wanted, whether the calls that are read are, and the options by
+-- which accesses have addresses and watch words
 abbrev pub check_app : Bor (List (Bor Text)) → App
 check_app sizes =
     with_rule (with_rule (with_rule (with_rule (with_rule (with_rule (with_rule (new_app (codes "check"))
@@ -275,15 +276,17 @@ pub record IsSaidOf (words : List Text) (kind : ErrorKind) : Type 0 where
 abbrev pub AskForHelp : List Text → Type 0
 AskForHelp words = IsSaidOf words kinds.DisplayHelp
 
--- nothing is to be said of the words, and yet no request, with numbers within their bounds, is asked for by the command that they call
+-- nothing is to be said of the words, and yet no request, with numbers within their bounds, is asked for by the command
+-- that they call
 pub record AskForNothing (words : List Text) : Type 0 where
   pub sizes : Bor (List (Bor Text))
   pub sizes_are : AreSizes sizes
   pub sound : fault_of (program_app sizes) words ≡ []
   pub nothing : (request : Request) → MayBeAsked request → IsAskedOf (subcommand_of (program_app sizes) words) request → ⊥
 
--- This may be said in place of a request: that memory ran out, what is to be said of the words, or, where nothing is and yet they ask for
--- nothing, that a value doesn't do. So it is said of no words that name a command that none is named.
+-- This may be said in place of a request: that memory ran out, what is to be said of the words, or, where nothing is
+-- and yet they ask for nothing, that a value doesn't do. So it is said of no words that name a command that none is
+-- named.
 abbrev pub MayFail : List Text → ErrorKind → Type 0
 MayFail words kind =
     (kind ≡ kinds.OutOfMemory) ⊎ (((kind ≡ kinds.ValueValidation) × AskForNothing words) ⊎ IsSaidOf words kind)

@@ -1,7 +1,7 @@
 //! What the words ask for.
 
 ghost use Rattle.std.specs.Prelude.{◌≡◌, ◌≢◌, ◌↔◌, ◌≤◌, ◌<◌, ℕ, IfErr, IfOk, IfSome, IsSome, IsTrue, Some, [], codes, length, map, true};
-ghost use Rattle.cli.specs.Bounds.{KeepsBounds, KeepsCheckBounds, KeepsRunBounds, KeepsSearchBounds, KeepsSwitches, MayBeAsked};
+ghost use Rattle.cli.specs.Bounds.{KeepsBounds, KeepsCheckBounds, KeepsRunBounds, KeepsSearchBounds, KeepsPreemptions, MayBeAsked};
 ghost use Rattle.cli.specs.Words.{AreSizes, Ask, AskCheck, AskOptions, AskRun, AskSearch, AskShow, AskStep, AskSwitches};
 ghost use Rattle.cli.specs.Words.{IsArg, IsAskedBy, IsAskedOf, IsGiven, IsLayout, IsNumber, IsProgram, MayFail, words_of};
 ghost use Rattle.cli.specs.Words.{check_app, default_rule, flag_rule, name_rule, number_rule, replay_app, run_app, search_app, show_app, step_app};
@@ -25,7 +25,7 @@ const DELAY: (u64, u64) = (0, 1_000_000);
 /// The fewest and the most runs side by side, and the fewest and the most threads of a search.
 const JOBS: (u64, u64) = (1, 64);
 
-/// The fewest and the most switches from task to task, where there are so many at most.
+/// The fewest and the most preemptions, where there are so many at most.
 const AT_MOST: (u64, u64) = (0, 16);
 
 /// The fewest and the most schedules that a search may go through, or states.
@@ -37,7 +37,7 @@ const SLOTS: (u64, u64) = (3, 1024);
 /// The fewest and the most accesses skipped between two that are watched.
 const SKIP: (u64, u64) = (0, 1_000_000);
 
-/// The fewest and the most vain tries of a wait.
+/// The fewest and the most failed tries of a wait.
 const TURNS: (u64, u64) = (1, 1_000_000_000);
 
 /// How many bits a watch word can have.
@@ -50,7 +50,7 @@ pub enum Request<'a> {
     Step(StepRequest<'a>),
     /// To run the program of a litmus file on threads.
     Run(RunRequest<'a>),
-    /// To step the program of a litmus file under all schedules, or those with few switches.
+    /// To step the program of a litmus file under all schedules, or those with few preemptions.
     Search(SearchRequest<'a>),
     /// To check a trace.
     Replay(ReplayRequest<'a>),
@@ -110,7 +110,7 @@ pub struct RunRequest<'a> {
     pub options: RunOptions<'a>,
 }
 
-/// How often a schedule that is searched may switch from task to task.
+/// How many preemptions a schedule that is searched may have.
 #[derive(Clone, Copy, Debug, PartialEq, Eq)]
 pub enum Switches {
     /// So often at most.
@@ -124,7 +124,7 @@ pub enum Switches {
 pub struct SearchRequest<'a> {
     /// The name of the litmus file.
     pub file: &'a str,
-    /// How often a schedule may switch from task to task.
+    /// How many preemptions a schedule may have.
     pub switches: Switches,
     /// After how many schedules the search stops, though others remain: after how many states, where all schedules are
     /// searched.
@@ -171,7 +171,7 @@ pub struct RunOptions<'a> {
     pub strict: bool,
     /// How many bits a watch word has.
     pub layout: Layout,
-    /// At so many vain tries of one wait a task is stuck.
+    /// At so many failed tries of one wait a task is stuck.
     pub turns: u64,
 }
 
@@ -365,11 +365,11 @@ fn search_request<'a>(search: &ArgMatches<'a>) -> Option<SearchRequest<'a>>
     })
 }
 
-/// How often a schedule that is searched may switch, by the value of `--switches`.
+/// How many preemptions a schedule that is searched may have, by the value of `--switches`.
 fn switches_asked(search: &ArgMatches<'_>) -> Option<Switches>
-    ensures bounds { IfSome result KeepsSwitches }
+    ensures bounds { IfSome result KeepsPreemptions }
     ensures asked { IfSome result (AskSwitches (rows_of (found_of search.now))) }
-    ensures complete { (switches : Switches) → KeepsSwitches switches → AskSwitches (rows_of (found_of search.now)) switches
+    ensures complete { (switches : Switches) → KeepsPreemptions switches → AskSwitches (rows_of (found_of search.now)) switches
         → IsSome result }
 {
     if has_value(search, "switches", "all") {

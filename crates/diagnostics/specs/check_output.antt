@@ -1,2 +1,2 @@
 pub mod Output
-pub mod Found
+pub mod Diagnosis

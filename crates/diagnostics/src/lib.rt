@@ -1,5 +1,5 @@
-//! What a person is told of a litmus text, a place list and a schedule: why and where one is refused, and what a program
-//! comes to.
+//! What a person is told of a litmus text, a place list and a schedule: why and where one is refused, and what a
+//! program comes to.
 #![tactic(auto)]
 
 pub mod check_output;

@@ -1,3 +1,3 @@
-pub mod run_lists
+pub mod execution
 pub mod observation_determinism
 pub mod timestamp_irrelevance

@@ -4,5 +4,6 @@
 pub mod laws;
 
 pub use laws::{
-    few_accesses_begin, one_outcome_a_record, one_telling, steps_name_words_of_the_run,
+    law_few_accesses_begin, law_one_outcome_a_record, law_one_telling,
+    law_steps_name_words_of_the_run,
 };

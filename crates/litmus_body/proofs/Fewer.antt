@@ -23,7 +23,7 @@ use Rattle.litmus_expression.specs.Expressions.{bare}
 use Rattle.litmus_expression.specs.ExpressionReader.{expression_at, load_at, pure_at, take_star}
 use Rattle.litmus_expression.specs.NameReader.{count_access, register_name, take_variable}
 use Rattle.litmus_expression.specs.PlaceReader.{count_statement, take_changed}
-use Rattle.litmus_expression.specs.Places.{Place, repeats_of}
+use Rattle.litmus_expression.specs.Places.{NestingPlace, repeats_of}
 use Rattle.litmus_expression.specs.States.{State, after, with_left}
 use Rattle.litmus_expression.proofs.Fewer.{TakesAny, TakesSome, at_last, behind_it, changed_fewer, either_way, expression_fewer, load_fewer}
 use Rattle.litmus_expression.proofs.Fewer.{pure_fewer, star_fewer, unless_it}
@@ -128,7 +128,7 @@ store_fewer t d w s x e =
 
 -- ---- simple statements
 
-assignment_fewer : (p : Place) (s : State) (x : tree.Assignment × State) → register_assignment p s ≡ Some x → TakesSome s x
+assignment_fewer : (p : NestingPlace) (s : State) (x : tree.Assignment × State) → register_assignment p s ≡ Some x → TakesSome s x
 unfolding register_assignment
 assignment_fewer p s x e =
     unless_it (begins_call s.symbols) (take_changed p.counters s >>= λ r. take_sign Assign r.1.symbols >>= λ l. expression_at p.turns p.depth
@@ -145,7 +145,7 @@ assignment_fewer p s x e =
     let three : TakesSome (with_left r.1 l) z = expression_fewer p.turns p.depth (with_left r.1 l) z value in
     omega arith)))))
 
-behind_at_most : (p : Place) (variable : ℕ) (s : State) (x : Enclosable × State) → behind_variable p variable s ≡ Some x → TakesAny s x
+behind_at_most : (p : NestingPlace) (variable : ℕ) (s : State) (x : Enclosable × State) → behind_variable p variable s ≡ Some x → TakesAny s x
 behind_at_most p variable s x e =
     either_way (is_sign Assign (first s.symbols)) (pure_at p.turns p.depth (after s) >>= λ z. Some (assignment (tree.write writes.Plain variable z.0), z.1))
     (cond (is_sign AddAssign (first s.symbols)) (pure_at p.turns p.depth (after s) >>= λ z. Some (assignment (tree.add variable z.0), z.1)) (Some (
@@ -170,7 +170,7 @@ behind_at_most p variable s x e =
     omega arith)))
     (λ no_more e. at_last _ (TakesAny s) x e (omega arith)))
 
-starred_fewer : (p : Place) (s : State) (x : Enclosable × State) → starred p s ≡ Some x → TakesSome s x
+starred_fewer : (p : NestingPlace) (s : State) (x : Enclosable × State) → starred p s ≡ Some x → TakesSome s x
 unfolding starred
 starred_fewer p s x e =
     behind_it (count_access p.turns s) (λ c. take_star c >>= λ u. take_variable Integers u >>= λ v. behind_variable p v.0 v.1) (TakesSome s) x e
@@ -183,7 +183,7 @@ starred_fewer p s x e =
     let three : TakesAny v.1 x = behind_at_most p v.0 v.1 x e in
     omega arith)))
 
-increment_fewer : (p : Place) (s : State) (x : Enclosable × State) → increment p s ≡ Some x → TakesSome s x
+increment_fewer : (p : NestingPlace) (s : State) (x : Enclosable × State) → increment p s ≡ Some x → TakesSome s x
 unfolding increment
 increment_fewer p s x e =
     behind_it (count_access p.turns s) (λ c. take_sign OpenParen c.symbols >>= λ l. take_star (with_left c l) >>= λ u. take_variable Integers u
@@ -208,7 +208,7 @@ increment_fewer p s x e =
     let five = sign_fewer Increment m n increments in
     omega arith)))))))
 
-simple_with_fewer : (p : Place) (s : State) (b : Start) (x : Enclosable × State) → simple_with p s b ≡ Some x → TakesSome s x
+simple_with_fewer : (p : NestingPlace) (s : State) (b : Start) (x : Enclosable × State) → simple_with p s b ≡ Some x → TakesSome s x
 simple_with_fewer p s star x e = starred_fewer p s x e
 simple_with_fewer p s parenthesis x e = increment_fewer p s x e
 simple_with_fewer p s (a_store w) x e =
@@ -225,12 +225,12 @@ simple_with_fewer p s a_name x e =
     (assignment_fewer p s z is))
 simple_with_fewer p s nothing x e = absurd cc
 
-pub simple_fewer : (p : Place) (s : State) (x : Enclosable × State) → simple_at p s ≡ Some x → TakesSome s x
+pub simple_fewer : (p : NestingPlace) (s : State) (x : Enclosable × State) → simple_at p s ≡ Some x → TakesSome s x
 unfolding simple_at
 simple_fewer p s x e = simple_with_fewer p s (start_of (first s.symbols)) x e
 
 -- `data_race ( simple ) ;`
-pub data_race_fewer : (p : Place) (s : State) (x : tree.Statement × State) → data_race_at p s ≡ Some x → TakesSome s x
+pub data_race_fewer : (p : NestingPlace) (s : State) (x : tree.Statement × State) → data_race_at p s ≡ Some x → TakesSome s x
 unfolding data_race_at
 data_race_fewer p s x e =
     behind_it (take_sign OpenParen (others s.symbols)) (λ l. simple_at p (with_left s l) >>= λ z. take_sign CloseParen z.1.symbols >>= λ m.
@@ -386,7 +386,7 @@ counted_same s c e =
     unless_it (s.statements == 256) (Some (record s { statements = s.statements + 1 })) (λ (u : State). length u.symbols ≡ length s.symbols) c e
     (λ no e. at_last _ (λ (u : State). length u.symbols ≡ length s.symbols) c e refl)
 
-behind_register_at_most : (p : Place) (register : ℕ) (s : State) (x : Option tree.Statement × State)
+behind_register_at_most : (p : NestingPlace) (register : ℕ) (s : State) (x : Option tree.Statement × State)
     → behind_register p register s ≡ Some x → TakesAny s x
 behind_register_at_most p register s x e =
     either_way (is_sign Assign (first s.symbols))
@@ -419,7 +419,7 @@ behind_register_at_most p register s x e =
     let two = sign_fewer Semicolon u.symbols l ends in
     omega arith))))
 
-pub declaration_fewer : (p : Place) (s : State) (x : Option tree.Statement × State) → declaration_at p s ≡ Some x → TakesSome s x
+pub declaration_fewer : (p : NestingPlace) (s : State) (x : Option tree.Statement × State) → declaration_at p s ≡ Some x → TakesSome s x
 unfolding declaration_at
 declaration_fewer p s x e =
     behind_it (take_changed p.counters (after s)) (λ r. behind_register p r.0 r.1) (TakesSome s) x e (λ r changed e.
@@ -468,7 +468,7 @@ counter_fewer counters s x e =
     let five = sign_fewer Semicolon z n ends in
     omega arith))))))
 
-bound_at_most : (p : Place) (register : ℕ) (s : State) (x : LoopHeader × State) → bound_at p register s ≡ Some x → TakesAny s x
+bound_at_most : (p : NestingPlace) (register : ℕ) (s : State) (x : LoopHeader × State) → bound_at p register s ≡ Some x → TakesAny s x
 unfolding bound_at
 bound_at_most p register s x e =
     behind_it (take_again register s) (λ u. take_sign signs.Less u.symbols >>= λ l. take_number l >>= λ n. repeats_of p n.0 >>= λ r.
@@ -501,7 +501,7 @@ step_at_most register s u e =
     let three = sign_fewer CloseParen l m closes in
     omega arith))))
 
-pub header_fewer : (p : Place) (s : State) (x : LoopHeader × State) → header_at p s ≡ Some x → TakesSome s x
+pub header_fewer : (p : NestingPlace) (s : State) (x : LoopHeader × State) → header_at p s ≡ Some x → TakesSome s x
 unfolding header_at
 header_fewer p s x e =
     behind_it (counter_at p.counters s) (λ r. bound_at p r.0 r.1 >>= λ h. step_at r.0 h.1 >>= λ u. Some (h.0, u)) (TakesSome s) x e (λ r counter e.

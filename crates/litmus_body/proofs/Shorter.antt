@@ -7,7 +7,7 @@ use Rattle.litmus_cursor.specs.Front.{◌>>=◌, first, is_sign, others, take_si
 use Rattle.litmus_cursor.specs.Words.{Symbol, word, identifier, number, sign, fault}
 use Rattle.litmus_expression.specs.ExpressionReader.{expression_at}
 use Rattle.litmus_expression.specs.PlaceReader.{count_statement}
-use Rattle.litmus_expression.specs.Places.{Place, deeper, in_loop}
+use Rattle.litmus_expression.specs.Places.{NestingPlace, deeper, in_loop}
 use Rattle.litmus_expression.specs.States.{State, after, with_left}
 use Rattle.litmus_expression.proofs.Fewer.{TakesAny, TakesSome, at_last, behind_it, either_way, expression_fewer}
 use Rattle.litmus_expression.proofs.Taken.{is_sign_is, others_fewer, sign_fewer}
@@ -40,16 +40,16 @@ sign_some t symbols e = others_fewer symbols (sign t) (is_sign_is t (first symbo
 -- ---- the parts
 
 pub record Shorter (R : Readers) : Type 0 where
-  pub statement : (p : Place) (s : State) (x : Option tree.Statement × State) → R.statement p s ≡ Some x → TakesSome s x
-  pub counted : (p : Place) (c : Counted) (s : State) (x : tree.Statement × State) → R.counted p c s ≡ Some x → TakesSome s x
-  pub branch : (p : Place) (s : State) (x : tree.Statement × State) → R.branch p s ≡ Some x → TakesSome s x
-  pub repetition : (p : Place) (s : State) (x : tree.Statement × State) → R.repetition p s ≡ Some x → TakesSome s x
-  pub body : (p : Place) (s : State) (x : tree.Block × State) → R.body p s ≡ Some x → TakesSome s x
-  pub block : (p : Place) (s : State) (x : tree.Block × State) → R.block p s ≡ Some x → TakesSome s x
-  pub more : (p : Place) (before : tree.Block) (s : State) (x : tree.Block × State) → R.more p before s ≡ Some x → TakesSome s x
+  pub statement : (p : NestingPlace) (s : State) (x : Option tree.Statement × State) → R.statement p s ≡ Some x → TakesSome s x
+  pub counted : (p : NestingPlace) (c : Counted) (s : State) (x : tree.Statement × State) → R.counted p c s ≡ Some x → TakesSome s x
+  pub branch : (p : NestingPlace) (s : State) (x : tree.Statement × State) → R.branch p s ≡ Some x → TakesSome s x
+  pub repetition : (p : NestingPlace) (s : State) (x : tree.Statement × State) → R.repetition p s ≡ Some x → TakesSome s x
+  pub body : (p : NestingPlace) (s : State) (x : tree.Block × State) → R.body p s ≡ Some x → TakesSome s x
+  pub block : (p : NestingPlace) (s : State) (x : tree.Block × State) → R.block p s ≡ Some x → TakesSome s x
+  pub more : (p : NestingPlace) (before : tree.Block) (s : State) (x : tree.Block × State) → R.more p before s ≡ Some x → TakesSome s x
 
 module _ (R : Readers) (h : Shorter R) where
-  statement_shorter : (p : Place) (s : State) (o : Opening) (x : Option tree.Statement × State) → opening_at s ≡ Some o → statement_with R p s o ≡ Some x
+  statement_shorter : (p : NestingPlace) (s : State) (o : Opening) (x : Option tree.Statement × State) → opening_at s ≡ Some o → statement_with R p s o ≡ Some x
       → TakesSome s x
   statement_shorter p s openings.Empty x opens e = at_last _ (TakesSome s) x e (opening_some s openings.Empty opens)
   statement_shorter p s openings.Declaration x opens e = declaration_fewer p s x e
@@ -61,7 +61,7 @@ module _ (R : Readers) (h : Shorter R) where
       let inside : TakesSome u z = h.counted p c u z is in
       omega arith)))
 
-  counted_shorter : (p : Place) (c : Counted) (s : State) (x : tree.Statement × State) → (by R).counted p c s ≡ Some x → TakesSome s x
+  counted_shorter : (p : NestingPlace) (c : Counted) (s : State) (x : tree.Statement × State) → (by R).counted p c s ≡ Some x → TakesSome s x
   counted_shorter p counteds.If s x e = h.branch p s x e
   counted_shorter p counteds.For s x e = h.repetition p s x e
   counted_shorter p counteds.DataRace s x e = data_race_fewer p s x e
@@ -81,7 +81,7 @@ module _ (R : Readers) (h : Shorter R) where
       let two = sign_fewer Semicolon z.1.symbols l ends in
       omega arith)))
 
-  behind_body_shorter : (p : Place) (condition : tree.Expression) (body : tree.Block) (s : State) (x : tree.Statement × State)
+  behind_body_shorter : (p : NestingPlace) (condition : tree.Expression) (body : tree.Block) (s : State) (x : tree.Statement × State)
       → behind_body R p condition body s ≡ Some x → TakesAny s x
   behind_body_shorter p condition body s x e =
       either_way (is_else (first s.symbols)) (R.body p (after s) >>= λ z. Some (tree.if_else condition body z.0, z.1)) (Some (tree.if_block condition body, s))
@@ -94,7 +94,7 @@ module _ (R : Readers) (h : Shorter R) where
       omega arith)))
       (λ none e. at_last _ (TakesAny s) x e (omega arith))
 
-  branch_shorter : (p : Place) (s : State) (x : tree.Statement × State) → (by R).branch p s ≡ Some x → TakesSome s x
+  branch_shorter : (p : NestingPlace) (s : State) (x : tree.Statement × State) → (by R).branch p s ≡ Some x → TakesSome s x
   branch_shorter p s x e =
       behind_it (take_sign OpenParen (others s.symbols)) (λ l. expression_at p.turns p.depth (with_left s l) >>= λ c. take_sign CloseParen c.1.symbols
       >>= λ m. R.body p (with_left c.1 m) >>= λ b. behind_body R p c.0 b.0 b.1) (TakesSome s) x e (λ l opens e.
@@ -110,7 +110,7 @@ module _ (R : Readers) (h : Shorter R) where
       let five : TakesAny b.1 x = behind_body_shorter p c.0 b.0 b.1 x e in
       omega arith))))
 
-  repetition_shorter : (p : Place) (s : State) (x : tree.Statement × State) → (by R).repetition p s ≡ Some x → TakesSome s x
+  repetition_shorter : (p : NestingPlace) (s : State) (x : tree.Statement × State) → (by R).repetition p s ≡ Some x → TakesSome s x
   repetition_shorter p s x e =
       behind_it (header_at p (after s)) (λ n. R.body (in_loop p n.0.register n.0.repeats) n.1
       >>= λ b. Some (tree.for_turns n.0.register n.0.turns b.0, b.1)) (TakesSome s) x e (λ n header e.
@@ -122,7 +122,7 @@ module _ (R : Readers) (h : Shorter R) where
       let two : TakesSome n.1 b = h.body (in_loop p n.0.register n.0.repeats) n.1 b inside in
       omega arith)))
 
-  body_shorter : (p : Place) (s : State) (x : tree.Block × State) → (by R).body p s ≡ Some x → TakesSome s x
+  body_shorter : (p : NestingPlace) (s : State) (x : tree.Block × State) → (by R).body p s ≡ Some x → TakesSome s x
   body_shorter p s x e =
       either_way (is_sign OpenBrace (first s.symbols)) (R.block p s)
       (opening_at s >>= λ o. deeper p >>= λ q. R.statement q s >>= λ z. Some (kept z.0 tree.empty, z.1)) (TakesSome s) x e
@@ -134,7 +134,7 @@ module _ (R : Readers) (h : Shorter R) where
       at_last _ (TakesSome s) x e
       (h.statement q s z is)))))
 
-  block_shorter : (p : Place) (s : State) (x : tree.Block × State) → (by R).block p s ≡ Some x → TakesSome s x
+  block_shorter : (p : NestingPlace) (s : State) (x : tree.Block × State) → (by R).block p s ≡ Some x → TakesSome s x
   block_shorter p s x e =
       either_way (is_sign OpenBrace (first s.symbols)) (deeper p >>= λ q. R.more q tree.empty (after s)) None (TakesSome s) x e
       (λ brace e.
@@ -144,7 +144,7 @@ module _ (R : Readers) (h : Shorter R) where
       omega arith))
       (λ none e. absurd cc)
 
-  more_shorter : (p : Place) (before : tree.Block) (s : State) (x : tree.Block × State) → (by R).more p before s ≡ Some x → TakesSome s x
+  more_shorter : (p : NestingPlace) (before : tree.Block) (s : State) (x : tree.Block × State) → (by R).more p before s ≡ Some x → TakesSome s x
   more_shorter p before s x e =
       either_way (is_sign CloseBrace (first s.symbols)) (Some (before, after s))
       (R.statement p s >>= λ z. behind p z.0 >>= λ q. R.more q (added before z.0) z.1) (TakesSome s) x e
@@ -156,7 +156,7 @@ module _ (R : Readers) (h : Shorter R) where
       let two : TakesSome z.1 x = h.more q (added before z.0) z.1 x e in
       omega arith)))
 
-  statement_whole : (p : Place) (s : State) (x : Option tree.Statement × State) → (by R).statement p s ≡ Some x → TakesSome s x
+  statement_whole : (p : NestingPlace) (s : State) (x : Option tree.Statement × State) → (by R).statement p s ≡ Some x → TakesSome s x
   statement_whole p s x e =
       behind_it (opening_at s) (λ o. statement_with R p s o) (TakesSome s) x e (λ o opens e.
       statement_shorter p s o x opens e)

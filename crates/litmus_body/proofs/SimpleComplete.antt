@@ -24,7 +24,7 @@ use Rattle.litmus_expression.specs.Followed.{Differ, Follows, accesses, name_of}
 use Rattle.litmus_expression.specs.NameReader.{count_access, register_at, take_variable, takes_type}
 use Rattle.litmus_expression.specs.Names.{IsAtomic, IsChanged, IsInteger, IsRegister, IsVariable, Names, Parameter}
 use Rattle.litmus_expression.specs.PlaceReader.{take_changed}
-use Rattle.litmus_expression.specs.Places.{Place, is_counter}
+use Rattle.litmus_expression.specs.Places.{NestingPlace, is_counter}
 use Rattle.litmus_expression.specs.States.{State, after, with_left}
 use Rattle.litmus_expression.proofs.Complete.{atomic_back, expression_read, follows_close, follows_comma, integer_back, load_is_read, numbered_differ}
 use Rattle.litmus_expression.proofs.Complete.{placed, pure_is_read, register_back, star_there}
@@ -36,7 +36,7 @@ use Rattle.litmus_body.specs.Statements.{Enclosable, Simple, alone, assignment, 
 use Rattle.litmus_body.specs.StoreReader.{store_at, stored, write, written}
 use Rattle.litmus_body.proofs.SimpleSound.{register_accesses}
 
-module _ (P : List Parameter) (st : ℕ) (p : Place) (apart : Differ (map name_of P)) where
+module _ (P : List Parameter) (st : ℕ) (p : NestingPlace) (apart : Differ (map name_of P)) where
   access_there : (symbols : List Symbol) (names : Names) (n : ℕ) → n + p.turns ≤ 1024
       → count_access p.turns (placed P st symbols names n) ≡ Some (placed P st symbols names (n + p.turns))
   access_there symbols names n le = ap (λ (b : Bool). cond b None (Some (placed P st symbols names (n + p.turns)))) (le-ltb 1024 (n + p.turns) le)

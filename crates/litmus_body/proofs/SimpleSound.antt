@@ -22,7 +22,7 @@ use Rattle.litmus_expression.specs.Followed.{accesses}
 use Rattle.litmus_expression.specs.NameReader.{count_access, take_variable}
 use Rattle.litmus_expression.specs.Names.{IsAtomic, IsInteger, IsVariable, Names, Parameter}
 use Rattle.litmus_expression.specs.PlaceReader.{take_changed}
-use Rattle.litmus_expression.specs.Places.{Place}
+use Rattle.litmus_expression.specs.Places.{NestingPlace}
 use Rattle.litmus_expression.specs.States.{State, after, with_left}
 use Rattle.litmus_expression.proofs.Fewer.{at_last, behind_it, either_way, unless_it}
 use Rattle.litmus_expression.proofs.Sound.{Counted, ReadsVariable, atomic_variable, integer_variable, variable_reads}
@@ -212,7 +212,7 @@ register_accesses t register (tree.loading a) = refl
 one_access : (t : ℕ) (a : tree.Assignment) → assignment_has_access a ≡ true → own_repeats t (tree.assign false a) ≡ t
 one_access t a is = ap (λ (b : Bool). cond b t 0) is
 
-store_reads : (p : Place) (counters : List ℕ) (w : StoreWord) (s : State) (y : tree.Assignment × State) → p.depth ≤ 16 → length s.names ≤ 32
+store_reads : (p : NestingPlace) (counters : List ℕ) (w : StoreWord) (s : State) (y : tree.Assignment × State) → p.depth ≤ 16 → length s.names ≤ 32
     → first s.symbols ≡ word (words.Store w) → store_at p.turns p.depth w s ≡ Some y → ReadsSimple p counters s (assignment y.0, y.1)
 unfolding store_at
 store_reads p counters w s y deep within next e =
@@ -244,7 +244,7 @@ store_reads p counters w s y deep within next e =
 
 -- ---- the others
 
-assignment_reads : (p : Place) (counters : List ℕ) (s : State) (y : tree.Assignment × State) → AreCounters p.counters counters → p.depth ≤ 16
+assignment_reads : (p : NestingPlace) (counters : List ℕ) (s : State) (y : tree.Assignment × State) → AreCounters p.counters counters → p.depth ≤ 16
     → length s.names ≤ 32
     → register_assignment p s ≡ Some y → ReadsSimple p counters s (assignment y.0, y.1)
 unfolding register_assignment
@@ -276,7 +276,7 @@ assignment_reads p counters s y are deep within e =
     })))))
 
 -- what stands behind `* VAR`
-record ReadsBehind (p : Place) (counters : List ℕ) (name : List ℕ) (variable : ℕ) (s u : State) (x : Enclosable × State) : Type 0 where
+record ReadsBehind (p : NestingPlace) (counters : List ℕ) (name : List ℕ) (variable : ℕ) (s u : State) (x : Enclosable × State) : Type 0 where
   spelled : Simple s.parameters p.depth counters s.names (sign Star ∷ identifier name ∷ u.symbols) x.0 x.1.symbols x.1.names
   within : length x.1.names ≤ 32
   parameters : x.1.parameters ≡ u.parameters
@@ -284,7 +284,7 @@ record ReadsBehind (p : Place) (counters : List ℕ) (name : List ℕ) (variable
   repeats : x.1.repeats ≡ u.repeats
   one : own_repeats p.turns (alone x.0) ≡ p.turns
 
-behind_reads : (p : Place) (counters : List ℕ) (name : List ℕ) (variable : ℕ) (s u : State) (x : Enclosable × State) → p.depth ≤ 16 → length u.names ≤ 32
+behind_reads : (p : NestingPlace) (counters : List ℕ) (name : List ℕ) (variable : ℕ) (s u : State) (x : Enclosable × State) → p.depth ≤ 16 → length u.names ≤ 32
     → u.parameters ≡ s.parameters → u.names ≡ s.names → IsVariable s.parameters IsInteger name variable → behind_variable p variable u ≡ Some x
     → ReadsBehind p counters name variable s u x
 behind_reads p counters name variable s u x deep few_names parameters names is_variable e =
@@ -341,7 +341,7 @@ behind_reads p counters name variable s u x deep few_names parameters names is_v
       one = refl;
     })))
 
-starred_reads : (p : Place) (counters : List ℕ) (s : State) (x : Enclosable × State) → p.depth ≤ 16 → length s.names ≤ 32 → starred p s ≡ Some x
+starred_reads : (p : NestingPlace) (counters : List ℕ) (s : State) (x : Enclosable × State) → p.depth ≤ 16 → length s.names ≤ 32 → starred p s ≡ Some x
     → ReadsSimple p counters s x
 unfolding starred
 starred_reads p counters s x deep within e =
@@ -365,7 +365,7 @@ starred_reads p counters s x deep within e =
       repeats = omega (arith, b.repeats, r.moved.repeats, t.repeats, k.repeats, b.one);
     })))
 
-increment_reads : (p : Place) (counters : List ℕ) (s : State) (x : Enclosable × State) → length s.names ≤ 32 → increment p s ≡ Some x
+increment_reads : (p : NestingPlace) (counters : List ℕ) (s : State) (x : Enclosable × State) → length s.names ≤ 32 → increment p s ≡ Some x
     → ReadsSimple p counters s x
 unfolding increment
 increment_reads p counters s x within e =
@@ -416,7 +416,7 @@ starts_with_store (sign Star) w e = absurd cc
 starts_with_store (sign _) w e = absurd cc
 starts_with_store fault w e = absurd cc
 
-simple_with_reads : (p : Place) (counters : List ℕ) (s : State) (b : Start) (x : Enclosable × State) → AreCounters p.counters counters → p.depth ≤ 16
+simple_with_reads : (p : NestingPlace) (counters : List ℕ) (s : State) (b : Start) (x : Enclosable × State) → AreCounters p.counters counters → p.depth ≤ 16
     → length s.names ≤ 32
     → start_of (first s.symbols) ≡ b → simple_with p s b ≡ Some x → ReadsSimple p counters s x
 simple_with_reads p counters s star x are deep within starts e = starred_reads p counters s x deep within e
@@ -437,7 +437,7 @@ simple_with_reads p counters s a_name x are deep within starts e =
 simple_with_reads p counters s nothing x are deep within starts e = absurd cc
 
 -- what is read as a simple statement is spelled so
-pub simple_reads : (p : Place) (counters : List ℕ) (s : State) (x : Enclosable × State) → AreCounters p.counters counters → p.depth ≤ 16 → length s.names ≤ 32
+pub simple_reads : (p : NestingPlace) (counters : List ℕ) (s : State) (x : Enclosable × State) → AreCounters p.counters counters → p.depth ≤ 16 → length s.names ≤ 32
     → simple_at p s ≡ Some x → ReadsSimple p counters s x
 unfolding simple_at
 simple_reads p counters s x are deep within e = simple_with_reads p counters s (start_of (first s.symbols)) x are deep within refl e

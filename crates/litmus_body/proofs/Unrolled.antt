@@ -7,7 +7,7 @@ use Rattle.litmus_cursor.specs.Front.{◌>>=◌, first, is_sign, others, take_si
 use Rattle.litmus_cursor.specs.Words.{Symbol}
 use Rattle.litmus_expression.specs.ExpressionReader.{expression_at}
 use Rattle.litmus_expression.specs.PlaceReader.{count_statement}
-use Rattle.litmus_expression.specs.Places.{Place, deeper, in_loop}
+use Rattle.litmus_expression.specs.Places.{NestingPlace, deeper, in_loop}
 use Rattle.litmus_expression.specs.States.{State, after, with_left}
 use Rattle.litmus_expression.proofs.Fewer.{TakesAny, TakesSome, expression_fewer}
 use Rattle.litmus_expression.proofs.Taken.{sign_fewer}
@@ -27,17 +27,17 @@ use Rattle.litmus_body.proofs.Shorter.{Shorter, deep_shorter, sign_some}
 -- ---- readers that agree where calls go no deeper than so
 
 pub record Agree (f g : ℕ) (R Q : Readers) : Type 0 where
-  pub statement : (p : Place) (s : State) → 10 * length s.symbols + 2 < f → 10 * length s.symbols + 2 < g → R.statement p s ≡ Q.statement p s
-  pub counted : (p : Place) (c : Counted) (s : State) → 10 * length s.symbols + 1 < f → 10 * length s.symbols + 1 < g → R.counted p c s ≡ Q.counted p c s
-  pub branch : (p : Place) (s : State) → 10 * length s.symbols < f → 10 * length s.symbols < g → R.branch p s ≡ Q.branch p s
-  pub repetition : (p : Place) (s : State) → 10 * length s.symbols < f → 10 * length s.symbols < g → R.repetition p s ≡ Q.repetition p s
-  pub body : (p : Place) (s : State) → 10 * length s.symbols + 3 < f → 10 * length s.symbols + 3 < g → R.body p s ≡ Q.body p s
-  pub block : (p : Place) (s : State) → 10 * length s.symbols < f → 10 * length s.symbols < g → R.block p s ≡ Q.block p s
-  pub more : (p : Place) (before : tree.Block) (s : State) → 10 * length s.symbols + 3 < f → 10 * length s.symbols + 3 < g
+  pub statement : (p : NestingPlace) (s : State) → 10 * length s.symbols + 2 < f → 10 * length s.symbols + 2 < g → R.statement p s ≡ Q.statement p s
+  pub counted : (p : NestingPlace) (c : Counted) (s : State) → 10 * length s.symbols + 1 < f → 10 * length s.symbols + 1 < g → R.counted p c s ≡ Q.counted p c s
+  pub branch : (p : NestingPlace) (s : State) → 10 * length s.symbols < f → 10 * length s.symbols < g → R.branch p s ≡ Q.branch p s
+  pub repetition : (p : NestingPlace) (s : State) → 10 * length s.symbols < f → 10 * length s.symbols < g → R.repetition p s ≡ Q.repetition p s
+  pub body : (p : NestingPlace) (s : State) → 10 * length s.symbols + 3 < f → 10 * length s.symbols + 3 < g → R.body p s ≡ Q.body p s
+  pub block : (p : NestingPlace) (s : State) → 10 * length s.symbols < f → 10 * length s.symbols < g → R.block p s ≡ Q.block p s
+  pub more : (p : NestingPlace) (before : tree.Block) (s : State) → 10 * length s.symbols + 3 < f → 10 * length s.symbols + 3 < g
       → R.more p before s ≡ Q.more p before s
 
 module _ (f g : ℕ) (R Q : Readers) (short : Shorter R) (h : Agree f g R Q) where
-  statement_agrees : (p : Place) (s : State) (o : Opening) → 10 * length s.symbols + 2 < suc f → 10 * length s.symbols + 2 < suc g
+  statement_agrees : (p : NestingPlace) (s : State) (o : Opening) → 10 * length s.symbols + 2 < suc f → 10 * length s.symbols + 2 < suc g
       → statement_with R p s o ≡ statement_with Q p s o
   statement_agrees p s openings.Empty lf lg = refl
   statement_agrees p s openings.Declaration lf lg = refl
@@ -47,7 +47,7 @@ module _ (f g : ℕ) (R Q : Readers) (short : Shorter R) (h : Agree f g R Q) whe
       let same = counted_same s u counted in
       ap (λ (o : Option (tree.Statement × State)). o >>= λ x. Some (Some x.0, x.1)) (h.counted p c u (omega arith) (omega arith)))
 
-  counted_agrees : (p : Place) (c : Counted) (s : State) → 10 * length s.symbols + 1 < suc f → 10 * length s.symbols + 1 < suc g
+  counted_agrees : (p : NestingPlace) (c : Counted) (s : State) → 10 * length s.symbols + 1 < suc f → 10 * length s.symbols + 1 < suc g
       → (by R).counted p c s ≡ (by Q).counted p c s
   counted_agrees p counteds.If s lf lg = h.branch p s (omega arith) (omega arith)
   counted_agrees p counteds.For s lf lg = h.repetition p s (omega arith) (omega arith)
@@ -55,7 +55,7 @@ module _ (f g : ℕ) (R Q : Readers) (short : Shorter R) (h : Agree f g R Q) whe
   counted_agrees p (counteds.Call w) s lf lg = refl
   counted_agrees p counteds.Simple s lf lg = refl
 
-  behind_body_agrees : (p : Place) (condition : tree.Expression) (body : tree.Block) (s : State) → 10 * length s.symbols + 3 < f → 10 * length s.symbols + 3 < g
+  behind_body_agrees : (p : NestingPlace) (condition : tree.Expression) (body : tree.Block) (s : State) → 10 * length s.symbols + 3 < f → 10 * length s.symbols + 3 < g
       → behind_body R p condition body s ≡ behind_body Q p condition body s
   behind_body_agrees p condition body s lf lg =
       let le = others_at_most s.symbols in
@@ -63,7 +63,7 @@ module _ (f g : ℕ) (R Q : Readers) (short : Shorter R) (h : Agree f g R Q) whe
       (tree.if_block condition body, s)))
       (h.body p (after s) (omega arith) (omega arith))
 
-  branch_agrees : (p : Place) (s : State) → 10 * length s.symbols < suc f → 10 * length s.symbols < suc g → (by R).branch p s ≡ (by Q).branch p s
+  branch_agrees : (p : NestingPlace) (s : State) → 10 * length s.symbols < suc f → 10 * length s.symbols < suc g → (by R).branch p s ≡ (by Q).branch p s
   branch_agrees p s lf lg =
       then_same (take_sign OpenParen (others s.symbols)) (λ l. expression_at p.turns p.depth (with_left s l) >>= λ c. take_sign CloseParen c.1.symbols
       >>= λ m. R.body p (with_left c.1 m) >>= λ b. behind_body R p c.0 b.0 b.1) (λ l. expression_at p.turns p.depth (with_left s l) >>= λ c.
@@ -85,7 +85,7 @@ module _ (f g : ℕ) (R Q : Readers) (short : Shorter R) (h : Agree f g R Q) whe
       let four : TakesSome (with_left c.1 m) b = short.body p (with_left c.1 m) b inside in
       behind_body_agrees p c.0 b.0 b.1 (omega arith) (omega arith)))))
 
-  repetition_agrees : (p : Place) (s : State) → 10 * length s.symbols < suc f → 10 * length s.symbols < suc g → (by R).repetition p s ≡ (by Q).repetition p s
+  repetition_agrees : (p : NestingPlace) (s : State) → 10 * length s.symbols < suc f → 10 * length s.symbols < suc g → (by R).repetition p s ≡ (by Q).repetition p s
   repetition_agrees p s lf lg =
       then_same (header_at p (after s)) (λ n. R.body (in_loop p n.0.register n.0.repeats) n.1
       >>= λ x. Some (tree.for_turns n.0.register n.0.turns x.0, x.1)) (λ n. Q.body (in_loop p n.0.register n.0.repeats) n.1
@@ -96,7 +96,7 @@ module _ (f g : ℕ) (R Q : Readers) (short : Shorter R) (h : Agree f g R Q) whe
       ap (λ (o : Option (tree.Block × State)). o >>= λ x. Some (tree.for_turns n.0.register n.0.turns x.0, x.1))
       (h.body (in_loop p n.0.register n.0.repeats) n.1 (omega arith) (omega arith)))
 
-  body_agrees : (p : Place) (s : State) → 10 * length s.symbols + 3 < suc f → 10 * length s.symbols + 3 < suc g → (by R).body p s ≡ (by Q).body p s
+  body_agrees : (p : NestingPlace) (s : State) → 10 * length s.symbols + 3 < suc f → 10 * length s.symbols + 3 < suc g → (by R).body p s ≡ (by Q).body p s
   body_agrees p s lf lg =
       choice_same (is_sign OpenBrace (first s.symbols)) (R.block p s)
       (opening_at s >>= λ o. deeper p >>= λ q. R.statement q s >>= λ x. Some (kept x.0 tree.empty, x.1)) (Q.block p s)
@@ -110,7 +110,7 @@ module _ (f g : ℕ) (R Q : Readers) (short : Shorter R) (h : Agree f g R Q) whe
       (λ q inside.
       ap (λ (o : Option (Option tree.Statement × State)). o >>= λ x. Some (kept x.0 tree.empty, x.1)) (h.statement q s (omega arith) (omega arith)))))
 
-  block_agrees : (p : Place) (s : State) → 10 * length s.symbols < suc f → 10 * length s.symbols < suc g → (by R).block p s ≡ (by Q).block p s
+  block_agrees : (p : NestingPlace) (s : State) → 10 * length s.symbols < suc f → 10 * length s.symbols < suc g → (by R).block p s ≡ (by Q).block p s
   block_agrees p s lf lg = if_so (is_sign OpenBrace (first s.symbols)) refl
     where
       if_so : (b : Bool) → is_sign OpenBrace (first s.symbols) ≡ b
@@ -121,7 +121,7 @@ module _ (f g : ℕ) (R Q : Readers) (short : Shorter R) (h : Agree f g R Q) whe
           (λ q inside. h.more q tree.empty (after s) (omega arith) (omega arith))
       if_so false none = refl
 
-  more_agrees : (p : Place) (before : tree.Block) (s : State) → 10 * length s.symbols + 3 < suc f → 10 * length s.symbols + 3 < suc g
+  more_agrees : (p : NestingPlace) (before : tree.Block) (s : State) → 10 * length s.symbols + 3 < suc f → 10 * length s.symbols + 3 < suc g
       → (by R).more p before s ≡ (by Q).more p before s
   more_agrees p before s lf lg =
       choice_same (is_sign CloseBrace (first s.symbols)) (Some (before, after s))
@@ -191,43 +191,43 @@ module _ (s : State) where
   one_more : Agree (suc (10 * length s.symbols + 9)) (suc (10 * length s.symbols + 9)) (deep (suc (10 * length s.symbols + 9))) (by readers)
   one_more = step_readers (10 * length s.symbols + 9)
 
-pub statement_unrolls : (p : Place) (s : State) → statement_at p s ≡ (by readers).statement p s
+pub statement_unrolls : (p : NestingPlace) (s : State) → statement_at p s ≡ (by readers).statement p s
 unfolding statement_at
 statement_unrolls p s = (enough s).statement p s (omega arith) (omega arith) ∙ (one_more s).statement p s (omega arith) (omega arith)
 
-pub counted_unrolls : (p : Place) (c : Counted) (s : State) → counted_at p c s ≡ (by readers).counted p c s
+pub counted_unrolls : (p : NestingPlace) (c : Counted) (s : State) → counted_at p c s ≡ (by readers).counted p c s
 unfolding counted_at
 counted_unrolls p c s = (enough s).counted p c s (omega arith) (omega arith) ∙ (one_more s).counted p c s (omega arith) (omega arith)
 
-pub branch_unrolls : (p : Place) (s : State) → branch_at p s ≡ (by readers).branch p s
+pub branch_unrolls : (p : NestingPlace) (s : State) → branch_at p s ≡ (by readers).branch p s
 unfolding branch_at
 branch_unrolls p s = (enough s).branch p s (omega arith) (omega arith) ∙ (one_more s).branch p s (omega arith) (omega arith)
 
-pub repetition_unrolls : (p : Place) (s : State) → repetition_at p s ≡ (by readers).repetition p s
+pub repetition_unrolls : (p : NestingPlace) (s : State) → repetition_at p s ≡ (by readers).repetition p s
 unfolding repetition_at
 repetition_unrolls p s = (enough s).repetition p s (omega arith) (omega arith) ∙ (one_more s).repetition p s (omega arith) (omega arith)
 
-pub body_unrolls : (p : Place) (s : State) → body_at p s ≡ (by readers).body p s
+pub body_unrolls : (p : NestingPlace) (s : State) → body_at p s ≡ (by readers).body p s
 unfolding body_at
 body_unrolls p s = (enough s).body p s (omega arith) (omega arith) ∙ (one_more s).body p s (omega arith) (omega arith)
 
-pub block_unrolls : (p : Place) (s : State) → block_at p s ≡ (by readers).block p s
+pub block_unrolls : (p : NestingPlace) (s : State) → block_at p s ≡ (by readers).block p s
 unfolding block_at
 block_unrolls p s = (enough s).block p s (omega arith) (omega arith) ∙ (one_more s).block p s (omega arith) (omega arith)
 
-pub more_unrolls : (p : Place) (before : tree.Block) (s : State) → more_at p before s ≡ (by readers).more p before s
+pub more_unrolls : (p : NestingPlace) (before : tree.Block) (s : State) → more_at p before s ≡ (by readers).more p before s
 unfolding more_at
 more_unrolls p before s = (enough s).more p before s (omega arith) (omega arith) ∙ (one_more s).more p before s (omega arith) (omega arith)
 
 -- a loop whose header and body were read
-pub loop_reads : (p q : Place) (s u w : State) (h : LoopHeader) (b : tree.Block) → header_at p (after s) ≡ Some (h, u) → q ≡ in_loop p h.register h.repeats
+pub loop_reads : (p q : NestingPlace) (s u w : State) (h : LoopHeader) (b : tree.Block) → header_at p (after s) ≡ Some (h, u) → q ≡ in_loop p h.register h.repeats
     → body_at q u ≡ Some (b, w) → repetition_at p s ≡ Some (tree.for_turns h.register h.turns b, w)
 loop_reads p q s u w h b header inside body =
     repetition_unrolls p s
     ∙ ap (λ (o : Option (LoopHeader × State)). o >>= λ r. body_at (in_loop p r.0.register r.0.repeats) r.1 >>= λ x. Some
     (tree.for_turns r.0.register r.0.turns x.0, x.1)) header
     ∙ ap (λ (o : Option (tree.Block × State)). o >>= λ x. Some (tree.for_turns h.register h.turns x.0, x.1))
-    (ap (λ (r : Place). body_at r u) (sym inside) ∙ body)
+    (ap (λ (r : NestingPlace). body_at r u) (sym inside) ∙ body)
 
 pub ruleset unrolls = (
   statement_unrolls,

@@ -5,7 +5,7 @@ use Rattle.litmus_syntax.specs.Limits.{own_repeats, registers_limit}
 use Rattle.litmus_cursor.specs.Front.{first, is_sign}
 use Rattle.litmus_cursor.specs.Words.{Symbol}
 use Rattle.litmus_expression.specs.Followed.{Follows}
-use Rattle.litmus_expression.specs.Places.{Place}
+use Rattle.litmus_expression.specs.Places.{NestingPlace}
 use Rattle.litmus_expression.specs.States.{State}
 use Rattle.litmus_body.specs.Statements.{Enclosable, Simple, alone}
 
@@ -16,7 +16,7 @@ pub record EndsSimple (rest : List Symbol) : Type 0 where
   pub no_add : is_sign AddAssign (first rest) ≡ false
 
 -- a simple statement that is read is spelled so; its access is counted, and no more
-pub record ReadsSimple (p : Place) (counters : List ℕ) (s : State) (x : Enclosable × State) : Type 0 where
+pub record ReadsSimple (p : NestingPlace) (counters : List ℕ) (s : State) (x : Enclosable × State) : Type 0 where
   pub spelled : Simple s.parameters p.depth counters s.names s.symbols x.0 x.1.symbols x.1.names
   pub within : length x.1.names ≤ registers_limit
   pub parameters : x.1.parameters ≡ s.parameters

@@ -14,7 +14,7 @@ use Rattle.litmus_expression.specs.Expressions.{bare}
 use Rattle.litmus_expression.specs.ExpressionReader.{expression_at, load_at, pure_at, take_star}
 use Rattle.litmus_expression.specs.NameReader.{count_access, take_variable}
 use Rattle.litmus_expression.specs.PlaceReader.{take_changed}
-use Rattle.litmus_expression.specs.Places.{Place}
+use Rattle.litmus_expression.specs.Places.{NestingPlace}
 use Rattle.litmus_expression.specs.States.{State, after, with_left}
 use Rattle.litmus_body.specs.Statements.{Enclosable, load, assignment, raced}
 use Rattle.litmus_body.specs.StoreReader.{store_at}
@@ -44,7 +44,7 @@ start_of (sign _) = nothing
 start_of fault = nothing
 
 -- REG = expr
-unfoldable pub register_assignment : Place → State → Option (tree.Assignment × State)
+unfoldable pub register_assignment : NestingPlace → State → Option (tree.Assignment × State)
 register_assignment p s =
     if begins_call s.symbols
     then None
@@ -52,7 +52,7 @@ register_assignment p s =
     expression_at p.turns p.depth (with_left r.1 symbols) >>= λ x. Some (tree.to_register r.0 x.0, x.1))
 
 -- what may stand behind `* VAR`: `= pure`, `+= pure`, or nothing
-abbrev pub behind_variable : Place → (variable : ℕ) → State → Option (Enclosable × State)
+abbrev pub behind_variable : NestingPlace → (variable : ℕ) → State → Option (Enclosable × State)
 behind_variable p variable s =
     if is_sign Assign (first s.symbols)
     then (pure_at p.turns p.depth (after s) >>= λ x. Some (assignment (tree.write writes.Plain variable x.0), x.1))
@@ -61,20 +61,20 @@ behind_variable p variable s =
     else Some (load (bare (tree.read reads.Plain variable)), s))
 
 -- `* VAR = pure`, `* VAR += pure`, or the load `* VAR`
-unfoldable pub starred : Place → State → Option (Enclosable × State)
+unfoldable pub starred : NestingPlace → State → Option (Enclosable × State)
 starred p s =
     count_access p.turns s >>= λ counted. take_star counted >>= λ u. take_variable Integers u >>= λ v.
     behind_variable p v.0 v.1
 
 -- `( * VAR ) ++`
-unfoldable pub increment : Place → State → Option (Enclosable × State)
+unfoldable pub increment : NestingPlace → State → Option (Enclosable × State)
 increment p s =
     count_access p.turns s >>= λ counted. take_sign OpenParen counted.symbols >>= λ opened.
     take_star (with_left counted opened) >>= λ u. take_variable Integers u >>= λ v.
     take_sign CloseParen v.1.symbols >>= λ closed. take_sign Increment closed >>= λ symbols.
     Some (assignment (tree.increment v.0), with_left v.1 symbols)
 
-abbrev pub simple_with : Place → State → Start → Option (Enclosable × State)
+abbrev pub simple_with : NestingPlace → State → Start → Option (Enclosable × State)
 simple_with p s star = starred p s
 simple_with p s parenthesis = increment p s
 simple_with p s (a_store w) = store_at p.turns p.depth w s >>= λ x. Some (assignment x.0, x.1)
@@ -83,11 +83,11 @@ simple_with p s a_name = register_assignment p s >>= λ x. Some (assignment x.0,
 simple_with p s nothing = None
 
 -- a simple statement, without what ends it
-unfoldable pub simple_at : Place → State → Option (Enclosable × State)
+unfoldable pub simple_at : NestingPlace → State → Option (Enclosable × State)
 simple_at p s = simple_with p s (start_of (first s.symbols))
 
 -- `data_race ( simple ) ;` behind its word
-unfoldable pub data_race_at : Place → State → Option (tree.Statement × State)
+unfoldable pub data_race_at : NestingPlace → State → Option (tree.Statement × State)
 data_race_at p s =
     take_sign OpenParen (others s.symbols) >>= λ opened. simple_at p (with_left s opened) >>= λ x.
     take_sign CloseParen x.1.symbols >>= λ closed. take_sign Semicolon closed >>= λ symbols.

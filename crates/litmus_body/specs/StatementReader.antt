@@ -16,7 +16,7 @@ use Rattle.litmus_expression.specs.ExpressionReader.{expression_at}
 use Rattle.litmus_expression.specs.NameReader.{index_of, parameter_named, register_name}
 use Rattle.litmus_expression.specs.Names.{Names, Parameter}
 use Rattle.litmus_expression.specs.PlaceReader.{count_statement, take_changed}
-use Rattle.litmus_expression.specs.Places.{Place, asserting, deeper, in_loop, repeats_of}
+use Rattle.litmus_expression.specs.Places.{NestingPlace, asserting, deeper, in_loop, repeats_of}
 use Rattle.litmus_expression.specs.States.{State, after, with_left}
 use Rattle.litmus_body.specs.declared.statement.Counted.{Counted}
 use Rattle.litmus_body.specs.declared.statement.Counted.TheVariants as counteds
@@ -77,7 +77,7 @@ more_declared counters s (a ∷ b ∷ symbols) =
     else Some (with_left s (a ∷ b ∷ symbols))
 
 -- what may stand behind `stype REG`: `= expr ;`, or more registers and `;`
-abbrev pub behind_register : Place → (register : ℕ) → State → Option (Option tree.Statement × State)
+abbrev pub behind_register : NestingPlace → (register : ℕ) → State → Option (Option tree.Statement × State)
 behind_register p register s =
     if is_sign Assign (first s.symbols)
     then (count_statement s >>= λ counted. expression_at p.turns p.depth (after counted) >>= λ x.
@@ -87,7 +87,7 @@ behind_register p register s =
     Some (None, with_left u symbols))
 
 -- a declaration whose type is next
-unfoldable pub declaration_at : Place → State → Option (Option tree.Statement × State)
+unfoldable pub declaration_at : NestingPlace → State → Option (Option tree.Statement × State)
 declaration_at p s = take_changed p.counters (after s) >>= λ r. behind_register p r.0 r.1
 
 -- a zero is taken
@@ -118,7 +118,7 @@ counter_at counters s =
     Some (r.0, with_left r.1 symbols)
 
 -- `REG < NUMBER ;`
-unfoldable pub bound_at : Place → (register : ℕ) → State → Option (LoopHeader × State)
+unfoldable pub bound_at : NestingPlace → (register : ℕ) → State → Option (LoopHeader × State)
 bound_at p register s =
     take_again register s >>= λ u. take_sign Less u.symbols >>= λ below. take_number below >>= λ n.
     repeats_of p n.0 >>= λ repeats. take_sign Semicolon n.1 >>= λ symbols.
@@ -131,7 +131,7 @@ step_at register s =
     Some (with_left u symbols)
 
 -- `( REG = 0 ; REG < NUMBER ; REG ++ )`
-unfoldable pub header_at : Place → State → Option (LoopHeader × State)
+unfoldable pub header_at : NestingPlace → State → Option (LoopHeader × State)
 header_at p s =
     counter_at p.counters s >>= λ r. bound_at p r.0 r.1 >>= λ h. step_at r.0 h.1 >>= λ u. Some (h.0, u)
 
@@ -156,30 +156,30 @@ begins_scope (tree.call c) = is_scoped c
 begins_scope _ = false
 
 -- where the statement behind one stands in a block
-abbrev pub behind : Place → Option tree.Statement → Option Place
+abbrev pub behind : NestingPlace → Option tree.Statement → Option NestingPlace
 behind p None = Some p
 behind p (Some s) = if begins_scope s then asserting p else Some p
 
 -- the parts, each at a place
 pub record Readers : Type 0 where
-  pub statement : Place → State → Option (Option tree.Statement × State)
-  pub counted : Place → Counted → State → Option (tree.Statement × State)
-  pub branch : Place → State → Option (tree.Statement × State)
-  pub repetition : Place → State → Option (tree.Statement × State)
-  pub body : Place → State → Option (tree.Block × State)
-  pub block : Place → State → Option (tree.Block × State)
-  pub more : Place → (before : tree.Block) → State → Option (tree.Block × State)
+  pub statement : NestingPlace → State → Option (Option tree.Statement × State)
+  pub counted : NestingPlace → Counted → State → Option (tree.Statement × State)
+  pub branch : NestingPlace → State → Option (tree.Statement × State)
+  pub repetition : NestingPlace → State → Option (tree.Statement × State)
+  pub body : NestingPlace → State → Option (tree.Block × State)
+  pub block : NestingPlace → State → Option (tree.Block × State)
+  pub more : NestingPlace → (before : tree.Block) → State → Option (tree.Block × State)
 
-abbrev pub statement_with : Readers → Place → State → Opening → Option (Option tree.Statement × State)
+abbrev pub statement_with : Readers → NestingPlace → State → Opening → Option (Option tree.Statement × State)
 statement_with R p s openings.Empty = Some (None, after s)
 statement_with R p s openings.Declaration = declaration_at p s
 statement_with R p s (openings.Counted c) =
     count_statement s >>= λ counted. R.counted p c counted >>= λ x. Some (Some x.0, x.1)
 
-abbrev pub statement_by : Readers → Place → State → Option (Option tree.Statement × State)
+abbrev pub statement_by : Readers → NestingPlace → State → Option (Option tree.Statement × State)
 statement_by R p s = opening_at s >>= λ o. statement_with R p s o
 
-abbrev pub counted_by : Readers → Place → Counted → State → Option (tree.Statement × State)
+abbrev pub counted_by : Readers → NestingPlace → Counted → State → Option (tree.Statement × State)
 counted_by R p counteds.If s = R.branch p s
 counted_by R p counteds.For s = R.repetition p s
 counted_by R p counteds.DataRace s = data_race_at p s
@@ -197,36 +197,36 @@ abbrev pub is_else : Symbol → Bool
 is_else symbol = is_else_word (word_at symbol)
 
 -- what may stand behind the body of an `if`
-abbrev pub behind_body : Readers → Place → tree.Expression → tree.Block → State → Option (tree.Statement × State)
+abbrev pub behind_body : Readers → NestingPlace → tree.Expression → tree.Block → State → Option (tree.Statement × State)
 behind_body R p condition body s =
     if is_else (first s.symbols)
     then (R.body p (after s) >>= λ x. Some (tree.if_else condition body x.0, x.1))
     else Some (tree.if_block condition body, s)
 
-abbrev pub branch_by : Readers → Place → State → Option (tree.Statement × State)
+abbrev pub branch_by : Readers → NestingPlace → State → Option (tree.Statement × State)
 branch_by R p s =
     take_sign OpenParen (others s.symbols) >>= λ opened. expression_at p.turns p.depth (with_left s opened) >>= λ condition.
     take_sign CloseParen condition.1.symbols >>= λ symbols. R.body p (with_left condition.1 symbols) >>= λ body.
     behind_body R p condition.0 body.0 body.1
 
-abbrev pub repetition_by : Readers → Place → State → Option (tree.Statement × State)
+abbrev pub repetition_by : Readers → NestingPlace → State → Option (tree.Statement × State)
 repetition_by R p s =
     header_at p (after s) >>= λ h. R.body (in_loop p h.0.register h.0.repeats) h.1 >>= λ x.
     Some (tree.for_turns h.0.register h.0.turns x.0, x.1)
 
-abbrev pub body_by : Readers → Place → State → Option (tree.Block × State)
+abbrev pub body_by : Readers → NestingPlace → State → Option (tree.Block × State)
 body_by R p s =
     if is_sign OpenBrace (first s.symbols)
     then R.block p s
     else (opening_at s >>= λ _. deeper p >>= λ inside. R.statement inside s >>= λ x. Some (kept x.0 tree.empty, x.1))
 
-abbrev pub block_by : Readers → Place → State → Option (tree.Block × State)
+abbrev pub block_by : Readers → NestingPlace → State → Option (tree.Block × State)
 block_by R p s =
     if is_sign OpenBrace (first s.symbols)
     then (deeper p >>= λ inside. R.more inside tree.empty (after s))
     else None
 
-abbrev pub more_by : Readers → Place → (before : tree.Block) → State → Option (tree.Block × State)
+abbrev pub more_by : Readers → NestingPlace → (before : tree.Block) → State → Option (tree.Block × State)
 more_by R p before s =
     if is_sign CloseBrace (first s.symbols)
     then Some (before, after s)
@@ -265,25 +265,25 @@ deep (suc fuel) = by (deep fuel)
 abbrev pub depth_of : State → ℕ
 depth_of s = 10 * length s.symbols + 10
 
-unfoldable pub statement_at : Place → State → Option (Option tree.Statement × State)
+unfoldable pub statement_at : NestingPlace → State → Option (Option tree.Statement × State)
 statement_at p s = (deep (depth_of s)).statement p s
 
-unfoldable pub counted_at : Place → Counted → State → Option (tree.Statement × State)
+unfoldable pub counted_at : NestingPlace → Counted → State → Option (tree.Statement × State)
 counted_at p c s = (deep (depth_of s)).counted p c s
 
-unfoldable pub branch_at : Place → State → Option (tree.Statement × State)
+unfoldable pub branch_at : NestingPlace → State → Option (tree.Statement × State)
 branch_at p s = (deep (depth_of s)).branch p s
 
-unfoldable pub repetition_at : Place → State → Option (tree.Statement × State)
+unfoldable pub repetition_at : NestingPlace → State → Option (tree.Statement × State)
 repetition_at p s = (deep (depth_of s)).repetition p s
 
-unfoldable pub body_at : Place → State → Option (tree.Block × State)
+unfoldable pub body_at : NestingPlace → State → Option (tree.Block × State)
 body_at p s = (deep (depth_of s)).body p s
 
-unfoldable pub block_at : Place → State → Option (tree.Block × State)
+unfoldable pub block_at : NestingPlace → State → Option (tree.Block × State)
 block_at p s = (deep (depth_of s)).block p s
 
-unfoldable pub more_at : Place → (before : tree.Block) → State → Option (tree.Block × State)
+unfoldable pub more_at : NestingPlace → (before : tree.Block) → State → Option (tree.Block × State)
 more_at p before s = (deep (depth_of s)).more p before s
 
 -- the readers, each as deep as it has to be

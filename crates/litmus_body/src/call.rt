@@ -18,7 +18,7 @@ use litmus_syntax::{Call, Mark};
 pub const CHECK_SIZE: u64 = 1_048_576;
 
 /// Law: the largest size of a check is this number.
-pub fn largest_check()
+pub fn law_largest_check()
     ensures { CHECK_SIZE ≡ check_limit }
 {}
 

@@ -9,14 +9,14 @@ use Rattle.std.proofs.lemmas.List.Elements.{All-append}
 use Rattle.std.proofs.lemmas.List.Sums.{fold-append, sum_by-append}
 use Rattle.prepared_program.specs.declared.program_sites.settings.Settings.{Settings}
 use Rattle.std.specs.Global.{Global}
-use Rattle.diagnostics.specs.check_output.Found.{Found, Gave, IsFound, Lost, greatest_status, has_tables, name_of, output_of, status_of_one, text_of}
+use Rattle.diagnostics.specs.check_output.Diagnosis.{Diagnosis, Gave, IsFound, Lost, greatest_status, has_tables, name_of, output_of, status_of_one, text_of}
 use Rattle.diagnostics.specs.declared.check_output.file.Files.{Files}
 use Rattle.cli.specs.declared.request.CheckRequest.{CheckRequest}
 use Rattle.diagnostics.specs.check_output.Output.{IsMadeOf, last_line, unread_line}
 use Rattle.diagnostics.specs.declared.check_output.file.Comes.TheVariants as comes
 use Rattle.litmus_command.specs.Check.{AreGoneOver, AreLeft, CheckAsksFor, GoesOver, IsGoneOver, IsLeftOver, IsListFault, IsSeveral, IsToldOf, IsToldOfLost}
 use Rattle.litmus_command.specs.Check.{Whole, asked_of, list_complaint, once_told}
-use Rattle.litmus_command.specs.Told.{heard}
+use Rattle.litmus_command.specs.StandardError.{heard}
 use Rattle.litmus_command.specs.declared.command.Failure.TheVariants as failure
 use Rattle.litmus_command.specs.declared.complaint.Complaint.TheVariants as complaint
 use Rattle.litmus_syntax.specs.declared.error.ParseError.{ParseError}
@@ -101,7 +101,7 @@ is_there None none is there = absurd (let no : false ≡ true = is ∙ ap not th
 is_there (Some x) none is there = (x, refl)
 
 -- a file that has tables was read, and nothing was told
-pub read_and_left : (files : Files) (several : Bool) (found : Found) (before after : Whole) → has_tables found ≡ true
+pub read_and_left : (files : Files) (several : Bool) (found : Diagnosis) (before after : Whole) → has_tables found ≡ true
     → IsGoneOver files found before after → IsLeftOver several before after
 read_and_left files several (Gave name text (Reads tables printed)) before after has gone = record {
   files = inr (name, file_bytes, text, ap (λ (at : Whole). at.files) gone.0);
@@ -116,17 +116,17 @@ pub nothing_left : (several : Bool) (at : Whole) → IsLeftOver several at at
 nothing_left several at = record { files = inl refl; faults = inl refl; rest = refl }
 
 -- one file more is gone over
-pub more_gone_over : (files : Files) (founds : List Found) (found : Found) (before middle after : Whole)
+pub more_gone_over : (files : Files) (founds : List Diagnosis) (found : Diagnosis) (before middle after : Whole)
     → AreGoneOver files founds before middle → IsGoneOver files found middle after → AreGoneOver files (founds ++ found ∷ []) before after
 more_gone_over files [] found before middle after none one =
     (after, subst (λ (at : Whole). IsGoneOver files found at after) none one, refl)
 more_gone_over files (first ∷ more) found before middle after all one =
     (all.0, all.1, more_gone_over files more found all.0 middle after all.2 one)
 
-count_more : (p : Found → Bool) (founds : List Found) (found : Found) → count_by p (founds ++ found ∷ []) ≡ count_by p founds + count_by p (found ∷ [])
+count_more : (p : Diagnosis → Bool) (founds : List Diagnosis) (found : Diagnosis) → count_by p (founds ++ found ∷ []) ≡ count_by p founds + count_by p (found ∷ [])
 count_more p founds found = sum_by-append (λ x. cond (p x) 1 0) founds (found ∷ [])
 
-greatest_more : (founds : List Found) (found : Found) → greatest_status (founds ++ found ∷ []) ≡ max (greatest_status founds) (status_of_one found)
+greatest_more : (founds : List Diagnosis) (found : Diagnosis) → greatest_status (founds ++ found ∷ []) ≡ max (greatest_status founds) (status_of_one found)
 greatest_more founds found =
     ap (fold max 0) (map-append status_of_one founds (found ∷ [])) ∙ fold-append max 0 (map status_of_one founds) (status_of_one found ∷ [])
 
@@ -134,10 +134,11 @@ all_one : {X : Type 0} (P : X → Type 0) (x : X) → P x → All P (x ∷ [])
 all_one P x holds zero d lt = holds
 all_one P x holds (suc k) d lt = absurd (omega (arith, lt))
 
--- so many files were gone over: what was found of them, what is printed of these, how many have tables, and their greatest status
+-- so many files were gone over: what was found of them, what is printed of these, how many have tables, and their
+-- greatest status
 pub record SoFar (names : List (List ℕ)) (settings : Settings) (files : Files) (count : ℕ) (output : List ℕ) (read status : ℕ)
     (before after : Whole) : Type 0 where
-  pub founds : List Found
+  pub founds : List Diagnosis
   pub count_is : length founds ≡ count
   pub names_are : map name_of founds ≡ take count names
   pub are_found : All (IsFound settings) founds
@@ -160,7 +161,7 @@ none_so_far names settings files output before empty = record {
 }
 
 pub one_more : (names : List (List ℕ)) (settings : Settings) (files : Files) (count : ℕ) (output : List ℕ) (read status : ℕ)
-    (before middle after : Whole) (found : Found) (more : List ℕ) (others greatest : ℕ)
+    (before middle after : Whole) (found : Diagnosis) (more : List ℕ) (others greatest : ℕ)
     → SoFar names settings files count output read status before middle
     → take (count + 1) names ≡ take count names ++ name_of found ∷ [] → IsFound settings found → IsGoneOver files found middle after
     → more ≡ output ++ text_of files found → others ≡ read + count_by has_tables (found ∷ []) → greatest ≡ max status (status_of_one found)
@@ -227,27 +228,27 @@ next_name items count d name there is =
     ∙ ap (λ (x : List ℕ). take count names ++ x ∷ []) (get_or-map (λ (file : Bor (List ℕ)). file.now) items count d d.now there ∙ sym is))
 
 -- a file that has tables is read, and has the least status
-pub counts_one : (found : Found) → has_tables found ≡ true → count_by has_tables (found ∷ []) ≡ 1
+pub counts_one : (found : Diagnosis) → has_tables found ≡ true → count_by has_tables (found ∷ []) ≡ 1
 counts_one found has = ap (λ b. sum_by (λ (n : ℕ). n) (cond b 1 0 ∷ [])) has
 
-pub counts_none : (found : Found) → has_tables found ≡ false → count_by has_tables (found ∷ []) ≡ 0
+pub counts_none : (found : Diagnosis) → has_tables found ≡ false → count_by has_tables (found ∷ []) ≡ 0
 counts_none found has = ap (λ b. sum_by (λ (n : ℕ). n) (cond b 1 0 ∷ [])) has
 
-pub status_of_read : (found : Found) → has_tables found ≡ true → status_of_one found ≡ 0
+pub status_of_read : (found : Diagnosis) → has_tables found ≡ true → status_of_one found ≡ 0
 status_of_read (Gave name text (Reads tables printed)) has = refl
 status_of_read (Gave name text (Misplaced why)) has = absurd (cc)
 status_of_read (Gave name text (Refused error why)) has = absurd (cc)
 status_of_read (Lost name) has = absurd (cc)
 
 -- nothing is printed of one that has none
-pub text_of_none : (files : Files) (found : Found) → has_tables found ≡ false → text_of files found ≡ []
+pub text_of_none : (files : Files) (found : Diagnosis) → has_tables found ≡ false → text_of files found ≡ []
 text_of_none files (Gave name text (Reads tables printed)) has = absurd (cc)
 text_of_none files (Gave name text (Misplaced why)) has = refl
 text_of_none files (Gave name text (Refused error why)) has = refl
 text_of_none files (Lost name) has = refl
 
 -- what is printed of all files: of several a last line stands behind
-pub output_of_several : (files : Files) (founds : List Found) (output : List ℕ) (read all : ℕ) → files.several ≡ true
+pub output_of_several : (files : Files) (founds : List Diagnosis) (output : List ℕ) (read all : ℕ) → files.several ≡ true
     → output ≡ flat_map (text_of files) founds → read ≡ count_by has_tables founds → all ≡ length founds
     → output ++ last_line read all ≡ output_of files founds
 output_of_several files founds output read all several output_is read_is all_is =
@@ -255,7 +256,7 @@ output_of_several files founds output read all several output_is read_is all_is 
     (ap₂ last_line read_is all_is
     ∙ sym (ap (λ (b : Bool). if b then last_line (count_by has_tables founds) (length founds) else []) several))
 
-pub output_of_one : (files : Files) (founds : List Found) (output : List ℕ) → files.several ≡ false
+pub output_of_one : (files : Files) (founds : List Diagnosis) (output : List ℕ) → files.several ≡ false
     → output ≡ flat_map (text_of files) founds → output ≡ output_of files founds
 output_of_one files founds output one output_is =
     output_is ∙ (sym (append-nil (flat_map (text_of files) founds))

@@ -1,4 +1,5 @@
--- How a command ends that reads a file: where that fails, where what was read is refused, and where what is left is given.
+-- How a command ends that reads a file: where that fails, where what was read is refused, and where what is left is
+-- given.
 use Rattle.std.proofs.Common.{◌≡◌, ◌≢◌, ◌∙◌, ◌⊎◌, ℕ, Bool, Err, IfErr, IfOk, List, Ok, OnErr, OnOk, Option, Result, Vec, ap, arith, false, inl, inr, refl, subst, sym, true}
 use Rattle.std.specs.Global.{Global}
 use Rattle.std.specs.Prelude.{IsErrAnd, IsErrOf}

@@ -4,15 +4,15 @@ use Rattle.std.proofs.Common.{if◌then◌else◌, nat_lt, refl, subst, sym, tru
 use Rattle.std.proofs.lemmas.Bool.{cases_lt}
 use Rattle.litmus_parse.specs.Text.{file_bytes}
 use Rattle.run_output.specs.declared.error.EngineError.TheVariants as engine
-use Rattle.diagnostics.specs.check_output.Found.{Found, Gave, IsFound, Lost, greatest_status, output_of, status_of_one}
+use Rattle.diagnostics.specs.check_output.Diagnosis.{Diagnosis, Gave, IsFound, Lost, greatest_status, output_of, status_of_one}
 use Rattle.diagnostics.specs.declared.check_output.file.Files.{Files}
 use Rattle.cli.specs.Bounds.{KeepsCheckBounds}
 use Rattle.cli.specs.declared.request.CheckRequest.{CheckRequest}
 use Rattle.litmus_command.specs.Check.{AreGoneOver, AreListsAtFault, CheckAsksFor, CheckEnds, Checked, Early, IsGoneOver, IsLeftOver, IsListFault, IsToldOfLost}
 use Rattle.litmus_command.specs.Check.{IsPrinted, IsSeveral, Left, Unread, Whole, asked_of, once_told}
-use Rattle.litmus_command.specs.Command.{EndsAs, IsOfNoOverwrite, Reads, Tells, complaint_status_of, state_in, status_of, text_status_of}
+use Rattle.litmus_command.specs.Command.{EndsAs, IsOfNoOverwrite, Reads, StatusComplaint, complaint_status_of, state_in, status_of, text_status_of}
 use Rattle.litmus_command.specs.Files.{FileEvent, OnlyRead}
-use Rattle.litmus_command.specs.Told.{heard}
+use Rattle.litmus_command.specs.StandardError.{heard}
 use Rattle.litmus_command.specs.declared.command.Failure.{Failure}
 use Rattle.litmus_command.specs.declared.command.Failure.TheVariants as failure
 use Rattle.litmus_command.specs.declared.complaint.Complaint.{Complaint}
@@ -25,7 +25,7 @@ use Rattle.diagnostics.specs.declared.text_check.checked.Check.TheVariants as ch
 
 -- what can be said of the end of a check of one file
 pub record Ends (status : ℕ) (before after : Whole) : Type 0 where
-  pub tells : Tells status before.told after.told
+  pub tells : StatusComplaint status before.told after.told
   pub reads : Reads status before.faults after.faults
   pub ends : EndsAs status (state_in before) (state_in after)
 
@@ -155,7 +155,7 @@ no_last_line : (several : Bool) (line : List ℕ) → several ≡ false → (if 
 no_last_line several line one = ap (λ (b : Bool). if b then line else []) one
 
 -- the end of the check of one file, of which this was found
-one_found : (files : Files) (settings : Settings) (found : Found) (output : List ℕ) (status ends : ℕ) (before middle after : Whole)
+one_found : (files : Files) (settings : Settings) (found : Diagnosis) (output : List ℕ) (status ends : ℕ) (before middle after : Whole)
     → files.several ≡ false → IsFound settings found → IsGoneOver files found before middle → output ≡ output_of files (found ∷ [])
     → status ≡ greatest_status (found ∷ []) → IsPrinted output status ends middle after → Ends ends before after
 one_found files settings (Gave name text (checks.Reads tables printed)) output status ends before middle after one is_found gone output_is status_is (inl done) =
@@ -189,7 +189,7 @@ one_found files settings (Lost name) output status ends before middle after one 
     (ap (λ (at : Whole). at.written) gone.0) (inl (ap (λ (at : Whole). at.files) gone.0)) done
 
 -- all of one file were gone over
-one_checked : (request : CheckRequest) (founds : List Found) (settings : Settings) (output : List ℕ) (status ends : ℕ) (before middle after : Whole)
+one_checked : (request : CheckRequest) (founds : List Diagnosis) (settings : Settings) (output : List ℕ) (status ends : ℕ) (before middle after : Whole)
     → length request.files.items ≡ 1 → length founds ≡ length request.files.items → All (IsFound settings) founds
     → AreGoneOver (asked_of request) founds before middle → output ≡ output_of (asked_of request) founds → status ≡ greatest_status founds
     → IsPrinted output status ends middle after → Ends ends before after
@@ -203,7 +203,7 @@ one_checked request (found ∷ other ∷ more) settings output status ends befor
     absurd (let no : length (found ∷ other ∷ more) ≡ 1 = all ∙ one in omega (arith, no))
 
 -- memory ran out over the one file
-one_left : (request : CheckRequest) (founds : List Found) (status : ℕ) (before middle stopped after : Whole)
+one_left : (request : CheckRequest) (founds : List Diagnosis) (status : ℕ) (before middle stopped after : Whole)
     → length request.files.items ≡ 1 → (length founds < length request.files.items) ⊎ IsSeveral request
     → AreGoneOver (asked_of request) founds before middle → IsLeftOver (asked_of request).several middle stopped → status ≡ 71
     → after ≡ once_told (complaint.Failure failure.OutOfMemory) stopped → Ends status before after
@@ -268,7 +268,7 @@ ends_unless_several request status before after bounds ends =
 abbrev IsOfFiles : ℕ → Type 0
 IsOfFiles status = (status ≡ 0) ⊎ ((64 ≤ status) × (status ≤ 66))
 
-one_of_files : (found : Found) → IsOfFiles (status_of_one found)
+one_of_files : (found : Diagnosis) → IsOfFiles (status_of_one found)
 one_of_files (Gave name text (checks.Reads tables printed)) = inl refl
 one_of_files (Gave name text (checks.Misplaced why)) = inr (omega arith, omega arith)
 one_of_files (Gave name text (checks.Refused error why)) = inr (omega arith, omega arith)
@@ -282,7 +282,7 @@ greater_of_files one other (inr some) (inr more) =
     let low = some.0 in let high = some.1 in let from = more.0 in let to = more.1 in
     inr (omega (arith, low, from), omega (arith, high, to))
 
-greatest_of_files : (status : ℕ) (founds : List Found) → IsOfFiles status → IsOfFiles (fold max status (map status_of_one founds))
+greatest_of_files : (status : ℕ) (founds : List Diagnosis) → IsOfFiles status → IsOfFiles (fold max status (map status_of_one founds))
 greatest_of_files status [] few = few
 greatest_of_files status (found ∷ more) few =
     greatest_of_files (max status (status_of_one found)) more (greater_of_files status (status_of_one found) few (one_of_files found))

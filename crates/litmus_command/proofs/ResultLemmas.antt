@@ -21,8 +21,8 @@ use Rattle.litmus_command.specs.Command.{picture_status_of}
 use Rattle.litmus_command.specs.Engine.{IsRefused, Stops, StopsReady, StopsRun}
 use Rattle.run_stats.specs.Errors as tally
 use Rattle.search_output.specs.Texts as search
-use Rattle.litmus_command.specs.Command.{Tells}
-use Rattle.litmus_command.specs.Told.{heard}
+use Rattle.litmus_command.specs.Command.{StatusComplaint}
+use Rattle.litmus_command.specs.StandardError.{heard}
 use Rattle.litmus_command.specs.declared.complaint.Complaint.{Complaint}
 use Rattle.litmus_command.specs.declared.complaint.Complaint.TheVariants as complaint
 use Rattle.run_stats.specs.Errors.{IsNotRead}
@@ -219,7 +219,7 @@ known_below status (inr (inr (inr is))) = omega (arith, is)
 
 -- what standard error is told where there is a failure, of which nothing was told before
 pub tells_so : (failure : Failure) (status : ℕ) (before middle : Option (List Complaint)) → IsKnown status → status_of failure ≡ status
-    → middle ≡ before → Tells status before (heard middle (complaint.Failure failure))
+    → middle ≡ before → StatusComplaint status before (heard middle (complaint.Failure failure))
 tells_so failure status before middle known is same = record {
   quiet = λ low. let above = known_above status known in absurd (omega (arith, low, above));
   stopped = λ stops. let below = known_below status known in absurd (omega (arith, stops, below));

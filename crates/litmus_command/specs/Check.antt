@@ -1,7 +1,7 @@
 -- What `check` does with its files.
 use Rattle.std.specs.Global.{Global}
 use Rattle.std.specs.Prelude.{◌≡◌, ◌<◌, ◌⊎◌, ℕ, All, Bool, List, [], ◌∷◌, None, Option, Some, Vec, false, length, map, nat_lt, take, true}
-use Rattle.diagnostics.specs.check_output.Found.{Found, Gave, IsFound, Lost, greatest_status, has_tables, name_of, output_of, status_of_one, text_of}
+use Rattle.diagnostics.specs.check_output.Diagnosis.{Diagnosis, Gave, IsFound, Lost, greatest_status, has_tables, name_of, output_of, status_of_one, text_of}
 use Rattle.diagnostics.specs.check_output.Output.{misplaced_text, unread_line}
 use Rattle.diagnostics.specs.declared.check_output.file.Files.{Files}
 use Rattle.diagnostics.specs.declared.check_output.told.Lines.{Lines}
@@ -13,7 +13,7 @@ use Rattle.litmus_command.specs.Files.{FileEvent, OnlyRead, noted}
 use Rattle.litmus_command.specs.Files as events
 use Rattle.litmus_command.specs.Lists.{SpellsNoPlaces, SpellsNoSchedule, SpellsSchedule}
 use Rattle.litmus_command.specs.Settings.{AskSettings}
-use Rattle.litmus_command.specs.Told.{heard}
+use Rattle.litmus_command.specs.StandardError.{heard}
 use Rattle.litmus_command.specs.declared.check.FileEnd.{FileEnd}
 use Rattle.litmus_command.specs.declared.check.FileEnd.TheVariants as ends
 use Rattle.litmus_command.specs.declared.command.Failure.{Failure}
@@ -28,8 +28,8 @@ use Rattle.option_lists.specs.step_schedule.Spelling as schedules
 use Rattle.option_lists.specs.declared.step_schedule.schedule.Entry.{Entry}
 use Rattle.diagnostics.specs.declared.text_check.checked.Check.TheVariants.{Misplaced, Reads, Refused}
 
--- what standard output has taken, how often it has failed, what was done with files, what standard error was told, and how often the read of
--- a file has failed
+-- what standard output has taken, how often it has failed, what was done with files, what standard error was told, and
+-- how often the read of a file has failed
 pub record Whole : Type 0 where
   pub written : Option (List ℕ)
   pub failures : ℕ
@@ -87,7 +87,7 @@ IsToldOfLost true name before after = IsExplained failure.CannotRead (unread_lin
 IsToldOfLost false name before after = after ≡ heard before (complaint.Failure failure.CannotRead)
 
 -- what standard error was told of a file of which this was found: nothing where it reads
-abbrev pub IsToldOf : Files → Found → (before after : Option (List Complaint)) → Type 0
+abbrev pub IsToldOf : Files → Diagnosis → (before after : Option (List Complaint)) → Type 0
 IsToldOf files (Gave name text (Reads tables printed)) before after = after ≡ before
 IsToldOf files (Gave name text (Misplaced why)) before after =
     IsExplained failure.BadPlace (misplaced_text files name why.items) before after
@@ -96,7 +96,7 @@ IsToldOf files (Gave name text (Refused error why)) before after =
 IsToldOf files (Lost name) before after = IsToldOfLost files.several name before after
 
 -- a file was asked for, and this was found of it: it was read, or the read failed
-abbrev pub IsGoneOver : Files → Found → Whole → Whole → Type 0
+abbrev pub IsGoneOver : Files → Diagnosis → Whole → Whole → Type 0
 IsGoneOver files (Gave name text check) before after =
     (after ≡ record before { files = noted before.files (events.Gave name file_bytes text); told = after.told })
     × IsToldOf files (Gave name text check) before.told after.told
@@ -105,13 +105,13 @@ IsGoneOver files (Lost name) before after =
     × (CountsFailure before.faults after.faults × IsToldOf files (Lost name) before.told after.told)
 
 -- so it was with file after file
-abbrev pub AreGoneOver : Files → List Found → Whole → Whole → Type 0
+abbrev pub AreGoneOver : Files → List Diagnosis → Whole → Whole → Type 0
 AreGoneOver files [] before after = after ≡ before
 AreGoneOver files (found ∷ more) before after =
     (middle : Whole) × IsGoneOver files found before middle × AreGoneOver files more middle after
 
 -- what came of a file of which this was found
-abbrev pub IsEndOf : Files → Found → FileEnd → Type 0
+abbrev pub IsEndOf : Files → Diagnosis → FileEnd → Type 0
 IsEndOf files found (ends.Read text) = (has_tables found ≡ true) × (text.items ≡ text_of files found)
 IsEndOf files found (ends.Told status) = (has_tables found ≡ false) × (status ≡ status_of_one found)
 
@@ -121,18 +121,19 @@ pub record IsLeftOver (several : Bool) (before after : Whole) : Type 0 where
   pub faults : (after.faults ≡ before.faults) ⊎ ((several ≡ true) × CountsFailure before.faults after.faults)
   pub rest : after ≡ record before { files = after.files; faults = after.faults }
 
--- the first files, as many as these, were gone over in their order, under the settings that are asked for, and this was found of them
-pub record GoesOver (request : CheckRequest) (founds : List Found) (before after : Whole) : Type 0 where
+-- the first files, as many as these, were gone over in their order, under the settings that are asked for, and this was
+-- found of them
+pub record GoesOver (request : CheckRequest) (founds : List Diagnosis) (before after : Whole) : Type 0 where
   pub settings : Settings
   pub asks : CheckAsksFor request settings
   pub names : map name_of founds ≡ take (length founds) (map (λ file. file.now) request.files.items)
   pub are_found : All (IsFound settings) founds
   pub gone_over : AreGoneOver (asked_of request) founds before after
 
--- All files were gone over. This is printed of them: of each in order the tables, where it has some. The status is the greatest of those
--- that they would have alone.
+-- All files were gone over. This is printed of them: of each in order the tables, where it has some. The status is the
+-- greatest of those that they would have alone.
 pub record AreChecked (request : CheckRequest) (output : List ℕ) (status : ℕ) (before after : Whole) : Type 0 where
-  pub founds : List Found
+  pub founds : List Diagnosis
   pub all : length founds ≡ length request.files.items
   pub goes : GoesOver request founds before after
   pub output_is : output ≡ output_of (asked_of request) founds
@@ -161,7 +162,7 @@ pub record FilesAreChecked (request : CheckRequest) (ends : ℕ) (before after :
 
 -- memory ran out over a file, or over what is printed of several
 pub record AreLeft (request : CheckRequest) (before after : Whole) : Type 0 where
-  pub founds : List Found
+  pub founds : List Diagnosis
   pub left : (length founds < length request.files.items) ⊎ IsSeveral request
   pub middle : Whole
   pub goes : GoesOver request founds before middle

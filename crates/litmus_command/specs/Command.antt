@@ -56,7 +56,7 @@ use Rattle.picture_text.specs.declared.cells.Style.TheVariants.{Ascii}
 use Rattle.timeline.specs.picture.Drawn.{IsUndrawn}
 use Rattle.timeline.specs.declared.picture.error.PictureError.{PictureError}
 use Rattle.timeline.specs.declared.picture.error.PictureError.TheVariants as picture
-use Rattle.litmus_command.specs.Told.{heard}
+use Rattle.litmus_command.specs.StandardError.{heard}
 use Rattle.litmus_command.specs.declared.command.Failure.{Failure}
 use Rattle.litmus_command.specs.declared.command.Failure.TheVariants as failure
 use Rattle.litmus_command.specs.declared.complaint.Complaint.{Complaint}
@@ -149,8 +149,8 @@ with_trace before (Some path) (Some trace) = noted before (Has path trace)
 with_trace before (Some path) None = before
 with_trace before None trace = before
 
--- This is left of one run of the program that a text spells, under the settings and the schedule that are asked for: whether there was a
--- report, the output, and the trace, if it is asked for.
+-- This is left of one run of the program that a text spells, under the settings and the schedule that are asked for:
+-- whether there was a report, the output, and the trace, if it is asked for.
 pub record IsLeft (request : StepRequest) (text : List ℕ) (raced : Bool) (output : List ℕ) (trace : Option (List ℕ)) :
     Type 0 where
   pub settings : Settings
@@ -169,14 +169,15 @@ times_of request = record {
   keep_going = request.keep_going;
 }
 
--- This is left of runs on threads of the program that a text spells, as often and under the settings as it is asked for: whether there was
--- a report, the output, and the trace of the last run that ended, if it is asked for and there is one.
+-- This is left of runs on threads of the program that a text spells, as often and under the settings as it is asked
+-- for: whether there was a report, the output, and the trace of the last run that ended, if it is asked for and there
+-- is one.
 pub record AreLeft (request : RunRequest) (text : List ℕ) (raced : Bool) (output : List ℕ) (trace : Option (List ℕ)) : Type 0 where
   pub settings : Settings
   pub asks : AskSettings request.options settings
   pub leaves : tally_output.TextLeaves text settings (times_of request) (is_some request.options.trace) raced output trace
 
--- what is wanted of a search of schedules with at most so many switches, as it is asked for
+-- what is wanted of a search of schedules with at most so many preemptions, as it is asked for
 abbrev pub wanted_of : SearchRequest → (most : ℕ) → Wanted
 wanted_of request most = record {
   switches = most;
@@ -189,7 +190,7 @@ wanted_of request most = record {
 abbrev pub all_wanted_of : SearchRequest → AllWanted
 all_wanted_of request = record { limit = request.limit; traced = is_some request.options.trace }
 
--- a search of a text, over schedules with at most so many switches or over all, leaves this of what is asked for
+-- a search of a text, over schedules with at most so many preemptions or over all, leaves this of what is asked for
 abbrev pub IsSearchedFor : SearchRequest → Switches → (text : List ℕ) → Settings → (raced stopped : Bool) → (output : List ℕ) →
     (trace : Option (List ℕ)) → Type 0
 IsSearchedFor request (switches.AtMost most) text settings raced stopped output trace =
@@ -197,21 +198,23 @@ IsSearchedFor request (switches.AtMost most) text settings raced stopped output 
 IsSearchedFor request switches.All text settings raced stopped output trace =
     AllIsSearched text settings (all_wanted_of request) raced stopped output trace
 
--- This is left of a search over the program that a text spells, within the bounds and under the settings that are asked for: whether there
--- was a report, whether others remain, the output, and the trace of the first list with a report, if it is asked for and there is one.
+-- This is left of a search over the program that a text spells, within the bounds and under the settings that are asked
+-- for: whether there was a report, whether others remain, the output, and the trace of the first list with a report, if
+-- it is asked for and there is one.
 pub record IsFound (request : SearchRequest) (stopped : Bool) (text : List ℕ) (raced : Bool) (output : List ℕ) (trace : Option (List ℕ)) :
     Type 0 where
   pub settings : Settings
   pub asks : AskSettings request.options settings
   pub found : IsSearchedFor request request.switches text settings raced stopped output trace
 
--- What is left of runs was given: standard output took the output, and the trace was written, if it is asked for and there is one.
+-- What is left of runs was given: standard output took the output, and the trace was written, if it is asked for and
+-- there is one.
 pub record IsGiven (path : Option (List ℕ)) (output : List ℕ) (trace : Option (List ℕ)) (before after : State) : Type 0 where
   pub written : after.written ≡ appended before.written output
   pub files : after.files ≡ with_trace before.files path trace
 
--- Not all of it could be given. There is a trace, and its file could not be written: standard output and all files have what they had. Or
--- that was done, and standard output took but a beginning of the output.
+-- Not all of it could be given. There is a trace, and its file could not be written: standard output and all files have
+-- what they had. Or that was done, and standard output took but a beginning of the output.
 abbrev pub IsGivenInPart : (path : Option (List ℕ)) (output : List ℕ) (trace : Option (List ℕ)) (before after : State) → Type 0
 IsGivenInPart path output trace before after =
     ((is_some trace ≡ true) × (after.written ≡ before.written) × (after.files ≡ before.files))
@@ -227,8 +230,8 @@ trace_path options = option_map (λ path. path.now) options.trace
 abbrev pub svg_path : ShowRequest → Option (List ℕ)
 svg_path request = option_map (λ path. path.now) request.svg
 
--- The file that is asked for was read, and was run, or drawn, as it is asked. What is left of that was given, which has a report or none:
--- an output, and what goes to the file of this path, if there is one.
+-- The file that is asked for was read, and was run, or drawn, as it is asked. What is left of that was given, which has
+-- a report or none: an output, and what goes to the file of this path, if there is one.
 pub record FileIsRun (file : List ℕ) (limit : ℕ) (path : Option (List ℕ)) (Left : List ℕ → Bool → List ℕ → Option (List ℕ) → Type 0)
     (raced : Bool) (before after : State) : Type 0 where
   pub text : List ℕ
@@ -251,8 +254,8 @@ pub record FileIsRunInPart (file : List ℕ) (limit : ℕ) (path : Option (List 
 abbrev pub SpellsNone : List ℕ → Type 0
 SpellsNone text = (program : tree.Program) → SpellsProgram text program → ⊥
 
--- The file that is asked for was read, and its text has no output, for a reason that ends with this status: 65 only where the text spells
--- no program. Nothing was written.
+-- The file that is asked for was read, and its text has no output, for a reason that ends with this status: 65 only
+-- where the text spells no program. Nothing was written.
 pub record FileIsRefused (file : List ℕ) (Refuses : List ℕ → EngineError → Type 0) (status : ℕ) (before after : State) : Type 0 where
   pub text : List ℕ
   pub error : EngineError
@@ -288,7 +291,8 @@ pub record ReplayIsRefused (request : ReplayRequest) (status : ℕ) (before afte
   pub status_is : status ≡ trace_status_of error
   pub files : after.files ≡ noted before.files (Gave request.trace.now size_limit bytes)
 
--- the file that is asked for gave these bytes, which are a true trace, and this is said of it: how many lines it has of each kind
+-- the file that is asked for gave these bytes, which are a true trace, and this is said of it: how many lines it has of
+-- each kind
 pub record IsSaid (request : ReplayRequest) (bytes line : List ℕ) (before after : State) : Type 0 where
   pub accepted : IsLineOf bytes line
   pub files : after.files ≡ noted before.files (Gave request.trace.now size_limit bytes)
@@ -307,8 +311,8 @@ pub record ReplayIsCut (request : ReplayRequest) (before after : State) : Type 0
   pub said : IsSaid request bytes line before after
   pub begun : HoldsBeginning line before.written after.written
 
--- This is left of a trace that is drawn as it is asked: the text, with ASCII alone where that is asked for, and the SVG, if it is asked
--- for. A report that the trace tells of doesn't count as one here.
+-- This is left of a trace that is drawn as it is asked: the text, with ASCII alone where that is asked for, and the
+-- SVG, if it is asked for. A report that the trace tells of doesn't count as one here.
 pub record IsShown (request : ShowRequest) (bytes : List ℕ) (raced : Bool) (output : List ℕ) (svg : Option (List ℕ)) : Type 0 where
   pub style : Style
   pub ascii : request.ascii ≡ true → style ≡ Ascii
@@ -407,8 +411,8 @@ DoesNotRead (requests.Show request) = ⊥
 DoesNotRead (requests.Check request) = SpellsNoSchedule request.schedule.now ⊎ SpellsNoPlaces request.places.now
 DoesNotRead requests.Calls = ⊥
 
--- Schedule or place list don't read, and no file was touched; or the file that is asked for was read, and they don't suit its program; or
--- that file would be overwritten, and no file was touched.
+-- Schedule or place list don't read, and no file was touched; or the file that is asked for was read, and they don't
+-- suit its program; or that file would be overwritten, and no file was touched.
 abbrev pub IsMisused : Request → State → State → Type 0
 IsMisused request before after = (DoesNotRead request × (after.files ≡ before.files)) ⊎ IsRefusedOf request 64 before after
     ⊎ (((path : List ℕ) × Overwrites request path) × (after.files ≡ before.files))
@@ -433,8 +437,8 @@ IsOfSeveral (requests.Show request) = ⊥
 IsOfSeveral (requests.Check request) = IsSeveral request
 IsOfSeveral requests.Calls = ⊥
 
--- Standard error is told of what is asked in words of their own: of a check of several files of each, and of a file that would be
--- overwritten that.
+-- Standard error is told of what is asked in words of their own: of a check of several files of each, and of a file
+-- that would be overwritten that.
 abbrev pub IsToldApart : Request → Type 0
 IsToldApart request = IsOfSeveral request ⊎ ((path : List ℕ) × Overwrites request path)
 
@@ -460,9 +464,9 @@ IsOfNoOverwrite (complaint.Failure error) = Unit {0}
 IsOfNoOverwrite (complaint.Explained error lines) = Unit {0}
 IsOfNoOverwrite (complaint.Overwrites lines) = ⊥
 
--- standard error was told nothing below 64 and at 75, and from 64 to 74 one thing, which comes with this status, and isn't that a file would
--- be overwritten
-pub record Tells (status : ℕ) (before after : Option (List Complaint)) : Type 0 where
+-- standard error was told nothing below 64 and at 75, and from 64 to 74 one thing, which comes with this status, and
+-- isn't that a file would be overwritten
+pub record StatusComplaint (status : ℕ) (before after : Option (List Complaint)) : Type 0 where
   pub quiet : status < 64 → after ≡ before
   pub stopped : status ≡ 75 → after ≡ before
   pub told : 64 ≤ status → status ≤ 74 → (said : Complaint) × (complaint_status_of said ≡ status) × IsOfNoOverwrite said
@@ -522,11 +526,11 @@ pub record AreAnswered (words : List (List ℕ)) (status : ℕ) (before after : 
   pub other : kind ≢ kinds.OutOfMemory
   pub may : MayFail words kind
   pub faults : after.faults ≡ before.faults
-  pub tells : Tells status before.told after.told
+  pub tells : StatusComplaint status before.told after.told
   pub ends : EndsAs status (state_in before) (state_in after)
 
--- The words ask for something of which this holds; or for help, or they are at fault, and that was answered; or memory ran out over them,
--- which was told, and nothing else was done.
+-- The words ask for something of which this holds; or for help, or they are at fault, and that was answered; or memory
+-- ran out over them, which was told, and nothing else was done.
 abbrev pub OfAsked : (words : List (List ℕ)) → (status : ℕ) → (before after : Whole) → (Request → Type 0) → Type 0
 OfAsked words status before after Holds =
     AskForOne words Holds ⊎ AreAnswered words status before after ⊎ IsOutOfMemory status before after

@@ -3,12 +3,13 @@ use Rattle.std.specs.Prelude.{◌≡◌, ◌≢◌, ◌⊎◌, ℕ, List, Err, O
 use Rattle.cli.specs.declared.request.Request.{Request}
 use Rattle.litmus_command.specs.Check.{Whole}
 use Rattle.litmus_command.specs.Command.{DoesRead, EndsAs, IsChecked, IsCut, IsDone, IsMisused, IsOfFile, IsOfSeveral, IsRefusedOf, IsStopped}
-use Rattle.litmus_command.specs.Command.{IsToldApart, NothingIsWritten, Reads, State, Tells, state_in, status_of}
+use Rattle.litmus_command.specs.Command.{IsToldApart, NothingIsWritten, Reads, State, StatusComplaint, state_in, status_of}
 use Rattle.litmus_command.specs.Overwrite.{IsKept, Overwrites}
 use Rattle.litmus_command.specs.declared.command.Failure.{Failure}
 use Rattle.report_text.specs.Sink.{CountsFailure}
 
--- what is asked was done, with this status: with a report, without one, or as a search that was stopped at its limit with none so far
+-- what is asked was done, with this status: with a report, without one, or as a search that was stopped at its limit
+-- with none so far
 abbrev pub IsDoneWith : Request → (status : ℕ) → State → State → Type 0
 IsDoneWith request status before after =
     ((status ≡ 2) × IsDone request true before after) ⊎ ((status ≡ 0) × IsDone request false before after)
@@ -41,8 +42,8 @@ pub record IsNoCheck (request : Request) : Type 0 where
   pub checks : (status : ℕ) (before after : Whole) → IsChecked request status before after
   pub keeps : (path : List ℕ) → Overwrites request path → ⊥
 
--- What is asked was carried out, and this is the status: what it says of what was written and of the files, what standard error was told,
--- and whether a read failed.
+-- What is asked was carried out, and this is the status: what it says of what was written and of the files, what
+-- standard error was told, and whether a read failed.
 pub record IsCarriedOut (request : Request) (status : ℕ) (before after : Whole) : Type 0 where
   pub reported : status ≡ 2 → IsDone request true (state_in before) (state_in after)
   pub unreported : status ≡ 0 → IsDone request false (state_in before) (state_in after)
@@ -54,5 +55,5 @@ pub record IsCarriedOut (request : Request) (status : ℕ) (before after : Whole
   pub checks : IsChecked request status before after
   pub keeps : (path : List ℕ) → Overwrites request path → IsKept path status before after
   pub reads : IsOfSeveral request ⊎ Reads status before.faults after.faults
-  pub tells : IsToldApart request ⊎ Tells status before.told after.told
+  pub tells : IsToldApart request ⊎ StatusComplaint status before.told after.told
   pub ends : IsOfSeveral request ⊎ EndsAs status (state_in before) (state_in after)

@@ -14,25 +14,26 @@ use Rattle.prepared_program.specs.declared.program_sites.settings.Settings.{Sett
 use Rattle.litmus_syntax.specs.declared.program.Program.{Program}
 use Rattle.prepared_program.specs.program_layout.Places.{AreFit}
 use Rattle.soundness.specs.Headline.{Headline}
-use Rattle.executions.specs.run_lists.Reports.{reports_of}
-use Rattle.executions.specs.run_lists.Run as lists
-use Rattle.executions.specs.run_lists.RunList.{AllHaveEnded, RunList}
+use Rattle.executions.specs.execution.Reports.{reports_of}
+use Rattle.executions.specs.execution.Run as lists
+use Rattle.executions.specs.execution.Execution.{AllHaveEnded, Execution}
 use Rattle.slot_table.specs.declared.records.Record.{Record}
 use Rattle.schedule_search.specs.Again.{tasks_known}
 use Rattle.option_lists.specs.step_schedule.Order.{AreAsked, IsOrder}
 use Rattle.option_lists.specs.step_schedule.Schedule.{names_stranger}
 use Rattle.option_lists.specs.declared.step_schedule.schedule.Entry.{Entry}
 
--- from the first step on the tasks of the run were asked in the order of the schedule, and these are the steps that they made
+-- from the first step on the tasks of the run were asked in the order of the schedule, and these are the steps that
+-- they made
 pub record AreStepped (run : lists.Run) (entries : List Entry) (records : List Record) : Type 0 where
-  pub list : RunList run records
+  pub list : Execution run records
   pub order : List ℕ
   pub in_order : IsOrder entries (tasks_of run) order
   pub asked : AreAsked (tasks_known run) (tasks_of run) [] order records
 
--- What is left of one run of the program, under these settings and this schedule, in which all tasks ended: its output, which begins with
--- the reports of its steps, and its trace, if there is one, which `replay` accepts. There was a race if there is a report. And of its steps
--- the headline holds: each report names a true race, or bytes that changed.
+-- What is left of one run of the program, under these settings and this schedule, in which all tasks ended: its output,
+-- which begins with the reports of its steps, and its trace, if there is one, which `replay` accepts. There was a race
+-- if there is a report. And of its steps the headline holds: each report names a true race, or bytes that changed.
 pub record Leaves (program : Program) (settings : Settings) (entries : List Entry) (raced : Bool) (output : List ℕ)
     (trace : Option (List ℕ)) : Type 0 where
   pub fit : AreFit program.variables settings.places.items
@@ -54,8 +55,8 @@ pub record TextLeaves (text : List ℕ) (settings : Settings) (entries : List En
   pub read : IsReadAs text program
   pub leaves : Leaves program settings entries raced output trace
 
--- The tasks of the program were asked for steps under these settings in the order of the schedule, and then a wait of the task had as
--- many vain tries as are allowed.
+-- The tasks of the program were asked for steps under these settings in the order of the schedule, and then a wait of
+-- the task had as many failed tries as are allowed.
 pub record GetsStuck (program : Program) (settings : Settings) (entries : List Entry) (task : ℕ) : Type 0 where
   pub sites : AccessMap
   pub records : List Record
@@ -63,15 +64,17 @@ pub record GetsStuck (program : Program) (settings : Settings) (entries : List E
   pub there : task < tasks_of (run_of program settings sites)
   pub stuck : IsStuck (run_of program settings sites) task records
 
--- the tasks of the program were asked for steps under these settings in the order of the schedule, and then all had ended
+-- the tasks of the program were asked for steps under these settings in the order of the schedule, and then all had
+-- ended
 pub record ComesToEnd (program : Program) (settings : Settings) (entries : List Entry) : Type 0 where
   pub sites : AccessMap
   pub records : List Record
   pub stepped : AreStepped (run_of program settings sites) entries records
   pub over : AllHaveEnded (run_of program settings sites) records
 
--- why a program that is made ready, and has made no step, leaves nothing: its schedule names a task that isn't there, a task gets stuck,
--- or, once all tasks have ended, there is no room for what is written. So a task that gets stuck is never told as want of memory.
+-- why a program that is made ready, and has made no step, leaves nothing: its schedule names a task that isn't there, a
+-- task gets stuck, or, once all tasks have ended, there is no room for what is written. So a task that gets stuck is
+-- never told as want of memory.
 abbrev pub StopsReady : Program → Settings → List Entry → EngineError → Type 0
 StopsReady program settings entries (Text error) = ⊥
 StopsReady program settings entries (Run BadSlots) = ⊥
@@ -82,8 +85,8 @@ StopsReady program settings entries (Run BadSchedule) = IsTrue (names_stranger (
 StopsReady program settings entries (Run NoThread) = ⊥
 StopsReady program settings entries SinkFailed = ⊥
 
--- why the run of a program has no output: want of memory, too few slots or too many, places that don't suit its variables, a
--- schedule that names a task that isn't there, or a task that is stuck
+-- why the run of a program has no output: want of memory, too few slots or too many, places that don't suit its
+-- variables, a schedule that names a task that isn't there, or a task that is stuck
 abbrev pub StopsRun : Program → Settings → List Entry → RunError → Type 0
 StopsRun program settings entries BadSlots = (settings.slots < 3) ⊎ (1024 < settings.slots)
 StopsRun program settings entries BadPlace = ¬ AreFit program.variables settings.places.items
@@ -97,7 +100,8 @@ Stops program settings entries (Text error) = ⊥
 Stops program settings entries (Run error) = StopsRun program settings entries error
 Stops program settings entries SinkFailed = ⊥
 
--- why a text has no output: it is not read as a program, or the program's run has none. Of a sink that fails other clauses speak.
+-- why a text has no output: it is not read as a program, or the program's run has none. Of a sink that fails other
+-- clauses speak.
 abbrev pub IsRefused : (text : List ℕ) → Settings → List Entry → EngineError → Type 0
 IsRefused text settings entries (Text error) = IsNotRead text error
 IsRefused text settings entries (Run error) = (program : Program) × IsReadAs text program × StopsRun program settings entries error

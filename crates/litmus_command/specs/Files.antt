@@ -1,7 +1,8 @@
 -- What is done with files.
 use Rattle.std.specs.Prelude.{◌≡◌, ◌++◌, ◌∷◌, ◌⊎◌, ℕ, List, [], Option, Some, None}
 
--- a file of a name gave these bytes, of which no more than so many and one were asked for, or was written and has these bytes since
+-- a file of a name gave these bytes, of which no more than so many and one were asked for, or was written and has these
+-- bytes since
 pub data FileEvent : Type 0 where
   Gave : (name : List ℕ) → (limit : ℕ) → (bytes : List ℕ) → FileEvent
   Has : (name bytes : List ℕ) → FileEvent

@@ -1,6 +1,6 @@
 pub mod Engine
 pub mod Files
-pub mod Told
+pub mod StandardError
 pub mod Lists
 pub mod Settings
 pub mod Replay

@@ -1,7 +1,7 @@
 //! The check of litmus files: nothing is run; what is said of each file is printed, or told.
 
 ghost use Rattle.std.specs.Prelude.{◌≡◌, ◌⊎◌, ◌≤◌, ℕ, List, Option, IfErr, IfOk, OnErr, false, true};
-ghost use Rattle.diagnostics.specs.check_output.Found.{Found, Gave, IsFound, Lost, name_of};
+ghost use Rattle.diagnostics.specs.check_output.Diagnosis.{Diagnosis, Gave, IsFound, Lost, name_of};
 ghost use Rattle.diagnostics.specs.check_output.Output.{IsMadeOf};
 ghost use Rattle.diagnostics.specs.declared.check_output.file.Files.{Files};
 ghost use Rattle.cli.specs.Bounds.{KeepsCheckBounds};
@@ -10,7 +10,7 @@ ghost use Rattle.litmus_command.specs.Check.{AreChecked, AreLeft, AreListsAtFaul
 ghost use Rattle.litmus_command.specs.Check.{once_told, options_of, whole_of};
 ghost use Rattle.litmus_command.specs.Command.{complaint_status_of};
 ghost use Rattle.litmus_command.specs.Ends.{CommandEnds};
-ghost use Rattle.litmus_command.specs.Told.{heard};
+ghost use Rattle.litmus_command.specs.StandardError.{heard};
 ghost use Rattle.litmus_command.specs.declared.complaint.Complaint.{Complaint};
 ghost use Rattle.prepared_program.specs.declared.program_sites.settings.Settings.{Settings};
 ghost use Rattle.diagnostics.specs.text_check.Check.{IsCheckOf};
@@ -92,7 +92,7 @@ fn settings_asked(alloc: Global, request: &CheckRequest<'_>) -> Result<Settings,
     }
 }
 
-/// Tells standard error, and answers the status that this comes with.
+/// StatusComplaint standard error, and answers the status that this comes with.
 pub(crate) fn tell<D: Desk>(complaint: Complaint, desk: &mut D) -> u8
     ensures status { result ≡ complaint_status_of complaint }
     ensures told { whole_of D.written D.failures D.files D.told D.faults desk.new
@@ -147,7 +147,7 @@ fn check_file<D: Desk>(
     desk: &mut D,
 ) -> Result<FileEnd, AllocError>
     requires { (3 ≤ settings.now.slots) × (settings.now.slots ≤ 1024) }
-    ensures found { IfOk result (λ end. (found : Found) × (name_of found ≡ name.now) × IsFound settings.now found
+    ensures found { IfOk result (λ end. (found : Diagnosis) × (name_of found ≡ name.now) × IsFound settings.now found
         × IsEndOf files found end × IsGoneOver files found (whole_of D.written D.failures D.files D.told D.faults desk.old)
         (whole_of D.written D.failures D.files D.told D.faults desk.new)) }
     ensures over { OnErr result (IsLeftOver files.several (whole_of D.written D.failures D.files D.told D.faults desk.old)

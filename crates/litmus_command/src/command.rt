@@ -8,12 +8,12 @@ ghost use Rattle.clap.specs.Words.{kind_of};
 ghost use Rattle.litmus_command.specs.Check.{IsOutOfMemory, Whole, once_told, whole_of};
 ghost use Rattle.litmus_command.specs.Command.{AskForOne, AskSettings, AsksFor, EndsAs, HelpIsCut, HelpIsGiven, IsCut, IsDone, IsGiven, IsGivenInPart};
 ghost use Rattle.litmus_command.specs.Command.{IsChecked, IsOfFile, IsOfSeveral, IsRefusedOf, IsStopped, IsToldApart, OfAsked};
-ghost use Rattle.litmus_command.specs.Command.{DoesNotRead, DoesRead, IsFault, IsMisused, Reads, SpellsNoPlaces, Tells, UsageIsTold};
+ghost use Rattle.litmus_command.specs.Command.{DoesNotRead, DoesRead, IsFault, IsMisused, Reads, SpellsNoPlaces, StatusComplaint, UsageIsTold};
 ghost use Rattle.litmus_command.specs.Command.{end_status_of, engine_status_of, picture_status_of, read_failure, run_status_of, settings_of, state_of};
 ghost use Rattle.litmus_command.specs.Command.{status_of, text_status_of, times_of, trace_status_of, with_trace};
 ghost use Rattle.litmus_command.specs.Ends.{CommandEnds, IsCarriedOut, IsNoCheck};
 ghost use Rattle.litmus_command.specs.Overwrite.{IsKept, Overwrites};
-ghost use Rattle.litmus_command.specs.Told.{heard};
+ghost use Rattle.litmus_command.specs.StandardError.{heard};
 ghost use Rattle.litmus_command.specs.declared.command.Failure.TheVariants.{Engine, OutOfMemory, Picture, Trace};
 ghost use Rattle.picture_text.specs.declared.cells.Style.TheVariants.{Ascii};
 ghost use Rattle.report_text.specs.Sink.{CountsFailure};
@@ -216,12 +216,12 @@ fn picture_status(error: PictureError) -> u8
 /// with. The first word is the program's name.
 ///
 /// 0: no report, a trace that is accepted or drawn, files that read where they are checked, or help. 2: a report. 64:
-/// usage, a file that would be written over its input, a schedule that doesn't read or names a task that isn't there, or
-/// a place that doesn't read or doesn't suit. 65: the file is refused. 66: it can't be read. 70: a task is stuck. 71: out
-/// of memory, or a thread couldn't be started. 74: output can't be written. 75: a search was stopped at its limit, and
-/// tells of no report. Of several files that are checked the greatest status counts. At 64 to 71 nothing goes to standard
-/// output, but for what is printed of several files that are checked, and no file is written. At 74 standard output and
-/// all files have what they had, or standard output has a beginning of what should stand there.
+/// usage, a file that would be written over its input, a schedule that doesn't read or names a task that isn't there,
+/// or a place that doesn't read or doesn't suit. 65: the file is refused. 66: it can't be read. 70: a task is stuck.
+/// 71: out of memory, or a thread couldn't be started. 74: output can't be written. 75: a search was stopped at its
+/// limit, and tells of no report. Of several files that are checked the greatest status counts. At 64 to 71 nothing
+/// goes to standard output, but for what is printed of several files that are checked, and no file is written. At 74
+/// standard output and all files have what they had, or standard output has a beginning of what should stand there.
 pub fn command<R: Threads + Wait + Sync, S: AsStr, D: Desk>(
     rt: &R,
     alloc: Global,
@@ -253,21 +253,21 @@ pub fn command<R: Threads + Wait + Sync, S: AsStr, D: Desk>(
         ⊎ UsageIsTold (map S.text words.now) (D.told desk.old) (D.told desk.new) }
     ensures unread { result ≡ 66 → AskForOne (map S.text words.now) DoesRead }
 
-    // What `check` found of each file, in order, is what `check_text` says of its text. So much was told and printed, and
-    // the status follows.
+    // What `check` found of each file, in order, is what `check_text` says of its text. So much was told and printed,
+    // and the status follows.
     ensures checks { OfAsked (map S.text words.now) result (whole_of D.written D.failures D.files D.told D.faults desk.old)
         (whole_of D.written D.failures D.files D.told D.faults desk.new) (λ request. IsChecked request result
         (whole_of D.written D.failures D.files D.told D.faults desk.old) (whole_of D.written D.failures D.files D.told D.faults desk.new)) }
 
-    // A file that would be written over its input is named, and nothing else is done. `misused` and `tells` say that this
-    // is said of no other.
+    // A file that would be written over its input is named, and nothing else is done. `misused` and `tells` say that
+    // this is said of no other.
     ensures keeps { OfAsked (map S.text words.now) result (whole_of D.written D.failures D.files D.told D.faults desk.old)
         (whole_of D.written D.failures D.files D.told D.faults desk.new) (λ request. (path : List ℕ) → Overwrites request path → IsKept path result
         (whole_of D.written D.failures D.files D.told D.faults desk.old) (whole_of D.written D.failures D.files D.told D.faults desk.new)) }
 
     // Only of a check of several files more was read and told, and something printed with a status from 64 to 66.
     ensures reads { AskForOne (map S.text words.now) IsOfSeveral ⊎ Reads result (D.faults desk.old) (D.faults desk.new) }
-    ensures tells { AskForOne (map S.text words.now) IsToldApart ⊎ Tells result (D.told desk.old) (D.told desk.new) }
+    ensures tells { AskForOne (map S.text words.now) IsToldApart ⊎ StatusComplaint result (D.told desk.old) (D.told desk.new) }
     ensures ends { AskForOne (map S.text words.now) IsOfSeveral ⊎ EndsAs result (state_of D.written D.failures D.files desk.old)
         (state_of D.written D.failures D.files desk.new) }
 {
@@ -331,8 +331,8 @@ fn advise_check<D: Desk>(failure: Failure, file: Option<&str>, desk: &D) {
     }
 }
 
-/// Ends what was asked, of the litmus file of this name if it is of one: where it failed, standard error is told why. The
-/// status that the program ends with.
+/// Ends what was asked, of the litmus file of this name if it is of one: where it failed, standard error is told why.
+/// The status that the program ends with.
 fn finish<D: Desk>(done: Result<u8, Failure>, file: Option<&str>, desk: &mut D) -> u8
     ensures { (request : spec.Request) (before : Whole) → IsNoCheck request
         → CommandEnds request done before (whole_of D.written D.failures D.files D.told D.faults desk.old)
@@ -450,8 +450,8 @@ fn end_status(raced: bool, stopped: bool) -> u8
     }
 }
 
-/// Gives what is left of runs or of a search, which may have been stopped: the trace, if it is asked for and there is one,
-/// and then the output. The status that the program ends with.
+/// Gives what is left of runs or of a search, which may have been stopped: the trace, if it is asked for and there is
+/// one, and then the output. The status that the program ends with.
 fn emit<D: Desk>(
     path: Option<&str>,
     written: &Written,
@@ -600,7 +600,7 @@ fn explain<D: Desk>(alloc: Global, error: clap::Error, desk: &mut D) -> u8
     ensures memory { (kind_of error ≢ ErrorKind.OutOfMemory) ⊎ IsOutOfMemory result
         (whole_of D.written D.failures D.files D.told D.faults desk.old) (whole_of D.written D.failures D.files D.told D.faults desk.new) }
     ensures faults { D.faults desk.new ≡ D.faults desk.old }
-    ensures tells { Tells result (D.told desk.old) (D.told desk.new) }
+    ensures tells { StatusComplaint result (D.told desk.old) (D.told desk.new) }
     ensures ends { EndsAs result (state_of D.written D.failures D.files desk.old)
         (state_of D.written D.failures D.files desk.new) }
 {
@@ -628,7 +628,7 @@ fn help<D: Desk>(alloc: Global, help: clap::Error, desk: &mut D) -> u8
     ensures usage { result ≢ 64 }
     ensures readable { result ≢ 66 }
     ensures faults { D.faults desk.new ≡ D.faults desk.old }
-    ensures tells { Tells result (D.told desk.old) (D.told desk.new) }
+    ensures tells { StatusComplaint result (D.told desk.old) (D.told desk.new) }
     ensures ends { EndsAs result (state_of D.written D.failures D.files desk.old)
         (state_of D.written D.failures D.files desk.new) }
 {

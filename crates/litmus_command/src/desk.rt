@@ -2,7 +2,7 @@
 
 ghost use Rattle.std.specs.Prelude.{◌≡◌, ◌≤◌, ◌+◌, List, Option, ℕ, IfOk, IsErrOf, OnErr, OnOk, vec_len};
 ghost use Rattle.litmus_command.specs.Files.{FileEvent, Gave, Has, noted};
-ghost use Rattle.litmus_command.specs.Told.{heard};
+ghost use Rattle.litmus_command.specs.StandardError.{heard};
 ghost use Rattle.litmus_command.specs.declared.complaint.Complaint.{Complaint};
 ghost use Rattle.litmus_command.specs.declared.desk.ReadFault.TheVariants.{CannotRead};
 ghost use Rattle.report_text.specs.Sink.{CountsFailure, Writes};
@@ -73,13 +73,14 @@ pub trait Desk: Progress + SearchProgress {
     /// Is told that runs gave no report, where a search might. What it says of that is no complaint.
     fn advise_search(&self);
 
-    /// Is told that a litmus file of this name is refused, of which `check` says more. What it says of that is no complaint.
+    /// Is told that a litmus file of this name is refused, of which `check` says more. What it says of that is no
+    /// complaint.
     fn advise_check(&self, file: &str);
 
     /// Whether signs beyond ASCII can be shown where standard output goes.
     fn shows_utf8(&self) -> bool;
 
-    /// Tells standard error.
+    /// StatusComplaint standard error.
     fn complain(&mut self, complaint: Complaint)
         ensures told { told self.new ≡ heard (told self.old) complaint }
         ensures faults { faults self.new ≡ faults self.old }

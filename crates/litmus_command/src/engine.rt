@@ -13,9 +13,9 @@ ghost use Rattle.prepared_program.specs.program_sites.Prepared.{sites_in};
 ghost use Rattle.run_output.specs.Output.{IsOutput};
 ghost use Rattle.run_output.specs.Traces.{IsToBeAccepted, IsTraceOf};
 ghost use Rattle.run_output.specs.declared.error.EngineError.TheVariants.{SinkFailed, Text};
-ghost use Rattle.executions.specs.run_lists.Reports.{reports_of};
-ghost use Rattle.executions.specs.run_lists.Run.{Run};
-ghost use Rattle.executions.specs.run_lists.RunList.{AllHaveEnded};
+ghost use Rattle.executions.specs.execution.Reports.{reports_of};
+ghost use Rattle.executions.specs.execution.Run.{Run};
+ghost use Rattle.executions.specs.execution.Execution.{AllHaveEnded};
 ghost use Rattle.slot_table.specs.declared.records.Record.{Record};
 ghost use Rattle.option_lists.specs.step_schedule.Schedule.{entries_of};
 

@@ -14,7 +14,7 @@ use search_run::{Wanted, search_text};
 use std::alloc::Global;
 use std::thread::Threads;
 
-/// What is wanted of a search of schedules with at most so many switches, as it is asked for.
+/// What is wanted of a search of schedules with at most so many preemptions, as it is asked for.
 fn wanted_for(request: &SearchRequest<'_>, most: u64) -> Wanted
     ensures { result ≡ wanted_of request.now most }
 {
@@ -36,8 +36,8 @@ fn all_wanted_for(request: &SearchRequest<'_>) -> AllWanted
     }
 }
 
-/// Searches a litmus text, over schedules with at most so many switches or over all, as it is asked for. Over all one
-/// thread searches.
+/// Searches a litmus text, over schedules with at most so many preemptions or over all, as it is asked for. Over all
+/// one thread searches.
 pub(crate) fn search_for<R: Threads + Sync, P: SearchProgress>(
     rt: &R,
     alloc: Global,

@@ -17,7 +17,7 @@ use Rattle.litmus_declarations.specs.Entries.{settled, valued}
 use Rattle.litmus_declarations.specs.Mentions as mentions
 use Rattle.litmus_declarations.specs.Mentions.{AreDeclared, HasType, IsDeclared, Mention, Said, Says, contents_of, item, last_value, parameter}
 use Rattle.litmus_declarations.specs.Variables.{has_contradiction, variable_in, variables_in}
-use Rattle.litmus_declarations.specs.Told.{all_told, told, told_of}
+use Rattle.litmus_declarations.specs.Mentioned.{all_told, told, told_of}
 use Rattle.litmus_declarations.specs.VariableReader.{is_lock_type}
 use Rattle.litmus_declarations.proofs.Fits.{Fit}
 use Rattle.litmus_declarations.proofs.Known.{Ended, has_type, not_both, settles, value_is}

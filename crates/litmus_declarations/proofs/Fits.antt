@@ -15,11 +15,11 @@ use Rattle.litmus_declarations.specs.Entries.{Entry, changed, changed_from, fres
 use Rattle.litmus_declarations.specs.Entries.{named_untyped, noted, odd_type, settled, settled_from, type_number, valued}
 use Rattle.litmus_declarations.specs.ItemReader.{Heading}
 use Rattle.litmus_declarations.specs.Mentions.{HasType, Mention, Said, Says, item, parameter}
-use Rattle.litmus_declarations.specs.Told.{Noted, told}
+use Rattle.litmus_declarations.specs.Mentioned.{Noted, told}
 use Rattle.litmus_declarations.specs.VariableReader.{is_lock_type}
 use Rattle.litmus_declarations.proofs.Numbers.{number_read}
 use Rattle.litmus_declarations.proofs.Spelled as spelled
-use Rattle.litmus_declarations.proofs.Tidy.{Grows, Tells, Tidy, entry_at, entry_in, noted_tells, numbered_grows}
+use Rattle.litmus_declarations.proofs.Tidy.{Grows, TellsMention, Tidy, entry_at, entry_in, noted_tells, numbered_grows}
 
 -- ---- what a type allows
 
@@ -219,7 +219,7 @@ module _ (all : List Mention) (m : Mention) (names later : Names) (table : List 
   noted_so : Noted m names table later (set mid n go.later)
   noted_so = record { number = n; numbered = number_read m.name n names later fits.tidy.differ numbered; changes = changes }
 
-  tells_so : Tells m names table n later (set mid n go.later)
+  tells_so : TellsMention m names table n later (set mid n go.later)
   unfolding noted_so
   tells_so = noted_tells m names later table (set mid n go.later) noted_so fits.tidy
 

@@ -16,7 +16,7 @@ use Rattle.litmus_declarations.specs.Headers as grammar
 use Rattle.litmus_declarations.specs.Headers.{Item, Value}
 use Rattle.litmus_declarations.specs.ItemReader.{Heading, behind_name, given_in, item_at, item_of, named_in, noted_in, variable_in}
 use Rattle.litmus_declarations.specs.Mentions.{Mention, item}
-use Rattle.litmus_declarations.specs.Told.{Noted, told_item}
+use Rattle.litmus_declarations.specs.Mentioned.{Noted, told_item}
 use Rattle.litmus_declarations.specs.VariableReader.{is_lock_type, number_at}
 use Rattle.litmus_declarations.proofs.Values.{value_spelled}
 

@@ -16,7 +16,7 @@ use Rattle.litmus_declarations.specs.ItemReader.{Heading, behind_item, behind_na
 use Rattle.litmus_declarations.specs.ItemReader.{noted_in, past, variable_in}
 use Rattle.litmus_declarations.specs.Mentions as mentions
 use Rattle.litmus_declarations.specs.Mentions.{AreNumbered, HasType, Mention, Said, item, parameter}
-use Rattle.litmus_declarations.specs.Told.{Noted, told_item}
+use Rattle.litmus_declarations.specs.Mentioned.{Noted, told_item}
 use Rattle.litmus_declarations.specs.Turns.{done, turned}
 use Rattle.litmus_declarations.specs.Typed.{AreTyped}
 use Rattle.litmus_declarations.specs.VariableReader.{is_lock_type}

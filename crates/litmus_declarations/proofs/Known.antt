@@ -13,7 +13,7 @@ use Rattle.litmus_expression.proofs.Taken.{same_given}
 use Rattle.litmus_declarations.specs.Entries.{Entry, fresh, given, has_two_types, lock_given, named_parameter, named_typed, named_untyped, noted}
 use Rattle.litmus_declarations.specs.Entries.{odd_type, settled, settled_from, type_number, valued}
 use Rattle.litmus_declarations.specs.Mentions.{HasType, Mention, Said, Says, item, last_value, parameter, value_after}
-use Rattle.litmus_declarations.specs.Told.{all_told, told, told_of}
+use Rattle.litmus_declarations.specs.Mentioned.{all_told, told, told_of}
 use Rattle.litmus_declarations.specs.VariableReader.{is_lock_type}
 
 -- ---- one mention

@@ -21,7 +21,7 @@ use Rattle.litmus_declarations.specs.ParameterReader.{parameters_at}
 use Rattle.litmus_declarations.specs.Turns.{again, done, going, turned}
 use Rattle.litmus_declarations.proofs.Parameters.{ReadsParameter, parameter_read}
 use Rattle.litmus_declarations.proofs.Spelled.{Said, first_false, nothing_said, one_told, rest_false}
-use Rattle.litmus_declarations.proofs.Tidy.{Tells, Tidy, entry_in, keeps_number, noted_tells}
+use Rattle.litmus_declarations.proofs.Tidy.{TellsMention, Tidy, entry_in, keeps_number, noted_tells}
 use Rattle.litmus_declarations.proofs.Unrolled.{Listing}
 
 -- ---- the last of a list
@@ -70,7 +70,7 @@ variable_there (q ∷ before) variable none p there same =
 
 module _ (x : Listing) (p : Parameter × Heading) (r : ReadsParameter x.0 x.1 p) (tidy : Tidy x.1.names x.1.table)
     (stand : Stand x.0 x.1.names) where
-  abbrev tells_it : Tells (mention_of p.0) x.1.names x.1.table r.noted.number p.1.names p.1.table
+  abbrev tells_it : TellsMention (mention_of p.0) x.1.names x.1.table r.noted.number p.1.names p.1.table
   tells_it = noted_tells (mention_of p.0) x.1.names p.1.names x.1.table p.1.table r.noted tidy
 
   numbered : Numbered 32 x.1.names p.0.name p.0.variable p.1.names

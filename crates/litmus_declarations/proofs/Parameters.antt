@@ -15,7 +15,7 @@ use Rattle.litmus_declarations.specs.Headers.{mention_of, parameter_of}
 use Rattle.litmus_declarations.specs.ItemReader.{Heading}
 use Rattle.litmus_declarations.specs.ParameterReader.{has_variable, numbered_parameter, parameter_at, parameter_named, parameter_of_type}
 use Rattle.litmus_declarations.specs.ParameterReader.{parameter_with}
-use Rattle.litmus_declarations.specs.Told.{Noted}
+use Rattle.litmus_declarations.specs.Mentioned.{Noted}
 use Rattle.litmus_declarations.specs.VariableReader.{number_at}
 use Rattle.litmus_declarations.proofs.Items.{identifier_is, type_is}
 

@@ -19,7 +19,7 @@ use Rattle.litmus_declarations.specs.ItemReader.{Heading}
 use Rattle.litmus_declarations.specs.Mentions.{Mention}
 use Rattle.litmus_declarations.specs.ParameterReader.{behind_parameter, has_variable, listed_at, numbered_parameter, parameter_at}
 use Rattle.litmus_declarations.specs.ParameterReader.{parameter_of_type, parameters_at}
-use Rattle.litmus_declarations.specs.Told.{Noted}
+use Rattle.litmus_declarations.specs.Mentioned.{Noted}
 use Rattle.litmus_declarations.specs.Turns.{turned}
 use Rattle.litmus_declarations.specs.Typed.{AreTyped}
 use Rattle.litmus_declarations.proofs.Fits.{Behind, Fits, Notes}

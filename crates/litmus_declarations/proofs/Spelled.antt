@@ -12,10 +12,10 @@ use Rattle.litmus_declarations.specs.Headers.{Item, Items, Listed, Parameters, m
 use Rattle.litmus_declarations.specs.ItemReader.{Heading, behind_item, initialization_at, item_at, items_at, items_by, past}
 use Rattle.litmus_declarations.specs.Mentions as mentions
 use Rattle.litmus_declarations.specs.Mentions.{AreNumbered, Mention}
-use Rattle.litmus_declarations.specs.Told.{all_told, told_of}
+use Rattle.litmus_declarations.specs.Mentioned.{all_told, told_of}
 use Rattle.litmus_declarations.specs.Turns.{again, done, going, turned}
 use Rattle.litmus_declarations.proofs.Items.{ReadsItem, item_read}
-use Rattle.litmus_declarations.proofs.Tidy.{Tells, Tidy, entry_in, noted_tells}
+use Rattle.litmus_declarations.proofs.Tidy.{TellsMention, Tidy, entry_in, noted_tells}
 
 pub not_both : (b : Bool) → b ≡ true → b ≡ false → ⊥
 not_both b e f = cc
@@ -55,7 +55,7 @@ nothing_said h symbols tidy = record { tidy = tidy; tells = λ name. refl }
 
 -- an item, and what is said behind it
 module _ (h u : Heading) (r : ReadsItem h u) (tidy : Tidy h.names h.table) where
-  abbrev tells_it : Tells r.mention h.names h.table r.noted.number u.names u.table
+  abbrev tells_it : TellsMention r.mention h.names h.table r.noted.number u.names u.table
   tells_it = noted_tells r.mention h.names u.names h.table u.table r.noted tidy
 
   last_item : (symbols : List Symbol) → u.symbols ≡ sign CloseBrace ∷ symbols → ReadsItems h (at_symbols u symbols)

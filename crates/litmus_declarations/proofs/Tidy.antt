@@ -14,7 +14,7 @@ use Rattle.litmus_expression.proofs.Named.{differ_more, found_at, index_there, i
 use Rattle.litmus_expression.proofs.Taken.{same_given}
 use Rattle.litmus_declarations.specs.Entries.{Entry, changed, changed_from, fresh, grown}
 use Rattle.litmus_declarations.specs.Mentions.{Mention}
-use Rattle.litmus_declarations.specs.Told.{Noted, told, told_of}
+use Rattle.litmus_declarations.specs.Mentioned.{Noted, told, told_of}
 use Rattle.litmus_declarations.proofs.Numbers.{number_spelled}
 
 -- names and a table that belong together
@@ -193,7 +193,7 @@ module _ (f : Entry → Option Entry) (names : Names) (table after : List Entry)
 
 -- what a mention means: names and the table still belong together, its name has its number, and what is known of
 -- each name is what the mention makes of it
-pub record Tells (m : Mention) (names : Names) (table : List Entry) (n : ℕ) (later : Names) (after : List Entry) : Type 0 where
+pub record TellsMention (m : Mention) (names : Names) (table : List Entry) (n : ℕ) (later : Names) (after : List Entry) : Type 0 where
   pub tidy : Tidy later after
   pub numbered : Numbered 32 names m.name n later
   pub found : index_of later m.name ≡ Some n
@@ -201,7 +201,7 @@ pub record Tells (m : Mention) (names : Names) (table : List Entry) (n : ℕ) (l
 
 pub noted_tells : (m : Mention) (names later : Names) (table after : List Entry) (noted : Noted m names table later after)
     → Tidy names table
-    → Tells m names table noted.number later after
+    → TellsMention m names table noted.number later after
 noted_tells m names later table after noted tidy =
     let numbered = number_spelled names m.name (noted.number, later) tidy.few noted.numbered in
     let g = numbered_grows names table m.name noted.number later tidy numbered in

@@ -11,6 +11,6 @@ pub mod Turns
 pub mod ParameterReader
 pub mod Seen
 pub mod PropositionReader
-pub mod Told
+pub mod Mentioned
 pub mod Typed
 pub mod Distinct

@@ -26,27 +26,27 @@ ghost use Rattle.litmus_declarations.specs.Typed.{AreTyped};
 ghost use Rattle.litmus_declarations.specs.VariableReader.{number_at};
 
 /// Law: what is read as a number, with a sign or without, or as an initial value, is what is spelled as one.
-pub fn values_are_read_as_they_are_spelled()
+pub fn law_values_are_read_as_they_are_spelled()
     ensures signed { (symbols rest : List Symbol) (value : ℕ) → Signed symbols value rest ↔ (take_signed symbols ≡ Some (value, rest)) }
     ensures initial { (symbols rest : List Symbol) (value : ℕ) → Value symbols value rest ↔ (value_at symbols ≡ Some (value, rest)) }
 {}
 
 /// Law: what is read as a quantifier is what is spelled as one.
-pub fn quantifiers_are_read_as_they_are_spelled()
+pub fn law_quantifiers_are_read_as_they_are_spelled()
     ensures { (symbols rest : List Symbol) (quantifier : Quantifier)
         → Quantifies symbols quantifier rest ↔ (quantifier_at symbols ≡ Some (quantifier, rest)) }
 {}
 
 /// Law: among names that differ and are no more than there may be, the number that a name of a variable gets is the one
 /// that it has, or the next one.
-pub fn variables_are_numbered_as_they_appear()
+pub fn law_variables_are_numbered_as_they_appear()
     ensures { (names later : Names) (name : List ℕ) (number : ℕ) → Differ names → length names ≤ variables_limit
         → Numbered variables_limit names name number later ↔ (number_at names name ≡ Some (number, later)) }
 {}
 
 /// Law: what is spelled as an initialization block is read, with the names and the numbers that its items give, where
 /// the names have types.
-pub fn what_is_spelled_as_an_initialization_block_is_read()
+pub fn law_what_is_spelled_as_an_initialization_block_is_read()
     ensures { (all items : List Mention) (symbols rest : List Symbol) (names : Names)
         → Items symbols items rest → AreNumbered [] items names → AreTyped all items
         → (table : List Entry) × (initialization_at (unnamed (sign OpenBrace ∷ symbols))
@@ -55,7 +55,7 @@ pub fn what_is_spelled_as_an_initialization_block_is_read()
 
 /// Law: what is spelled as the parameters of a first process is read, behind an initialization block that is read,
 /// where the names have types.
-pub fn what_is_spelled_as_parameters_is_read()
+pub fn law_what_is_spelled_as_parameters_is_read()
     ensures { (all items : List Mention) (symbols inside rest : List Symbol) (names later : Names) (table : List Entry)
         (parameters : List Parameter) → Items symbols items (sign OpenParen ∷ inside)
         → AreNumbered [] items names → AreTyped all items
@@ -68,7 +68,7 @@ pub fn what_is_spelled_as_parameters_is_read()
 
 /// Law: what is spelled as a whole proposition, with no more operators than one may have, is read so, behind processes
 /// each of whose names differ, where the names and locks that the reader knows are those of the variables.
-pub fn what_is_spelled_as_a_proposition_is_read()
+pub fn law_what_is_spelled_as_a_proposition_is_read()
     ensures { (mentions : List Mention) (names : Names) (locks : List Bool) (states : List State) (bodies : List tree.Block)
         (symbols : List Symbol) (proposition : tree.Proposition) (later : List Process)
         → ((name : List ℕ) (number : ℕ) → IsKnown mentions names name number

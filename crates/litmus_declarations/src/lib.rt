@@ -1,5 +1,5 @@
-//! The parts of a litmus text apart from bodies, read: its initialization block, the parameters of its processes and its
-//! condition.
+//! The parts of a litmus text apart from bodies, read: its initialization block, the parameters of its processes and
+//! its condition.
 #![tactic(auto)]
 
 mod condition;

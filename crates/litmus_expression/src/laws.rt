@@ -11,7 +11,7 @@ ghost use Rattle.litmus_expression.specs.Names.{Names, Parameter};
 ghost use Rattle.litmus_expression.specs.States.{State};
 
 /// Law: what is read as an expression, as one without a load, or as a load, is spelled so.
-pub fn what_is_read_is_spelled()
+pub fn law_what_is_read_is_spelled()
     ensures expression { (turns depth : ℕ) (s : State) (x : tree.Expression × State)
         → depth ≤ nesting_limit → length s.names ≤ registers_limit → expression_at turns depth s ≡ Some x
         → Expression s.parameters depth s.names s.symbols x.0 x.1.symbols x.1.names }
@@ -25,7 +25,7 @@ pub fn what_is_read_is_spelled()
 
 /// Law: what is spelled as an expression, as one without a load, or as a load, is read so, whatever follows it
 /// that can't continue it, where the limits of accesses are kept. Names of parameters and of registers differ.
-pub fn what_is_spelled_is_read()
+pub fn law_what_is_spelled_is_read()
     ensures expression { (turns depth : ℕ) (s : State) (e : tree.Expression) (rest : List Symbol) (later : Names)
         → Differ (map name_of s.parameters) → Differ s.names → Expression s.parameters depth s.names s.symbols e rest later → Follows 7 rest
         → s.repeats + accesses turns e ≤ repeats_limit
@@ -41,7 +41,7 @@ pub fn what_is_spelled_is_read()
 {}
 
 /// Law: symbols spell at most one expression before what can't continue one.
-pub fn symbols_spell_one_expression()
+pub fn law_symbols_spell_one_expression()
     ensures { (parameters : List Parameter) (depth : ℕ) (before after_one after_two : Names) (symbols rest_one rest_two : List Symbol) (one two : tree.Expression)
         → Differ (map name_of parameters) → Differ before
         → Expression parameters depth before symbols one rest_one after_one → Follows 7 rest_one

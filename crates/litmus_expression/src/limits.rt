@@ -6,7 +6,7 @@ use crate::expression::OPERATORS;
 use crate::process::{NESTING, REGISTERS, REPEATS, SCOPED, STATEMENTS, TURNS};
 
 /// Law: the limits are these numbers.
-pub fn body_limits()
+pub fn law_body_limits()
     ensures registers { REGISTERS ≡ 32 }
     ensures statements { STATEMENTS ≡ 256 }
     ensures nesting { NESTING ≡ 16 }

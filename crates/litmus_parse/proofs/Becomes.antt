@@ -1,4 +1,5 @@
--- What the names of a program become behind mentions and parameters: they still differ, are few, and keep their numbers.
+-- What the names of a program become behind mentions and parameters: they still differ, are few, and keep their
+-- numbers.
 use Rattle.std.proofs.Common.{◌≡◌, ◌≤◌, ℕ, zero, suc, List, [], ◌∷◌, ◌++◌, Some, length, map, refl, ap}
 use Rattle.std.proofs.Common.{subst, arith}
 use Rattle.std.specs.Prelude.{Contains, slice_get}

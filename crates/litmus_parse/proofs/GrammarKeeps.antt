@@ -1,4 +1,5 @@
--- A program that symbols spell keeps the limits and the rules of types, where the symbols are no more than a text can have.
+-- A program that symbols spell keeps the limits and the rules of types, where the symbols are no more than a text can
+-- have.
 use Rattle.std.proofs.Common.{◌≡◌, ◌≢◌, ◌∙◌, ◌+◌, ◌*◌, ◌<◌, ◌≤◌, ℕ, zero, suc, List, [], ◌∷◌, Some, length, map, refl, sym, ap}
 use Rattle.std.proofs.Common.{subst, arith}
 use Rattle.std.specs.Prelude.{All, Contains, flat_map, set, slice_get}

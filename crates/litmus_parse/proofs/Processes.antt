@@ -24,7 +24,7 @@ use Rattle.litmus_declarations.specs.Mentions.{Mention}
 use Rattle.litmus_declarations.specs.ParameterReader.{parameters_at}
 use Rattle.litmus_declarations.specs.Seen.{process_of}
 use Rattle.litmus_declarations.specs.Seen.{seen}
-use Rattle.litmus_declarations.specs.Told.{all_told, told_of}
+use Rattle.litmus_declarations.specs.Mentioned.{all_told, told_of}
 use Rattle.litmus_declarations.specs.Turns.{again, done, going, turned}
 use Rattle.litmus_declarations.specs.Entries.{Entry}
 use Rattle.litmus_declarations.proofs.Items.{identifier_is}

@@ -1,4 +1,5 @@
--- In what is spelled each register is one of those that are named in the end, and each variable is of the sort that its place takes.
+-- In what is spelled each register is one of those that are named in the end, and each variable is of the sort that its
+-- place takes.
 use Rattle.std.proofs.Common.{◌<◌, ◌≤◌, ℕ, List, [], ◌∷◌, Option, Some, None, length, arith}
 use Rattle.std.proofs.lemmas.List.{length-append}
 use Rattle.std.proofs.lemmas.Option.{slice_get_within}

@@ -1,4 +1,5 @@
--- How often counts rise in a body is bounded by the symbols that spell it: each rise takes a symbol, once for each turn.
+-- How often counts rise in a body is bounded by the symbols that spell it: each rise takes a symbol, once for each
+-- turn.
 use Rattle.std.proofs.Common.{◌≡◌, ◌+◌, ◌*◌, ◌≤◌, ℕ, List, [], ◌∷◌, Option, Some, None, length, refl, sym, subst, arith}
 use Rattle.std.proofs.Math.Nat.{mul_assoc, mul-le-mul_left, mul-le-mul_right}
 use native.Mathlib.Nat.{mul-add}

@@ -20,7 +20,7 @@ use Rattle.litmus_declarations.specs.Mentions.{HasType, Mention}
 use Rattle.litmus_declarations.specs.Seen.{seen}
 use Rattle.litmus_declarations.specs.PropositionReader.{whole_at}
 use Rattle.litmus_declarations.specs.Variables.{locks_in, variables_in}
-use Rattle.litmus_declarations.specs.Told.{all_told}
+use Rattle.litmus_declarations.specs.Mentioned.{all_told}
 use Rattle.litmus_declarations.specs.Typed.{AreTyped}
 use Rattle.litmus_declarations.specs.VariableReader.{is_lock_type}
 use Rattle.litmus_declarations.proofs.Declared.{Ends, EndsAt, no_contradiction, one_type, variables_are}

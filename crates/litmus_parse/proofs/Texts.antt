@@ -21,7 +21,7 @@ use Rattle.litmus_declarations.specs.Mentions.{AreDeclared, AreNumbered, Mention
 use Rattle.litmus_declarations.specs.Seen.{seen}
 use Rattle.litmus_declarations.specs.PropositionReader.{whole_at}
 use Rattle.litmus_declarations.specs.Variables.{has_contradiction, is_lock_entry, locks_in, variable_in, variables_in}
-use Rattle.litmus_declarations.specs.Told.{all_told}
+use Rattle.litmus_declarations.specs.Mentioned.{all_told}
 use Rattle.litmus_declarations.specs.VariableReader.{is_lock_type}
 use Rattle.litmus_declarations.proofs.Known as known
 use Rattle.litmus_declarations.proofs.Known.{AreItems, AreParameters, has_type, lock_is, not_both, value_is}

@@ -6,7 +6,7 @@ use crate::text::{FILE_BYTES, TASKS};
 use litmus_declarations::VARIABLES;
 
 /// Law: the limits are these numbers.
-pub fn text_limits()
+pub fn law_text_limits()
     ensures file_bytes { FILE_BYTES ≡ 65536 }
     ensures tasks { TASKS ≡ 16 }
     ensures variables { VARIABLES ≡ 32 }

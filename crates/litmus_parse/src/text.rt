@@ -21,7 +21,7 @@ ghost use Rattle.litmus_parse.specs.TextReader.{bodies_of, course_of, parts_at, 
 ghost use Rattle.litmus_parse.specs.Text.{file_bytes, IsTextByte};
 
 use crate::answer::{Reading, Reason, Refused};
-use crate::laws::{a_text_spells_one_program, a_text_spells_what_keeps_limits};
+use crate::laws::{law_a_text_spells_one_program, law_a_text_spells_what_keeps_limits};
 use litmus_body::read_block;
 use litmus_cursor::{Cursor, Excess, Expected, Fault, Refusal, Unread, tokens};
 use litmus_declarations::{Condition, Declarations, Header, name_of, unsupported_name};
@@ -71,8 +71,8 @@ pub fn read_text(alloc: Global, text: &[u8]) -> Result<Reading, Refused>
     ensures too_long { IfErr result (λ refused. refused.reason ≡ Reason.File → refused.at ≡ file_bytes) }
     ensures foreign { IfErr result (λ refused. refused.reason ≡ Reason.NotAscii → IsFirstForeign text.now refused.at) }
 {
-    a_text_spells_one_program();
-    a_text_spells_what_keeps_limits();
+    law_a_text_spells_one_program();
+    law_a_text_spells_what_keeps_limits();
     // The size comes first, so that all after it works on a bounded text; then the bytes, so that names are ASCII.
     if text.len() > FILE_BYTES {
         return Err(Refused::new(text, FILE_BYTES, Reason::File));

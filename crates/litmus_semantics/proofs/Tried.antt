@@ -210,7 +210,8 @@ deadlock =
     let two : Progress = progress (happenings.Lock 0 ∷ happenings.Lock 1 ∷ []) [] in
     (one, refl, (two, refl, refl))
 
--- ASSERT_EXCLUSIVE_WRITER_SCOPED(*x); r0 = READ_ONCE(*y); r1 = READ_ONCE(*y); where y stands at 0x10040: the assertion ends after both reads
+-- ASSERT_EXCLUSIVE_WRITER_SCOPED(*x); r0 = READ_ONCE(*y); r1 = READ_ONCE(*y); where y stands at 0x10040: the assertion
+-- ends after both reads
 abbrev with_y : Setting
 with_y = record setting { variables = record { name = 120 ∷ []; contents = Int (pos 0) } ∷ record { name = 121 ∷ []; contents = Int (pos 0) } ∷ [] }
 

@@ -10,23 +10,23 @@ use Rattle.litmus_syntax.specs.declared.program.Variable.{Variable}
 use Rattle.litmus_semantics.specs.Values.{size_of}
 
 -- the variable of a name is placed at an address
-pub record Place : Type 0 where
+pub record VariablePlace : Type 0 where
   pub name : List ℕ
   pub addr : ℕ
 
 -- the first place that is given for a name
-abbrev pub place_of : List Place → List ℕ → Option Place
+abbrev pub place_of : List VariablePlace → List ℕ → Option VariablePlace
 place_of places name = find (λ place. bytes_eq place.name name) places
 
 -- where the variable of a number stands: at its place, or, where it has none, 64 bytes from 0x10000
 -- on for each variable before it. Locks and placed variables count.
-abbrev pub address_of : List Place → ℕ → Variable → ℕ
+abbrev pub address_of : List VariablePlace → ℕ → Variable → ℕ
 address_of places number variable =
     unwrap_or (option_map (λ place. place.addr) (place_of places variable.name))
     (0x10000 + 64 * number)
 
 -- the bytes of the variable of a number
-abbrev pub bytes_at : List Place → ℕ → Variable → Bytes
+abbrev pub bytes_at : List VariablePlace → ℕ → Variable → Bytes
 bytes_at places number variable = record {
   addr = address_of places number variable;
   size = size_of variable.contents;
@@ -37,7 +37,7 @@ abbrev pub no_bytes : Bytes
 no_bytes = record { addr = 0; size = 0 }
 
 -- the bytes of the variable of a number, among these variables
-abbrev pub bytes_of_variable : List Place → List Variable → ℕ → Bytes
+abbrev pub bytes_of_variable : List VariablePlace → List Variable → ℕ → Bytes
 bytes_of_variable places variables number =
     unwrap_or (option_map (bytes_at places number) (slice_get variables number)) no_bytes
 
@@ -51,14 +51,14 @@ initial_value (Atomic n) = cast_unsigned w32 n
 initial_value Lock = 0
 
 -- the bytes and the initial values of variables, from a number on, in order
-abbrev pub initial_values : List Place → ℕ → List Variable → List (Bytes × ℕ)
+abbrev pub initial_values : List VariablePlace → ℕ → List Variable → List (Bytes × ℕ)
 initial_values places number [] = []
 initial_values places number (variable ∷ more) =
     (bytes_at places number variable, initial_value variable.contents)
     ∷ initial_values places (suc number) more
 
 -- what memory holds at first: the initial values, laid down in the order of the variables
-abbrev pub memory_at_first : List Place → List Variable → Memory
+abbrev pub memory_at_first : List VariablePlace → List Variable → Memory
 memory_at_first places variables = initial_memory (initial_values places 0 variables)
 
 -- the aligned block of 8 bytes that a byte lies in, by its address
@@ -75,10 +75,10 @@ with_cell cells value =
 
 -- the addresses of the cells: one for each block that a variable lies in, in the order of the
 -- variables
-abbrev pub cells_of : List Place → List Variable → List ℕ
+abbrev pub cells_of : List VariablePlace → List Variable → List ℕ
 cells_of places variables = fold with_cell [] (initial_values places 0 variables)
 
 -- what the cells hold at first
-abbrev pub cells_at_first : List Place → List Variable → List ℕ
+abbrev pub cells_at_first : List VariablePlace → List Variable → List ℕ
 cells_at_first places variables =
     map (λ cell. value_from (memory_at_first places variables) cell 8) (cells_of places variables)

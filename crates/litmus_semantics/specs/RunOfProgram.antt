@@ -8,7 +8,7 @@ use Rattle.access_types.specs.declared.history.Happening.{Happening}
 use Rattle.access_types.specs.declared.history.Happening.TheVariants.{End, Read, Write, Lock, Unlock}
 use Rattle.access_types.specs.declared.history.Moment.{Moment}
 use Rattle.litmus_syntax.specs.Tree.{Program, Task}
-use Rattle.litmus_semantics.specs.Layout.{Place, memory_at_first}
+use Rattle.litmus_semantics.specs.Layout.{VariablePlace, memory_at_first}
 use Rattle.litmus_semantics.specs.Meaning.{MeansBlock}
 use Rattle.litmus_semantics.specs.Task.{Progress, Setting}
 
@@ -17,12 +17,12 @@ abbrev pub at_first : Task → Progress
 at_first task = record { did = []; registers = replicate (length task.registers) 0 }
 
 -- a task of a program, by its number
-abbrev pub setting_of : Program → List Place → ℕ → Setting
+abbrev pub setting_of : Program → List VariablePlace → ℕ → Setting
 setting_of program places number =
     record { task = number; variables = program.variables; places = places }
 
 -- what a task did is a beginning of what its text means
-pub record IsBeginning (program : Program) (places : List Place) (number : ℕ) (task : Task)
+pub record IsBeginning (program : Program) (places : List VariablePlace) (number : ℕ) (task : Task)
     (did : List Happening) : Type 0 where
   pub end : Progress
   pub rest : List Happening
@@ -62,7 +62,7 @@ DoesNothingElse history a =
     → IfSome (slice_get history k) (λ moment. moment.task ≡ a.task → IsOwn a moment.happening)
 
 -- the history is that of a run of the program, with its variables at these places
-pub record RunOfProgram (program : Program) (places : List Place) (history : History) :
+pub record RunOfProgram (program : Program) (places : List VariablePlace) (history : History) :
     Type 0 where
   pub tasks : All (λ (moment : Moment). moment.task < length program.tasks) history
   pub begun : (number : ℕ) → IfSome (slice_get program.tasks number)

@@ -6,13 +6,13 @@ use Rattle.access_types.specs.declared.history.Happening.{Happening}
 use Rattle.access_types.specs.declared.history.Happening.TheVariants as happenings
 use Rattle.access_types.specs.declared.kind.Kind.{Kind}
 use Rattle.litmus_syntax.specs.declared.program.Variable.{Variable}
-use Rattle.litmus_semantics.specs.Layout.{Place, bytes_of_variable}
+use Rattle.litmus_semantics.specs.Layout.{VariablePlace, bytes_of_variable}
 
 -- a task of a program, by its number, and where the program's variables are placed
 pub record Setting : Type 0 where
   pub task : ℕ
   pub variables : List Variable
-  pub places : List Place
+  pub places : List VariablePlace
 
 -- what the task has done so far, in order, and its registers
 pub record Progress : Type 0 where

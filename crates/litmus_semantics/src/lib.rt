@@ -9,6 +9,8 @@ pub mod site;
 pub mod value;
 
 pub use expression::{evaluate, loading_value, pure_value};
-pub use laws::{each_access_has_its_own_ticket, each_access_is_one_of_the_text, tickets_have_room};
+pub use laws::{
+    law_each_access_has_its_own_ticket, law_each_access_is_one_of_the_text, law_tickets_have_room,
+};
 pub use site::{Site, text_sites};
 pub use value::{cut, sign_extended, size_of};

@@ -7,7 +7,7 @@ use Rattle.std.proofs.lemmas.List.Sums.{sum-map}
 use Rattle.litmus_syntax.specs.Limits.{KeepsLimits, TaskKeepsLimits}
 use Rattle.litmus_syntax.specs.Tree.{Program, Task}
 use Rattle.prepared_program.specs.program_sites.Accesses.{begun_by}
-use Rattle.executions.specs.run_lists.Run.{Run, idle}
+use Rattle.executions.specs.execution.Run.{Run, idle}
 use Rattle.litmus_step.specs.Kept.{accesses_kept, reports_kept, watches_kept}
 use Rattle.litmus_step.specs.Runs.{tasks_of}
 use Rattle.task_log.specs.Keeps.{Keeps}

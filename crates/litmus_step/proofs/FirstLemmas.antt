@@ -23,8 +23,8 @@ use Rattle.prepared_program.specs.program_layout.Places.{AreFit, places_of}
 use Rattle.prepared_program.specs.declared.program_layout.place.Place.{Place}
 use Rattle.prepared_program.specs.program_sites.Sites as sites
 use Rattle.prepared_program.specs.program_sites.Sites.{AreSitesOf}
-use Rattle.executions.specs.run_lists.Run.{AreItsSites, IsOfProgram, Run, idle, task_of, task_setting}
-use Rattle.executions.specs.run_lists.RunList.{InWrittenOrder, RunList}
+use Rattle.executions.specs.execution.Run.{AreItsSites, IsOfProgram, Run, idle, task_of, task_setting}
+use Rattle.executions.specs.execution.Execution.{InWrittenOrder, Execution}
 use Rattle.task_laws.specs.Fits.{ArePlaced}
 use Rattle.litmus_step.specs.Leads.{LeadsTask}
 use Rattle.litmus_step.specs.Runs.{CanBeMade, run_of, tasks_of}
@@ -128,7 +128,7 @@ its_sites run are = λ ticket a. (
   λ of. subst (λ t. finite.get run.sites t ≡ Some a) (sym of.0) (are.all a (of_task run a of.1)),
 )
 
-pub first_list : AreSpelled → (run : Run) → CanBeMade run → AreSitesOf run.program run.places run.sites → RunList run []
+pub first_list : AreSpelled → (run : Run) → CanBeMade run → AreSitesOf run.program run.places run.sites → Execution run []
 first_list spelled run can are = record {
   legal = tt;
   tasks = in_order spelled run can;

@@ -5,7 +5,7 @@ use Rattle.litmus_step.specs.Steps.{LeadsTo, StepsOn}
 use Rattle.litmus_step.specs.Turns.{LeadsFurther}
 use Rattle.litmus_step.specs.declared.world.Stepped.TheVariants.{Ended, Moved, Stuck}
 use Rattle.litmus_step.specs.declared.world.World.{World}
-use Rattle.executions.specs.run_lists.Run.{Run}
+use Rattle.executions.specs.execution.Run.{Run}
 use Rattle.slot_table.specs.declared.records.Record.{Record}
 
 pub further_none : (world : World) → LeadsFurther 0 world world

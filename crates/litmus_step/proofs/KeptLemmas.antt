@@ -5,10 +5,10 @@ use Rattle.std.proofs.lemmas.List.{append-nil, length-append, length-set}
 use Rattle.std.proofs.Math.ListN.{get_or-append}
 use Rattle.std.specs.Option.{option_to_list}
 use Rattle.access_types.specs.declared.report.Report.{Report}
-use Rattle.executions.specs.run_lists.Reports.{reports_of}
-use Rattle.executions.specs.run_lists.Run.{Run}
-use Rattle.executions.specs.run_lists.RunList.{RunList}
-use Rattle.executions.specs.run_lists.Told.{made_by}
+use Rattle.executions.specs.execution.Reports.{reports_of}
+use Rattle.executions.specs.execution.Run.{Run}
+use Rattle.executions.specs.execution.Execution.{Execution}
+use Rattle.executions.specs.execution.Observed.{made_by}
 use Rattle.log_correctness.specs.Noted.{IsNoted, Notes}
 use Rattle.slot_table.specs.declared.records.Record.{Record}
 use Rattle.litmus_step.proofs.StepLemmas.{by_task, same_some, set_here, set_other}
@@ -19,18 +19,18 @@ use Rattle.task_log.specs.declared.noted.Noted.{Noted}
 
 abbrev pub OneMoreIsNoted : Type 0
 OneMoreIsNoted = (run : Run) (latest : Record) (earlier : List Record) (before : List Noted) (noted : Noted)
-    → (one : RunList run earlier) → (other : RunList run (latest ∷ earlier))
+    → (one : Execution run earlier) → (other : Execution run (latest ∷ earlier))
     → Notes one latest.task before → IsNoted (other.tasks latest.task) (made_by latest.task earlier) latest noted
     → Notes other latest.task (noted ∷ before)
 
 abbrev pub OthersAreNoted : Type 0
 OthersAreNoted = (run : Run) (latest : Record) (earlier : List Record) (task : ℕ) (before : List Noted)
-    → (one : RunList run earlier) → (other : RunList run (latest ∷ earlier)) → latest.task ≢ task
+    → (one : Execution run earlier) → (other : Execution run (latest ∷ earlier)) → latest.task ≢ task
     → Notes one task before → Notes other task before
 
 abbrev pub OneMoreIsReported : Type 0
 OneMoreIsReported = (run : Run) (latest : Record) (earlier : List Record) (before : List Noted) (noted : Noted)
-    → (one : RunList run earlier) → (other : RunList run (latest ∷ earlier))
+    → (one : Execution run earlier) → (other : Execution run (latest ∷ earlier))
     → Notes one latest.task before → IsNoted (other.tasks latest.task) (made_by latest.task earlier) latest noted
     → reports_of other ≡ reports_of one ++ option_to_list (reported noted.outcome before)
 
@@ -89,7 +89,7 @@ all_of_front P reports later all reported each = front reports (subst (All P) (s
         subst P (get_or-append rs later d k below) (of k d longer)
 
 pub kept_more : OneMoreIsNoted → OthersAreNoted → OneMoreIsReported → (run : Run) (latest : Record) (earlier : List Record)
-    (one : RunList run earlier) (other : RunList run (latest ∷ earlier)) (logs : List TaskLog) (reports after_reports : List Report)
+    (one : Execution run earlier) (other : Execution run (latest ∷ earlier)) (logs : List TaskLog) (reports after_reports : List Report)
     (room : ℕ)
     (log after : TaskLog) (noted : Noted) (report : Option Report)
     → AreKept one logs reports room → slice_get logs latest.task ≡ Some log → latest.task < length logs

@@ -1,8 +1,8 @@
 -- A world after one step more, by what is changed in it.
 use Rattle.std.proofs.Common.{Option, ap, inl, inr, ◌∙◌, ◌≡◌, ◌<◌, ◌≤◌, ◌+◌, ◌∷◌, [], ℕ, List, Some, length, vec_capacity, arith}
 use Rattle.std.proofs.Common.{get_or, refl, set, slice_get, subst, sym}
-use Rattle.executions.specs.run_lists.Run.{Run, first_words, task_setting}
-use Rattle.executions.specs.run_lists.RunList.{RunList}
+use Rattle.executions.specs.execution.Run.{Run, first_words, task_setting}
+use Rattle.executions.specs.execution.Execution.{Execution}
 use Rattle.setup_access.specs.Parts.{made}
 use Rattle.slot_table.specs.Answer.{Answers}
 use Rattle.slot_table.specs.StepLine.{step_line}
@@ -41,8 +41,8 @@ StepsLead = (run : Run) (records : List Record) (words : Words) (machines : List
     (answer : Answer) (after : TaskRun) → LeadsToAll run records words machines steps logs reports room
     → (next : MakesNextIn machines task step)
     → Answers step answer → answer ≡ (step_line words step).answer → LeadsOn next.machine after answer
-    → ((list : RunList run (made task step answer ∷ records)) → AreKept list more_logs more_reports more_room)
-    → ((list : RunList run (made task step answer ∷ records)) → AreAtPoints list (set machines task after))
+    → ((list : Execution run (made task step answer ∷ records)) → AreKept list more_logs more_reports more_room)
+    → ((list : Execution run (made task step answer ∷ records)) → AreAtPoints list (set machines task after))
     → LeadsToAll run (made task step answer ∷ records) (step_line words step).after (set machines task after)
     (up_to_last (steps + 1)) more_logs more_reports more_room
 
@@ -61,8 +61,8 @@ pub world_leads : StepsLead → (world : World) (task : ℕ) (step : Step) (answ
     → Answers step answer → answer ≡ (step_line world.board step).answer → words ≡ (step_line world.board step).after
     → steps ≡ up_to_last (world.steps + 1) → LeadsOn here after answer
     → (run : Run) (records : List Record) → LeadsTo run records world
-    → ((list : RunList run (made task step answer ∷ records)) → AreKept list logs reports room)
-    → ((list : RunList run (made task step answer ∷ records)) → AreAtPoints list (set world.tasks.items task after))
+    → ((list : Execution run (made task step answer ∷ records)) → AreKept list logs reports room)
+    → ((list : Execution run (made task step answer ∷ records)) → AreAtPoints list (set world.tasks.items task after))
     → LeadsToAll run (made task step answer ∷ records) words (set world.tasks.items task after) steps logs reports room
 world_leads lead world task step answer here after words steps logs reports room next below is answers as_answered left counted on run
     records leads keeps points =
@@ -76,20 +76,20 @@ world_leads lead world task step answer here after words steps logs reports room
 
 -- the list without a step leads to a world before its first step
 pub first_world : (run : Run) (board : Words) (machines : List TaskRun) (logs : List TaskLog) (reports : List Report) (room : ℕ)
-    → CanBeMade run → (list : RunList run []) → board ≡ first_words run → LeadsTasks run [] machines → AreKept list logs reports room
+    → CanBeMade run → (list : Execution run []) → board ≡ first_words run → LeadsTasks run [] machines → AreKept list logs reports room
     → AreAtPoints list machines → LeadsToAll run [] board machines 0 logs reports room
 first_world run board machines logs reports room can list words tasks kept points =
     record { can = can; list = list; leaves = words; tasks = tasks; counts = refl; kept = kept; points = points }
 
 -- before the first step none is the last
-pub first_points : ((run : Run) (list : RunList run []) → (task : ℕ) → Notes list task []) → (run : Run) (list : RunList run [])
+pub first_points : ((run : Run) (list : Execution run []) → (task : ℕ) → Notes list task []) → (run : Run) (list : Execution run [])
     (machines : List TaskRun) → ((task : ℕ) (machine : TaskRun) → slice_get machines task ≡ Some machine → HasMade [] machine)
     → AreAtPoints list machines
 first_points none run list machines each = λ task machine stands.
     record { noted = []; notes = none run list task; made = each task machine stands }
 
 -- before the first step nothing is kept
-pub first_kept : ((run : Run) (list : RunList run []) → (task : ℕ) → Notes list task []) → (run : Run) (list : RunList run [])
+pub first_kept : ((run : Run) (list : Execution run []) → (task : ℕ) → Notes list task []) → (run : Run) (list : Execution run [])
     (logs : List TaskLog) (reports : List Report) (room : ℕ) → length logs ≡ tasks_of run
     → ((task : ℕ) (log : TaskLog) → slice_get logs task ≡ Some log → Keeps (accesses_kept run task) (watches_kept run task) [] log)
     → reports ≡ [] → reports_kept run ≤ room → AreKept list logs reports room
@@ -106,7 +106,7 @@ abbrev pub StepsKeep : Type 0
 StepsKeep = (run : Run) (records : List Record) (task : ℕ) (old : TaskRun) (step : Step) (answer : Answer) (begins : Option Begun)
     (fell : Option Outcome) (logs : List TaskLog) (reports more_reports : List Report) (room : ℕ) (log after : TaskLog)
     (report : Option Report)
-    → (one : RunList run records) → (other : RunList run (made task step answer ∷ records))
+    → (one : Execution run records) → (other : Execution run (made task step answer ∷ records))
     → (leads : LeadsTask run task records old) → Says old step
     → ((later : List Record) → BeginsNext (task_setting run task) leads.part (stands_at leads later) leads.mine begins)
     → FellAt old fell answer
@@ -133,7 +133,7 @@ pub noted_more : StepsKeep
     → task < tasks_in world → IsMachine world task old → Says old step → SaysBegin old begins → FellAt old fell answer
     → NotesStep world task (record { step = step; answer = answer; begins = begins; outcome = fell }) logs reports
     → room ≡ vec_capacity world.reports
-    → (run : Run) (records : List Record) → LeadsTo run records world → (list : RunList run (made task step answer ∷ records))
+    → (run : Run) (records : List Record) → LeadsTo run records world → (list : Execution run (made task step answer ∷ records))
     → AreKept list logs reports room
 noted_more keep world task step answer old begins fell logs reports room below stands says begun fallen notes same_room run records leads
     list =

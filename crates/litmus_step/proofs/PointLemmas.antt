@@ -5,9 +5,9 @@ use Rattle.std.proofs.lemmas.Option.{slice_get_within}
 use Rattle.access_types.specs.declared.history.Happening.{Happening}
 use Rattle.litmus_syntax.specs.Tree.{Block}
 use Rattle.access_run.specs.memory_operation.Leads.{GoesOn}
-use Rattle.executions.specs.run_lists.Run.{Run, task_of, task_setting}
-use Rattle.executions.specs.run_lists.RunList.{RunList}
-use Rattle.executions.specs.run_lists.Told.{made_by}
+use Rattle.executions.specs.execution.Run.{Run, task_of, task_setting}
+use Rattle.executions.specs.execution.Execution.{Execution}
+use Rattle.executions.specs.execution.Observed.{made_by}
 use Rattle.log_correctness.specs.Noted.{AreNoted, IsBegun, IsNoted}
 use Rattle.setup_access.specs.Parts.{made}
 use Rattle.setup_access.specs.declared.begun.Begun.{Begun}
@@ -34,9 +34,9 @@ use Rattle.task_run.specs.Says.{Says}
 use Rattle.task_run.specs.declared.machine.Machine.{Machine}
 use Rattle.task_plan.specs.declared.task_points.points.Before.{Before}
 use Rattle.task_run.specs.declared.run.TaskRun.{TaskRun}
-use Rattle.task_run.specs.declared.stage.Stage.{Stage}
+use Rattle.task_run.specs.declared.stage.TaskStage.{TaskStage}
 use Rattle.program_order.specs.Standing.{Setting, Standing}
-use Rattle.program_order.specs.Told.{did_by, did_next}
+use Rattle.program_order.specs.TaskObserved.{did_by, did_next}
 use Rattle.program_order.specs.Waits.{OnlyStep}
 use Rattle.program_order.specs.WrittenOrder.{SpellsAll, WrittenOrder}
 
@@ -70,7 +70,7 @@ PointsOn old after step = (s : Setting) (registers : ℕ) (body : Block) (record
 
 -- so it is of each task after one step more
 pub points_more : OneMoreIsNoted → OthersAreNoted → (run : Run) (latest : Record) (earlier : List Record)
-    (one : RunList run earlier) (other : RunList run (latest ∷ earlier)) (machines : List TaskRun) (old after : TaskRun) (noted : Noted)
+    (one : Execution run earlier) (other : Execution run (latest ∷ earlier)) (machines : List TaskRun) (old after : TaskRun) (noted : Noted)
     → AreAtPoints one machines → slice_get machines latest.task ≡ Some old → latest.task < length machines
     → IsNoted (other.tasks latest.task) (made_by latest.task earlier) latest noted
     → ((steps : List Stepped) → HasMade steps old
@@ -97,7 +97,7 @@ points_more one_more others_noted run latest earlier one other machines old afte
 abbrev pub StepsPoint : Type 0
 StepsPoint = (run : Run) (records : List Record) (task : ℕ) (old after : TaskRun) (step : Step) (answer : Answer) (begins : Option Begun)
     (fell : Option Outcome) (machines : List TaskRun)
-    → (one : RunList run records) → (other : RunList run (made task step answer ∷ records))
+    → (one : Execution run records) → (other : Execution run (made task step answer ∷ records))
     → (leads : LeadsTask run task records old) → Says old step
     → ((later : List Record) → BeginsNext (task_setting run task) leads.part (stands_at leads later) leads.mine begins)
     → FellAt old fell answer
@@ -110,7 +110,7 @@ pub world_points : StepsPoint → (world : World) (task : ℕ) (step : Step) (an
     (begins : Option Begun) (fell : Option Outcome)
     → IsMachine world task old → read ≡ old → Says old step → SaysBegin old begins → FellAt old fell answer
     → PointsOn read after step
-    → (run : Run) (records : List Record) → LeadsTo run records world → (list : RunList run (made task step answer ∷ records))
+    → (run : Run) (records : List Record) → LeadsTo run records world → (list : Execution run (made task step answer ∷ records))
     → AreAtPoints list (set world.tasks.items task after)
 world_points point world task step answer old read after begins fell stands same says begun fallen on run records leads list =
     let led = leads.tasks.each task old stands in
@@ -130,7 +130,7 @@ begins_of closes machine = None
 begins_of (locks variable) machine = None
 begins_of (unlocks variable) machine = None
 
-pub begins_in_part : (s : Setting) (before : Standing) (mine : List Record) (machine : Machine) (stage : Stage) (part : Part)
+pub begins_in_part : (s : Setting) (before : Standing) (mine : List Record) (machine : Machine) (stage : TaskStage) (part : Part)
     → IsIn s part before mine machine stage → BeginsNext s part before mine (begins_of part machine)
 unfolding begins_of
 begins_in_part s before mine machine stage (makes a operation follow) h =
@@ -145,7 +145,7 @@ begins_in_part s before mine machine stage (unlocks variable) h = refl
 -- the step that a list goes on with is the only one that its records go on with
 pub only_so : (run : Run) (records : List Record) (task : ℕ) (said step : Step) (answer : Answer)
     → OnlyStep (task_setting run task) (length (task_of run task).registers) (task_of run task).body (reverse (records_of task records)) said
-    → RunList run (made task step answer ∷ records) → step ≡ said
+    → Execution run (made task step answer ∷ records) → step ≡ said
 only_so run records task said step answer only other =
     let s = task_setting run task in
     let registers = length (task_of run task).registers in
@@ -162,7 +162,7 @@ only_so run records task said step answer only other =
 -- with a step begins what the task's machine says before it
 abbrev pub BeginsAreTold : Type 0
 BeginsAreTold = (run : Run) (latest : Record) (earlier : List Record) (old : TaskRun) (begins : Option Begun)
-    → (list : RunList run (latest ∷ earlier)) → (leads : LeadsTask run latest.task earlier old) → Says old latest.step
+    → (list : Execution run (latest ∷ earlier)) → (leads : LeadsTask run latest.task earlier old) → Says old latest.step
     → ((later : List Record) → BeginsNext (task_setting run latest.task) leads.part (stands_at leads later) leads.mine begins)
     → IsBegun run.rules.plain_writes_atomic latest.task (did_by (list.tasks latest.task) (made_by latest.task earlier))
     (did_next (list.tasks latest.task) (made_by latest.task earlier)) begins
@@ -176,7 +176,7 @@ TellsBefore machine step before = (s : Setting) (registers : ℕ) (body : Block)
     → before ≡ next_is steps step (is_some begins)
 
 -- that is told of the task's next step by the list
-pub next_told : BeginsAreTold → (run : Run) (records : List Record) (list : RunList run records) (task : ℕ) (machine : TaskRun)
+pub next_told : BeginsAreTold → (run : Run) (records : List Record) (list : Execution run records) (task : ℕ) (machine : TaskRun)
     (said : Step) (before : Before) → (leads : LeadsTask run task records machine) → Says machine said
     → OnlyStep (task_setting run task) (length (task_of run task).registers) (task_of run task).body (reverse (records_of task records)) said
     → IsAtPoint list task machine → TellsBefore machine said before → IsNext list task before

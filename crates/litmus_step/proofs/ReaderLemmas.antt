@@ -5,8 +5,8 @@ use Rattle.std.proofs.lemmas.Option.{slice_get_cases}
 use Rattle.litmus_step.proofs.FirstLemmas.{past}
 use Rattle.litmus_syntax.specs.Limits.{BodyKeepsLimits, KeepsLimits, TaskKeepsLimits, block_rises}
 use Rattle.litmus_syntax.specs.Tree.{Task}
-use Rattle.executions.specs.run_lists.Run.{Run, idle, task_of}
-use Rattle.executions.specs.run_lists.RunList.{RunList}
+use Rattle.executions.specs.execution.Run.{Run, idle, task_of}
+use Rattle.executions.specs.execution.Execution.{Execution}
 use Rattle.log_correctness.specs.Lists.{ByTask}
 use Rattle.log_correctness.specs.Noted.{AreNoted, Notes}
 use Rattle.log_correctness.specs.Totals.{unbalanced_below}
@@ -43,13 +43,13 @@ few_rises run task limits =
     ]
 
 -- what is noted of a task's own records is noted of them as they stand twice turned round
-pub noted_along : (run : Run) (records : List Record) (list : RunList run records) (task : ℕ) (noted : List Noted)
+pub noted_along : (run : Run) (records : List Record) (list : Execution run records) (task : ℕ) (noted : List Noted)
     → Notes list task noted → AreNoted (list.tasks task) (reverse (reverse (records_of task records))) noted
 noted_along run records list task noted notes =
     subst (λ (own : List Record). AreNoted (list.tasks task) own noted) (sym (reverse-reverse (records_of task records))) notes
 
 -- one task's calls that had nothing to end are added
-pub unbalanced_more : (run : Run) (records : List Record) (list : RunList run records) (task so_far one both : ℕ)
+pub unbalanced_more : (run : Run) (records : List Record) (list : Execution run records) (task so_far one both : ℕ)
     → so_far ≡ unbalanced_below list task → one ≡ up_to_last (stands_after (list.tasks task)).unbalanced
     → both ≡ up_to_last (so_far + one) → both ≡ unbalanced_below list (task + 1)
 unbalanced_more run records list task so_far one both is_so_far is_one is_both =

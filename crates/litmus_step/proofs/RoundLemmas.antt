@@ -8,7 +8,7 @@ use Rattle.option_lists.specs.step_schedule.Order.{asked_by, in_rounds}
 use Rattle.option_lists.specs.declared.step_schedule.schedule.Entry.{Entry}
 use Rattle.litmus_step.proofs.OrderLemmas.{one_more, some_more}
 use Rattle.litmus_step.proofs.TurnLemmas.{asked_both, asked_nothing, each_machine}
-use Rattle.litmus_step.specs.Steps.{IsFree, IsMachine, Tells, tasks_in}
+use Rattle.litmus_step.specs.Steps.{IsFree, IsMachine, SteppedLeaves, tasks_in}
 use Rattle.litmus_step.specs.Turns.{Asked, IsStuckAt, NobodyIsStuck, RunsOn, StopsAt}
 use Rattle.prepared_program.specs.declared.program_sites.error.RunError.{RunError}
 use Rattle.prepared_program.specs.declared.program_sites.error.RunError.TheVariants as errors
@@ -18,14 +18,14 @@ use Rattle.litmus_step.specs.declared.world.World.{World}
 use Rattle.task_run.specs.declared.run.TaskRun.{TaskRun}
 
 -- a task that isn't told to be stuck is free, and so are all, if they were
-free_of : (told : Stepped) (machine : TaskRun) → told ≢ Stuck → Tells told machine → IsFree machine
+free_of : (told : Stepped) (machine : TaskRun) → told ≢ Stuck → SteppedLeaves told machine → IsFree machine
 free_of Moved machine apart tells = tells.0
 free_of Ended machine apart tells = tells.0
 free_of Stuck machine apart tells = absurd (apart refl)
 
 pub nobody_after : (before after : World) (task : ℕ) (told : Stepped) → NobodyIsStuck before
     → ((other : ℕ) → task ≢ other → slice_get after.tasks.items other ≡ slice_get before.tasks.items other)
-    → ((machine : TaskRun) → IsMachine after task machine → Tells told machine) → told ≢ Stuck → NobodyIsStuck after
+    → ((machine : TaskRun) → IsMachine after task machine → SteppedLeaves told machine) → told ≢ Stuck → NobodyIsStuck after
 nobody_after before after task told nobody others tells apart =
     each_machine IsFree before after task others nobody (λ machine stands. free_of told machine apart (tells machine stands))
 

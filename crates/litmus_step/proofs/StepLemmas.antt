@@ -8,8 +8,8 @@ use Rattle.std.proofs.lemmas.Option.{slice_get_within}
 use Rattle.litmus_syntax.specs.Limits.{TaskKeepsLimits}
 use Rattle.litmus_syntax.specs.Tree.{Task}
 use Rattle.access_run.specs.memory_operation.Leads.{GoesOn}
-use Rattle.executions.specs.run_lists.Run.{Run, first_words, idle, task_of, task_setting}
-use Rattle.executions.specs.run_lists.RunList.{InWrittenOrder, RunList}
+use Rattle.executions.specs.execution.Run.{Run, first_words, idle, task_of, task_setting}
+use Rattle.executions.specs.execution.Execution.{InWrittenOrder, Execution}
 use Rattle.setup_access.specs.Parts.{made}
 use Rattle.slot_table.specs.Answer.{Answers}
 use Rattle.slot_table.specs.Records.{records_of, words_after}
@@ -130,11 +130,11 @@ module _ (leads_on : AnAnswerLeadsOn) (names : StepsNameWords) where
       subst (λ (w : Words). Names w step) (sym leads.leaves)
       (named run records task step leads.can below (leads.list.tasks task) only)
 
-  -- followed by the record of the step, with the answer that the words give, it is a run list
+  -- followed by the record of the step, with the answer that the words give, it is an execution
   pub list_more : (run : Run) (records : List Record) (words : Words) (machines : List TaskRun) (steps : ℕ) (logs : List TaskLog)
       (reports : List Report) (room task : ℕ) (step : Step) (answer : Answer)
       → LeadsToAll run records words machines steps logs reports room → MakesNextIn machines task step → Answers step answer
-      → answer ≡ (step_line words step).answer → RunList run (made task step answer ∷ records)
+      → answer ≡ (step_line words step).answer → Execution run (made task step answer ∷ records)
   list_more run records words machines steps logs reports room task step answer leads next answers is =
       let latest = made task step answer in
       let there : task < length machines = slice_get_within machines task next.machine next.stands in
@@ -182,8 +182,8 @@ module _ (leads_on : AnAnswerLeadsOn) (names : StepsNameWords) where
       (step : Step) (answer : Answer) (after : TaskRun)
       → LeadsToAll run records words machines steps logs reports room → (next : MakesNextIn machines task step) → Answers step answer
       → answer ≡ (step_line words step).answer → LeadsOn next.machine after answer
-      → ((list : RunList run (made task step answer ∷ records)) → AreKept list more_logs more_reports more_room)
-      → ((list : RunList run (made task step answer ∷ records)) → AreAtPoints list (set machines task after))
+      → ((list : Execution run (made task step answer ∷ records)) → AreKept list more_logs more_reports more_room)
+      → ((list : Execution run (made task step answer ∷ records)) → AreAtPoints list (set machines task after))
       → LeadsToAll run (made task step answer ∷ records) (step_line words step).after (set machines task after)
       (up_to_last (steps + 1)) more_logs more_reports more_room
   leads_more run records words machines steps logs more_logs reports more_reports room more_room task step answer after leads next

@@ -7,13 +7,13 @@ use Rattle.std.proofs.lemmas.Option.{slice_get-get_or, slice_get_cases, slice_ge
 use Rattle.litmus_step.proofs.FirstLemmas.{idle_has_ended, past as none_beyond}
 use Rattle.litmus_step.proofs.OrderLemmas.{asked_ended, asked_none, asked_one, asked_then}
 use Rattle.litmus_step.specs.Runs.{HasEnded, IsStuck, tasks_of}
-use Rattle.litmus_step.specs.Steps.{IsMachine, IsOver, LeadsTo, Reaches, StepsOn, Tells, tasks_in}
+use Rattle.litmus_step.specs.Steps.{IsMachine, IsTaskOver, LeadsTo, Reaches, StepsOn, SteppedLeaves, tasks_in}
 use Rattle.litmus_step.specs.Turns.{AllHaveEnded, Asked, NobodyIsStuck, known_of, point}
 use Rattle.litmus_step.specs.declared.world.Stepped.{Stepped}
 use Rattle.litmus_step.specs.declared.world.Stepped.TheVariants.{Ended, Moved, Stuck}
 use Rattle.litmus_step.specs.declared.world.World.{World}
 use Rattle.litmus_syntax.specs.Limits.{TaskKeepsLimits}
-use Rattle.executions.specs.run_lists.Run.{Run, idle, task_of, task_setting}
+use Rattle.executions.specs.execution.Run.{Run, idle, task_of, task_setting}
 use Rattle.slot_table.specs.Records.{records_of}
 use Rattle.slot_table.specs.declared.records.Record.{Record}
 use Rattle.option_lists.specs.step_schedule.Order as order
@@ -96,10 +96,10 @@ asked_more first before after order task there asked nobody steps = λ run recor
     ]
 
 -- a task that has ended is asked more often
-pub asked_in_vain : (first world : World) (order : List ℕ) (task times : ℕ) → Asked first order world → NobodyIsStuck world
+pub asked_failed_wait : (first world : World) (order : List ℕ) (task times : ℕ) → Asked first order world → NobodyIsStuck world
     → ((run : Run) (records : List Record) → LeadsTo run records world → HasEnded run task records)
     → Asked first (order ++ replicate times task) world
-asked_in_vain first world order task times asked nobody ended = λ run records leads.
+asked_failed_wait first world order task times asked nobody ended = λ run records leads.
     let so_far = asked run records leads in (
       so_far.0,
       so_far.1,
@@ -149,7 +149,7 @@ same_machine world task here machine below is stands =
 
 -- by what is told of the machine: whether the task is stuck, and whether it has ended
 pub tells_stuck : (run : Run) (records : List Record) (world : World) (task : ℕ) (told : Stepped) (machine : TaskRun)
-    → LeadsTo run records world → IsMachine world task machine → Tells told machine → told ≡ Stuck ↔ IsStuck run task records
+    → LeadsTo run records world → IsMachine world task machine → SteppedLeaves told machine → told ≡ Stuck ↔ IsStuck run task records
 tells_stuck run records world task Moved machine leads stands tells = (
   λ (no : Moved ≡ Stuck). absurd (cc),
   λ stuck. absurd (tells.0 _ _ _ _ (reaches run records world task machine leads stands) stuck),
@@ -162,7 +162,7 @@ tells_stuck run records world task Stuck machine leads stands tells =
     (λ same. tells _ _ _ _ (reaches run records world task machine leads stands), λ stuck. refl)
 
 pub tells_ended : (run : Run) (records : List Record) (world : World) (task : ℕ) (told : Stepped) (machine : TaskRun)
-    → LeadsTo run records world → IsMachine world task machine → Tells told machine → told ≡ Ended ↔ HasEnded run task records
+    → LeadsTo run records world → IsMachine world task machine → SteppedLeaves told machine → told ≡ Ended ↔ HasEnded run task records
 tells_ended run records world task Moved machine leads stands tells = (
   λ (no : Moved ≡ Ended). absurd (cc),
   λ ended. absurd (tells.1 _ _ _ _ (reaches run records world task machine leads stands) ended),
@@ -183,7 +183,7 @@ some_machine world task otherwise below =
 
 -- whatever leads to the machines of a world, they are over: so all its tasks have ended, by whatever list
 pub ended_at : (world : World)
-    → ((task : ℕ) (machine : TaskRun) → task < tasks_in world → IsMachine world task machine → IsOver machine)
+    → ((task : ℕ) (machine : TaskRun) → task < tasks_in world → IsMachine world task machine → IsTaskOver machine)
     → AllHaveEnded world
 ended_at world over = λ run records leads task.
     let len = world.tasks.ok.0 in

@@ -2,10 +2,10 @@
 use Rattle.std.specs.Prelude.{◌≡◌, ◌⊎◌, ◌*◌, ◌≤◌, ◌++◌, ◌<◌, ◌∷◌, [], ℕ, List, Option, None, Some, length, map, slice_get}
 use Rattle.std.specs.List.{sum_by}
 use Rattle.access_types.specs.declared.report.Report.{Report}
-use Rattle.executions.specs.run_lists.Reports.{reports_of}
+use Rattle.executions.specs.execution.Reports.{reports_of}
 use Rattle.litmus_syntax.specs.Limits.{block_repeats}
-use Rattle.executions.specs.run_lists.Run.{Run, task_of}
-use Rattle.executions.specs.run_lists.RunList.{RunList}
+use Rattle.executions.specs.execution.Run.{Run, task_of}
+use Rattle.executions.specs.execution.Execution.{Execution}
 use Rattle.log_correctness.specs.Noted.{Notes}
 use Rattle.slot_table.specs.declared.records.Record.{Record}
 use Rattle.litmus_step.specs.Runs.{tasks_of}
@@ -27,14 +27,14 @@ abbrev pub reports_kept : Run → ℕ
 reports_kept run = 9 * sum_by (λ task. block_repeats 1 task.body) run.program.tasks
 
 -- what is kept of a task's steps is what the list notes of them
-pub record IsKept {run : Run} {records : List Record} (list : RunList run records) (task : ℕ) (log : TaskLog) :
+pub record IsKept {run : Run} {records : List Record} (list : Execution run records) (task : ℕ) (log : TaskLog) :
     Type 0 where
   pub noted : List Noted
   pub notes : Notes list task noted
   pub keeps : Keeps (accesses_kept run task) (watches_kept run task) noted log
 
 -- so it is of each task
-pub record AreLogs {run : Run} {records : List Record} (list : RunList run records) (logs : List TaskLog) : Type 0 where
+pub record AreLogs {run : Run} {records : List Record} (list : Execution run records) (logs : List TaskLog) : Type 0 where
   pub all : length logs ≡ tasks_of run
   pub each : (task : ℕ) (log : TaskLog) → slice_get logs task ≡ Some log → IsKept list task log
 
@@ -46,7 +46,7 @@ pub record AreFirst (reports : List Report) (room : ℕ) (all : List Report) : T
 
 -- The reports are the first of those that the list reports: all, as long as there is room, which there is for nine at
 -- each access.
-pub record AreReported {run : Run} {records : List Record} (list : RunList run records) (reports : List Report)
+pub record AreReported {run : Run} {records : List Record} (list : Execution run records) (reports : List Report)
     (room : ℕ) : Type 0 where
   pub later : List Report
   pub reported : reports ++ later ≡ reports_of list
@@ -54,7 +54,7 @@ pub record AreReported {run : Run} {records : List Record} (list : RunList run r
   pub space : reports_kept run ≤ room
 
 -- what is kept of all tasks
-pub record AreKept {run : Run} {records : List Record} (list : RunList run records) (logs : List TaskLog)
+pub record AreKept {run : Run} {records : List Record} (list : Execution run records) (logs : List TaskLog)
     (reports : List Report) (room : ℕ) : Type 0 where
   pub logs_are : AreLogs list logs
   pub reports_are : AreReported list reports room

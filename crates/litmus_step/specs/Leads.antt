@@ -2,8 +2,8 @@
 use Rattle.std.specs.Prelude.{◌≡◌, ◌++◌, ◌∷◌, [], ℕ, List, Some, is_some, length, map, reverse, slice_get}
 use Rattle.access_types.specs.declared.report.Report.{Report}
 use Rattle.litmus_syntax.specs.Tree.{Block}
-use Rattle.executions.specs.run_lists.Run.{Run, first_words, task_of, task_setting}
-use Rattle.executions.specs.run_lists.RunList.{RunList}
+use Rattle.executions.specs.execution.Run.{Run, first_words, task_of, task_setting}
+use Rattle.executions.specs.execution.Execution.{Execution}
 use Rattle.log_correctness.specs.Noted.{Notes}
 use Rattle.setup_access.specs.Parts.{made}
 use Rattle.slot_table.specs.Records.{records_of, words_after}
@@ -40,30 +40,30 @@ abbrev pub steps_noted : List Noted → List Stepped
 steps_noted noted = map (λ one. record { step = one.step; begins = is_some one.begins }) noted
 
 -- what a machine keeps of its task's last steps is what the list notes of them
-pub record IsAtPoint {run : Run} {records : List Record} (list : RunList run records) (task : ℕ) (machine : TaskRun) :
+pub record IsAtPoint {run : Run} {records : List Record} (list : Execution run records) (task : ℕ) (machine : TaskRun) :
     Type 0 where
   pub noted : List Noted
   pub notes : Notes list task noted
   pub made : HasMade (steps_noted noted) machine
 
 -- so it is of each task
-abbrev pub AreAtPoints : {run : Run} {records : List Record} → RunList run records → List TaskRun → Type 0
+abbrev pub AreAtPoints : {run : Run} {records : List Record} → Execution run records → List TaskRun → Type 0
 AreAtPoints list machines = (task : ℕ) (machine : TaskRun) → slice_get machines task ≡ Some machine → IsAtPoint list task machine
 
--- The list, the latest record first, is a run list, and leads to these words, to these machines and to
+-- The list, the latest record first, is an execution, and leads to these words, to these machines and to
 -- this count of steps. What is kept of its steps is what it says, and what is reported is what it reports, as long
 -- as there is room for it.
 pub record LeadsToAll (run : Run) (records : List Record) (words : Words) (machines : List TaskRun)
     (steps : ℕ) (logs : List TaskLog) (reports : List Report) (room : ℕ) : Type 0 where
   pub can : CanBeMade run
-  pub list : RunList run records
+  pub list : Execution run records
   pub leaves : words ≡ words_after (first_words run) records
   pub tasks : LeadsTasks run records machines
   pub counts : steps ≡ up_to_last (length records)
   pub kept : AreKept list logs reports room
   pub points : AreAtPoints list machines
 
--- some run list leads there
+-- some execution leads there
 pub record IsLedTo (words : Words) (machines : List TaskRun) (steps : ℕ) (logs : List TaskLog) (reports : List Report)
     (room : ℕ) : Type 0 where
   pub run : Run
@@ -92,4 +92,4 @@ pub record GoesOnWith (run : Run) (task : ℕ) (records : List Record) (step : S
   pub only : OnlyStep (task_setting run task) (length (task_of run task).registers) (task_of run task).body
       (reverse (records_of task records)) step
   pub answer : Answer
-  pub list : RunList run (made task step answer ∷ records)
+  pub list : Execution run (made task step answer ∷ records)

@@ -5,8 +5,8 @@ use Rattle.litmus_syntax.specs.Limits.{KeepsLimits}
 use Rattle.litmus_syntax.specs.Views.{program_of}
 use Rattle.litmus_syntax.specs.declared.program.Program.{Program}
 use Rattle.prepared_program.specs.program_layout.Places.{places_of}
-pub use Rattle.executions.specs.run_lists.Ended.{HasEnded, IsStuck, tasks_of}
-use Rattle.executions.specs.run_lists.Run.{Run, task_setting}
+pub use Rattle.executions.specs.execution.Ended.{HasEnded, IsStuck, tasks_of}
+use Rattle.executions.specs.execution.Run.{Run, task_setting}
 use Rattle.task_laws.specs.Fits.{ArePlaced}
 use Rattle.prepared_program.specs.program_sites.Settings.{rules_of}
 use Rattle.prepared_program.specs.declared.program_sites.settings.Settings.{Settings}

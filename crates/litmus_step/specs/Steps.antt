@@ -8,7 +8,7 @@ use Rattle.litmus_step.specs.declared.world.Stepped.TheVariants.{Ended, Moved, S
 use Rattle.litmus_step.specs.declared.world.World.{World}
 use Rattle.litmus_syntax.specs.Limits.{BlockScopes, block_rises}
 use Rattle.litmus_syntax.specs.Tree.{Block}
-use Rattle.executions.specs.run_lists.Run.{Run}
+use Rattle.executions.specs.execution.Run.{Run}
 use Rattle.slot_table.specs.declared.records.Record.{Record}
 use Rattle.task_log.specs.Keeps as task_log
 use Rattle.task_run.specs.Leads.{Leads}
@@ -18,7 +18,7 @@ use Rattle.program_order.specs.Standing.{Setting}
 use Rattle.program_order.specs.Waits as waits
 use Rattle.program_order.specs.WrittenOrder.{SpellsAll, WrittenOrder}
 
--- the list, the latest record first, is a run list and leads to the world
+-- the list, the latest record first, is an execution and leads to the world
 abbrev pub LeadsTo : Run → List Record → World → Type 0
 LeadsTo run records world =
     LeadsToAll run records world.board world.tasks.items world.steps world.logs.items world.reports.items
@@ -28,8 +28,8 @@ LeadsTo run records world =
 abbrev pub tasks_in : World → ℕ
 tasks_in world = vec_len world.tasks
 
--- what the lists of a world can hold before they take memory: its tasks, the lists of each of them, what the tasks did, with what is
--- kept of each, and reports. The board's lists can't grow.
+-- what the lists of a world can hold before they take memory: its tasks, the lists of each of them, what the tasks did,
+-- with what is kept of each, and reports. The board's lists can't grow.
 pub record Room : Type 0 where
   pub tasks : ℕ
   pub machines : List (List ℕ)
@@ -76,19 +76,19 @@ pub record Reaches (s : Setting) (registers : ℕ) (body : Block) (records : Lis
   pub scopes : BlockScopes 0 body
   pub rises : block_rises body ≤ 2 ^ 32
 
--- whatever records reach a machine, they leave the task in no wait with as many vain tries as are allowed
+-- whatever records reach a machine, they leave the task in no wait with as many failed tries as are allowed
 abbrev pub IsFree : TaskRun → Type 0
 IsFree machine = (s : Setting) (registers : ℕ) (body : Block) (records : List Record)
     → Reaches s registers body records machine → ¬ waits.IsStuck s registers body records
 
 -- whatever records reach it, they leave the task in such a wait
-abbrev pub IsInVain : TaskRun → Type 0
-IsInVain machine = (s : Setting) (registers : ℕ) (body : Block) (records : List Record)
+abbrev pub IsFailedWait : TaskRun → Type 0
+IsFailedWait machine = (s : Setting) (registers : ℕ) (body : Block) (records : List Record)
     → Reaches s registers body records machine → waits.IsStuck s registers body records
 
 -- whatever records reach it, they spell the task's whole text
-abbrev pub IsOver : TaskRun → Type 0
-IsOver machine = (s : Setting) (registers : ℕ) (body : Block) (records : List Record)
+abbrev pub IsTaskOver : TaskRun → Type 0
+IsTaskOver machine = (s : Setting) (registers : ℕ) (body : Block) (records : List Record)
     → Reaches s registers body records machine → SpellsAll s registers body records
 
 -- whatever records reach it, they don't
@@ -97,7 +97,7 @@ GoesOn machine = (s : Setting) (registers : ℕ) (body : Block) (records : List 
     → Reaches s registers body records machine → ¬ SpellsAll s registers body records
 
 -- what is told of a machine
-abbrev pub Tells : Stepped → TaskRun → Type 0
-Tells Moved machine = IsFree machine × GoesOn machine
-Tells Ended machine = IsFree machine × IsOver machine
-Tells Stuck machine = IsInVain machine
+abbrev pub SteppedLeaves : Stepped → TaskRun → Type 0
+SteppedLeaves Moved machine = IsFree machine × GoesOn machine
+SteppedLeaves Ended machine = IsFree machine × IsTaskOver machine
+SteppedLeaves Stuck machine = IsFailedWait machine

@@ -1,7 +1,7 @@
 -- What is known of the tasks of a world that a list leads to, and worlds to which tasks that are asked lead.
 use Rattle.std.specs.Prelude.{◌≡◌, ◌++◌, ◌<◌, ◌≤◌, ◌+◌, ◌∷◌, ℕ, List, length}
-use Rattle.executions.specs.run_lists.Run.{Run}
-use Rattle.executions.specs.run_lists.RunList as run_lists
+use Rattle.executions.specs.execution.Run.{Run}
+use Rattle.executions.specs.execution.Execution as execution
 use Rattle.slot_table.specs.declared.records.Record.{Record}
 use Rattle.option_lists.specs.step_schedule.Order.{AreAsked, IsOrder, Tasks}
 use Rattle.option_lists.specs.declared.step_schedule.schedule.Entry.{Entry}
@@ -13,20 +13,20 @@ use Rattle.litmus_step.specs.declared.world.World.{World}
 use Rattle.task_run.specs.declared.run.TaskRun.{TaskRun}
 
 -- a list of steps, the latest record first, and the world that it leads to
-pub record Point : Type 0 where
+pub record WorldAfter : Type 0 where
   pub records : List Record
   pub world : World
 
-abbrev pub point : List Record → World → Point
+abbrev pub point : List Record → World → WorldAfter
 point records world = record { records = records; world = world }
 
 -- a task that moves makes one record more, with which the list leads on
-abbrev pub Moves : Run → ℕ → Point → Point → Type 0
+abbrev pub Moves : Run → ℕ → WorldAfter → WorldAfter → Type 0
 Moves run task before after =
     (made : Record) × (made.task ≡ task) × (after.records ≡ made ∷ before.records)
     × LeadsTo run after.records after.world
 
-abbrev pub known_of : Run → Tasks Point
+abbrev pub known_of : Run → Tasks WorldAfter
 known_of run = record {
   Moves = Moves run;
   HasEnded = λ task at. HasEnded run task at.records;
@@ -57,7 +57,7 @@ IsStuckAt world task = (run : Run) (records : List Record) → LeadsTo run recor
 -- all tasks have ended, by whatever list leads to the world
 abbrev pub AllHaveEnded : World → Type 0
 AllHaveEnded world = (run : Run) (records : List Record) → LeadsTo run records world
-    → run_lists.AllHaveEnded run records
+    → execution.AllHaveEnded run records
 
 -- the error is that a task is stuck, which is so now, once tasks were asked in this order or a beginning of it
 pub record StopsAt (before : World) (order : List ℕ) (after : World) (error : RunError) : Type 0 where

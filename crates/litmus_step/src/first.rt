@@ -4,7 +4,7 @@ ghost use Rattle.std.specs.Prelude.{◌≡◌, ◌<◌, ◌≤◌, ◌*◌, [], 
 ghost use Rattle.access_types.specs.Sites.{AccessMap};
 ghost use Rattle.litmus_syntax.specs.Limits.{KeepsLimits};
 ghost use Rattle.litmus_syntax.specs.Views.{program_of};
-ghost use Rattle.executions.specs.run_lists.Run.{first_words};
+ghost use Rattle.executions.specs.execution.Run.{first_words};
 ghost use Rattle.litmus_step.specs.Leads.{LeadsTask, LeadsTasks};
 ghost use Rattle.prepared_program.specs.program_sites.Prepared.{IsPrepared, IsReady, sites_in};
 ghost use Rattle.litmus_step.specs.Runs.{run_of};

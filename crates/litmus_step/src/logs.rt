@@ -3,14 +3,14 @@
 ghost use Rattle.std.specs.Prelude.{◌≡◌, IfOk, List, Option, vec_capacity};
 ghost use Rattle.litmus_step.specs.Kept.{Added, AreLogs, IsNotedIn};
 ghost use Rattle.litmus_syntax.specs.Limits.{KeepsLimits};
-ghost use Rattle.executions.specs.run_lists.Run.{Run};
-ghost use Rattle.executions.specs.run_lists.RunList.{RunList};
+ghost use Rattle.executions.specs.execution.Run.{Run};
+ghost use Rattle.executions.specs.execution.Execution.{Execution};
 ghost use Rattle.log_correctness.specs.Lists.{AreAccesses, AreArms, AreTakes};
 ghost use Rattle.log_correctness.specs.Totals.{CountsList};
 ghost use Rattle.slot_table.specs.declared.records.Record.{Record};
 ghost use Rattle.task_log.specs.Keeps.{room_in};
 
-use crate::laws::{logs_count_the_list, logs_give_what_the_list_has};
+use crate::laws::{law_logs_count_the_list, law_logs_give_what_the_list_has};
 use access_types::{Arm, Report, Stamped, Take};
 use std::alloc::{AllocError, Global};
 use task_log::{Counters, Noted, TaskLog};
@@ -41,9 +41,9 @@ pub fn note(log: &mut TaskLog, reports: &mut Vec<Report>, noted: &Noted)
 
 /// How often each thing came of the checks of all tasks.
 pub fn counters_of(logs: &[TaskLog]) -> Counters
-    ensures { (run : Run) (records : List Record) → (list : RunList run records) → AreLogs list logs.now → CountsList list result }
+    ensures { (run : Run) (records : List Record) → (list : Execution run records) → AreLogs list logs.now → CountsList list result }
 {
-    logs_count_the_list();
+    law_logs_count_the_list();
     let mut counters = Counters::new();
     for log in logs {
         counters.add(&log.counters());
@@ -53,10 +53,10 @@ pub fn counters_of(logs: &[TaskLog]) -> Counters
 
 /// The accesses that have ended, by task, and then in the order of their begins.
 pub fn accesses_of(alloc: Global, logs: &[TaskLog]) -> Result<Vec<Stamped>, AllocError>
-    ensures { (run : Run) (records : List Record) → (list : RunList run records) → KeepsLimits run.program → AreLogs list logs.now
+    ensures { (run : Run) (records : List Record) → (list : Execution run records) → KeepsLimits run.program → AreLogs list logs.now
         → IfOk result (λ all. AreAccesses list all.items) }
 {
-    logs_give_what_the_list_has();
+    law_logs_give_what_the_list_has();
     let mut all = Vec::new(alloc);
     for log in logs {
         all.extend_from_slice(log.accesses(alloc)?.as_slice())?;
@@ -66,10 +66,10 @@ pub fn accesses_of(alloc: Global, logs: &[TaskLog]) -> Result<Vec<Stamped>, Allo
 
 /// The armings that are over, by task, and then in the order of their removes.
 pub fn arms_of(alloc: Global, logs: &[TaskLog]) -> Result<Vec<Arm>, AllocError>
-    ensures { (run : Run) (records : List Record) → (list : RunList run records) → KeepsLimits run.program → AreLogs list logs.now
+    ensures { (run : Run) (records : List Record) → (list : Execution run records) → KeepsLimits run.program → AreLogs list logs.now
         → IfOk result (λ all. AreArms list all.items) }
 {
-    logs_give_what_the_list_has();
+    law_logs_give_what_the_list_has();
     let mut all = Vec::new(alloc);
     for log in logs {
         all.extend_from_slice(log.arms())?;
@@ -79,10 +79,10 @@ pub fn arms_of(alloc: Global, logs: &[TaskLog]) -> Result<Vec<Arm>, AllocError>
 
 /// The takings that are over, by task, and then in the order of their tells.
 pub fn takes_of(alloc: Global, logs: &[TaskLog]) -> Result<Vec<Take>, AllocError>
-    ensures { (run : Run) (records : List Record) → (list : RunList run records) → KeepsLimits run.program → AreLogs list logs.now
+    ensures { (run : Run) (records : List Record) → (list : Execution run records) → KeepsLimits run.program → AreLogs list logs.now
         → IfOk result (λ all. AreTakes list all.items) }
 {
-    logs_give_what_the_list_has();
+    law_logs_give_what_the_list_has();
     let mut all = Vec::new(alloc);
     for log in logs {
         all.extend_from_slice(log.takes())?;

@@ -9,8 +9,8 @@ ghost use Rattle.log_correctness.specs.Lists.{AreAccesses, AreArms, AreTakes};
 ghost use Rattle.log_correctness.specs.Totals.{CountsList, IsUnbalanced};
 ghost use Rattle.slot_table.specs.Records.{words_after};
 ghost use Rattle.slot_table.specs.declared.records.Record.{Record};
-ghost use Rattle.executions.specs.run_lists.Run.{Run, first_words};
-ghost use Rattle.executions.specs.run_lists.RunList.{RunList};
+ghost use Rattle.executions.specs.execution.Run.{Run, first_words};
+ghost use Rattle.executions.specs.execution.Execution.{Execution};
 
 use access_types::{Arm, Report, Stamped, Take};
 use std::alloc::{AllocError, Global};
@@ -22,8 +22,8 @@ pub trait Ran {
     /// These records lead there.
     ghost comes_of: { Self → Run → List Record → Type 0 };
 
-    /// They are a run list.
-    ghost list_of: { (ran : Self) (run : Run) (records : List Record) → comes_of ran run records → RunList run records };
+    /// They are an execution.
+    ghost list_of: { (ran : Self) (run : Run) (records : List Record) → comes_of ran run records → Execution run records };
 
     /// The run can be made.
     ghost can: { (ran : Self) (run : Run) (records : List Record) → comes_of ran run records → CanBeMade run };

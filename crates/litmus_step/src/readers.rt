@@ -7,22 +7,23 @@ ghost use Rattle.litmus_step.specs.Runs.{HasEnded};
 ghost use Rattle.soundness.specs.Headline.{Headline};
 ghost use Rattle.soundness.specs.Cells.{CellsHold, memory_after, run_cells};
 ghost use Rattle.soundness.specs.Reported.{IsTrueReport};
-ghost use Rattle.executions.specs.run_lists.Reports.{reports_of};
-ghost use Rattle.executions.specs.run_lists.Run.{Run};
-ghost use Rattle.executions.specs.run_lists.Told.{history_of};
+ghost use Rattle.executions.specs.execution.Reports.{reports_of};
+ghost use Rattle.executions.specs.execution.Run.{Run};
+ghost use Rattle.executions.specs.execution.Observed.{history_of};
 ghost use Rattle.slot_table.specs.declared.records.Record.{Record};
 
 use crate::laws::{
-    machines_stand_where_the_list_does, reports_have_room, worlds_tell_runs_of_the_program,
+    law_machines_stand_where_the_list_does, law_reports_have_room,
+    law_worlds_tell_runs_of_the_program,
 };
 use crate::logs::{accesses_of, arms_of, counters_of, takes_of};
 use crate::ran::Ran;
 use crate::world::World;
 use access_types::{Arm, Report, Sites, Stamped, Take};
-use log_correctness::logs::a_machine_says_what_begins;
+use log_correctness::logs::law_a_machine_says_what_begins;
 use slot_table::PlainBoard;
-use soundness::histories::{cells_hold_the_content, reports_are_true};
-use soundness::laws::the_headline_holds;
+use soundness::histories::{law_cells_hold_the_content, law_reports_are_true};
+use soundness::laws::law_the_headline_holds;
 use std::alloc::{AllocError, Global};
 use task_log::Counters;
 use task_run::{After, Before, TaskRun};
@@ -69,7 +70,7 @@ impl<'a> World<'a> {
         ensures { (run : Run) (records : List Record) → (leads : LeadsTo run records self.now)
             → RunOfProgram run.program run.places (history_of leads.list) }
     {
-        worlds_tell_runs_of_the_program();
+        law_worlds_tell_runs_of_the_program();
     }
 
     /// What was reported so far, in order.
@@ -80,9 +81,9 @@ impl<'a> World<'a> {
             → All (IsTrueReport leads.list) result.now }
         ensures headline { (run : Run) (records : List Record) → (leads : LeadsTo run records self.now) → Headline leads.list }
     {
-        reports_have_room();
-        reports_are_true();
-        the_headline_holds();
+        law_reports_have_room();
+        law_reports_are_true();
+        law_the_headline_holds();
         self.reports.as_slice()
     }
 
@@ -92,7 +93,7 @@ impl<'a> World<'a> {
         ensures content { (run : Run) (records : List Record) → (leads : LeadsTo run records self.now)
             → CellsHold (run_cells run) (memory_after run (history_of leads.list)) result.now }
     {
-        cells_hold_the_content();
+        law_cells_hold_the_content();
         self.board.cells()
     }
 
@@ -111,7 +112,7 @@ impl<'a> World<'a> {
         ensures meant { (run : Run) (records : List Record) → (leads : LeadsTo run records self.now) → HasEnded run task records
             → IsMeant leads.list task }
     {
-        machines_stand_where_the_list_does();
+        law_machines_stand_where_the_list_does();
         self.tasks[task].registers()
     }
 
@@ -126,7 +127,7 @@ impl<'a> World<'a> {
     pub fn unbalanced(&self) -> u64
         ensures { (run : Run) (records : List Record) → (leads : LeadsTo run records self.now) → IsUnbalanced leads.list result }
     {
-        machines_stand_where_the_list_does();
+        law_machines_stand_where_the_list_does();
         let mut unbalanced: u64 = 0;
         for run in &self.tasks {
             unbalanced = unbalanced.saturating_add(run.unbalanced());
@@ -163,7 +164,7 @@ impl<'a> World<'a> {
         requires { task < tasks_in self.now }
         ensures { (run : Run) (records : List Record) → (leads : LeadsTo run records self.now) → IsBefore leads.list task result }
     {
-        a_machine_says_what_begins();
+        law_a_machine_says_what_begins();
         match self.tasks[task].next() {
             Some(step) => self.tasks[task].before(step),
             None => Before::Other,

@@ -3,16 +3,16 @@
 ghost use Rattle.std.specs.Prelude.{◌≡◌, ◌≢◌, ◌<◌, ◌↔◌, ◌⊎◌, ℕ, IfErr, IsErrOf, IsTrue, List, OnOk, false, replicate, true};
 ghost use Rattle.std.specs.List.{range_with_len};
 ghost use Rattle.soundness.specs.Headline.{Headline};
-ghost use Rattle.executions.specs.run_lists.Run.{Run};
+ghost use Rattle.executions.specs.execution.Run.{Run};
 ghost use Rattle.slot_table.specs.declared.records.Record.{Record};
 ghost use Rattle.option_lists.specs.step_schedule.Order.{asked_by, in_rounds};
 ghost use Rattle.option_lists.specs.step_schedule.Schedule.{entries_of, names_stranger};
 
 use crate::world::{Stepped, World};
-use executions::step_bounds::laws::few_steps_are_made;
+use executions::step_bounds::laws::law_few_steps_are_made;
 use option_lists::step_schedule::Schedule;
 use prepared_program::program_sites::RunError;
-use soundness::laws::the_headline_holds;
+use soundness::laws::law_the_headline_holds;
 
 impl<'a> World<'a> {
     ghost use Rattle.litmus_step.specs.Steps.{LeadsTo, room_in, tasks_in};
@@ -22,7 +22,7 @@ impl<'a> World<'a> {
     /// turn, until all have.
     ///
     /// `BadSchedule`: it names a task that isn't there, and no step was made. `Stuck`: a wait of the
-    /// task had as many vain tries as are allowed. The world stands where that was first so.
+    /// task had as many failed tries as are allowed. The world stands where that was first so.
     pub fn run(&mut self, schedule: &Schedule) -> Result<(), RunError>
         ensures bad_schedule { IsErrOf result RunError.BadSchedule
             ↔ IsTrue (names_stranger (tasks_in self.old) (entries_of schedule.now)) }
@@ -36,7 +36,7 @@ impl<'a> World<'a> {
         ensures room { room_in self.new ≡ room_in self.old }
         ensures headline { (run : Run) (records : List Record) → (leads : LeadsTo run records self.new) → Headline leads.list }
     {
-        the_headline_holds();
+        law_the_headline_holds();
         if schedule.names_stranger(self.tasks.len() as u64) {
             return Err(RunError::BadSchedule);
         }
@@ -105,7 +105,7 @@ impl<'a> World<'a> {
         ensures sites { self.new.sites ≡ self.old.sites }
         ensures room { room_in self.new ≡ room_in self.old }
     {
-        few_steps_are_made();
+        law_few_steps_are_made();
         for _round in 0..u128::MAX {
             if !self.round()? {
                 return Ok(());

@@ -7,7 +7,7 @@ ghost use Rattle.litmus_syntax.specs.Limits.{KeepsLimits};
 ghost use Rattle.litmus_syntax.specs.Views.{program_of};
 ghost use Rattle.prepared_program.specs.program_layout.Places.{AreFit};
 ghost use Rattle.soundness.specs.Headline.{Headline};
-ghost use Rattle.executions.specs.run_lists.Run.{Run};
+ghost use Rattle.executions.specs.execution.Run.{Run};
 ghost use Rattle.setup_access.specs.Parts.{made};
 ghost use Rattle.slot_table.specs.declared.records.Record.{Record};
 ghost use Rattle.litmus_step.specs.Leads.{IsLedTo, MakesNextIn};
@@ -20,13 +20,13 @@ ghost use Rattle.prepared_program.specs.declared.program_sites.settings.Settings
 ghost use Rattle.task_run.specs.declared.run.TaskRun.{TaskRun};
 
 use crate::first::{all_accesses, first_board, first_logs, first_reports, first_tasks};
-use crate::laws::{runs_begin, steps_are_kept, steps_lead_on};
+use crate::laws::{law_runs_begin, law_steps_are_kept, law_steps_lead_on};
 use crate::logs::note;
 use access_types::{Report, Sites};
 use litmus_syntax::Program;
 use prepared_program::program_sites::{Prepared, RunError, Settings};
 use slot_table::{Answer, Board, PlainBoard, Step};
-use soundness::laws::the_headline_holds;
+use soundness::laws::law_the_headline_holds;
 use std::alloc::{AllocError, Global};
 use std::sync::Arc;
 use task_log::{Noted, TaskLog};
@@ -39,7 +39,7 @@ pub enum Stepped {
     Moved,
     /// It has made the steps of its whole text.
     Ended,
-    /// A wait of it had as many vain tries as are allowed.
+    /// A wait of it had as many failed tries as are allowed.
     Stuck,
 }
 
@@ -71,7 +71,7 @@ fn note_in(logs: &mut Vec<TaskLog>, reports: &mut Vec<Report>, task: usize, note
 }
 
 impl<'a> World<'a> {
-    ghost use Rattle.litmus_step.specs.Steps.{IsMachine, LeadsTo, StepsOn, Tells, room_in, tasks_in};
+    ghost use Rattle.litmus_step.specs.Steps.{IsMachine, LeadsTo, StepsOn, SteppedLeaves, room_in, tasks_in};
 
     /// A program before its first step. It takes all its room, and `step` and `run` take no memory.
     ///
@@ -106,8 +106,8 @@ impl<'a> World<'a> {
             → IfOk result (λ world. LeadsTo (run_of program.now settings (arc_value world.sites)) [] world) }
         ensures sites { IfOk result (λ world. arc_value world.sites ≡ sites_in prepared.now) }
     {
-        runs_begin();
-        steps_are_kept();
+        law_runs_begin();
+        law_steps_are_kept();
         let board = first_board(alloc, program, prepared)?;
         let tasks = first_tasks(alloc, program, prepared)?;
         let accesses = prepared.accesses.as_slice();
@@ -132,14 +132,14 @@ impl<'a> World<'a> {
             → (result ≡ Stepped.Ended ↔ HasEnded run task records) }
         ensures stuck { (run : Run) (records : List Record) → LeadsTo run records self.new
             → (result ≡ Stepped.Stuck ↔ IsStuck run task records) }
-        ensures tells { (machine : TaskRun) → IsMachine self.new task machine → Tells result machine }
+        ensures tells { (machine : TaskRun) → IsMachine self.new task machine → SteppedLeaves result machine }
         ensures others { (other : ℕ) → task ≢ other → slice_get self.new.tasks.items other ≡ slice_get self.old.tasks.items other }
         ensures tasks { tasks_in self.new ≡ tasks_in self.old }
         ensures sites { self.new.sites ≡ self.old.sites }
         ensures room { room_in self.new ≡ room_in self.old }
         ensures headline { (run : Run) (records : List Record) → (leads : LeadsTo run records self.new) → Headline leads.list }
     {
-        the_headline_holds();
+        law_the_headline_holds();
         let Some(step) = self.tasks[task].next() else {
             return self.state(task);
         };
@@ -158,8 +158,8 @@ impl<'a> World<'a> {
         ensures sites { self.new.sites ≡ self.old.sites }
         ensures room { room_in self.new ≡ room_in self.old }
     {
-        steps_lead_on();
-        steps_are_kept();
+        law_steps_lead_on();
+        law_steps_are_kept();
         let begins = self.tasks[task].begins();
         let answer = self.board.step(step);
         self.tasks[task].answer(step, answer);
@@ -178,7 +178,7 @@ impl<'a> World<'a> {
     /// What a task is now.
     fn state(&self, task: usize) -> Stepped
         requires { task < tasks_in self.now }
-        ensures { (machine : TaskRun) → IsMachine self.now task machine → Tells result machine }
+        ensures { (machine : TaskRun) → IsMachine self.now task machine → SteppedLeaves result machine }
     {
         if self.tasks[task].stuck() {
             return Stepped::Stuck;

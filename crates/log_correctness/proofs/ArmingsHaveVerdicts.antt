@@ -3,9 +3,9 @@ use Rattle.std.proofs.Common.{◌≡◌, ◌∙◌, ◌++◌, ◌∷◌, [], inl
 use Rattle.std.proofs.lemmas.List.{append-nil, map-append}
 use Rattle.access_types.specs.Arms.{Arm}
 use Rattle.access_types.specs.Ticket.{ticket_number}
-use Rattle.executions.specs.run_lists.Run.{Run, first_cells, locks_of}
-use Rattle.executions.specs.run_lists.RunList.{RunList}
-use Rattle.executions.specs.run_lists.Told.{OutcomeAt, outcomes_of}
+use Rattle.executions.specs.execution.Run.{Run, first_cells, locks_of}
+use Rattle.executions.specs.execution.Execution.{Execution}
+use Rattle.executions.specs.execution.Observed.{OutcomeAt, outcomes_of}
 use Rattle.log_correctness.specs.Lists.{AreArmsBy, verdicts_by}
 use Rattle.log_correctness.proofs.Settling.{HandSays, HitSays, Known, Match, PartSays, Pending, Settled}
 use Rattle.log_correctness.proofs.Pairing.{all_paired}
@@ -62,7 +62,7 @@ module _ (records : List Record) where
   hand_own known hears None h = settled_own known h
   hand_own known hears (Some hand) h = part_own hand.index known hears hand.part h
 
-module _ (run : Run) (all : List Record) (list : RunList run all) (rules : Keeps run.rules.slots (locks_of run) (first_cells run) all)
+module _ (run : Run) (all : List Record) (list : Execution run all) (rules : Keeps run.rules.slots (locks_of run) (first_cells run) all)
     (watches : All (IfVerdict list) (outcomes_of list)) where
   pub own_verdicts : (later earlier : List Record) (task : ℕ) (arms : List Arm) → all ≡ later ++ earlier → AreArmsBy list task earlier arms
       → (more : List ℕ) × (tickets (verdicts_by list task earlier) ≡ setters arms ++ more)

@@ -12,13 +12,13 @@ use Rattle.litmus_syntax.specs.Tree.{Block}
 use Rattle.access_run.specs.memory_operation.Effects.{moments_of, read_moments, write_moments}
 use Rattle.access_run.specs.declared.memory_operation.effect.Effect.{Effect}
 use Rattle.access_run.specs.declared.memory_operation.operation.Operation.{Operation}
-use Rattle.executions.proofs.run_lists.Intervals as ends
-use Rattle.executions.proofs.run_lists.Intervals.{Has, NoneEnds, has_either, has_first, has_last}
-use Rattle.executions.proofs.run_lists.TaskFacts.{IsKnown, begins_known, silenced_too}
+use Rattle.executions.proofs.execution.Intervals as ends
+use Rattle.executions.proofs.execution.Intervals.{Has, NoneEnds, has_either, has_first, has_last}
+use Rattle.executions.proofs.execution.TaskFacts.{IsKnown, begins_known, silenced_too}
 use Rattle.soundness.specs.Watches.{is_verdict}
 use Rattle.setup_access.specs.Check as cases
 use Rattle.setup_access.specs.Check.{Check, ChecksOnce, Fallen, GoesOn, NoneFound, Pass, Passes, Rechecks, fallen_of, left_to_check}
-use Rattle.setup_access.specs.Found.{Takes, Tells}
+use Rattle.setup_access.specs.Found.{Takes, FinderTells}
 use Rattle.setup_access.specs.OwnAccesses.{IsOwn}
 use Rattle.setup_access.specs.Records.{MakesDone}
 use Rattle.setup_access.specs.declared.begun.Begun.{Begun}
@@ -262,7 +262,7 @@ module _ (s : Setting) (end : Standing) where
         (λ yes. absurd (let both : false ≡ true = sym none ∙ (ap is_verdict (sym is) ∙ yes) in cc), λ pair told. heard)
 
     told_or_lost : (taken : Bool) (found : Watchpoint) (records rest : List Record) (outcome : Outcome)
-        → MatchBool taken (Tells (checks_of s) b.access found.index records outcome rest) ((outcome ≡ outcomes.Lost) × (rest ≡ records)) → is_verdict outcome ≡ false
+        → MatchBool taken (FinderTells (checks_of s) b.access found.index records outcome rest) ((outcome ≡ outcomes.Lost) × (rest ≡ records)) → is_verdict outcome ≡ false
     told_or_lost true found records rest outcome h = ap is_verdict (told_is h.1 h.3)
       where
         told_is : (after : List Record) → MakesDone s.text.task (Tell found.index (ticket_number b.access)) (λ last.

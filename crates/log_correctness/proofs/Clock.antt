@@ -8,12 +8,12 @@ use Rattle.access_types.specs.declared.history.Happening.{Happening}
 use Rattle.access_types.specs.declared.history.Happening.TheVariants as happenings
 use Rattle.litmus_syntax.specs.Limits.{BodyKeepsLimits, KeepsLimits}
 use Rattle.litmus_syntax.specs.Tree as tree
-use Rattle.executions.specs.run_lists.Run.{Run, idle, task_of, task_setting}
-use Rattle.executions.specs.run_lists.RunList.{RunList}
-use Rattle.executions.specs.run_lists.Told.{made_by}
-use Rattle.executions.proofs.run_lists.Histories.{did_of_all, did_then}
-use Rattle.executions.proofs.run_lists.OwnLasts.{own_latest}
-use Rattle.executions.proofs.run_lists.DoneOnlyGrows.{whole_chain}
+use Rattle.executions.specs.execution.Run.{Run, idle, task_of, task_setting}
+use Rattle.executions.specs.execution.Execution.{Execution}
+use Rattle.executions.specs.execution.Observed.{made_by}
+use Rattle.executions.proofs.execution.Histories.{did_of_all, did_then}
+use Rattle.executions.proofs.execution.OwnLasts.{own_latest}
+use Rattle.executions.proofs.execution.DoneOnlyGrows.{whole_chain}
 use Rattle.soundness.specs.Events.{AreMarks, EachDoesItsEvent, IsEvent, ReadsAtMost, Writes}
 use Rattle.slot_table.specs.Records.{Legal, records_of, words_after}
 use Rattle.slot_table.specs.StepLine.{step_line}
@@ -25,12 +25,12 @@ use Rattle.slot_table.specs.declared.step.Step.{Step}
 use Rattle.slot_table.specs.declared.step.Step.TheVariants as steps
 use Rattle.program_order.specs.Standing as tasks
 use Rattle.program_order.specs.Standing.{Point}
-use Rattle.program_order.specs.Told.{did_by, did_next}
+use Rattle.program_order.specs.TaskObserved.{did_by, did_next}
 use Rattle.program_order.specs.WrittenOrder.{SpellsAll, StepsOfBlock, WrittenOrder, at_first, first_point, stands_after}
 use Rattle.executions.specs.observation_determinism.Begins.{begins_in, is_begin}
 use Rattle.log_correctness.specs.Stamps.{is_clock, is_end, stamps_in}
 use Rattle.log_correctness.proofs.Checked.{all_even, count_both, counted}
-use Rattle.log_correctness.proofs.Told.{at_last}
+use Rattle.log_correctness.proofs.ChecksAndOutcomes.{at_last}
 
 less_tells : (a b : ℕ) → ((nat_lt a b ≡ true) × (a < b)) ⊎ ((nat_lt a b ≡ false) × (b ≤ a))
 less_tells a b = by (nat_lt a b) refl
@@ -231,7 +231,7 @@ all_below tasks (latest ∷ earlier) each =
       | inr high ↦ let h : tasks ≤ latest.task = high.1 in let l = each [] earlier latest refl in absurd (omega (arith, h, l))
     ]
 
-module _ (run : Run) (records : List Record) (list : RunList run records) (each : EachDoesItsEvent list records) (first : (task : ℕ) → AreMarks (did_by (list.tasks task) 0)) where
+module _ (run : Run) (records : List Record) (list : Execution run records) (each : EachDoesItsEvent list records) (first : (task : ℕ) → AreMarks (did_by (list.tasks task) 0)) where
   -- what a task's records did has as many turns as the clock has steps among them
   own_turns_by : (later earlier : List Record) (task : ℕ) → EachDoesItsEvent list earlier → turns (did_by (list.tasks task) (made_by task earlier)) ≡ stamps_in (records_of task earlier)
   own_turns_by later [] task does = turns_of_marks (did_by (list.tasks task) 0) (first task)

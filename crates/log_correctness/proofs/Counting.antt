@@ -1,8 +1,8 @@
 -- The counters of tasks, added one after the other, are those of the list.
 use Rattle.std.proofs.Common.{◌≡◌, ◌∙◌, ◌+◌, [], ℕ, suc, Bool, false, List, None, Option, Some, ap, arith, count_by, length, refl, subst, sym}
-use Rattle.executions.specs.run_lists.Run.{Run}
-use Rattle.executions.specs.run_lists.RunList.{RunList}
-use Rattle.executions.specs.run_lists.Told.{OutcomeAt, outcomes_of}
+use Rattle.executions.specs.execution.Run.{Run}
+use Rattle.executions.specs.execution.Execution.{Execution}
+use Rattle.executions.specs.execution.Observed.{OutcomeAt, outcomes_of}
 use Rattle.log_correctness.specs.Noted.{Notes}
 use Rattle.log_correctness.specs.Totals.{AddUp, Counted, CountsList, CountsTasks, outcomes_below}
 use Rattle.log_correctness.proofs.Sums.{all_below, all_came, below, no_outcome_below, none_below, of_record, of_step, one_task_came, one_task_more, outcomes_noted, resting_sum, steps_noted}
@@ -19,7 +19,7 @@ both_rest : (some one both a b c : ℕ) → some ≡ resting a → one ≡ resti
 both_rest some one both a b c first second is sum =
     is ∙ (ap (λ (n : ℕ). together n one) first ∙ (ap (λ (n : ℕ). together (resting a) n) second ∙ (resting_sum a b ∙ ap resting (sym sum))))
 
-module _ (run : Run) (all : List Record) (list : RunList run all) where
+module _ (run : Run) (all : List Record) (list : Execution run all) where
   no_steps : (p : Step → Answer → Bool) (none : ℕ) → none ≡ resting (count_by (of_step p) []) → none ≡ resting (count_by (of_record p) (below 0 all))
   no_steps p none is = is ∙ ap resting (sym (none_below p all))
 

@@ -16,12 +16,12 @@ use Rattle.access_types.specs.declared.history.Mark.{Mark}
 use Rattle.access_types.specs.declared.history.Moment.{Moment}
 use Rattle.litmus_semantics.proofs.TextSitesLemmas.{begun_at}
 use Rattle.litmus_semantics.proofs.TicketLemmas.{numbered}
-use Rattle.executions.specs.run_lists.Run.{Run, task_of, task_setting}
-use Rattle.executions.specs.run_lists.RunList.{RunList}
-use Rattle.executions.specs.run_lists.Told.{history_by, history_of, made_by, moments_of}
-use Rattle.executions.proofs.run_lists.Histories.{did_of_all, did_then, of_both, of_task}
-use Rattle.executions.proofs.run_lists.OwnLasts.{own_latest}
-use Rattle.executions.proofs.run_lists.OwnMarks.{begins_once, counts_own, marks_same, own_of}
+use Rattle.executions.specs.execution.Run.{Run, task_of, task_setting}
+use Rattle.executions.specs.execution.Execution.{Execution}
+use Rattle.executions.specs.execution.Observed.{history_by, history_of, made_by, moments_of}
+use Rattle.executions.proofs.execution.Histories.{did_of_all, did_then, of_both, of_task}
+use Rattle.executions.proofs.execution.OwnLasts.{own_latest}
+use Rattle.executions.proofs.execution.OwnMarks.{begins_once, counts_own, marks_same, own_of}
 use Rattle.log_correctness.specs.Decided.{IsDecided, IsStampedSo}
 use Rattle.log_correctness.specs.Noted.{AreNoted, IsBegun, IsNoted, Notes, begun_in}
 use Rattle.log_correctness.proofs.Begun.{begins_first}
@@ -40,7 +40,7 @@ use Rattle.task_log.specs.declared.noted.Noted.{Noted}
 use Rattle.task_log.specs.declared.touches.Touch.{Touch}
 use Rattle.program_order.specs.Standing as tasks
 use Rattle.program_order.specs.Standing.{Standing}
-use Rattle.program_order.specs.Told.{did_by, did_next}
+use Rattle.program_order.specs.TaskObserved.{did_by, did_next}
 use Rattle.program_order.proofs.MeaningLemmas.{whole_means}
 
 -- the own moments of a task are countable as they stand among all
@@ -133,7 +133,7 @@ take_front (x ∷ p) q = ap (λ (d : List Happening). x ∷ d) (take_front p q)
 own_begin : (a : Access) (later : History) → happenings_of a.task (beginning a ∷ later) ≡ happenings.Begin a ∷ happenings_of a.task later
 own_begin a later = rw (eq-eqb a.task a.task refl) refl
 
-module _ (run : Run) (records : List Record) (list : RunList run records) (does : EachDoesItsEvent list records) where
+module _ (run : Run) (records : List Record) (list : Execution run records) (does : EachDoesItsEvent list records) where
   abbrev whole : ℕ → List Record
   whole task = reverse (records_of task records) ++ (list.tasks task).more
 

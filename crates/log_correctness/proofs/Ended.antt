@@ -6,11 +6,11 @@ use Rattle.access_types.specs.declared.history.Happening.TheVariants as happenin
 use Rattle.litmus_semantics.specs.Task as meaning
 use Rattle.litmus_syntax.specs.Tree.{Block}
 use Rattle.slot_table.specs.declared.records.Record.{Record}
-use Rattle.task_run.specs.Told.{last_of}
+use Rattle.task_run.specs.Position.{last_of}
 use Rattle.program_order.proofs.Induction.{Kept, by_block}
 use Rattle.program_order.specs.Access.{operated}
 use Rattle.program_order.specs.Standing.{Point, Setting, Standing, coming, counting, doing, point_by}
-use Rattle.program_order.specs.Told.{stands_by}
+use Rattle.program_order.specs.TaskObserved.{stands_by}
 use Rattle.program_order.specs.WrittenOrder.{SpellsAll, StepsOfBlock, WrittenOrder, at_first, first_point, stands_after}
 use Rattle.executions.specs.observation_determinism.TellAlike.{StandsAlike, TellAlike}
 

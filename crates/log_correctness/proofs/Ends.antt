@@ -8,10 +8,10 @@ use Rattle.access_types.specs.Access.{Access}
 use Rattle.access_types.specs.Stamped.{Stamped}
 use Rattle.access_types.specs.declared.history.Happening.{Happening}
 use Rattle.access_types.specs.declared.history.Happening.TheVariants as happenings
-use Rattle.executions.specs.run_lists.Run.{Run, first_words, task_setting}
-use Rattle.executions.specs.run_lists.RunList.{RunList}
-use Rattle.executions.specs.run_lists.Told.{made_by}
-use Rattle.executions.proofs.run_lists.OwnLasts.{own_latest}
+use Rattle.executions.specs.execution.Run.{Run, first_words, task_setting}
+use Rattle.executions.specs.execution.Execution.{Execution}
+use Rattle.executions.specs.execution.Observed.{made_by}
+use Rattle.executions.proofs.execution.OwnLasts.{own_latest}
 use Rattle.log_correctness.specs.Noted.{AreNoted, IsBegun, IsNoted, Notes, begun_in}
 use Rattle.log_correctness.specs.Spans.{HappensAt}
 use Rattle.log_correctness.proofs.Balance.{ArePlain, Runs, plain_both}
@@ -29,7 +29,7 @@ use Rattle.slot_table.specs.declared.step.Step.TheVariants as steps
 use Rattle.task_log.specs.Touches.{accesses_of, end_newest, goes_on, stamped, stamped_at, touches_at, touches_of}
 use Rattle.task_log.specs.declared.noted.Noted.{Noted}
 use Rattle.task_log.specs.declared.touches.Touch.{Touch}
-use Rattle.program_order.specs.Told.{did_by, did_next}
+use Rattle.program_order.specs.TaskObserved.{did_by, did_next}
 
 -- an access that ended at a stamp is kept
 record IsKept (touches : List Touch) (a : Access) (stamp : ℕ) : Type 0 where
@@ -115,7 +115,7 @@ data Touching (before after : List Touch) (answer : Answer) (did : List Happenin
 no_end : (did : List Happening) → ArePlain did → (a : Access) (marks : List Happening) → did ≡ happenings.End a ∷ marks → ⊥
 no_end did plain a marks is = (subst ArePlain is plain).0
 
-module _ (run : Run) (records : List Record) (list : RunList run records) (task : ℕ) (first : AreMarks (did_by (list.tasks task) 0)) where
+module _ (run : Run) (records : List Record) (list : Execution run records) (task : ℕ) (first : AreMarks (did_by (list.tasks task) 0)) where
   abbrev EndsKept : List Record → List Touch → Type 0
   EndsKept earlier touches =
       (l : List Record) (latest : Record) (e : List Record) (a : Access) (stamp : ℕ) (marks : List Happening) → earlier ≡ l ++ latest ∷ e → latest.task ≡ task

@@ -22,7 +22,7 @@ use Rattle.task_log.specs.Arms.{arm_removed, arms_at, arms_of, takes_at, takes_o
 use Rattle.task_log.specs.Reports.{reported, reported_in}
 use Rattle.task_log.specs.declared.noted.Noted.{Noted}
 use Rattle.program_order.specs.Standing.{Setting}
-use Rattle.program_order.specs.Told.{fell_next, to_come}
+use Rattle.program_order.specs.TaskObserved.{fell_next, to_come}
 use Rattle.program_order.specs.WrittenOrder.{WrittenOrder}
 
 -- an arming for each remove, and a taking for each tell

@@ -8,11 +8,11 @@ use Rattle.access_types.specs.Arms.{Arm}
 use Rattle.access_types.specs.Takes.{Take}
 use Rattle.access_types.specs.declared.history.Happening.{Happening}
 use Rattle.access_types.specs.declared.history.Happening.TheVariants as happenings
-use Rattle.executions.specs.run_lists.Run.{Run, task_of, task_setting}
-use Rattle.executions.specs.run_lists.RunList.{RunList}
-use Rattle.executions.specs.run_lists.Told.{made_by}
-use Rattle.executions.proofs.run_lists.Histories.{did_of_all}
-use Rattle.executions.proofs.run_lists.OwnLasts.{own_latest}
+use Rattle.executions.specs.execution.Run.{Run, task_of, task_setting}
+use Rattle.executions.specs.execution.Execution.{Execution}
+use Rattle.executions.specs.execution.Observed.{made_by}
+use Rattle.executions.proofs.execution.Histories.{did_of_all}
+use Rattle.executions.proofs.execution.OwnLasts.{own_latest}
 use Rattle.log_correctness.specs.Lists.{AreArmsAt, AreArmsBy, ByTask, take_of, takes_by}
 use Rattle.log_correctness.specs.Spans.{is_end}
 use Rattle.log_correctness.proofs.Balance.{Runs, runs_split, whole_runs}
@@ -27,7 +27,7 @@ use Rattle.slot_table.specs.declared.records.Record.{Record}
 use Rattle.slot_table.specs.declared.step.Answer.{Answer}
 use Rattle.slot_table.specs.declared.step.Step.{Step}
 use Rattle.slot_table.specs.declared.step.Step.TheVariants as steps
-use Rattle.program_order.specs.Told.{did_by}
+use Rattle.program_order.specs.TaskObserved.{did_by}
 use Rattle.executions.specs.observation_determinism.Begins.{begins_in, is_begin}
 
 -- no more end than begin, and go on before
@@ -75,7 +75,7 @@ by_tasks {X = X} Of most (suc task) each all are =
     let size : length all ≡ length are.0 + length are.1 = ap (λ (l : List X). length l) are.2 ∙ length-append are.0 are.1 in
     let product : suc task * most ≡ task * most + most = suc-mul task most in omega (arith, rest, own, size, product)
 
-module _ {run : Run} {all : List Record} (list : RunList run all) where
+module _ {run : Run} {all : List Record} (list : Execution run all) where
   -- an arming for each remove
   longer : (before after : List Arm) → after ≡ before → length after ≡ 0 + length before
   longer before after is = let same : length after ≡ length before = ap (λ (l : List Arm). length l) is in omega (arith, same)

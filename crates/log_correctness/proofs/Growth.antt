@@ -5,10 +5,10 @@ use Rattle.std.proofs.lemmas.List.{length-reverse, reverse-append}
 use Rattle.access_types.specs.declared.history.Happening.{Happening}
 use Rattle.litmus_semantics.specs.Task as meaning
 use Rattle.litmus_syntax.specs.Tree.{Block}
-use Rattle.executions.specs.run_lists.Run.{Run}
-use Rattle.executions.specs.run_lists.RunList.{RunList}
-use Rattle.executions.specs.run_lists.Told.{made_by}
-use Rattle.executions.proofs.run_lists.OwnLasts.{own_latest}
+use Rattle.executions.specs.execution.Run.{Run}
+use Rattle.executions.specs.execution.Execution.{Execution}
+use Rattle.executions.specs.execution.Observed.{made_by}
+use Rattle.executions.proofs.execution.OwnLasts.{own_latest}
 use Rattle.log_correctness.specs.Noted.{AreNoted, IsBegun, IsNoted, Notes}
 use Rattle.setup_access.specs.Check.{Fallen}
 use Rattle.setup_access.specs.declared.outcome.Outcome.{Outcome}
@@ -16,7 +16,7 @@ use Rattle.slot_table.specs.Records.{records_of}
 use Rattle.slot_table.specs.declared.records.Record.{Record}
 use Rattle.task_log.specs.declared.noted.Noted.{Noted}
 use Rattle.program_order.specs.Standing.{Setting}
-use Rattle.program_order.specs.Told.{Came, came_of, did_by, did_next, fell_next}
+use Rattle.program_order.specs.TaskObserved.{Came, came_of, did_by, did_next, fell_next}
 use Rattle.program_order.specs.WrittenOrder.{WrittenOrder}
 use Rattle.executions.specs.observation_determinism.TellAlike.{TellAlike}
 use Rattle.executions.proofs.observation_determinism.Telling.{told_alike}
@@ -78,7 +78,7 @@ one_more_own s registers body records latest before noted one other are last =
     (one_more records (records ++ latest ∷ []) (reverse records) latest before noted one other refl (length-reverse records) are
     (subst (λ (n : ℕ). IsNoted other n latest noted) (sym (length-reverse records)) last))
 
-module _ (run : Run) (latest : Record) (earlier : List Record) (one : RunList run earlier) (other : RunList run (latest ∷ earlier)) where
+module _ (run : Run) (latest : Record) (earlier : List Record) (one : Execution run earlier) (other : Execution run (latest ∷ earlier)) where
   pub one_more_listed : (before : List Noted) (noted : Noted) → Notes one latest.task before
       → IsNoted (other.tasks latest.task) (made_by latest.task earlier) latest noted → Notes other latest.task (noted ∷ before)
   one_more_listed before noted are last =

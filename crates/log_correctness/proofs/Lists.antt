@@ -9,19 +9,19 @@ use Rattle.std.proofs.Math.Nat.{suc-mul}
 use Rattle.access_types.specs.declared.report.Report.{Report}
 use Rattle.litmus_syntax.specs.Limits.{BodyKeepsLimits, KeepsLimits, TaskKeepsLimits, block_repeats}
 use Rattle.litmus_syntax.specs.Tree.{Task}
-use Rattle.executions.specs.run_lists.Reports as lists
-use Rattle.executions.specs.run_lists.Reports.{reports_of}
-use Rattle.executions.specs.run_lists.Run.{Run, idle, task_of}
-use Rattle.executions.specs.run_lists.RunList.{RunList}
-use Rattle.executions.specs.run_lists.Told.{OutcomeAt, armed_by, came_next, made_by, outcome_at, outcomes_of}
-use Rattle.executions.proofs.run_lists.OwnLasts.{own_latest}
+use Rattle.executions.specs.execution.Reports as lists
+use Rattle.executions.specs.execution.Reports.{reports_of}
+use Rattle.executions.specs.execution.Run.{Run, idle, task_of}
+use Rattle.executions.specs.execution.Execution.{Execution}
+use Rattle.executions.specs.execution.Observed.{OutcomeAt, armed_by, came_next, made_by, outcome_at, outcomes_of}
+use Rattle.executions.proofs.execution.OwnLasts.{own_latest}
 use Rattle.log_correctness.specs.Totals.{outcomes_below}
 use Rattle.log_correctness.proofs.Sums.{all_came, came_of, counted, no_outcome_below, one_task_came}
 use Rattle.log_correctness.proofs.Fallen.{few_fell, fell_by}
 use Rattle.setup_access.specs.declared.outcome.Outcome.{Outcome}
 use Rattle.slot_table.specs.Records.{records_of}
 use Rattle.slot_table.specs.declared.records.Record.{Record}
-use Rattle.program_order.specs.Told.{fell_next}
+use Rattle.program_order.specs.TaskObserved.{fell_next}
 
 -- some outcome
 abbrev some_came : Option Outcome → Bool
@@ -53,7 +53,7 @@ pub keeps_body : (run : Run) → KeepsLimits run.program → (task : ℕ) → ta
 keeps_body run keeps task there =
     (All-get_or (TaskKeepsLimits run.program.variables) run.program.tasks task idle there keeps.each_task).body
 
-module _ (run : Run) (all : List Record) (list : RunList run all) where
+module _ (run : Run) (all : List Record) (list : Execution run all) where
   abbrev came_by : ℕ → List Record → ℕ
   came_by task records = came_of some_came none_came run all list task records
 

@@ -18,9 +18,9 @@ use Rattle.access_run.specs.memory_operation.Operations.{Operates}
 use Rattle.access_run.specs.declared.memory_operation.effect.Effect.{Effect}
 use Rattle.access_run.specs.declared.memory_operation.operation.Operation.{Operation}
 use Rattle.access_run.specs.declared.memory_operation.operation.Operation.TheVariants as operations
-use Rattle.executions.proofs.run_lists.Histories.{did_then}
-use Rattle.executions.proofs.run_lists.DoneOnlyGrows.{Chain, by_later, whole_chain}
-use Rattle.executions.specs.run_lists.Told as told
+use Rattle.executions.proofs.execution.Histories.{did_then}
+use Rattle.executions.proofs.execution.DoneOnlyGrows.{Chain, by_later, whole_chain}
+use Rattle.executions.specs.execution.Observed as told
 use Rattle.log_correctness.specs.Noted.{IsBegun, IsNoted, begun_by, begun_in}
 use Rattle.log_correctness.proofs.Afters.{After, follow_left, walk_left}
 use Rattle.log_correctness.proofs.Begun.{NoBeginFirst, NoneBegins, moments_begin_none, none_both, none_by_others, none_first, one_first, reads_begin_none, writes_begin_none}
@@ -43,13 +43,13 @@ use Rattle.task_run.specs.Fell.{FallsInPart, FellAt}
 use Rattle.task_run.specs.Leads.{BeginsNext, Leads, stands_at}
 use Rattle.task_run.specs.Part.{Part, PartLeft, closes, locks, makes, opens, over, stops, unlocks}
 use Rattle.task_run.specs.Says.{Says}
-use Rattle.task_run.specs.Told.{AllFellFrom, AllFrom, IsTold, last_of}
+use Rattle.task_run.specs.Position.{AllFellFrom, AllFrom, IsTold, last_of}
 use Rattle.task_run.specs.declared.run.TaskRun.{TaskRun}
 use Rattle.task_run.proofs.FellLemmas.{AllShorter}
 use Rattle.text_walk.specs.declared.walk.Walk.{Walk}
 use Rattle.program_order.specs.Access.{Makes, operated}
 use Rattle.program_order.specs.Standing.{BeginsNow, Point, Setting, Standing, checks_of, doing, point_by}
-use Rattle.program_order.specs.Told.{did_by, did_next, fell_next, to_come}
+use Rattle.program_order.specs.TaskObserved.{did_by, did_next, fell_next, to_come}
 use Rattle.program_order.specs.WrittenOrder.{StepsOfBlock, WrittenOrder, at_first, first_point}
 use Rattle.executions.proofs.observation_determinism.Falling.{AllUpTo, IsFalling, falling_way}
 use Rattle.executions.proofs.observation_determinism.SureOperations.{add_later, clocks}

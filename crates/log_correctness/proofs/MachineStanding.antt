@@ -15,11 +15,11 @@ use Rattle.task_run.specs.Agrees.{IsIn}
 use Rattle.task_run.specs.Leads.{Leads, stands_at}
 use Rattle.task_run.specs.Part.{Part, PartLeft, closes, locks, makes, opens, over, stops, unlocks}
 use Rattle.task_run.specs.Says.{IsStopped}
-use Rattle.task_run.specs.Told.{last_of}
+use Rattle.task_run.specs.Position.{last_of}
 use Rattle.task_run.specs.declared.machine.Machine.{Machine}
 use Rattle.task_run.specs.declared.run.TaskRun.{TaskRun}
-use Rattle.task_run.specs.declared.stage.Stage.{Stage}
-use Rattle.task_run.specs.declared.stage.Stage.TheVariants as stages
+use Rattle.task_run.specs.declared.stage.TaskStage.{TaskStage}
+use Rattle.task_run.specs.declared.stage.TaskStage.TheVariants as stages
 use Rattle.text_walk.specs.declared.walk.Walk.{Walk}
 use Rattle.program_order.specs.Access.{Makes, operated}
 use Rattle.program_order.specs.Standing.{Point, Setting, Standing, doing, point_by}
@@ -34,7 +34,8 @@ below_all m n (point ∷ points) less all = (
   below_all m n points less all.1,
 )
 
--- from where a part began to the end: first points with the same registers, and then points at which fewer records were to come
+-- from where a part began to the end: first points with the same registers, and then points at which fewer records were
+-- to come
 record Ends (before : Standing) (more : List Record) (end : Standing) : Type 0 where
   middle : List Point
   tail : List Point
@@ -79,7 +80,7 @@ module _ (s : Setting) (before : Standing) (all more : List Record) (end : Stand
     below = (omega (arith, at, less), below_all (length rest) (length more) after.points less after.low);
   }
 
-module _ (s : Setting) (walk : Walk) (before : Standing) (mine more : List Record) (end : Standing) (machine : Machine) (stage : Stage)
+module _ (s : Setting) (walk : Walk) (before : Standing) (mine more : List Record) (end : Standing) (machine : Machine) (stage : TaskStage)
     (going : ¬ (stage ≡ stages.Stopped)) where
   abbrev all : List Record
   all = mine ++ more

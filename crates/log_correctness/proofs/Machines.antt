@@ -1,11 +1,11 @@
--- What a machine says of the latest record of a run list is noted of it.
+-- What a machine says of the latest record of an execution is noted of it.
 use Rattle.std.proofs.Common.{◌≡◌, ◌∙◌, ◌++◌, ◌∷◌, [], ℕ, List, Option, ap, length, refl, reverse, subst, sym}
 use Rattle.std.proofs.lemmas.List.{length-reverse, reverse-append}
 use Rattle.litmus_syntax.specs.Tree.{Block}
-use Rattle.executions.specs.run_lists.Run.{Run, task_of, task_setting}
-use Rattle.executions.specs.run_lists.RunList.{RunList}
-use Rattle.executions.specs.run_lists.Told.{made_by}
-use Rattle.executions.proofs.run_lists.OwnLasts.{own_latest}
+use Rattle.executions.specs.execution.Run.{Run, task_of, task_setting}
+use Rattle.executions.specs.execution.Execution.{Execution}
+use Rattle.executions.specs.execution.Observed.{made_by}
+use Rattle.executions.proofs.execution.OwnLasts.{own_latest}
 use Rattle.log_correctness.specs.Noted.{IsBegun, IsNoted}
 use Rattle.log_correctness.proofs.MachineMatchesRecords.{says_what_begins, says_what_is_noted}
 use Rattle.soundness.specs.Events.{DoesEvent, EachDoesItsEvent}
@@ -19,7 +19,7 @@ use Rattle.task_run.specs.Leads.{BeginsNext, Leads, stands_at}
 use Rattle.task_run.specs.Says.{Says}
 use Rattle.task_run.specs.declared.run.TaskRun.{TaskRun}
 use Rattle.program_order.specs.Standing.{Setting}
-use Rattle.program_order.specs.Told.{did_by, did_next}
+use Rattle.program_order.specs.TaskObserved.{did_by, did_next}
 use Rattle.program_order.specs.WrittenOrder.{WrittenOrder}
 
 -- the same of the same records
@@ -34,7 +34,7 @@ same_of s registers body P latest made records others is =
     → P r written) (sym is) (λ written does each. each written does)
 
 pub noted_of_machine : (run : Run) (latest : Record) (earlier : List Record) (old : TaskRun) (begins : Option Begun) (fell : Option Outcome)
-    → (list : RunList run (latest ∷ earlier))
+    → (list : Execution run (latest ∷ earlier))
     → (leads : Leads (task_setting run latest.task) (length (task_of run latest.task).registers) (task_of run latest.task).body (reverse (records_of latest.task earlier)) old)
     → Says old latest.step
     → ((later : List Record) → BeginsNext (task_setting run latest.task) leads.part (stands_at leads later) leads.mine begins) → FellAt old fell latest.answer
@@ -58,7 +58,7 @@ noted_of_machine run latest earlier old begins fell list leads says next falls d
 
 -- with what it says before the record begins the access that begins in what the list tells of the record
 pub begun_of_machine : (run : Run) (latest : Record) (earlier : List Record) (old : TaskRun) (begins : Option Begun)
-    → (list : RunList run (latest ∷ earlier))
+    → (list : Execution run (latest ∷ earlier))
     → (leads : Leads (task_setting run latest.task) (length (task_of run latest.task).registers) (task_of run latest.task).body (reverse (records_of latest.task earlier)) old)
     → Says old latest.step
     → ((later : List Record) → BeginsNext (task_setting run latest.task) leads.part (stands_at leads later) leads.mine begins)

@@ -2,10 +2,10 @@
 use Rattle.std.proofs.Common.{◌≡◌, ◌∙◌, ◌++◌, ◌∷◌, [], ℕ, All, Contains, List, Option, Some, ap, arith, length, map, refl, reverse, subst, sym, true}
 use Rattle.std.proofs.lemmas.List.Elements.{All-contains, Contains-append_left, Contains-append_right}
 use Rattle.access_types.specs.Ticket.{ticket_number}
-use Rattle.executions.specs.run_lists.Run.{Run, first_cells, locks_of, task_setting}
-use Rattle.executions.specs.run_lists.RunList.{RunList}
-use Rattle.executions.specs.run_lists.Told.{Armed, OutcomeAt, armed_by, came_next, made_by, outcome_at, outcomes_by, outcomes_of}
-use Rattle.executions.proofs.run_lists.OwnLasts.{own_latest}
+use Rattle.executions.specs.execution.Run.{Run, first_cells, locks_of, task_setting}
+use Rattle.executions.specs.execution.Execution.{Execution}
+use Rattle.executions.specs.execution.Observed.{Armed, OutcomeAt, armed_by, came_next, made_by, outcome_at, outcomes_by, outcomes_of}
+use Rattle.executions.proofs.execution.OwnLasts.{own_latest}
 use Rattle.log_correctness.proofs.Naming.{last_name, watch_named}
 use Rattle.log_correctness.proofs.OutcomesOfOwnTask.{AllOfTask}
 use Rattle.log_correctness.proofs.Verdicts.{fell_own, same_end}
@@ -17,7 +17,7 @@ use Rattle.slot_table.specs.declared.records.Record.{Record}
 use Rattle.slot_table.proofs.Lists.{Keeps, keeps_before}
 use Rattle.program_order.specs.Standing.{checks_of}
 
-module _ (run : Run) (all : List Record) (list : RunList run all) where
+module _ (run : Run) (all : List Record) (list : Execution run all) where
   abbrev Rules : List Record → Type 0
   Rules records = Keeps run.rules.slots (locks_of run) (first_cells run) records
 

@@ -5,7 +5,7 @@ use Rattle.std.specs.Option.{option_or}
 use Rattle.access_types.specs.Access.{Access}
 use Rattle.access_types.specs.Ticket.{ticket_number}
 use Rattle.litmus_syntax.specs.Tree.{Block}
-use Rattle.executions.proofs.run_lists.CheckFacts.{back}
+use Rattle.executions.proofs.execution.CheckFacts.{back}
 use Rattle.log_correctness.specs.Noted.{AreNoted}
 use Rattle.setup_access.specs.Found.{Hears, finder_half}
 use Rattle.setup_access.specs.Setting.{Setting, slot_of, try_order}

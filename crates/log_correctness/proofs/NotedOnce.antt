@@ -6,7 +6,7 @@ use Rattle.access_types.specs.Access.{Access}
 use Rattle.access_types.specs.Marked.{CountsAfter, EndsRaised, is_disable, is_enable, marks_of}
 use Rattle.access_types.specs.declared.history.Happening.{Happening}
 use Rattle.litmus_syntax.specs.Tree.{Block}
-use Rattle.executions.specs.run_lists.Told.{moments_of}
+use Rattle.executions.specs.execution.Observed.{moments_of}
 use Rattle.log_correctness.specs.Noted.{AreNoted, IsBegun, IsNoted}
 use Rattle.setup_access.specs.declared.begun.Begun.{Begun}
 use Rattle.setup_access.specs.declared.outcome.Outcome.{Outcome}
@@ -16,7 +16,7 @@ use Rattle.slot_table.specs.declared.step.Step.{Step}
 use Rattle.task_log.specs.declared.noted.Noted.{Noted}
 use Rattle.task_run.proofs.EndLemmas.{one_answer}
 use Rattle.program_order.specs.Standing.{Setting}
-use Rattle.program_order.specs.Told.{did_by, did_next}
+use Rattle.program_order.specs.TaskObserved.{did_by, did_next}
 use Rattle.program_order.specs.WrittenOrder.{WrittenOrder}
 
 begun_is : (one other : Begun) → one.access ≡ other.access → one.marked ≡ other.marked → one.silenced ≡ other.silenced → one ≡ other

@@ -4,7 +4,7 @@ use Rattle.std.proofs.lemmas.Bool.Decides.{eqb_tells}
 use Rattle.std.proofs.lemmas.List.{append-nil, map-append}
 use Rattle.access_types.specs.Arms.{Arm}
 use Rattle.litmus_syntax.specs.Tree.{Block}
-use Rattle.executions.proofs.run_lists.OwnLasts.{own_latest}
+use Rattle.executions.proofs.execution.OwnLasts.{own_latest}
 use Rattle.log_correctness.specs.Noted.{AreNoted}
 use Rattle.log_correctness.specs.Removed.{ToldAt, as_told, told_at, told_by}
 use Rattle.setup_access.specs.declared.outcome.Outcome.{Outcome}

@@ -17,12 +17,12 @@ use Rattle.access_types.specs.declared.report.Report.{Report}
 use Rattle.report_text.specs.Truth.{Pair, hit_in, hits_in, is_pair, is_take, origin_of, origins_in, pair_in, pairs_in, race_in, unknown_in}
 use Rattle.log_correctness.proofs.Pairing.{all_paired}
 use Rattle.log_correctness.proofs.Tallies.{Worth, all_add_up, by_task, counted_flat, own, same_sums, swapped, total}
-use Rattle.executions.specs.run_lists.Answers.{AnswersTaking, IfAnswer, IsOfPair, is_answer}
-use Rattle.executions.specs.run_lists.Reports.{reported, reports_of}
-use Rattle.executions.specs.run_lists.Run.{Run, first_cells, locks_of}
-use Rattle.executions.specs.run_lists.RunList.{RunList}
-use Rattle.executions.specs.run_lists.Told.{Armed, OutcomeAt, came_next, outcomes_by, outcomes_of}
-use Rattle.executions.proofs.run_lists.OwnLasts.{still_told}
+use Rattle.executions.specs.execution.Answers.{AnswersTaking, IfAnswer, IsOfPair, is_answer}
+use Rattle.executions.specs.execution.Reports.{reported, reports_of}
+use Rattle.executions.specs.execution.Run.{Run, first_cells, locks_of}
+use Rattle.executions.specs.execution.Execution.{Execution}
+use Rattle.executions.specs.execution.Observed.{Armed, OutcomeAt, came_next, outcomes_by, outcomes_of}
+use Rattle.executions.proofs.execution.OwnLasts.{still_told}
 use Rattle.log_correctness.specs.Lists.{AreArmsOf, AreTakesOf, Became, ByTask, IsHit, take_of, takes_by, verdicts_by}
 use Rattle.log_correctness.proofs.Naming.{last_name}
 use Rattle.log_correctness.proofs.Settling.{HandSays, Known, Match, Suits}
@@ -150,7 +150,7 @@ zero_sum f none [] = refl
 zero_sum f none (x ∷ xs) =
     let rest = zero_sum f none xs in let one = sum_by-cons f x xs in let own_so = none x in omega (arith, rest, one, own_so)
 
-module _ (run : Run) (all : List Record) (list : RunList run all) where
+module _ (run : Run) (all : List Record) (list : Execution run all) where
   -- what the outcomes come to, task by task
   module _ (w : OutcomeAt → ℕ) (none : (c : OutcomeAt) → is_verdict c.outcome ≡ false → w c ≡ 0) where
     abbrev worth : Worth

@@ -9,10 +9,10 @@ use Rattle.access_types.specs.Arms.{Arm}
 use Rattle.access_types.specs.Ticket.{ticket_number}
 use Rattle.access_types.specs.declared.arms.ArmOutcome.{ArmOutcome}
 use Rattle.log_correctness.proofs.Named.{named_so, rules_then}
-use Rattle.executions.specs.run_lists.Run.{Run, first_cells, locks_of}
-use Rattle.executions.specs.run_lists.RunList.{RunList}
-use Rattle.executions.specs.run_lists.Told.{Armed, OutcomeAt, armed_by, armed_in, came_next, outcome_at, outcomes_of}
-use Rattle.executions.proofs.run_lists.OwnLasts.{finder_told, own_latest, own_name, still_told}
+use Rattle.executions.specs.execution.Run.{Run, first_cells, locks_of}
+use Rattle.executions.specs.execution.Execution.{Execution}
+use Rattle.executions.specs.execution.Observed.{Armed, OutcomeAt, armed_by, armed_in, came_next, outcome_at, outcomes_of}
+use Rattle.executions.proofs.execution.OwnLasts.{finder_told, own_latest, own_name, still_told}
 use Rattle.log_correctness.specs.Lists.{AreArmsAt, AreArmsBy, Became, IsArm, verdicts_by}
 use Rattle.log_correctness.proofs.HandIsLastArming.{IsNamed, Says, all_say, in_part, last_word}
 use Rattle.log_correctness.proofs.Naming.{last_name}
@@ -66,7 +66,7 @@ other : (b : Bool) (Yes No Goal : Type 0) → MatchBool b Yes No → b ≡ false
 other true Yes No Goal h is on = absurd (cc)
 other false Yes No Goal h is on = on h
 
-module _ (run : Run) (all : List Record) (list : RunList run all) (rules : Keeps run.rules.slots (locks_of run) (first_cells run) all)
+module _ (run : Run) (all : List Record) (list : Execution run all) (rules : Keeps run.rules.slots (locks_of run) (first_cells run) all)
     (watches : All (IfVerdict list) (outcomes_of list)) where
   abbrev SaysOf : List Record → List OutcomeAt → List Arm → (ℕ → Option ℕ) → Option ArmOutcome → Type 0
   SaysOf own verdicts arms made kept = HandSays all (in_hand own) (λ index. heard index own)

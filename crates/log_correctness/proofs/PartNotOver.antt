@@ -7,8 +7,8 @@ use Rattle.access_run.specs.Access.{MakesAccess}
 use Rattle.access_run.specs.Leads.{AccessIsDone, StageLeads}
 use Rattle.access_run.specs.Moved.{FramedChecks, moved}
 use Rattle.access_run.specs.Whole.{NoneWhole}
-use Rattle.access_run.specs.declared.stage.Stage.{Stage}
-use Rattle.access_run.specs.declared.stage.Stage.TheVariants as own_stages
+use Rattle.access_run.specs.declared.stage.AccessStage.{AccessStage}
+use Rattle.access_run.specs.declared.stage.AccessStage.TheVariants as own_stages
 use Rattle.access_types.specs.Access as access
 use Rattle.access_run.proofs.memory_operation.FrameLemmas.{lock_front}
 use Rattle.access_run.proofs.memory_operation.Fronts.{framed}
@@ -32,7 +32,7 @@ use Rattle.task_run.proofs.EndLemmas.{begins_one, lock_only, one_answer}
 use Rattle.task_run.specs.Agrees.{IsIn}
 use Rattle.task_run.specs.Part.{Part, closes, locks, makes, opens, over, stops, unlocks}
 use Rattle.task_run.specs.declared.machine.Machine.{Machine}
-use Rattle.task_run.specs.declared.stage.Stage as machine_stages
+use Rattle.task_run.specs.declared.stage.TaskStage as machine_stages
 use Rattle.program_order.specs.Access.{Makes}
 use Rattle.program_order.specs.Standing.{Setting, Standing, checks_of, lock_number}
 use Rattle.program_order.specs.WrittenOrder.{ClosesScope, OpensScope}
@@ -60,7 +60,7 @@ module _ (s : settings.Setting) (scopes : List Begun) (begun : Begun) (asked : �
   no_clock rest [] is h = h
   no_clock rest (first ∷ later) is h = absurd (let no : first ∷ later ≡ [] = is in cc)
 
-  access_open : (stage : Stage) → StageLeads s scopes begun asked operation mine stage checker
+  access_open : (stage : AccessStage) → StageLeads s scopes begun asked operation mine stage checker
       → ¬ AccessIsDone s scopes begun asked operation mine
       → (passes : Passes) (effect : Effect) (rest : List Record) → ¬ MakesAccess s scopes begun asked operation mine passes effect rest
   access_open (own_stages.Check run) leads going passes effect rest h =
@@ -80,7 +80,7 @@ module _ (s : settings.Setting) (scopes : List Begun) (begun : Begun) (asked : �
       no_clock rest h.done over.0 h.ends
   access_open (own_stages.Over came) leads going passes effect rest h = going (_, came, leads.makes)
 
-  access_goes : (stage : Stage) → StageLeads s scopes begun asked operation mine stage checker
+  access_goes : (stage : AccessStage) → StageLeads s scopes begun asked operation mine stage checker
       → ¬ AccessIsDone s scopes begun asked operation mine
       → (more : List Record) (passes : Passes) (effect : Effect) (rest : List Record)
       → MakesAccess s scopes begun asked operation (mine ++ more) passes effect rest → length rest < length more
@@ -152,7 +152,7 @@ Goes s (unlocks variable) before all more =
 Goes s over before all more = Unit {0}
 Goes s (stops due) before all more = Unit {0}
 
-pub part_goes : (s : Setting) (part : Part) (before : Standing) (mine more : List Record) (machine : Machine) (stage : machine_stages.Stage)
+pub part_goes : (s : Setting) (part : Part) (before : Standing) (mine more : List Record) (machine : Machine) (stage : machine_stages.TaskStage)
     → IsIn s part before mine machine stage → Goes s part before (mine ++ more) more
 part_goes s (makes a operation follow) before mine more machine stage h = λ effect between rest makes_so.
     let same : makes_so.begun ≡ h.2 = begins_one s before a makes_so.begun h.2 makes_so.begins h.6 in

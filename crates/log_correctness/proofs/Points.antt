@@ -3,8 +3,8 @@ use Rattle.std.proofs.Common.{◌≡◌, ◌∙◌, ◌<◌, ◌≤◌, ◌++◌
 use Rattle.std.proofs.lemmas.Bool.{le-leb}
 use Rattle.std.proofs.lemmas.Bool.Decides.{leb_tells}
 use Rattle.access_types.specs.declared.history.Happening.{Happening}
-use Rattle.executions.proofs.run_lists.DoneOnlyGrows.{Chain}
-use Rattle.task_run.specs.Told.{AllFrom, last_of}
+use Rattle.executions.proofs.execution.DoneOnlyGrows.{Chain}
+use Rattle.task_run.specs.Position.{AllFrom, last_of}
 use Rattle.program_order.specs.Standing.{Point, point_by}
 use Rattle.executions.proofs.observation_determinism.Falling.{AllUpTo, IsFalling}
 

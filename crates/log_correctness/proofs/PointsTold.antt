@@ -8,7 +8,7 @@ use Rattle.access_run.specs.declared.memory_operation.effect.Effect.{Effect}
 use Rattle.access_run.specs.declared.memory_operation.operation.Operation.{Operation}
 use Rattle.access_run.specs.declared.memory_operation.operation.Operation.TheVariants as operations
 use Rattle.slot_table.specs.declared.records.Record.{Record}
-use Rattle.task_run.specs.Told.{AllFrom, last_of}
+use Rattle.task_run.specs.Position.{AllFrom, last_of}
 use Rattle.program_order.specs.Access.{operated}
 use Rattle.program_order.specs.Standing.{Point, Standing, point_by}
 

@@ -5,7 +5,7 @@ use Rattle.std.proofs.lemmas.Bool.Decides.{eqb_tells}
 use Rattle.std.proofs.lemmas.List.{append-nil, map-append}
 use Rattle.access_types.specs.Arms.{Arm}
 use Rattle.litmus_syntax.specs.Tree.{Block}
-use Rattle.executions.proofs.run_lists.OwnLasts.{own_latest, own_name, own_word}
+use Rattle.executions.proofs.execution.OwnLasts.{own_latest, own_name, own_word}
 use Rattle.log_correctness.specs.Noted.{AreNoted}
 use Rattle.log_correctness.specs.Removed.{Removed, as_removed, removed_at, removed_by}
 use Rattle.log_correctness.proofs.HandIsLastArming.{AreOf, IsNamed, Says, all_say, in_part, last_word}

@@ -9,12 +9,12 @@ use Rattle.std.proofs.lemmas.List.Elements.{All-contains, filter-append, filter_
 use Rattle.access_types.specs.Ticket.{task_in, ticket_number}
 use Rattle.access_types.specs.declared.report.Report.{Report}
 use Rattle.access_types.specs.declared.report.Report.TheVariants as reports
-use Rattle.executions.specs.run_lists.Answers.{AnswersTaking, IfAnswer, IsOfPair, is_answer}
-use Rattle.executions.specs.run_lists.Reports as lists
-use Rattle.executions.specs.run_lists.Run.{Run, first_cells, locks_of}
-use Rattle.executions.specs.run_lists.RunList.{RunList}
-use Rattle.executions.specs.run_lists.Told.{Armed, OutcomeAt, armed_by, came_next, made_by, outcome_at, outcomes_by, outcomes_of}
-use Rattle.executions.proofs.run_lists.OwnLasts.{own_latest}
+use Rattle.executions.specs.execution.Answers.{AnswersTaking, IfAnswer, IsOfPair, is_answer}
+use Rattle.executions.specs.execution.Reports as lists
+use Rattle.executions.specs.execution.Run.{Run, first_cells, locks_of}
+use Rattle.executions.specs.execution.Execution.{Execution}
+use Rattle.executions.specs.execution.Observed.{Armed, OutcomeAt, armed_by, came_next, made_by, outcome_at, outcomes_by, outcomes_of}
+use Rattle.executions.proofs.execution.OwnLasts.{own_latest}
 use Rattle.log_correctness.specs.Noted.{AreNoted, IsNoted, Notes}
 use Rattle.log_correctness.proofs.Naming.{last_name, names_noted}
 use Rattle.log_correctness.proofs.Named.{named_so, rules_then, told_there}
@@ -41,7 +41,7 @@ use Rattle.task_log.specs.Noted.{named_by}
 use Rattle.task_log.specs.Reports as logs
 use Rattle.task_log.specs.Reports.{reported_in}
 use Rattle.task_log.specs.declared.noted.Noted.{Noted}
-use Rattle.program_order.specs.Told.{fell_next}
+use Rattle.program_order.specs.TaskObserved.{fell_next}
 
 -- a task's last name is a ticket of its own
 named_now : (task : ℕ) (own : List Record) (step : Step) (ticket : ℕ) → Allows task own step
@@ -102,7 +102,7 @@ kept_none task other (report ∷ more) apart by =
     (ne_eqb (task_in (setter_of report)) task (λ is. apart (sym by.0 ∙ is)))
     ∙ kept_none task other more apart by.1
 
-module _ (run : Run) (all : List Record) (list : RunList run all) (rules : Keeps run.rules.slots (locks_of run) (first_cells run) all)
+module _ (run : Run) (all : List Record) (list : Execution run all) (rules : Keeps run.rules.slots (locks_of run) (first_cells run) all)
     (watches : All (IfVerdict list) (outcomes_of list)) (answered : All (IfAnswer list) (outcomes_of list)) where
   abbrev reported_at : OutcomeAt → Option Report
   reported_at c = lists.reported c.access c.outcome

@@ -1,4 +1,4 @@
--- What a log reports at a step is what the run list reports with the record.
+-- What a log reports at a step is what the execution reports with the record.
 use Rattle.std.proofs.Common.{◌≡◌, ◌∙◌, ◌+◌, ◌==◌, ◌++◌, ◌∷◌, [], ℕ, suc, All, Bool, Contains, List, None, Option, Some, ap, append_assoc, arith, false, filter, true}
 use Rattle.std.proofs.Common.{length, map, refl, reverse, subst, sym, unwrap_or}
 use Rattle.std.specs.List.{cons_option, filter_map}
@@ -8,12 +8,12 @@ use Rattle.std.proofs.lemmas.List.Elements.{All-contains, Contains-append_right,
 use Rattle.access_types.specs.Ticket.{ticket_number}
 use Rattle.access_types.specs.declared.report.Report.{Report}
 use Rattle.access_types.specs.declared.report.Report.TheVariants as reports
-use Rattle.executions.specs.run_lists.Reports as lists
-use Rattle.executions.specs.run_lists.Reports.{reports_by, reports_of}
-use Rattle.executions.specs.run_lists.Run.{Run, task_of, task_setting}
-use Rattle.executions.specs.run_lists.RunList.{RunList}
-use Rattle.executions.specs.run_lists.Told.{Armed, OutcomeAt, armed_by, came_next, made_by, outcome_at, outcomes_by, outcomes_of}
-use Rattle.executions.proofs.run_lists.OwnLasts.{own_latest, own_split}
+use Rattle.executions.specs.execution.Reports as lists
+use Rattle.executions.specs.execution.Reports.{reports_by, reports_of}
+use Rattle.executions.specs.execution.Run.{Run, task_of, task_setting}
+use Rattle.executions.specs.execution.Execution.{Execution}
+use Rattle.executions.specs.execution.Observed.{Armed, OutcomeAt, armed_by, came_next, made_by, outcome_at, outcomes_by, outcomes_of}
+use Rattle.executions.proofs.execution.OwnLasts.{own_latest, own_split}
 use Rattle.log_correctness.specs.Noted.{AreNoted, IsNoted, Notes}
 use Rattle.log_correctness.proofs.Growth.{one_more_listed}
 use Rattle.log_correctness.proofs.Naming.{last_name, names_noted, watch_named}
@@ -36,7 +36,7 @@ use Rattle.task_log.specs.Noted.{named_by}
 use Rattle.task_log.specs.Reports as logs
 use Rattle.task_log.specs.declared.noted.Noted.{Noted}
 use Rattle.program_order.specs.Standing.{checks_of}
-use Rattle.program_order.specs.Told.{Came, came_of, fell_next, to_come}
+use Rattle.program_order.specs.TaskObserved.{Came, came_of, fell_next, to_come}
 use Rattle.executions.specs.observation_determinism.TellAlike.{TellAlike}
 use Rattle.executions.proofs.observation_determinism.Telling.{told_alike}
 
@@ -75,7 +75,7 @@ all_by_then latest earlier (first ∷ later) by_then is long =
     let all : suc (length earlier) ≡ suc (length later + length by_then) = ap (λ (r : List Record). length r) is ∙ ap suc (length-append later by_then) in
     absurd (omega (arith, all, long))
 
-module _ (run : Run) (latest : Record) (earlier : List Record) (list : RunList run (latest ∷ earlier)) where
+module _ (run : Run) (latest : Record) (earlier : List Record) (list : Execution run (latest ∷ earlier)) where
   abbrev task : ℕ
   task = latest.task
 
@@ -141,7 +141,7 @@ module _ (run : Run) (latest : Record) (earlier : List Record) (list : RunList r
       by_kind outcomes.Quiet falls = refl
       by_kind (outcomes.Dropped reason) falls = refl
 
-  module _ (one : RunList run earlier) where
+  module _ (one : Execution run earlier) where
     alike : (t : ℕ) → TellAlike (one.tasks t) (list.tasks t) (length (records_of t earlier))
     alike t =
         let own : List Record = records_of t earlier in

@@ -7,9 +7,9 @@ use Rattle.std.proofs.lemmas.List.Elements.{All-cons, All-nil}
 use Rattle.std.proofs.lemmas.List.Kept.{AllPairs-cons}
 use Rattle.std.proofs.lemmas.List.Sums.{sum_by-cons}
 use Rattle.access_types.specs.Stamped.{Stamped}
-use Rattle.executions.specs.run_lists.Run.{Run}
-use Rattle.executions.specs.run_lists.RunList.{RunList}
-use Rattle.executions.proofs.run_lists.OwnLasts.{own_latest}
+use Rattle.executions.specs.execution.Run.{Run}
+use Rattle.executions.specs.execution.Execution.{Execution}
+use Rattle.executions.proofs.execution.OwnLasts.{own_latest}
 use Rattle.log_correctness.specs.Noted.{AreNoted, Notes}
 use Rattle.setup_access.specs.declared.begun.Begun.{Begun}
 use Rattle.slot_table.specs.Records.{records_of}
@@ -91,7 +91,7 @@ in_pairs low high [] h = λ i j d less below. absurd (omega (arith, below))
 in_pairs low high (one ∷ others) h =
     AllPairs-cons (λ (a b : Stamped). a.begin < b.begin) one others (above_all one.begin high others h.1) (in_pairs (suc one.begin) high others h.1)
 
-module _ (run : Run) (records : List Record) (list : RunList run records) (task : ℕ)
+module _ (run : Run) (records : List Record) (list : Execution run records) (task : ℕ)
     (stamps : (later earlier : List Record) (latest : Record) → records ≡ later ++ latest ∷ earlier → latest.step ≡ steps.Clock
     → latest.answer ≡ answers.Word (stamps_in earlier)) where
   one_more : (latest : Record) (earlier : List Record) → stamps_in (latest ∷ earlier) ≡ cond (is_clock latest.step) 1 0 + stamps_in earlier

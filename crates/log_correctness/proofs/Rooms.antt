@@ -7,7 +7,7 @@ use Rattle.access_types.specs.Access.{Access}
 use Rattle.access_types.specs.declared.history.Happening.{Happening}
 use Rattle.access_types.specs.declared.history.Happening.TheVariants as happenings
 use Rattle.litmus_syntax.specs.Tree.{Block}
-use Rattle.executions.proofs.run_lists.Histories.{did_then}
+use Rattle.executions.proofs.execution.Histories.{did_then}
 use Rattle.log_correctness.specs.Noted.{AreNoted, IsBegun, begun_in}
 use Rattle.log_correctness.proofs.Sums.{counted, counted_both}
 use Rattle.setup_access.specs.declared.begun.Begun.{Begun}
@@ -20,7 +20,7 @@ use Rattle.task_log.specs.Touches.{end_newest, goes_on, touches_at, touches_of}
 use Rattle.task_log.specs.declared.noted.Noted.{Noted}
 use Rattle.task_log.specs.declared.touches.Touch.{Touch}
 use Rattle.program_order.specs.Standing.{Setting}
-use Rattle.program_order.specs.Told.{did_by, did_next}
+use Rattle.program_order.specs.TaskObserved.{did_by, did_next}
 use Rattle.program_order.specs.WrittenOrder.{WrittenOrder}
 use Rattle.executions.specs.observation_determinism.Begins.{begins_in, is_begin}
 

@@ -6,7 +6,7 @@ use Rattle.std.proofs.lemmas.Bool.Decides.{eqb_tells}
 use Rattle.access_types.specs.Arms.{Arm}
 use Rattle.access_types.specs.Ticket.{ticket_number}
 use Rattle.access_types.specs.declared.arms.ArmOutcome.{ArmOutcome}
-use Rattle.executions.specs.run_lists.Told.{OutcomeAt}
+use Rattle.executions.specs.execution.Observed.{OutcomeAt}
 use Rattle.log_correctness.specs.Lists.{Became}
 use Rattle.soundness.proofs.Falls.{ClearsNext}
 use Rattle.slot.specs.Pair.{Halves}

@@ -11,11 +11,11 @@ use Rattle.access_types.specs.Access.{Access}
 use Rattle.access_types.specs.Stamped.{Stamped}
 use Rattle.access_types.specs.declared.history.Happening.{Happening}
 use Rattle.access_types.specs.declared.history.Happening.TheVariants as happenings
-use Rattle.executions.specs.run_lists.Run.{Run, first_words, task_of, task_setting}
-use Rattle.executions.specs.run_lists.RunList.{RunList}
-use Rattle.executions.specs.run_lists.Told.{made_by}
-use Rattle.executions.proofs.run_lists.Histories.{did_of_all, did_then}
-use Rattle.executions.proofs.run_lists.OwnLasts.{own_latest}
+use Rattle.executions.specs.execution.Run.{Run, first_words, task_of, task_setting}
+use Rattle.executions.specs.execution.Execution.{Execution}
+use Rattle.executions.specs.execution.Observed.{made_by}
+use Rattle.executions.proofs.execution.Histories.{did_of_all, did_then}
+use Rattle.executions.proofs.execution.OwnLasts.{own_latest}
 use Rattle.log_correctness.specs.Noted.{AreNoted, IsBegun, IsNoted, Notes, begun_by, begun_in}
 use Rattle.log_correctness.specs.Spans.{HappensAt, IsSpan, is_end}
 use Rattle.log_correctness.proofs.Balance.{ArePlain, IsPlain, Runs, plain_both, runs_one, runs_plain, runs_split, whole_runs}
@@ -35,7 +35,7 @@ use Rattle.task_log.specs.Touches.{accesses_of, end_newest, goes_on, stamped, st
 use Rattle.task_log.specs.declared.noted.Noted.{Noted}
 use Rattle.task_log.specs.declared.touches.Touch.{Touch}
 use Rattle.program_order.specs.Standing as tasks
-use Rattle.program_order.specs.Told.{did_by, did_next}
+use Rattle.program_order.specs.TaskObserved.{did_by, did_next}
 
 -- the accesses that go on, the newest first
 abbrev pub one_open : Bool → Access → List Access
@@ -290,7 +290,7 @@ legal_at first [] latest earlier legal is =
     (it.0, legal.1.answer ∙ (ap (λ (st : Step). (step_line words st).answer) is ∙ it.1))
 legal_at first (one ∷ later) latest earlier legal is = legal_at first later latest earlier legal.0 is
 
-module _ (run : Run) (records : List Record) (list : RunList run records) (task : ℕ) (first : AreMarks (did_by (list.tasks task) 0)) where
+module _ (run : Run) (records : List Record) (list : Execution run records) (task : ℕ) (first : AreMarks (did_by (list.tasks task) 0)) where
   abbrev pub EndSo : Access → Option ℕ → Type 0
   EndSo a None = Unit {0}
   EndSo a (Some stamp) = HappensAt list task (happenings.End a) stamp

@@ -8,10 +8,10 @@ use Rattle.std.proofs.lemmas.List.{append-nil, length-append, length-reverse}
 use Rattle.std.proofs.lemmas.List.Sums.{sum_by-cons}
 use Rattle.litmus_syntax.specs.Tree.{Block, Task}
 use Rattle.litmus_syntax.specs.Tree as tree
-use Rattle.executions.specs.run_lists.Run.{Run, idle, task_of, task_setting}
-use Rattle.executions.specs.run_lists.RunList.{RunList}
-use Rattle.executions.specs.run_lists.Told.{Armed, OutcomeAt, armed_by, came_next, made_by, outcome_at, outcomes_by}
-use Rattle.executions.proofs.run_lists.OwnLasts.{own_latest, own_split}
+use Rattle.executions.specs.execution.Run.{Run, idle, task_of, task_setting}
+use Rattle.executions.specs.execution.Execution.{Execution}
+use Rattle.executions.specs.execution.Observed.{Armed, OutcomeAt, armed_by, came_next, made_by, outcome_at, outcomes_by}
+use Rattle.executions.proofs.execution.OwnLasts.{own_latest, own_split}
 use Rattle.log_correctness.specs.Noted.{AreNoted, IsNoted, NotesBy}
 use Rattle.log_correctness.specs.Totals.{outcomes_below}
 use Rattle.setup_access.specs.Check.{Fallen}
@@ -23,7 +23,7 @@ use Rattle.slot_table.specs.declared.step.Step.{Step}
 use Rattle.task_log.specs.Counters.{resting, together}
 use Rattle.task_log.specs.declared.noted.Noted.{Noted}
 use Rattle.program_order.specs.Standing.{Setting}
-use Rattle.program_order.specs.Told.{fell_next}
+use Rattle.program_order.specs.TaskObserved.{fell_next}
 use Rattle.program_order.specs.WrittenOrder.{WrittenOrder}
 
 pub counted : {X : Type 0} (p : X → Bool) (x : X) (xs : List X) → count_by p (x ∷ xs) ≡ cond (p x) 1 0 + count_by p xs
@@ -127,7 +127,7 @@ module _ (p : Step → Answer → Bool) where
           let own = ap (λ (r : List Record). count_by of_record r) others in omega (arith, all, some, own, rest)
 
 -- those of an outcome, if there is one
-module _ (p : Option Outcome → Bool) (none : p None ≡ false) (run : Run) (all : List Record) (list : RunList run all) where
+module _ (p : Option Outcome → Bool) (none : p None ≡ false) (run : Run) (all : List Record) (list : Execution run all) where
   abbrev pub of_came : OutcomeAt → Bool
   of_came came = p (Some came.outcome)
 
@@ -240,7 +240,7 @@ nothing_spelled s registers body records is written =
     let none : length {A = Record} [] ≡ length (records ++ empty.more) = ap (λ (l : List Record). length l) empty.whole.steps.1 in
     let both : length (records ++ empty.more) ≡ length records + length empty.more = length-append records empty.more in omega (arith, none, both)
 
-module _ (run : Run) (all : List Record) (list : RunList run all) where
+module _ (run : Run) (all : List Record) (list : Execution run all) where
   abbrev tasks : ℕ
   tasks = length run.program.tasks
 

@@ -6,10 +6,10 @@ use Rattle.std.proofs.lemmas.List.{append-nil}
 use Rattle.std.proofs.lemmas.List.Elements.{All-contains, Contains-append_left, Contains-append_right}
 use Rattle.access_types.specs.Takes.{Take}
 use Rattle.access_types.specs.Ticket.{ticket_number}
-use Rattle.executions.specs.run_lists.Run.{Run}
-use Rattle.executions.specs.run_lists.RunList.{RunList}
-use Rattle.executions.specs.run_lists.Told.{Armed, OutcomeAt, armed_by, came_next, made_by, outcome_at, outcomes_by, outcomes_of}
-use Rattle.executions.proofs.run_lists.OwnLasts.{hears_at, own_latest}
+use Rattle.executions.specs.execution.Run.{Run}
+use Rattle.executions.specs.execution.Execution.{Execution}
+use Rattle.executions.specs.execution.Observed.{Armed, OutcomeAt, armed_by, came_next, made_by, outcome_at, outcomes_by, outcomes_of}
+use Rattle.executions.proofs.execution.OwnLasts.{hears_at, own_latest}
 use Rattle.log_correctness.specs.Lists.{take_of, takes_by}
 use Rattle.log_correctness.specs.Noted.{AreNoted, IsNoted, Notes}
 use Rattle.log_correctness.proofs.OutcomesOfOwnTask.{AllOfTask}
@@ -71,7 +71,7 @@ telling (steps.LockTry lock holder) = of_none (λ outcome before. refl) (λ task
 telling (steps.LockStore lock) = of_none (λ outcome before. refl) (λ task earlier. refl)
 telling steps.Clock = of_none (λ outcome before. refl) (λ task earlier. refl)
 
-module _ (run : Run) (all : List Record) (list : RunList run all) (hears : EachHearsTheOther all) (finds : All (IfTelling list) (outcomes_of list)) where
+module _ (run : Run) (all : List Record) (list : Execution run all) (hears : EachHearsTheOther all) (finds : All (IfTelling list) (outcomes_of list)) where
   told_in_all : (later earlier : List Record) (came : OutcomeAt) → Contains (outcomes_by list earlier) came
       → Contains (outcomes_by list (later ++ earlier)) came
   told_in_all [] earlier came there = there

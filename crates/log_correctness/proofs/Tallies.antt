@@ -4,8 +4,8 @@ use Rattle.std.specs.List.{flat_map, sum_by}
 use Rattle.std.proofs.lemmas.Bool.{eq-eqb, le-ltb, lt-ltb, ne_eqb}
 use Rattle.std.proofs.lemmas.List.Concat.{flat_map-cons}
 use Rattle.std.proofs.lemmas.List.Sums.{sum_by-cons}
-use Rattle.executions.specs.run_lists.Run.{Run}
-use Rattle.executions.specs.run_lists.RunList.{RunList}
+use Rattle.executions.specs.execution.Run.{Run}
+use Rattle.executions.specs.execution.Execution.{Execution}
 use Rattle.log_correctness.proofs.Sums.{counted, counted_both, place, within}
 use Rattle.log_correctness.proofs.Sums as sums
 use Rattle.slot_table.specs.declared.records.Record.{Record}
@@ -63,7 +63,7 @@ one_task worth task (latest ∷ earlier) = by_place (one_task worth task earlier
         let one = if_so (latest.task == task) false (ne_eqb latest.task task (λ (is : latest.task ≡ task). omega (arith, more, is))) in
         omega (arith, rest, all, some, one)
 
-module _ (run : Run) (all : List Record) (list : RunList run all) (worth : Worth) where
+module _ (run : Run) (all : List Record) (list : Execution run all) (worth : Worth) where
   all_below : (later earlier : List Record) → all ≡ later ++ earlier → below worth (length run.program.tasks) earlier ≡ total worth earlier
   all_below later [] is = refl
   all_below later (latest ∷ earlier) is =

@@ -5,8 +5,8 @@ use Rattle.access_run.specs.Access.{MakesAccess}
 use Rattle.access_run.specs.Leads.{AccessOnlyStep, StageLeads, StageSays}
 use Rattle.access_run.specs.Moved.{FramedChecks, moved}
 use Rattle.access_run.specs.Whole.{NoneWhole}
-use Rattle.access_run.specs.declared.stage.Stage.{Stage}
-use Rattle.access_run.specs.declared.stage.Stage.TheVariants as own_stages
+use Rattle.access_run.specs.declared.stage.AccessStage.{AccessStage}
+use Rattle.access_run.specs.declared.stage.AccessStage.TheVariants as own_stages
 use Rattle.access_run.proofs.CheckFronts.{check, close, framed_checks, makes_access}
 use Rattle.access_run.proofs.LeadsLemmas.{check_only, end_only, operate_only}
 use Rattle.access_run.proofs.WholeLemmas.{split}
@@ -38,8 +38,8 @@ use Rattle.task_run.specs.Agrees.{IsIn}
 use Rattle.task_run.specs.Part.{Part, closes, locks, makes, opens, over, stops, unlocks}
 use Rattle.task_run.specs.Says as says_of
 use Rattle.task_run.specs.declared.run.TaskRun.{TaskRun}
-use Rattle.task_run.specs.declared.stage.Stage.TheVariants as stages
-use Rattle.task_run.specs.declared.stage.Stage as machine_stages
+use Rattle.task_run.specs.declared.stage.TaskStage.TheVariants as stages
+use Rattle.task_run.specs.declared.stage.TaskStage as machine_stages
 use Rattle.task_run.proofs.EndLemmas.{begins_one, lock_only, one_answer}
 use Rattle.program_order.specs.Access.{Makes}
 use Rattle.program_order.specs.Standing.{Setting, Standing, checks_of, lock_number}
@@ -47,7 +47,7 @@ use Rattle.program_order.specs.WrittenOrder.{ClosesScope, OpensScope}
 
 -- an access goes on with the step that it says
 says_only : (s : settings.Setting) (scopes : List Begun) (begun : Begun) (asked : ℕ) (operation : Option Operation) (mine : List Record) (checker : Checker)
-    (stage : Stage) (step : Step) → StageLeads s scopes begun asked operation mine stage checker → StageSays stage checker step
+    (stage : AccessStage) (step : Step) → StageLeads s scopes begun asked operation mine stage checker → StageSays stage checker step
     → AccessOnlyStep s scopes begun asked operation mine step
 says_only s scopes begun asked operation mine checker (own_stages.Check run) step leads says =
     check_only s scopes begun asked operation mine checker run leads step
@@ -157,8 +157,8 @@ module _ (s : Setting) (old : TaskRun) (before : Standing) (mine : List Record) 
   abbrev all : List Record
   all = mine ++ x ∷ left
 
-  by_stage : (stage : machine_stages.Stage) → old.stage ≡ stage → says_of.Says old step → says_of.StageSays stage old step
-  by_stage stage is says = subst (λ (st : machine_stages.Stage). says_of.StageSays st old step) is says
+  by_stage : (stage : machine_stages.TaskStage) → old.stage ≡ stage → says_of.Says old step → says_of.StageSays stage old step
+  by_stage stage is says = subst (λ (st : machine_stages.TaskStage). says_of.StageSays st old step) is says
 
   -- before the step that a machine says its part isn't over
   pub unfinished : (part : Part) → IsIn s part before mine old.machine old.stage → says_of.Says old step → Unfinished s part before all left

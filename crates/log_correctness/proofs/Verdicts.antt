@@ -11,11 +11,11 @@ use Rattle.access_types.specs.Ticket.{ticket_number}
 use Rattle.access_types.specs.declared.arms.ArmOutcome.{ArmOutcome}
 use Rattle.access_types.specs.declared.arms.ArmOutcome.TheVariants as became_as
 use Rattle.access_types.specs.declared.arms.HitResult.TheVariants as results
-use Rattle.executions.specs.run_lists.Answers.{is_answer}
-use Rattle.executions.specs.run_lists.Run.{Run, first_cells, locks_of, task_of, task_setting}
-use Rattle.executions.specs.run_lists.RunList.{RunList}
-use Rattle.executions.specs.run_lists.Told.{Armed, OutcomeAt, armed_by, armed_in, came_next, made_by, outcome_at, outcomes_by, outcomes_of}
-use Rattle.executions.proofs.run_lists.OwnLasts.{finder_told, own_latest, own_name, still_told}
+use Rattle.executions.specs.execution.Answers.{is_answer}
+use Rattle.executions.specs.execution.Run.{Run, first_cells, locks_of, task_of, task_setting}
+use Rattle.executions.specs.execution.Execution.{Execution}
+use Rattle.executions.specs.execution.Observed.{Armed, OutcomeAt, armed_by, armed_in, came_next, made_by, outcome_at, outcomes_by, outcomes_of}
+use Rattle.executions.proofs.execution.OwnLasts.{finder_told, own_latest, own_name, still_told}
 use Rattle.log_correctness.specs.Lists.{AreArmsAt, AreArmsBy, Became, IsArm, verdicts_by}
 use Rattle.log_correctness.specs.Noted.{AreNoted, IsNoted, Notes}
 use Rattle.log_correctness.proofs.HandIsLastArming.{IsNamed, Says, all_say, in_part, last_word}
@@ -55,7 +55,7 @@ use Rattle.task_log.specs.Arms.{arm_removed, arms_at, arms_of, setter_named}
 use Rattle.task_log.specs.Noted.{armed, became, became_of, dropped, finder_heard, last_of}
 use Rattle.task_log.specs.declared.noted.Noted.{Noted}
 use Rattle.program_order.specs.Standing.{checks_of}
-use Rattle.program_order.specs.Told.{fell_next, to_come}
+use Rattle.program_order.specs.TaskObserved.{fell_next, to_come}
 
 -- the number of the last arming at an index is that of its setter's own last one there
 made_step : (setter index word task : ℕ) (step : Step) (answer : Answer) (number : ℕ) (before : Option Arming) (last made : Option ℕ)
@@ -303,13 +303,13 @@ made_by_others task index maker (steps.Insert at word) (answers.Flag true) n bef
 made_by_others task index maker step answer n before others = refl
 
 -- what falls at a record of a task is of the task
-pub fell_own : (run : Run) (all : List Record) (list : RunList run all) (task made : ℕ) → AllOfTask task (fell_next (list.tasks task) made)
+pub fell_own : (run : Run) (all : List Record) (list : Execution run all) (task made : ℕ) → AllOfTask task (fell_next (list.tasks task) made)
 fell_own run all list task made =
     left_of task (to_come (list.tasks task) (made + 1)) (list.tasks task).whole.end.outcomes
     (whole_own (task_setting run task) (length (task_of run task).registers) (task_of run task).body
     (reverse (records_of task all) ++ (list.tasks task).more) (list.tasks task).whole)
 
-module _ (run : Run) (all : List Record) (list : RunList run all) (rules : Keeps run.rules.slots (locks_of run) (first_cells run) all)
+module _ (run : Run) (all : List Record) (list : Execution run all) (rules : Keeps run.rules.slots (locks_of run) (first_cells run) all)
     (watches : All (IfVerdict list) (outcomes_of list)) where
   abbrev Rules : List Record → Type 0
   Rules records = Keeps run.rules.slots (locks_of run) (first_cells run) records

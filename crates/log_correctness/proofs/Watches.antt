@@ -4,7 +4,7 @@ use Rattle.std.proofs.lemmas.Bool.{eq-eqb}
 use Rattle.std.proofs.lemmas.Bool.Decides.{eqb_tells}
 use Rattle.std.proofs.lemmas.List.{length-append, length-map, reverse-append}
 use Rattle.log_correctness.proofs.Sums.{counted, counted_both, of_record}
-use Rattle.executions.proofs.run_lists.CheckFacts.{back}
+use Rattle.executions.proofs.execution.CheckFacts.{back}
 use Rattle.soundness.specs.Settles.{One, Settles, hears_finder}
 use Rattle.soundness.proofs.Falls.{Falls, outcomes_in}
 use Rattle.setup_access.specs.Check.{Fallen}

@@ -6,15 +6,15 @@ use Rattle.access_types.specs.Marked.{CountsAfter, EndsRaised, is_disable, is_en
 use Rattle.access_types.specs.declared.history.Happening.{Happening}
 use Rattle.access_types.specs.declared.history.Happening.TheVariants.{Begin}
 use Rattle.litmus_syntax.specs.Tree.{Block}
-use Rattle.executions.specs.run_lists.Run.{Run}
-use Rattle.executions.specs.run_lists.RunList.{RunList}
-use Rattle.executions.specs.run_lists.Told.{moments_of}
+use Rattle.executions.specs.execution.Run.{Run}
+use Rattle.executions.specs.execution.Execution.{Execution}
+use Rattle.executions.specs.execution.Observed.{moments_of}
 use Rattle.setup_access.specs.declared.begun.Begun.{Begun}
 use Rattle.slot_table.specs.Records.{records_of}
 use Rattle.slot_table.specs.declared.records.Record.{Record}
 use Rattle.task_log.specs.declared.noted.Noted.{Noted}
 use Rattle.program_order.specs.Standing.{Setting}
-use Rattle.program_order.specs.Told.{did_by, did_next, fell_next}
+use Rattle.program_order.specs.TaskObserved.{did_by, did_next, fell_next}
 use Rattle.program_order.specs.WrittenOrder.{WrittenOrder}
 
 abbrev pub begun_by : Happening → Option Access
@@ -53,11 +53,11 @@ AreNoted written (latest ∷ earlier) (noted ∷ before) =
     AreNoted written earlier before × IsNoted written (length earlier) latest noted
 AreNoted written own noted = ⊥
 
--- what a run list notes of a task by some of its records, the latest first
-abbrev pub NotesBy : {run : Run} {all : List Record} → RunList run all → List Record → ℕ → List Noted
+-- what an execution notes of a task by some of its records, the latest first
+abbrev pub NotesBy : {run : Run} {all : List Record} → Execution run all → List Record → ℕ → List Noted
     → Type 0
 NotesBy list records task noted = AreNoted (list.tasks task) (records_of task records) noted
 
 -- what it notes of the task
-abbrev pub Notes : {run : Run} {all : List Record} → RunList run all → ℕ → List Noted → Type 0
+abbrev pub Notes : {run : Run} {all : List Record} → Execution run all → ℕ → List Noted → Type 0
 Notes {all = all} list task noted = NotesBy list all task noted

@@ -1,4 +1,4 @@
--- The armings and takings of a task that are over, as a run list has them.
+-- The armings and takings of a task that are over, as an execution has them.
 use Rattle.std.specs.Prelude.{◌==◌, ◌++◌, ℕ, List, [], ◌∷◌, Option, Some, if◌then◌else◌}
 use Rattle.access_types.specs.Arms.{Arm}
 use Rattle.access_types.specs.Takes.{Take}

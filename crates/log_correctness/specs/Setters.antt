@@ -5,9 +5,9 @@ use Rattle.access_types.specs.declared.report.Report.{Report}
 use Rattle.access_types.specs.declared.report.Report.TheVariants.{Two, Unknown}
 use Rattle.slot_table.specs.declared.records.Record.{Record}
 use Rattle.log_correctness.specs.Lists.{ByTask}
-use Rattle.executions.specs.run_lists.Reports.{reports_of}
-use Rattle.executions.specs.run_lists.Run.{Run}
-use Rattle.executions.specs.run_lists.RunList.{RunList}
+use Rattle.executions.specs.execution.Reports.{reports_of}
+use Rattle.executions.specs.execution.Run.{Run}
+use Rattle.executions.specs.execution.Execution.{Execution}
 
 -- the ticket of the access that set the watchpoint up
 abbrev pub setter_of : Report → ℕ
@@ -23,9 +23,9 @@ abbrev pub reports_by : ℕ → List Report → List Report
 reports_by task reports = filter (is_by task) reports
 
 -- the reports that the list gives, by the task whose watchpoint each is of
-abbrev pub AreReports : {run : Run} {records : List Record} → RunList run records → List Report → Type 0
+abbrev pub AreReports : {run : Run} {records : List Record} → Execution run records → List Report → Type 0
 AreReports {run = run} list all = ByTask (λ task own. own ≡ reports_by task (reports_of list)) (length run.program.tasks) all
 
 -- those reports, in the order of their verdicts or by that task
-abbrev pub AreReportsOf : {run : Run} {records : List Record} → RunList run records → List Report → Type 0
+abbrev pub AreReportsOf : {run : Run} {records : List Record} → Execution run records → List Report → Type 0
 AreReportsOf list all = (all ≡ reports_of list) ⊎ AreReports list all

@@ -3,16 +3,16 @@ use Rattle.std.specs.Prelude.{◌≡◌, ◌++◌, ℕ, Bool, List, ◌∷◌, f
 use Rattle.access_types.specs.Stamped.{Stamped}
 use Rattle.access_types.specs.declared.history.Happening.{Happening}
 use Rattle.access_types.specs.declared.history.Happening.TheVariants.{Begin, End}
-use Rattle.executions.specs.run_lists.Run.{Run}
-use Rattle.executions.specs.run_lists.RunList.{RunList}
-use Rattle.executions.specs.run_lists.Told.{made_by}
+use Rattle.executions.specs.execution.Run.{Run}
+use Rattle.executions.specs.execution.Execution.{Execution}
+use Rattle.executions.specs.execution.Observed.{made_by}
 use Rattle.slot_table.specs.declared.records.Record.{Record}
 use Rattle.slot_table.specs.declared.step.Answer.TheVariants.{Word}
-use Rattle.program_order.specs.Told.{did_next}
+use Rattle.program_order.specs.TaskObserved.{did_next}
 
 -- a record of the list with which the task did this first of all, and of which the clock's answer was this
 -- stamp
-pub record HappensAt {run : Run} {all : List Record} (list : RunList run all) (task : ℕ) (happening : Happening)
+pub record HappensAt {run : Run} {all : List Record} (list : Execution run all) (task : ℕ) (happening : Happening)
     (stamp : ℕ) : Type 0 where
   pub later : List Record
   pub latest : Record
@@ -24,7 +24,7 @@ pub record HappensAt {run : Run} {all : List Record} (list : RunList run all) (t
   pub did : did_next (list.tasks latest.task) (made_by latest.task earlier) ≡ happening ∷ marks
 
 -- an access that has ended: it began and ended in the list, at these stamps
-pub record IsSpan {run : Run} {all : List Record} (list : RunList run all) (task : ℕ) (stamped : Stamped) :
+pub record IsSpan {run : Run} {all : List Record} (list : Execution run all) (task : ℕ) (stamped : Stamped) :
     Type 0 where
   pub begins : HappensAt list task (Begin stamped.access) stamped.begin
   pub ends : HappensAt list task (End stamped.access) stamped.end

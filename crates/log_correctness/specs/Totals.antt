@@ -1,15 +1,15 @@
--- How often each thing comes of the checks in a run list.
+-- How often each thing comes of the checks in an execution.
 use Rattle.std.specs.Prelude.{◌≡◌, ◌++◌, ℕ, zero, suc, length, List, [], ◌∷◌, Some, count_by, filter, nat_lt, if◌then◌else◌}
-use Rattle.executions.specs.run_lists.Run.{Run}
-use Rattle.executions.specs.run_lists.RunList.{RunList}
-use Rattle.executions.specs.run_lists.Told.{OutcomeAt, came_next, outcomes_of}
+use Rattle.executions.specs.execution.Run.{Run}
+use Rattle.executions.specs.execution.Execution.{Execution}
+use Rattle.executions.specs.execution.Observed.{OutcomeAt, came_next, outcomes_of}
 use Rattle.slot_table.specs.declared.records.Record.{Record}
 use Rattle.task_log.specs.Counters.{is_arming, is_capacity, is_encoding, is_lost, is_masked, is_quiet, is_same, is_taken, is_two_sided, is_unencodable, is_unknown, resting, together}
 use Rattle.task_log.specs.declared.counters.Counters.{Counters}
 use Rattle.program_order.specs.WrittenOrder.{stands_after}
 
 -- the outcomes that fell at these records of the tasks below a number
-abbrev pub outcomes_below : {run : Run} {all : List Record} → RunList run all → ℕ → List Record → List OutcomeAt
+abbrev pub outcomes_below : {run : Run} {all : List Record} → Execution run all → ℕ → List Record → List OutcomeAt
 outcomes_below list tasks [] = []
 outcomes_below list tasks (latest ∷ earlier) =
     outcomes_below list tasks earlier
@@ -31,11 +31,11 @@ pub record Counted (records : List Record) (outcomes : List OutcomeAt) (counters
   pub unencodable : counters.unencodable ≡ resting (count_by (λ came. is_unencodable (Some came.outcome)) outcomes)
 
 -- the counters are those of the whole list
-abbrev pub CountsList : {run : Run} {all : List Record} → RunList run all → Counters → Type 0
+abbrev pub CountsList : {run : Run} {all : List Record} → Execution run all → Counters → Type 0
 CountsList {all = all} list counters = Counted all (outcomes_of list) counters
 
 -- the counters are those of its tasks below a number
-abbrev pub CountsTasks : {run : Run} {all : List Record} → RunList run all → ℕ → Counters → Type 0
+abbrev pub CountsTasks : {run : Run} {all : List Record} → Execution run all → ℕ → Counters → Type 0
 CountsTasks {all = all} list tasks counters =
     Counted (filter (λ made. nat_lt made.task tasks) all) (outcomes_below list tasks all) counters
 
@@ -54,10 +54,10 @@ pub record AddUp (some one both : Counters) : Type 0 where
   pub unencodable : both.unencodable ≡ together some.unencodable one.unencodable
 
 -- how many calls of the tasks below a number had nothing to end; the sum rests at the largest number of 64 bits
-abbrev pub unbalanced_below : {run : Run} {all : List Record} → RunList run all → ℕ → ℕ
+abbrev pub unbalanced_below : {run : Run} {all : List Record} → Execution run all → ℕ → ℕ
 unbalanced_below list zero = 0
 unbalanced_below list (suc task) = together (unbalanced_below list task) (stands_after (list.tasks task)).unbalanced
 
 -- the count is of the calls of all its tasks that had nothing to end
-abbrev pub IsUnbalanced : {run : Run} {all : List Record} → RunList run all → ℕ → Type 0
+abbrev pub IsUnbalanced : {run : Run} {all : List Record} → Execution run all → ℕ → Type 0
 IsUnbalanced {run = run} list count = count ≡ unbalanced_below list (length run.program.tasks)

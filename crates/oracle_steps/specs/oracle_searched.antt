@@ -1,4 +1,4 @@
-pub mod Told
+pub mod KeptSteps
 pub mod Places
 pub mod Points
 pub mod Lists

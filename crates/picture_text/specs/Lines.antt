@@ -10,7 +10,8 @@ use Rattle.picture_text.specs.declared.cells.Style.{Style}
 use Rattle.picture_text.specs.declared.lines.Margin.{Margin}
 use Rattle.picture_text.specs.declared.lines.Margin.TheVariants as margins
 
--- what fills a stamp up to five signs, and what stands behind it: one of more than five digits stands on a line of its own
+-- what fills a stamp up to five signs, and what stands behind it: one of more than five digits stands on a line of its
+-- own
 abbrev pub fill : ℕ → List ℕ
 fill stamp = if nat_le stamp 9 then codes "    " else if nat_le stamp 99 then codes "   "
     else if nat_le stamp 999 then codes "  " else if nat_le stamp 9999 then codes " " else []

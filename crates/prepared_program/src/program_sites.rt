@@ -9,7 +9,7 @@ pub mod settings;
 pub mod sites;
 
 pub use error::RunError;
-pub use laws::accesses_are_in_limits;
+pub use laws::law_accesses_are_in_limits;
 pub use prepared::Prepared;
 pub use settings::Settings;
 pub use sites::sites_of;

@@ -1,4 +1,5 @@
--- The steps of a text are checks one after the other, with steps of memory and of locks between them, and free only locks that the task holds.
+-- The steps of a text are checks one after the other, with steps of memory and of locks between them, and free only
+-- locks that the task holds.
 use Rattle.std.proofs.Common.{◌≡◌, ◌∙◌, ◌++◌, ℕ, Bool, true, false, List, [], ◌∷◌, IsTrue, None, Option, Some, MatchBool, ap, refl, replicate, subst, sym}
 use Rattle.access_types.specs.Access as access
 use Rattle.access_types.specs.declared.history.Happening.{Happening}

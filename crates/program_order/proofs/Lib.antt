@@ -6,5 +6,5 @@ pub mod DisciplineKept
 pub mod EffectLemmas
 pub mod MeaningLemmas
 pub mod WayLemmas
-pub mod VainTries
+pub mod FailedTries
 pub mod Tried

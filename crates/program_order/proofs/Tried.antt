@@ -40,7 +40,7 @@ deadlock_text = tree.first (tree.call (calls.Lock 1)) (tree.first (tree.call (ca
 abbrev deadlock_records : List Record
 deadlock_records = locked 0 true ∷ locked 1 false ∷ locked 1 false ∷ locked 1 false ∷ []
 
--- spin_lock(a); spin_lock(b); where b isn't free: four steps, the last three in vain
+-- spin_lock(a); spin_lock(b); where b isn't free: four steps, the last three without success
 deadlock : (rules : Rules) → WrittenOrder (setting rules) 0 deadlock_text deadlock_records
 deadlock rules =
     let last : List Record = locked 1 false ∷ locked 1 false ∷ locked 1 false ∷ locked 1 true ∷ [] in

@@ -2,5 +2,5 @@ pub mod Standing
 pub mod Access
 pub mod WrittenOrder
 pub mod Waits
-pub mod Told
+pub mod TaskObserved
 pub mod text_bounds

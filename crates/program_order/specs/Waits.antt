@@ -1,4 +1,4 @@
--- How often a task tries in vain, and when it is stuck.
+-- How many failed tries a task has, and when it is stuck.
 use Rattle.std.specs.Prelude.{◌==◌, ◌&&◌, ◌++◌, ◌<◌, ◌≤◌, ℕ, suc, Bool, false, List, [], ◌∷◌, None, if◌then◌else◌, reverse}
 use Rattle.litmus_syntax.specs.Tree.{Block}
 use Rattle.access_run.specs.memory_operation.Leads.{GoesOn}
@@ -7,7 +7,7 @@ use Rattle.slot_table.specs.declared.step.Answer.{Answer}
 use Rattle.slot_table.specs.declared.step.Step.{Step}
 use Rattle.slot_table.specs.declared.step.Step.TheVariants.{CellExchange, LockTry, PairLoad}
 use Rattle.setup_access.specs.Waits as checks
-use Rattle.setup_access.specs.Waits.{is_vain}
+use Rattle.setup_access.specs.Waits.{is_failed}
 use Rattle.program_order.specs.Standing.{Setting}
 use Rattle.program_order.specs.WrittenOrder.{SpellsAll, WrittenOrder}
 
@@ -31,32 +31,33 @@ is_refused = checks.is_word
 abbrev pub is_no : Answer → Bool
 is_no = checks.is_no
 
--- This step tries again what the one before it tried. Only a vain try is tried again (`is_vain`): of an exchange and of a lock that is asked
--- here, and a load of a pair is never followed by the same load unless the awaited half was empty, as a law says.
+-- This step tries again what the one before it tried. Only a failed try is tried again (`is_failed`): of an exchange
+-- and of a lock that is asked here, and a load of a pair is never followed by the same load unless the awaited half was
+-- empty, as a law says.
 abbrev pub is_tried_again : Step → Answer → Step → Bool
-is_tried_again (CellExchange cell seen new) answer next = is_vain None (CellExchange cell seen new) answer && exchanges_in cell next
-is_tried_again (LockTry lock task) answer next = is_vain None (LockTry lock task) answer && tries_lock lock next
+is_tried_again (CellExchange cell seen new) answer next = is_failed None (CellExchange cell seen new) answer && exchanges_in cell next
+is_tried_again (LockTry lock task) answer next = is_failed None (LockTry lock task) answer && tries_lock lock next
 is_tried_again (PairLoad index) answer next = loads_pair index next
 is_tried_again step answer next = false
 
--- how many tries the step comes after that were tried again, in the wait that it goes on with; the records before it stand with the
--- latest first
-abbrev pub vain_tries : Step → List Record → ℕ
-vain_tries step [] = 0
-vain_tries step (before ∷ earlier) =
-    if is_tried_again before.step before.answer step then suc (vain_tries before.step earlier) else 0
+-- how many tries the step comes after that were tried again, in the wait that it goes on with; the records before it
+-- stand with the latest first
+abbrev pub failed_tries : Step → List Record → ℕ
+failed_tries step [] = 0
+failed_tries step (before ∷ earlier) =
+    if is_tried_again before.step before.answer step then suc (failed_tries before.step earlier) else 0
 
 -- The step, after these records with the latest first, is a try of a wait: a load of a pair, a try of a
 -- lock, or an exchange that is tried again after it was refused.
 abbrev pub IsTry : Step → List Record → Type 0
 IsTry (PairLoad index) earlier = Unit {0}
 IsTry (LockTry lock task) earlier = Unit {0}
-IsTry (CellExchange cell seen new) earlier = 0 < vain_tries (CellExchange cell seen new) earlier
+IsTry (CellExchange cell seen new) earlier = 0 < failed_tries (CellExchange cell seen new) earlier
 IsTry step earlier = ⊥
 
--- it is a try of a wait that has had so many tries in vain as are allowed
+-- it is a try of a wait that has had so many failed tries as are allowed
 abbrev pub IsTooMuch : ℕ → Step → List Record → Type 0
-IsTooMuch turns step earlier = IsTry step earlier × (turns ≤ vain_tries step earlier)
+IsTooMuch turns step earlier = IsTry step earlier × (turns ≤ failed_tries step earlier)
 
 -- none of the task's steps, the latest first, is a try too much
 abbrev pub WithinTurns : ℕ → List Record → Type 0
@@ -78,10 +79,10 @@ pub record IsStuck (s : Setting) (registers : ℕ) (body : Block) (records : Lis
   pub tried : IsTooMuch s.rules.turns step (reverse records)
 
 -- the same, told by what the records end with: the only step that they go on with is a try of a wait, after as
--- many vain tries as are allowed
-pub record IsStuckInVain (s : Setting) (registers : ℕ) (body : Block) (records : List Record) : Type 0 where
+-- many failed tries as are allowed
+pub record IsStuckByFailedTries (s : Setting) (registers : ℕ) (body : Block) (records : List Record) : Type 0 where
   pub step : Step
   pub written : WrittenOrder s registers body records
   pub only : OnlyStep s registers body records step
   pub tries : IsTry step (reverse records)
-  pub in_vain : s.rules.turns ≤ checks.vain_tries records
+  pub failed_wait : s.rules.turns ≤ checks.failed_tries records

@@ -6,6 +6,6 @@ pub mod laws;
 pub mod text_bounds;
 
 pub use laws::{
-    beginnings_are_in_the_written_order, parts_of_a_text_leave_the_scopes,
-    the_written_order_keeps_the_discipline, what_is_done_is_meant,
+    law_beginnings_are_in_the_written_order, law_parts_of_a_text_leave_the_scopes,
+    law_the_written_order_keeps_the_discipline, law_what_is_done_is_meant,
 };

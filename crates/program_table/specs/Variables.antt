@@ -3,7 +3,7 @@ use Rattle.std.specs.Prelude.{◌==◌, ◌++◌, ℕ, suc, List, [], ◌∷◌,
 use Rattle.std.specs.Fmt.{signed_decimal}
 use Rattle.std.specs.List.{concat}
 use Rattle.access_types.specs.declared.history.Bytes.{Bytes}
-use Rattle.litmus_semantics.specs.Layout.{Place, bytes_of_variable}
+use Rattle.litmus_semantics.specs.Layout.{VariablePlace, bytes_of_variable}
 use Rattle.litmus_syntax.specs.PrintedForm.{type_name}
 use Rattle.litmus_syntax.specs.declared.program.Contents.{Contents}
 use Rattle.litmus_syntax.specs.declared.program.Contents.TheVariants.{Atomic, Char, Int, Lock, Long, Short}
@@ -16,7 +16,8 @@ use Rattle.program_table.specs.text_pieces.Shown.{cut}
 abbrev pub signed : ℤ → List ℕ
 signed value = signed_decimal value
 
--- the initial value of a variable, as it is written: where another variable is placed over it, its bytes may hold another
+-- the initial value of a variable, as it is written: where another variable is placed over it, its bytes may hold
+-- another
 unfoldable pub value_text : Contents → List ℕ
 value_text (Char value) = signed value
 value_text (Short value) = signed value
@@ -36,7 +37,7 @@ variable_line bytes variable = concat
     ∷ value_text variable.contents ∷ codes "\n" ∷ [])
 
 -- the lines of the variables from a number on, of all these with their places
-abbrev pub lines_from : List Place → (variables : List Variable) → (number : ℕ) → List Variable → List ℕ
+abbrev pub lines_from : List VariablePlace → (variables : List Variable) → (number : ℕ) → List Variable → List ℕ
 lines_from places variables number [] = []
 lines_from places variables number (variable ∷ more) =
     variable_line (bytes_of_variable places variables number) variable ++ lines_from places variables (suc number) more

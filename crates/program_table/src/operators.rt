@@ -1,5 +1,5 @@
-//! How many operators one expression of a task has, at most, and how many the condition has. A count of 64 bits stays at
-//! its last value.
+//! How many operators one expression of a task has, at most, and how many the condition has. A count of 64 bits stays
+//! at its last value.
 
 ghost use Rattle.std.specs.Prelude.{◌≡◌};
 ghost use Rattle.litmus_syntax.specs.Limits.{connectives, loading_operators, pure_operators};

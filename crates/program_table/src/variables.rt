@@ -1,7 +1,7 @@
 //! The lines of variables: type, address and initial value.
 
 ghost use Rattle.std.specs.Prelude.{◌≡◌, IfOk, List};
-ghost use Rattle.litmus_semantics.specs.Layout.{Place};
+ghost use Rattle.litmus_semantics.specs.Layout.{VariablePlace};
 ghost use Rattle.prepared_program.specs.program_layout.Lays.{Lays};
 ghost use Rattle.program_table.specs.Variables as spec;
 
@@ -67,7 +67,7 @@ pub(crate) fn variable_lines(
     layout: &Layout,
     variables: &[Variable],
 ) -> Result<Vec<u8>, AllocError>
-    ensures { (places : List Place) → Lays places variables.now layout.now
+    ensures { (places : List VariablePlace) → Lays places variables.now layout.now
         → IfOk result (λ lines. lines.items ≡ spec.lines_from places variables.now 0 variables.now) }
 {
     let mut lines = Vec::new(alloc);

@@ -12,7 +12,7 @@ ghost use Rattle.report_text.specs.declared.line.Line.TheVariants as lines;
 
 /// Law: each race line of a true trace names two accesses of it that race: of different tasks, with
 /// a common byte, conflicting, not both marked, neither silenced, and in progress at one moment.
-pub fn race_lines_are_races()
+pub fn law_race_lines_are_races()
     ensures { (bytes : List ℕ) (head : Head) (all : List Line) → IsTrueTrace bytes head all
         → (setter finder : ℕ) (seen : Option ValueChange)
         → Contains all (lines.Report (Two setter finder seen)) → IsRaceOf all setter finder }
@@ -20,6 +20,6 @@ pub fn race_lines_are_races()
 
 /// Law: texts that are counted one after the other, from no groups on, give each text once, in the
 /// order in which they were first seen, with how often it is among them.
-pub fn groups_are_of_their_texts()
+pub fn law_groups_are_of_their_texts()
     ensures { (texts : List (List ℕ)) → AreGroupsOf texts (fold counted [] texts) }
 {}

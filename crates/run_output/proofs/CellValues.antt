@@ -11,7 +11,7 @@ use Rattle.std.proofs.Math.Nat.{mod-mod, mod-one}
 use Rattle.std.proofs.Math.Seq.{take-length}
 use Rattle.access_types.specs.History.{History, Memory, after_moments, byte_of, value_from}
 use Rattle.access_types.specs.declared.history.Bytes.{Bytes}
-use Rattle.litmus_semantics.specs.Layout.{Place, block_of, bytes_at, bytes_of_variable, cells_of, memory_at_first, no_bytes}
+use Rattle.litmus_semantics.specs.Layout.{VariablePlace, block_of, bytes_at, bytes_of_variable, cells_of, memory_at_first, no_bytes}
 use Rattle.litmus_semantics.specs.Values.{sign_extended, size_of, with_sign}
 use Rattle.litmus_syntax.specs.declared.program.Variable.{Variable}
 use Rattle.prepared_program.specs.program_layout.Cells.{LieInOneCell}
@@ -92,18 +92,18 @@ module _ (cells words : List ℕ) (memory : Memory) (multiple : (i : ℕ) → i 
   ]
 
 -- the bytes of a variable of some bytes lie in one of its cells
-abbrev AreInCells : List Place → List Variable → Type 0
+abbrev AreInCells : List VariablePlace → List Variable → Type 0
 AreInCells places variables = (number : ℕ) (variable : Variable) → slice_get variables number ≡ Some variable
     → size_of variable.contents ≢ 0 → LieInOneCell (cells_of places variables) (bytes_at places number variable)
 
-in_one : (places : List Place) (variables : List Variable) → AreInCells places variables → (number : ℕ) (found : Option Variable)
+in_one : (places : List VariablePlace) (variables : List Variable) → AreInCells places variables → (number : ℕ) (found : Option Variable)
     → slice_get variables number ≡ found → (unwrap_or (option_map (bytes_at places number) found) no_bytes).size ≢ 0
     → LieInOneCell (cells_of places variables) (unwrap_or (option_map (bytes_at places number) found) no_bytes)
 in_one places variables lie number None is some = absurd (some refl)
 in_one places variables lie number (Some variable) is some = lie number variable is some
 
 -- so the value of a variable is that of the content of its bytes at the end of a history
-pub variable_told : (places : List Place) (variables : List Variable) (history : History) (words : List ℕ)
+pub variable_told : (places : List VariablePlace) (variables : List Variable) (history : History) (words : List ℕ)
     → ((i : ℕ) → i < length (cells_of places variables) → slice_index (cells_of places variables) i % 8 ≡ 0)
     → CellsHold (cells_of places variables) (after_moments (memory_at_first places variables) history) words
     → AreInCells places variables

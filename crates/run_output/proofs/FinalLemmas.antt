@@ -10,12 +10,12 @@ use Rattle.litmus_semantics.specs.declared.final_condition.condition.Finals.{Fin
 use Rattle.run_output.specs.Finals.{AreAllRegisters, AreRegistersFrom, register_value, value_among}
 use Rattle.litmus_step.specs.Readers.{AreRegisters}
 use Rattle.litmus_syntax.specs.Tree.{Proposition, always, both, either, negation, never, register_is, variable_is}
-use Rattle.executions.specs.run_lists.Run.{Run}
-use Rattle.executions.specs.run_lists.RunList.{RunList}
+use Rattle.executions.specs.execution.Run.{Run}
+use Rattle.executions.specs.execution.Execution.{Execution}
 use Rattle.slot_table.specs.declared.records.Record.{Record}
 
 -- the registers of one task more
-pub registers_go_on : {run : Run} {records : List Record} (list : RunList run records) (from number : ℕ) (all : List (List ℕ))
+pub registers_go_on : {run : Run} {records : List Record} (list : Execution run records) (from number : ℕ) (all : List (List ℕ))
     (values : List ℕ) → number ≡ from + length all → AreRegistersFrom list from all → AreRegisters list number values
     → AreRegistersFrom list from (all ++ values ∷ [])
 registers_go_on list from number [] values is before here =
@@ -25,7 +25,7 @@ registers_go_on list from number (first ∷ all) values is before here =
     (before.0, registers_go_on list (suc from) number all values (omega (arith, is)) before.1 here)
 
 -- they are one list alone
-registers_same_from : {run : Run} {records : List Record} (list : RunList run records) (from : ℕ) (one other : List (List ℕ))
+registers_same_from : {run : Run} {records : List Record} (list : Execution run records) (from : ℕ) (one other : List (List ℕ))
     → length one ≡ length other → AreRegistersFrom list from one → AreRegistersFrom list from other → one ≡ other
 registers_same_from list from [] [] same are others = refl
 registers_same_from list from [] (values ∷ other) same are others = absurd (omega (arith, same))
@@ -35,7 +35,7 @@ registers_same_from list from (first ∷ one) (second ∷ other) same are others
     ∙ ap (λ (more : List (List ℕ)). second ∷ more)
     (registers_same_from list (suc from) one other (omega (arith, same)) are.1 others.1)
 
-pub all_registers_same : {run : Run} {records : List Record} (list : RunList run records) (one other : List (List ℕ))
+pub all_registers_same : {run : Run} {records : List Record} (list : Execution run records) (one other : List (List ℕ))
     → AreAllRegisters list one → AreAllRegisters list other → one ≡ other
 all_registers_same list one other are others =
     registers_same_from list 0 one other (are.all ∙ sym others.all) are.each others.each

@@ -4,8 +4,8 @@ use Rattle.access_types.specs.Arms.{Arm}
 use Rattle.access_types.specs.Stamped.{Stamped}
 use Rattle.access_types.specs.Takes.{Take}
 use Rattle.report_text.specs.TraceText.{written_trace}
-use Rattle.executions.specs.run_lists.Run.{Run}
-use Rattle.executions.specs.run_lists.RunList.{RunList}
+use Rattle.executions.specs.execution.Run.{Run}
+use Rattle.executions.specs.execution.Execution.{Execution}
 use Rattle.log_correctness.specs.Lists.{AreAccesses, AreArms, AreTakes}
 use Rattle.slot_table.specs.declared.records.Record.{Record}
 use Rattle.trace_replay.specs.Answer.{IsAccepted}
@@ -14,7 +14,7 @@ use Rattle.access_types.specs.declared.report.Report.{Report}
 use Rattle.prepared_program.specs.declared.program_sites.settings.Settings.{Settings}
 
 -- the bytes are the trace of the list's accesses, armings and takings, with these reports, under these settings
-pub record IsTraceOf (settings : Settings) {run : Run} {records : List Record} (list : RunList run records) (reports : List Report)
+pub record IsTraceOf (settings : Settings) {run : Run} {records : List Record} (list : Execution run records) (reports : List Report)
     (bytes : List ℕ) : Type 0 where
   pub accesses : List Stamped
   pub accesses_are : AreAccesses list accesses

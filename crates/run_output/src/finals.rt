@@ -13,10 +13,10 @@ ghost use Rattle.prepared_program.specs.program_layout.Places.{places_of};
 ghost use Rattle.run_output.specs.Finals as spec;
 ghost use Rattle.run_output.specs.Finals.{AreAllRegisters, IsEndOf, value_in_cells, variable_value};
 ghost use Rattle.run_output.specs.Output.{IsFoundOf};
-ghost use Rattle.executions.specs.run_lists.Run.{Run};
-ghost use Rattle.executions.specs.run_lists.Run.{first_words};
-ghost use Rattle.executions.specs.run_lists.RunList.{RunList};
-ghost use Rattle.executions.specs.run_lists.Told.{history_of};
+ghost use Rattle.executions.specs.execution.Run.{Run};
+ghost use Rattle.executions.specs.execution.Run.{first_words};
+ghost use Rattle.executions.specs.execution.Execution.{Execution};
+ghost use Rattle.executions.specs.execution.Observed.{history_of};
 ghost use Rattle.slot_table.specs.Records.{words_after};
 ghost use Rattle.slot_table.specs.declared.records.Record.{Record};
 
@@ -26,8 +26,8 @@ use litmus_semantics::final_condition::{Finals, holds};
 use litmus_semantics::sign_extended;
 use litmus_step::{Prepared, Ran};
 use litmus_syntax::Program;
-use prepared_program::program_layout::laws::variables_lie_in_one_cell;
-use soundness::histories::cells_hold_the_content;
+use prepared_program::program_layout::laws::law_variables_lie_in_one_cell;
+use soundness::histories::law_cells_hold_the_content;
 use std::alloc::{AllocError, Global};
 
 /// The end of a run.
@@ -101,13 +101,13 @@ fn finals_at(
 ) -> Result<Finals, AllocError>
     ensures registers { IfOk result (λ finals. finals.registers ≡ registers) }
     ensures variables { (program : tree.Program) (settings : terms.Settings) (sites : AccessMap) (records : List Record)
-        (list : RunList (run_of program settings sites) records) → KeepsLimits (program_of program) → IsPrepared program settings prepared.now
+        (list : Execution (run_of program settings sites) records) → KeepsLimits (program_of program) → IsPrepared program settings prepared.now
         → words.now ≡ (words_after (first_words (run_of program settings sites)) records).cells
         → IfOk result (λ finals. (number : ℕ) → variable_of finals number
         ≡ variable_value (places_of settings.places.items) program.variables (history_of list) number) }
 {
-    variables_lie_in_one_cell();
-    cells_hold_the_content();
+    law_variables_lie_in_one_cell();
+    law_cells_hold_the_content();
     let variables = variables_of(alloc, prepared, words)?;
     Ok(Finals {
         registers,

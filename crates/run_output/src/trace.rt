@@ -1,13 +1,13 @@
 //! The trace of a run, which is accepted where all its tasks have ended.
 
 ghost use Rattle.std.specs.Prelude.{◌≡◌, ◌≤◌, ◌&&◌, IfOk, IfSome, List, is_some};
-ghost use Rattle.executions.specs.run_lists.Run.{Run};
-ghost use Rattle.executions.specs.run_lists.RunList.{AllHaveEnded};
+ghost use Rattle.executions.specs.execution.Run.{Run};
+ghost use Rattle.executions.specs.execution.Execution.{AllHaveEnded};
 ghost use Rattle.run_output.specs.Traces.{IsToBeAccepted, IsTraceOf};
 ghost use Rattle.slot_table.specs.declared.records.Record.{Record};
 
 use crate::masks::masks_are_low;
-use accepted_traces::laws::traces_in_either_order_are_true;
+use accepted_traces::laws::law_traces_in_either_order_are_true;
 use litmus_step::{Ran, Settings};
 use report_text::{MemorySink, write_trace};
 use std::alloc::{AllocError, Global};
@@ -21,7 +21,7 @@ pub fn trace_of<R: Ran>(alloc: Global, settings: &Settings, ran: &R) -> Result<V
         → run.rules.slots ≡ settings.now.slots → run.rules.layout ≡ settings.now.layout → settings.now.slots ≤ 1024
         → IfOk result (λ trace. IsToBeAccepted trace.items) }
 {
-    traces_in_either_order_are_true();
+    law_traces_in_either_order_are_true();
     let accesses = ran.accesses(alloc)?;
     let arms = ran.arms(alloc)?;
     let takes = ran.takes(alloc)?;

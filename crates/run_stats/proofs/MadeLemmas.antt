@@ -17,8 +17,8 @@ use Rattle.run_stats.proofs.TallyLemmas.{some}
 use Rattle.litmus_parse.specs.Read.{IsReadAs}
 use Rattle.run_stats.specs.Errors.{IsRefused, Stops, StopsRun, is_counted}
 use Rattle.run_output.specs.Traces.{IsToBeAccepted, IsTraceOf}
-use Rattle.executions.specs.run_lists.Run as lists
-use Rattle.executions.specs.run_lists.RunList.{AllHaveEnded, RunList}
+use Rattle.executions.specs.execution.Run as lists
+use Rattle.executions.specs.execution.Execution.{AllHaveEnded, Execution}
 use Rattle.runner.proofs.ColumnLemmas.{item_there}
 use Rattle.runner.specs.Result.{AreResultsOf, IsOf, IsResultOf, IsRunOnce}
 use Rattle.runner.specs.declared.run.RunIndex.{RunIndex}
@@ -28,7 +28,7 @@ use Rattle.run_stats.specs.Runs.{AreMadeApart, AreNumberedFrom, ComeFrom, Comes,
 use Rattle.run_output.specs.declared.error.EngineError.{EngineError}
 use Rattle.run_output.specs.declared.error.EngineError.TheVariants.{Run, SinkFailed, Text}
 use Rattle.prepared_program.specs.program_sites.Errors.{IsOfPreparing}
-use Rattle.runner.specs.Found.{IsInVain, IsOfThreads, IsThrough}
+use Rattle.runner.specs.TaskResult.{IsFailedWait, IsOfThreads, IsThrough}
 use Rattle.prepared_program.specs.declared.program_sites.error.RunError.{RunError}
 use Rattle.prepared_program.specs.declared.program_sites.error.RunError.TheVariants.{BadPlace, BadSchedule, BadSlots, NoThread, OutOfMemory, Stuck}
 use Rattle.runner.specs.declared.result.RunResult.{RunResult}
@@ -121,14 +121,14 @@ map_ok (Err e) each p = tt
 
 -- why a run of a program that is made ready has no end
 run_stops : (program : Program) (settings : Settings) (error : RunError) → IsOfThreads error
-    → ((task : ℕ) → error ≡ Stuck task → (sites : AccessMap) × IsInVain (run_of program settings sites) task
+    → ((task : ℕ) → error ≡ Stuck task → (sites : AccessMap) × IsFailedWait (run_of program settings sites) task
     × ((below : ℕ) → below < task → IsThrough (run_of program settings sites) below))
     → StopsRun program settings error
 run_stops program settings BadSlots of stuck = absurd of
 run_stops program settings BadPlace of stuck = absurd of
 run_stops program settings OutOfMemory of stuck = tt
 run_stops program settings (Stuck task) of stuck =
-    let it = stuck task refl in record { sites = it.0; vain = it.1; smallest = it.2 }
+    let it = stuck task refl in record { sites = it.0; failed = it.1; smallest = it.2 }
 run_stops program settings BadSchedule of stuck = absurd of
 run_stops program settings NoThread of stuck = tt
 
@@ -162,7 +162,7 @@ on_ok (Err e) f p = tt
 -- what comes of a run, by the clauses of its call
 pub comes : (program : Program) (settings : Settings) (outcome : Result RunResult RunError) → IfOk outcome (IsRunOnce program settings)
     → IfErr outcome IsOfThreads
-    → ((task : ℕ) → outcome ≡ Err (Stuck task) → (sites : AccessMap) × IsInVain (run_of program settings sites) task
+    → ((task : ℕ) → outcome ≡ Err (Stuck task) → (sites : AccessMap) × IsFailedWait (run_of program settings sites) task
     × ((below : ℕ) → below < task → IsThrough (run_of program settings sites) below))
     → Comes program settings outcome
 comes program settings (Ok result) once of stuck = record { once = once; stops = tt }
@@ -221,9 +221,9 @@ lent_is_there (Some one) = refl
 -- the trace of the run that is lent is that of the last
 pub traces_last : {program : Program} {settings : Settings} (runs : List (OneRun program settings)) (lent : Option (Bor RunResult))
     (traced : Bool) (trace : Option (Vec ℕ Global)) → IsLast runs (option_copied lent) → settings.slots ≤ 1024
-    → IfSome lent (λ one. (run : lists.Run) (records : List Record) → (comes : (list : RunList run records) × IsOf list one.now)
+    → IfSome lent (λ one. (run : lists.Run) (records : List Record) → (comes : (list : Execution run records) × IsOf list one.now)
     → IfSome trace (λ bytes. IsTraceOf settings comes.0 one.now.reports.items bytes.items))
-    → IfSome lent (λ one. (run : lists.Run) (records : List Record) → ((list : RunList run records) × IsOf list one.now)
+    → IfSome lent (λ one. (run : lists.Run) (records : List Record) → ((list : Execution run records) × IsOf list one.now)
     → AllHaveEnded run records → run.rules.slots ≡ settings.slots → run.rules.layout ≡ settings.layout → settings.slots ≤ 1024
     → IfSome trace (λ bytes. IsToBeAccepted bytes.items))
     → is_some trace ≡ (traced && is_some lent) → IfSome trace (λ bytes. IsTraceOfLast runs bytes.items)

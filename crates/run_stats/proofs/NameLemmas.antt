@@ -17,9 +17,9 @@ use Rattle.prepared_program.specs.program_sites.Sites.{AreSitesOf}
 use Rattle.report_text.specs.ReportOf.{NamesAccesses}
 use Rattle.soundness.specs.Reported.{IsTrueReport}
 use Rattle.log_correctness.specs.Setters.{is_by, reports_by}
-use Rattle.executions.specs.run_lists.Reports.{reports_of}
-use Rattle.executions.specs.run_lists.Run.{IsOfProgram, Run}
-use Rattle.executions.specs.run_lists.RunList.{RunList}
+use Rattle.executions.specs.execution.Reports.{reports_of}
+use Rattle.executions.specs.execution.Run.{IsOfProgram, Run}
+use Rattle.executions.specs.execution.Execution.{Execution}
 use Rattle.log_correctness.specs.Lists.{ByTask}
 use Rattle.runner.specs.Result.{IsRunOnce}
 use Rattle.runner.specs.declared.result.RunResult.{RunResult}
@@ -30,7 +30,7 @@ there None x is = absurd (cc)
 there (Some y) x is = refl
 
 -- what a true report names is there
-module _ {run : Run} {records : List Record} (list : RunList run records) (map_of : AccessMap)
+module _ {run : Run} {records : List Record} (list : Execution run records) (map_of : AccessMap)
     (are : AreSitesOf run.program run.places map_of) where
   named_access : (ticket : ℕ) (a : Access) → IsOfProgram run a → ticket ≡ ticket_number a → IsSome (map.get map_of ticket)
   named_access ticket a of named =

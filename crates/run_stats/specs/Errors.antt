@@ -12,18 +12,19 @@ use Rattle.litmus_syntax.specs.declared.program.Program.{Program}
 use Rattle.prepared_program.specs.program_layout.Places.{AreFit}
 use Rattle.run_output.specs.declared.error.EngineError.{EngineError}
 use Rattle.run_output.specs.declared.error.EngineError.TheVariants.{Run, SinkFailed, Text}
-use Rattle.runner.specs.Found.{IsInVain, IsThrough}
+use Rattle.runner.specs.TaskResult.{IsFailedWait, IsThrough}
 use Rattle.prepared_program.specs.declared.program_sites.error.RunError.{RunError}
 use Rattle.prepared_program.specs.declared.program_sites.error.RunError.TheVariants.{BadPlace, BadSchedule, BadSlots, NoThread, OutOfMemory, Stuck}
 
--- some steps of the task end in a wait with as many vain tries as are allowed, and each task below comes to the end of its text
+-- some steps of the task end in a wait with as many failed tries as are allowed, and each task below comes to the end
+-- of its text
 pub record GetsStuck (program : Program) (settings : Settings) (task : ℕ) : Type 0 where
   pub sites : AccessMap
-  pub vain : IsInVain (run_of program settings sites) task
+  pub failed : IsFailedWait (run_of program settings sites) task
   pub smallest : (below : ℕ) → below < task → IsThrough (run_of program settings sites) below
 
--- why a program can't be run on threads, or a run of it doesn't come to its end: too few slots or too many, places that don't suit its
--- variables, a task that is stuck, or what the machine decides
+-- why a program can't be run on threads, or a run of it doesn't come to its end: too few slots or too many, places that
+-- don't suit its variables, a task that is stuck, or what the machine decides
 abbrev pub StopsRun : Program → Settings → RunError → Type 0
 StopsRun program settings BadSlots = (settings.slots < 3) ⊎ (1024 < settings.slots)
 StopsRun program settings BadPlace = ¬ AreFit program.variables settings.places.items

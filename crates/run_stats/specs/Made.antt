@@ -11,8 +11,8 @@ use Rattle.run_stats.specs.declared.made.Made.{Made}
 use Rattle.run_stats.specs.declared.times.Times.{Times}
 use Rattle.runner.specs.declared.result.RunResult.{RunResult}
 
--- These runs were made and ended, and in these others a task got stuck: both are counted, what is kept is of those that ended, and this is
--- the result of the last of them, if there is one.
+-- These runs were made and ended, and in these others a task got stuck: both are counted, what is kept is of those that
+-- ended, and this is the result of the last of them, if there is one.
 pub record AreMade (program : Program) (settings : Settings) (sites : AccessMap) (runs : List (OneRun program settings))
     (stuck : List (StuckRun program settings)) (made : Made) : Type 0 where
   pub ended : made.ended ≡ length runs

@@ -44,8 +44,8 @@ unbalanced_in runs = resting (sum_by (λ one. one.found.unbalanced) runs)
 abbrev pub held_in : {program : Program} {settings : Settings} → List (OneRun program settings) → ℕ
 held_in runs = count_by (λ one. one.found.held) runs
 
--- What is found of runs that ended: each distinct report with how often it was seen, the sums of the counters, and in how many of so many
--- runs the condition held.
+-- What is found of runs that ended: each distinct report with how often it was seen, the sums of the counters, and in
+-- how many of so many runs the condition held.
 abbrev pub found_text : List Group → Counters → (unbalanced held ended : ℕ) → List ℕ
 found_text groups sums unbalanced held ended = flat_map group_text groups ++ counters_line sums unbalanced ++ condition_line held ended
 
@@ -54,9 +54,9 @@ abbrev pub stuck_text : (counted : Bool) → (stuck many : ℕ) → List ℕ
 stuck_text true stuck many = stuck_line stuck many
 stuck_text false stuck many = []
 
--- The output of runs that ended, and so many more in which a task got stuck: each distinct report, in the order in which they were first
--- seen, with how often it was seen, the sums of the counters, in how many of those that ended the condition held, and, where stuck runs
--- are counted, how many of all got stuck.
+-- The output of runs that ended, and so many more in which a task got stuck: each distinct report, in the order in
+-- which they were first seen, with how often it was seen, the sums of the counters, in how many of those that ended the
+-- condition held, and, where stuck runs are counted, how many of all got stuck.
 pub record IsOutput {program : Program} {settings : Settings} (counted : Bool) (runs : List (OneRun program settings)) (stuck : ℕ)
     (output : List ℕ) : Type 0 where
   pub sites : AccessMap
@@ -81,10 +81,11 @@ abbrev pub AreQuietBeforeLast : {program : Program} {settings : Settings} → Li
 AreQuietBeforeLast {program = program} {settings = settings} runs =
     (before : List (OneRun program settings)) (last : OneRun program settings) → runs ≡ before ++ last ∷ [] → reports_in before ≡ []
 
--- Of the runs that are asked for these were made and ended, and in these others a task got stuck. That is all of them, or, where it is
--- asked for, those up to the first with a report; and stuck ones are among them only where they are counted. Each that ended was made by a
--- call of its own, under a number below how many all these are. The numbers rise, so just as many are left out as runs got stuck: none
--- stands in for another that was dropped under an earlier number.
+-- Of the runs that are asked for these were made and ended, and in these others a task got stuck. That is all of them,
+-- or, where it is asked for, those up to the first with a report; and stuck ones are among them only where they are
+-- counted. Each that ended was made by a call of its own, under a number below how many all these are. The numbers
+-- rise, so just as many are left out as runs got stuck: none stands in for another that was dropped under an earlier
+-- number.
 pub record AreAsMany {program : Program} {settings : Settings} (times : Times) (runs : List (OneRun program settings))
     (stuck : List (StuckRun program settings)) : Type 0 where
   pub most : length runs + length stuck ≤ times.runs
@@ -94,8 +95,8 @@ pub record AreAsMany {program : Program} {settings : Settings} (times : Times) (
   pub apart : AreMadeApart runs
   pub numbers : All (λ one. one.result.number < length runs + length stuck) runs
 
--- This is left of runs of the program on threads, under these settings, as often as is asked for: whether there was a report, the output,
--- and the trace of the last run that ended, where one is wanted and there is such a run.
+-- This is left of runs of the program on threads, under these settings, as often as is asked for: whether there was a
+-- report, the output, and the trace of the last run that ended, where one is wanted and there is such a run.
 pub record Leave (program : Program) (settings : Settings) (times : Times) (traced : Bool) (raced : Bool) (output : List ℕ)
     (trace : Option (List ℕ)) : Type 0 where
   pub fit : AreFit program.variables settings.places.items

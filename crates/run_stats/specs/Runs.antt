@@ -12,8 +12,8 @@ use Rattle.runner.specs.declared.result.RunResult.{RunResult}
 use Rattle.run_output.specs.Output.{IsFoundOf}
 use Rattle.run_output.specs.declared.output.RunFindings.{RunFindings}
 
--- One run of the program on threads: its result, which the list of all its steps gives, and what is found of it. Of the list the headline
--- holds.
+-- One run of the program on threads: its result, which the list of all its steps gives, and what is found of it. Of the
+-- list the headline holds.
 pub record OneRun (program : Program) (settings : Settings) : Type 0 where
   pub result : RunResult
   pub once : IsRunOnce program settings result
@@ -46,12 +46,14 @@ pub record ComeFrom (program : Program) (settings : Settings) (from many : ℕ) 
   pub each : All (Comes program settings) outcomes
   pub numbers : AreNumberedFrom from outcomes
 
--- Of several batches of so many runs each comes of those whose numbers begin where those of the one before end, or there was no memory.
+-- Of several batches of so many runs each comes of those whose numbers begin where those of the one before end, or
+-- there was no memory.
 abbrev pub AreBatches : Program → Settings → (from many : ℕ) → List (Result (Vec (Result RunResult RunError) Global) AllocError) → Type 0
 AreBatches program settings from many batches = (at : ℕ) (batch : Vec (Result RunResult RunError) Global) → slice_get batches at ≡ Some (Ok batch)
     → ComeFrom program settings (from + at * many) many batch.items
 
--- Each of these runs was made by a call of its own: the number under which it was made is below those of all runs behind it.
+-- Each of these runs was made by a call of its own: the number under which it was made is below those of all runs
+-- behind it.
 abbrev pub AreMadeApart : {program : Program} {settings : Settings} → List (OneRun program settings) → Type 0
 AreMadeApart runs = AllPairs (λ one later. one.result.number < later.result.number) runs
 

@@ -10,8 +10,8 @@ use Rattle.run_stats.specs.Runs.{OneRun}
 use Rattle.run_stats.specs.declared.tally.Tally.{Tally}
 use Rattle.task_log.specs.Counters.{resting}
 
--- What is kept is of these runs: their reports, by their texts, are counted one after the other; the counters are summed, and the runs
--- in which the condition held are counted.
+-- What is kept is of these runs: their reports, by their texts, are counted one after the other; the counters are
+-- summed, and the runs in which the condition held are counted.
 pub record Tallies (program : Program) (settings : Settings) (sites : AccessMap) (runs : List (OneRun program settings)) (tally : Tally) :
     Type 0 where
   pub groups : tally.groups ≡ fold counted [] (map (report_text sites) (reports_in runs))

@@ -12,10 +12,11 @@ use std::thread;
 /// thread, and with more it would wait longer for one that never starts.
 const PATIENCE: u64 = 100_000;
 
-/// The delay of one run: at most so many turns, in each of which a word is loaded, again and again up to 64 times, and then
-/// other threads may run. Without that it is over before another task, which may have no processor yet, comes to the
-/// watchpoint. The turns count from when each task has come to its first access: a thread may take longer to start than
-/// all of them. It ends early once no other task can come: each delays too, waits for a lock, or makes no step more.
+/// The delay of one run: at most so many turns, in each of which a word is loaded, again and again up to 64 times, and
+/// then other threads may run. Without that it is over before another task, which may have no processor yet, comes to
+/// the watchpoint. The turns count from when each task has come to its first access: a thread may take longer to start
+/// than all of them. It ends early once no other task can come: each delays too, waits for a lock, or makes no step
+/// more.
 ///
 /// Also it has the others wait with their first access until the task that starts first has set up a watchpoint or
 /// ended an access: a thread that starts later may be sooner there.
@@ -133,7 +134,7 @@ impl Stall for Delay {
     fn wait(&self, task: usize) {
         // Whoever waits for a lock can't come to an access before it is free, and its holder may be waiting for this
         // task: so it counts as come, and holds nobody back. The holder may also wait for a task whose thread hasn't
-        // started yet: to try again before that has come would use up tries in vain.
+        // started yet: to try again before that has come would use up failed tries.
         self.opens(task);
         self.meets(task);
         self.away.fetch_add(1);

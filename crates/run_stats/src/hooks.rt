@@ -14,8 +14,8 @@ pub trait Hooks: Sync {
     /// What one run calls has been asked to have a watch delay for so many turns.
     ghost asks: { Self.OfRun → ℕ → Type 0 };
 
-    /// What one run more calls, in which a watch is asked to delay for so many turns, of so many tasks of which this one
-    /// starts first.
+    /// What one run more calls, in which a watch is asked to delay for so many turns, of so many tasks of which this
+    /// one starts first.
     fn of_run(&self, turns: u64, tasks: u64, first: usize) -> Self::OfRun
         ensures { asks result turns };
 }

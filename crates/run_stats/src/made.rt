@@ -26,7 +26,7 @@ use crate::tally::Tally;
 use crate::times::{Progress, Times};
 use litmus_parse::Program;
 use litmus_step::{Prepared, Settings};
-use report_text::laws::groups_are_of_their_texts;
+use report_text::laws::law_groups_are_of_their_texts;
 use report_text::{MemorySink, Sink, WriteError};
 use run_output::{EngineError, write_stuck};
 use runner::{RunError, RunIndex, RunResult, run_batch};
@@ -338,7 +338,7 @@ impl Made {
             → AreSitesOf (program_of program) (places_of settings.places.items) sites
             → IfOk result (λ output. IsOutput counted runs (length stuck) output.items) }
     {
-        groups_are_of_their_texts();
+        law_groups_are_of_their_texts();
         let mut sink = MemorySink::new(alloc);
         match self.write(counted, &mut sink) {
             Ok(()) => Ok(sink.into_bytes()),

@@ -2,7 +2,7 @@
 
 ghost use Rattle.std.specs.Prelude.{◌<◌};
 
-use access_types::{Access, Kind, Operation, SITES, Sites, TASKS, limits_are_numbers, ticket};
+use access_types::{Access, Kind, Operation, SITES, Sites, TASKS, law_limits_are_numbers, ticket};
 use task_context::Context;
 
 /// The tasks of a program that may set up a watchpoint. Who starts first is often over before the last begins, so one
@@ -28,7 +28,7 @@ fn access_at(sites: &Sites, task: u32, site: u32) -> Option<&Access>
 fn may_watch(sites: &Sites, task: u32, plain_writes_atomic: bool) -> bool
     requires { task < 16 }
 {
-    limits_are_numbers();
+    law_limits_are_numbers();
     for site in 0..SITES {
         if let Some(access) = access_at(sites, task, site) {
             // In which regions an access runs is known only in a run. Within one more count as marked, so this names
@@ -44,7 +44,7 @@ fn may_watch(sites: &Sites, task: u32, plain_writes_atomic: bool) -> bool
 impl Starters {
     /// Those of a program with these accesses.
     pub(crate) fn new(sites: &Sites, plain_writes_atomic: bool) -> Starters {
-        limits_are_numbers();
+        law_limits_are_numbers();
         let mut tasks = 0;
         for task in 0..TASKS {
             if may_watch(sites, task, plain_writes_atomic) {

@@ -21,7 +21,7 @@ use litmus_step::Prepared;
 use report_text::{Groups, Sink, WriteError};
 use run_output::{found_of, write_condition, write_counters};
 use runner::RunResult;
-use soundness::laws::the_headline_holds;
+use soundness::laws::law_the_headline_holds;
 use std::alloc::{AllocError, Global};
 use task_log::Counters;
 
@@ -84,7 +84,7 @@ impl Tally {
             → OnOk result ((one : OneRun program.now settings) × (one.result ≡ ended.now)
             × Tallies program.now settings (sites_in prepared.now) (runs ++ one ∷ []) self.new) }
     {
-        the_headline_holds();
+        law_the_headline_holds();
         let found = found_of(alloc, program, prepared, ended)?;
         count_reports(&mut self.groups, ended.reports(), prepared.sites())?;
         self.raced = self.raced || !ended.reports().is_empty();

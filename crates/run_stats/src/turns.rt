@@ -18,8 +18,9 @@ pub(crate) fn turns_until<F: FnMut() -> bool>(most: u64, mut is_so: F) -> u64
     most
 }
 
-/// So often it is asked in a turn. Where the other task runs on another processor it answers within a microsecond, and to
-/// let others run may cost a time slice. The number is a choice: with one a run beside busy loops took up to twice as long.
+/// So often it is asked in a turn. Where the other task runs on another processor it answers within a microsecond, and
+/// to let others run may cost a time slice. The number is a choice: with one a run beside busy loops took up to twice
+/// as long.
 const ASKS: u32 = 64;
 
 /// Whether this is so, or comes to be so while it is asked again.

@@ -3,7 +3,7 @@ use Rattle.std.proofs.Common.{◌≡◌, ◌<◌, ◌+◌, ◌∙◌, ◌∷◌,
 use Rattle.std.proofs.lemmas.List.{length-append}
 use Rattle.std.proofs.lemmas.Option.{slice_get-get_or, slice_get-map, slice_get_within}
 use Rattle.litmus_step.specs.Runs.{tasks_of}
-use Rattle.executions.specs.run_lists.Run.{Run}
+use Rattle.executions.specs.execution.Run.{Run}
 use Rattle.prepared_program.specs.declared.program_sites.error.RunError.{RunError}
 use Rattle.runner.proofs.ColumnLemmas.{item_there}
 use Rattle.runner.specs.Columns.{AreColumns}
@@ -15,7 +15,7 @@ use Rattle.prepared_program.specs.declared.program_sites.settings.Settings.{Sett
 use Rattle.runner.specs.Starts.{AreAllOutcomes, AreAllStarts, AreOutcomesOfEach, AreStarts, AreStartsOfEach, AreTaskStarts}
 use Rattle.runner.specs.declared.first.TaskStart.{TaskStart}
 use Rattle.runner.specs.declared.first.TaskStarts.{TaskStarts}
-use Rattle.runner.specs.declared.seated.Found.{Found}
+use Rattle.runner.specs.declared.seated.TaskResult.{TaskResult}
 use Rattle.shared_table.specs.Seats.{Opened}
 
 -- what is so of each that comes of an item is so at each place
@@ -46,7 +46,7 @@ all_starts tables tasks rows columns all starts turned held = record {
 }
 
 -- the columns of what comes of each task are what comes of the tasks of each run
-pub all_outcomes : (run : Run) (tables : List Opened) (runs : ℕ) (columns rows : List (List (Result Found RunError)))
+pub all_outcomes : (run : Run) (tables : List Opened) (runs : ℕ) (columns rows : List (List (Result TaskResult RunError)))
     → AreAllOutcomes run tables (tasks_of run) columns → AreColumns runs columns rows → runs ≡ length tables → AreOutcomesOfEach run tables rows
 all_outcomes run tables runs columns rows came turned as_many = record {
   all = turned.wide ∙ as_many;

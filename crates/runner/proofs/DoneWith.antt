@@ -9,7 +9,7 @@ use Rattle.soundness.proofs.TextTells.{whole_tells}
 use Rattle.soundness.specs.Events.{DoesEvent, IsEvent}
 use Rattle.slot_table.specs.declared.records.Record.{Record}
 use Rattle.program_order.specs.Standing.{Point, Setting, point_by}
-use Rattle.program_order.specs.Told.{did_by, did_next, to_come}
+use Rattle.program_order.specs.TaskObserved.{did_by, did_next, to_come}
 use Rattle.program_order.specs.WrittenOrder.{WrittenOrder, first_point}
 
 drop_front : (first rest : List Happening) → drop (length first) (first ++ rest) ≡ rest

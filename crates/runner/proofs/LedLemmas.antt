@@ -10,8 +10,8 @@ use Rattle.litmus_step.proofs.KeptLemmas.{more_reports}
 use Rattle.litmus_step.specs.Leads.{MakesNext}
 use Rattle.litmus_step.specs.Runs.{CanBeMade, tasks_of}
 use Rattle.litmus_syntax.specs.Tree.{Block}
-use Rattle.executions.specs.run_lists.Run.{Run, first_words, idle, task_of, task_setting}
-use Rattle.executions.specs.run_lists.RunList.{InWrittenOrder}
+use Rattle.executions.specs.execution.Run.{Run, first_words, idle, task_of, task_setting}
+use Rattle.executions.specs.execution.Execution.{InWrittenOrder}
 use Rattle.log_correctness.proofs.MachineMatchesRecords.{says_what_is_noted}
 use Rattle.log_correctness.specs.Noted.{AreNoted, IsNoted}
 use Rattle.runner.proofs.DoneWith.{does_last}

@@ -4,12 +4,12 @@ use Rattle.std.proofs.lemmas.List.{length-map, reverse-reverse}
 use Rattle.std.proofs.lemmas.Option.{slice_get_cases}
 use Rattle.litmus_step.specs.Runs.{tasks_of}
 use Rattle.litmus_syntax.specs.Tree.{Block}
-use Rattle.executions.specs.run_lists.Run.{Run, task_of, task_setting}
-use Rattle.runner.specs.Found.{AreFound, IsFound, IsInVain, IsThrough}
+use Rattle.executions.specs.execution.Run.{Run, task_of, task_setting}
+use Rattle.runner.specs.TaskResult.{AreFound, IsFound, IsFailedWait, IsThrough}
 use Rattle.runner.specs.Starts.{AreOutcomes}
 use Rattle.prepared_program.specs.declared.program_sites.error.RunError.{RunError}
 use Rattle.prepared_program.specs.declared.program_sites.error.RunError.TheVariants.{OutOfMemory, Stuck}
-use Rattle.runner.specs.declared.seated.Found.{Found}
+use Rattle.runner.specs.declared.seated.TaskResult.{TaskResult}
 use Rattle.shared_table.specs.Ended.{HasUnfinished, IsMissing}
 use Rattle.shared_table.specs.Given.{Given}
 use Rattle.shared_table.specs.Seats.{Opened, Sitting}
@@ -44,7 +44,7 @@ pub names_or_wants : {X : Type 0} (result : Result X RunError) (error : RunError
     → ((task : ℕ) × (error ≡ Stuck task)) ⊎ (error ≡ OutOfMemory)
 names_or_wants {X = X} result error each is = subst (λ (r : Result X RunError). IfErr r (λ e. ((task : ℕ) × (e ≡ Stuck task)) ⊎ (e ≡ OutOfMemory))) is each
 
-module _ (run : Run) (opened : Opened) (outcomes : List (Result Found RunError)) (are : AreOutcomes run opened (tasks_of run) outcomes) where
+module _ (run : Run) (opened : Opened) (outcomes : List (Result TaskResult RunError)) (are : AreOutcomes run opened (tasks_of run) outcomes) where
   -- the error at a place is of the task of that number, or wants memory
   error_at : (at : ℕ) (error : RunError) → slice_get outcomes at ≡ Some (Err error) → (error ≡ Stuck at) ⊎ (error ≡ OutOfMemory)
   error_at at error is = (are.each at (Err error) is).errors
@@ -56,10 +56,10 @@ module _ (run : Run) (opened : Opened) (outcomes : List (Result Found RunError))
         | inr memory ↦ absurd (no_memory_is_not_stuck task (sym memory ∙ named))
       ]
 
-  pub is_in_vain : (at : ℕ) (error : RunError) (task : ℕ) → slice_get outcomes at ≡ Some (Err error) → error ≡ Stuck task → IsInVain run task
-  is_in_vain at error task is named =
+  pub is_failed_wait : (at : ℕ) (error : RunError) (task : ℕ) → slice_get outcomes at ≡ Some (Err error) → error ≡ Stuck task → IsFailedWait run task
+  is_failed_wait at error task is named =
       let here = named_at at error task is named in
-      subst (IsInVain run) here
+      subst (IsFailedWait run) here
       ((are.each at (Err error) is).stuck (ap (λ (e : RunError). Err e) (named ∙ ap Stuck (sym here))))
 
   pub refused_so : (at : ℕ) (error : RunError) → slice_get outcomes at ≡ Some (Err error) → ((task : ℕ) × (error ≡ Stuck task)) ⊎ (error ≡ OutOfMemory)
@@ -69,7 +69,7 @@ module _ (run : Run) (opened : Opened) (outcomes : List (Result Found RunError))
         | inr memory ↦ inr memory
       ]
 
-  module _ (found : List Found) (each : (task : ℕ) (one : Found) → slice_get found task ≡ Some one → slice_get outcomes task ≡ Some (Ok one)) where
+  module _ (found : List TaskResult) (each : (task : ℕ) (one : TaskResult) → slice_get found task ≡ Some one → slice_get outcomes task ≡ Some (Ok one)) where
     -- all below the first error came to the end of their texts
     pub through_below : (below : ℕ) → below < length found → IsThrough run below
     through_below below less =
@@ -90,17 +90,17 @@ abbrev pub EndedAreFinished : Type 0
 EndedAreFinished = (s : Setting) (registers : ℕ) (body : Block) (records : List Record)
     → SpellsAll s registers body records → IsFinished (reverse records)
 
-module _ (run : Run) (opened : Opened) (found : List Found) (are : AreFound run opened found) (seats : List Sitting)
-    (taken : seats ≡ map (λ (f : Found). f.seat) found) where
+module _ (run : Run) (opened : Opened) (found : List TaskResult) (are : AreFound run opened found) (seats : List Sitting)
+    (taken : seats ≡ map (λ (f : TaskResult). f.seat) found) where
   -- the seat at a place is that of what was found there
-  seat_at : (at : ℕ) (d : Sitting) → at < length seats → (one : Found) × (slice_get found at ≡ Some one) × (get_or seats at d ≡ one.seat)
+  seat_at : (at : ℕ) (d : Sitting) → at < length seats → (one : TaskResult) × (slice_get found at ≡ Some one) × (get_or seats at d ≡ one.seat)
   seat_at at d below =
       elim (slice_get_cases found at).1 [
         | inl there ↦
-            (there.0, there.2, ap (λ (all : List Sitting). get_or all at d) taken ∙ at_map (λ (f : Found). f.seat) found at there.0 d there.2)
+            (there.0, there.2, ap (λ (all : List Sitting). get_or all at d) taken ∙ at_map (λ (f : TaskResult). f.seat) found at there.0 d there.2)
         | inr beyond ↦
             let over : length found ≤ at = beyond.0 in
-            let long : length seats ≡ length found = ap length taken ∙ length-map found (λ (f : Found). f.seat) in
+            let long : length seats ≡ length found = ap length taken ∙ length-map found (λ (f : TaskResult). f.seat) in
             absurd (omega (arith, below, over, long))
       ]
 
@@ -112,7 +112,7 @@ module _ (run : Run) (opened : Opened) (found : List Found) (are : AreFound run 
   -- no seat is missing, and none has a check unfinished
   pub all_are_here : EndedAreFinished → (given : Given) → given.tasks ≡ tasks_of run → (IsMissing given seats ⊎ HasUnfinished seats) → ⊥
   all_are_here finished given tasks none =
-      let long : length seats ≡ length found = ap length taken ∙ length-map found (λ (f : Found). f.seat) in
+      let long : length seats ≡ length found = ap length taken ∙ length-map found (λ (f : TaskResult). f.seat) in
       elim none [
         | inl missing ↦
             let task : ℕ = missing.0 in
@@ -125,7 +125,7 @@ module _ (run : Run) (opened : Opened) (found : List Found) (are : AreFound run 
             let at : ℕ = unfinished.1.0 in
             let seat : Sitting = unfinished.0 in
             let it = seat_at at seat unfinished.1.1 in
-            let one : Found = it.0 in
+            let one : TaskResult = it.0 in
             let own : List Record = one.seat.records in
             let over : IsFinished (reverse (reverse own)) =
             finished (task_setting run at) (length (task_of run at).registers) (task_of run at).body (reverse own) (are.each at one it.1).whole in

@@ -8,14 +8,14 @@ use Rattle.litmus_step.specs.Runs.{CanBeMade, tasks_of}
 use Rattle.litmus_step.specs.Steps.{Reaches}
 use Rattle.litmus_syntax.specs.Limits.{BlockScopes, BodyKeepsLimits, TaskKeepsLimits, block_repeats, block_rises}
 use Rattle.litmus_syntax.specs.Tree.{Block}
-use Rattle.executions.specs.run_lists.Run.{Run, first_words, idle, task_of, task_setting}
+use Rattle.executions.specs.execution.Run.{Run, first_words, idle, task_of, task_setting}
 use Rattle.log_correctness.specs.Noted.{AreNoted}
-use Rattle.runner.specs.Found.{IsFound}
+use Rattle.runner.specs.TaskResult.{IsFound}
 use Rattle.litmus_step.specs.Kept.{AreFirst}
 use Rattle.runner.specs.Led.{IsLed}
 use Rattle.runner.specs.Machine.{SaysBegin}
 use Rattle.runner.specs.Terms.{AreTerms, run_by}
-use Rattle.runner.specs.declared.seated.Found.{Found}
+use Rattle.runner.specs.declared.seated.TaskResult.{TaskResult}
 use Rattle.runner.specs.declared.terms.Terms.{Terms}
 use Rattle.setup_access.specs.Parts.{made}
 use Rattle.setup_access.specs.declared.begun.Begun.{Begun}
@@ -152,7 +152,7 @@ all_kept reports all room first few =
 
 -- what is found of a task that has made the steps of its whole text
 pub is_found : NoTaskStops → FewAreReported → RegistersAreTold → CallsAreTold
-    → (run : Run) (opened : Opened) (task : ℕ) (found : Found) (machine : TaskRun) (room : ℕ) → CanBeMade run → task < tasks_of run
+    → (run : Run) (opened : Opened) (task : ℕ) (found : TaskResult) (machine : TaskRun) (room : ℕ) → CanBeMade run → task < tasks_of run
     → found.seat.table ≡ opened → found.seat.task ≡ task → IsLed run task found.seat.records machine found.log found.reports.items room
     → watches_kept run task ≤ room
     → SpellsAll (task_setting run task) (length (task_of run task).registers) (task_of run task).body (reverse found.seat.records)

@@ -5,8 +5,8 @@ use Rattle.std.proofs.lemmas.List.FromFn.{length-range_with_len}
 use Rattle.std.specs.List.{range_with_len}
 use Rattle.litmus_step.specs.Kept.{accesses_kept, watches_kept}
 use Rattle.litmus_step.specs.Leads.{LeadsTask}
-use Rattle.executions.specs.run_lists.Run.{Run}
-use Rattle.executions.specs.run_lists.RunList.{RunList}
+use Rattle.executions.specs.execution.Run.{Run}
+use Rattle.executions.specs.execution.Execution.{Execution}
 use Rattle.runner.specs.Led.{IsLed}
 use Rattle.shared_table.specs.Seats.{Opened, Sitting, new_seats}
 use Rattle.task_log.specs.Keeps.{Keeps}
@@ -33,7 +33,7 @@ pub seats_are : (opened : Opened) (tasks : ℕ) → length (new_seats opened tas
 seats_are opened tasks = length-map (range_with_len 0 tasks) (new_seat opened) ∙ length-range_with_len 0 tasks
 
 -- a task that has made no step is led to by no record
-pub first_led : (run : Run) (task : ℕ) (machine : TaskRun) (log : TaskLog) (room : ℕ) → RunList run [] → LeadsTask run task [] machine
+pub first_led : (run : Run) (task : ℕ) (machine : TaskRun) (log : TaskLog) (room : ℕ) → Execution run [] → LeadsTask run task [] machine
     → Keeps (accesses_kept run task) (watches_kept run task) [] log → IsLed run task [] machine log [] room
 first_led run task machine log room list leads keeps = record {
   written = list.tasks task;

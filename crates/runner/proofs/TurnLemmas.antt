@@ -6,16 +6,16 @@ use Rattle.std.proofs.lemmas.List.{length-map, map-append}
 use Rattle.std.specs.Global.{Global}
 use Rattle.runner.proofs.ColumnLemmas.{from_map}
 use Rattle.std.proofs.lemmas.Option.{get_or_from_slice_get, same_Some, slice_get-map, slice_get_cases, slice_get_read, slice_get_within}
-use Rattle.executions.specs.run_lists.Run.{Run}
+use Rattle.executions.specs.execution.Run.{Run}
 use Rattle.runner.specs.Starts.{AreAllOutcomes, AreAllStarts, AreSomeStarts, ComeOf, IsOutcomeOfEach, IsTaskStart}
 use Rattle.prepared_program.specs.declared.program_sites.error.RunError.{RunError}
 use Rattle.runner.specs.declared.first.TaskStarts.{TaskStarts}
-use Rattle.runner.specs.declared.seated.Found.{Found}
+use Rattle.runner.specs.declared.seated.TaskResult.{TaskResult}
 use Rattle.shared_table.specs.Seats.{Opened}
 
 -- what comes of one task in several runs
 abbrev pub Came : Type 0
-Came = Vec (Result Found RunError) Global
+Came = Vec (Result TaskResult RunError) Global
 
 -- a list of no length has no item
 pub empty_of : {X : Type 0} (xs : List X) → length xs ≡ 0 → xs ≡ []

@@ -2,12 +2,12 @@
 use Rattle.std.specs.Prelude.{◌≡◌, ℕ, zero, suc, List, Option, None, Some, length, reverse, slice_get}
 use Rattle.litmus_step.specs.Kept.{accesses_kept, watches_kept}
 use Rattle.litmus_step.specs.Runs.{tasks_of}
-use Rattle.executions.specs.run_lists.Run.{Run, task_of, task_setting}
-use Rattle.executions.specs.run_lists.RunList.{InWrittenOrder}
+use Rattle.executions.specs.execution.Run.{Run, task_of, task_setting}
+use Rattle.executions.specs.execution.Execution.{InWrittenOrder}
 use Rattle.log_correctness.specs.Noted.{AreNoted}
 use Rattle.prepared_program.specs.declared.program_sites.error.RunError.{RunError}
 use Rattle.prepared_program.specs.declared.program_sites.error.RunError.TheVariants.{BadPlace, BadSchedule, BadSlots, NoThread, OutOfMemory, Stuck}
-use Rattle.runner.specs.declared.seated.Found.{Found}
+use Rattle.runner.specs.declared.seated.TaskResult.{TaskResult}
 use Rattle.shared_table.specs.Seats.{Opened}
 use Rattle.slot_table.specs.declared.records.Record.{Record}
 use Rattle.task_log.specs.Counters.{together}
@@ -18,9 +18,9 @@ use Rattle.task_plan.specs.Counts.{up_to_last}
 use Rattle.program_order.specs.Waits.{IsStuck, WithinTurns}
 use Rattle.program_order.specs.WrittenOrder.{SpellsAll, stands_after}
 
--- The task of a number has made the steps of its whole text, which its seat holds. What was kept of them is what is noted of them, what
--- was reported is what is reported at them, and its registers are those that they leave.
-pub record IsFound (run : Run) (opened : Opened) (task : ℕ) (found : Found) : Type 0 where
+-- The task of a number has made the steps of its whole text, which its seat holds. What was kept of them is what is
+-- noted of them, what was reported is what is reported at them, and its registers are those that they leave.
+pub record IsFound (run : Run) (opened : Opened) (task : ℕ) (found : TaskResult) : Type 0 where
   pub table : found.seat.table ≡ opened
   pub own : found.seat.task ≡ task
   pub written : InWrittenOrder run task found.seat.records
@@ -33,13 +33,13 @@ pub record IsFound (run : Run) (opened : Opened) (task : ℕ) (found : Found) : 
   pub registers : found.registers.items ≡ (stands_after written).progress.registers
   pub unbalanced : found.unbalanced ≡ up_to_last (stands_after written).unbalanced
 
--- some steps of the task, in the order of its text, end in a wait with as many vain tries as are allowed
-abbrev pub IsInVain : Run → ℕ → Type 0
-IsInVain run task = (own : List Record)
+-- some steps of the task, in the order of its text, end in a wait with as many failed tries as are allowed
+abbrev pub IsFailedWait : Run → ℕ → Type 0
+IsFailedWait run task = (own : List Record)
     × IsStuck (task_setting run task) (length (task_of run task).registers) (task_of run task).body (reverse own)
 
--- The task comes to the end of its text: these steps, in the order of the text, are its whole text, and no wait has as many vain tries
--- as are allowed.
+-- The task comes to the end of its text: these steps, in the order of the text, are its whole text, and no wait has as
+-- many failed tries as are allowed.
 pub record IsThrough (run : Run) (task : ℕ) : Type 0 where
   pub own : List Record
   pub written : InWrittenOrder run task own
@@ -47,16 +47,16 @@ pub record IsThrough (run : Run) (task : ℕ) : Type 0 where
   pub whole : SpellsAll (task_setting run task) (length (task_of run task).registers) (task_of run task).body (reverse own)
 
 -- each task is found so
-pub record AreFound (run : Run) (opened : Opened) (found : List Found) : Type 0 where
+pub record AreFound (run : Run) (opened : Opened) (found : List TaskResult) : Type 0 where
   pub all : length found ≡ tasks_of run
-  pub each : (task : ℕ) (one : Found) → slice_get found task ≡ Some one → IsFound run opened task one
+  pub each : (task : ℕ) (one : TaskResult) → slice_get found task ≡ Some one → IsFound run opened task one
 
-abbrev pub calls_of : Option Found → ℕ
+abbrev pub calls_of : Option TaskResult → ℕ
 calls_of None = 0
 calls_of (Some found) = found.unbalanced
 
 -- how many calls of the first so many tasks had nothing to end; the sum rests at the largest number of 64 bits
-abbrev pub calls_below : List Found → ℕ → ℕ
+abbrev pub calls_below : List TaskResult → ℕ → ℕ
 calls_below found zero = 0
 calls_below found (suc n) = together (calls_below found n) (calls_of (slice_get found n))
 

@@ -2,7 +2,7 @@ pub mod Machine
 pub mod Led
 pub mod Terms
 pub mod Seated
-pub mod Found
+pub mod TaskResult
 pub mod Starts
 pub mod Hits
 pub mod Result

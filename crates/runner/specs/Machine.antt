@@ -16,7 +16,8 @@ SaysBegin machine begins = (s : Setting) (registers : ℕ) (body : Block) (recor
     → (leads : Leads s registers body records machine)
     → (later : List Record) → BeginsNext s leads.part (stands_at leads later) leads.mine begins
 
--- whatever records reach it, they spell the task's whole text, or end in a wait with as many vain tries as are allowed
+-- whatever records reach it, they spell the task's whole text, or end in a wait with as many failed tries as are
+-- allowed
 abbrev pub MakesNoMore : TaskRun → Type 0
 MakesNoMore machine = (s : Setting) (registers : ℕ) (body : Block) (records : List Record)
     → Reaches s registers body records machine → SpellsAll s registers body records ⊎ waits.IsStuck s registers body records

@@ -8,12 +8,12 @@ use Rattle.prepared_program.specs.declared.program_sites.settings.Settings.{Sett
 use Rattle.litmus_syntax.specs.declared.program.Program.{Program}
 use Rattle.soundness.specs.Headline.{Headline}
 use Rattle.log_correctness.specs.Setters.{AreReports}
-use Rattle.executions.specs.run_lists.Run.{Run, first_words}
-use Rattle.executions.specs.run_lists.RunList.{AllHaveEnded, RunList}
+use Rattle.executions.specs.execution.Run.{Run, first_words}
+use Rattle.executions.specs.execution.Execution.{AllHaveEnded, Execution}
 use Rattle.log_correctness.specs.Totals.{IsUnbalanced}
 use Rattle.prepared_program.specs.declared.program_sites.error.RunError.{RunError}
 use Rattle.prepared_program.specs.declared.program_sites.error.RunError.TheVariants.{Stuck}
-use Rattle.runner.specs.Found.{IsInVain, IsOfThreads, IsThrough}
+use Rattle.runner.specs.TaskResult.{IsFailedWait, IsOfThreads, IsThrough}
 use Rattle.runner.specs.Hits.{AllHitsOverlap}
 use Rattle.runner.specs.declared.result.RunResult.{RunResult}
 use Rattle.runner.specs.declared.run.RunIndex.{RunIndex}
@@ -21,9 +21,9 @@ use Rattle.shared_table.specs.Ended.{IsListOf}
 use Rattle.slot_table.specs.Records.{words_after}
 use Rattle.slot_table.specs.declared.records.Record.{Record}
 
--- What came of a run is what the list of all its steps gives, of which the gathered seats know. The headline holds of the list, and the two
--- sides of each hit overlap by their stamps.
-pub record IsOf {run : Run} {records : List Record} (list : RunList run records) (result : RunResult) : Type 0 where
+-- What came of a run is what the list of all its steps gives, of which the gathered seats know. The headline holds of
+-- the list, and the two sides of each hit overlap by their stamps.
+pub record IsOf {run : Run} {records : List Record} (list : Execution run records) (result : RunResult) : Type 0 where
   pub can : CanBeMade run
   pub ended : AllHaveEnded run records
   pub headline : Headline list
@@ -40,16 +40,16 @@ pub record IsOf {run : Run} {records : List Record} (list : RunList run records)
 pub record IsRunOnce (program : Program) (settings : Settings) (result : RunResult) : Type 0 where
   pub sites : AccessMap
   pub records : List Record
-  pub list : RunList (run_of program settings sites) records
+  pub list : Execution (run_of program settings sites) records
   pub is_of : IsOf list result
 
--- What comes of a run of the program of a turn: a result of some list of its steps, under the number of the turn, or why threads make none
--- of it. Of several tasks that are stuck the smallest is named.
+-- What comes of a run of the program of a turn: a result of some list of its steps, under the number of the turn, or
+-- why threads make none of it. Of several tasks that are stuck the smallest is named.
 pub record IsResultOf (program : Program) (settings : Settings) (turn : RunIndex) (outcome : Result RunResult RunError) : Type 0 where
   pub once : IfOk outcome (IsRunOnce program settings)
   pub number : IfOk outcome (λ result. result.number ≡ turn.number)
   pub errors : IfErr outcome IsOfThreads
-  pub stuck : (task : ℕ) → IsErrOf outcome (Stuck task) → (sites : AccessMap) × IsInVain (run_of program settings sites) task
+  pub stuck : (task : ℕ) → IsErrOf outcome (Stuck task) → (sites : AccessMap) × IsFailedWait (run_of program settings sites) task
       × ((below : ℕ) → below < task → IsThrough (run_of program settings sites) below)
 
 -- so it is of each turn, in their order

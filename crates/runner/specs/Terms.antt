@@ -5,19 +5,20 @@ use Rattle.litmus_step.specs.Runs.{CanBeMade, run_of, tasks_of}
 use Rattle.prepared_program.specs.declared.program_sites.prepared.Prepared.{Prepared}
 use Rattle.prepared_program.specs.declared.program_sites.settings.Settings.{Settings}
 use Rattle.litmus_syntax.specs.declared.program.Program.{Program}
-use Rattle.executions.specs.run_lists.Run as lists
-use Rattle.executions.specs.run_lists.Run.{Run}
-use Rattle.executions.specs.run_lists.RunList.{RunList}
+use Rattle.executions.specs.execution.Run as lists
+use Rattle.executions.specs.execution.Run.{Run}
+use Rattle.executions.specs.execution.Execution.{Execution}
 use Rattle.runner.specs.declared.terms.Batch.{Batch}
 use Rattle.runner.specs.declared.terms.Terms.{Terms}
 use Rattle.shared_table.specs.Given.{first_words}
 use Rattle.shared_table.specs.Seats.{Opened}
 
--- The program is made ready under these settings, the run of it can be made, and the words of this table are at first those of the run.
+-- The program is made ready under these settings, the run of it can be made, and the words of this table are at first
+-- those of the run.
 pub record AreGiven (program : Program) (settings : Settings) (prepared : Prepared) (opened : Opened) : Type 0 where
   pub ready : IsPrepared program settings prepared
   pub can : CanBeMade (run_of program settings (sites_in prepared))
-  pub list : RunList (run_of program settings (sites_in prepared)) []
+  pub list : Execution (run_of program settings (sites_in prepared)) []
   pub words : first_words opened.given ≡ lists.first_words (run_of program settings (sites_in prepared))
   pub tasks : opened.given.tasks ≡ tasks_of (run_of program settings (sites_in prepared))
 

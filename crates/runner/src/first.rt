@@ -7,15 +7,15 @@ ghost use Rattle.litmus_step.specs.Runs.{CanBeMade, run_of, tasks_of};
 ghost use Rattle.prepared_program.specs.declared.program_sites.settings.Settings.{Settings};
 ghost use Rattle.litmus_syntax.specs.Limits.{KeepsLimits};
 ghost use Rattle.litmus_syntax.specs.Views.{program_of};
-ghost use Rattle.executions.specs.run_lists.Run as lists;
-ghost use Rattle.executions.specs.run_lists.RunList.{RunList};
+ghost use Rattle.executions.specs.execution.Run as lists;
+ghost use Rattle.executions.specs.execution.Execution.{Execution};
 ghost use Rattle.runner.specs.Starts.{AreStarts, AreStartsOfEach, AreTaskStarts, IsOutcome, IsOutcomeOfEach, IsStart, IsTaskStart};
 ghost use Rattle.runner.specs.Terms.{AreGivenEach, AreTerms, run_by, run_of_batch};
 ghost use Rattle.shared_table.specs.Given.{first_words};
 ghost use Rattle.shared_table.specs.Seats.{Opened, new_seats};
 
 use crate::hooks::{Gate, Stall};
-use crate::seated::{Found, SeatedTask};
+use crate::seated::{SeatedTask, TaskResult};
 use crate::terms::{Batch, Terms};
 use litmus_step::first::{first_log, first_reports, first_task};
 use litmus_step::{Prepared, RunError};
@@ -73,7 +73,7 @@ impl TaskStart {
     /// Takes room for what is kept of the task's steps, makes these, from its first to its last, and says what is found
     /// of it then.
     ///
-    /// `Stuck`: a wait of it had as many vain tries as are allowed.
+    /// `Stuck`: a wait of it had as many failed tries as are allowed.
     pub(crate) fn found<'t, R: Wait, S: Stall, G: Gate>(
         self,
         rt: &R,
@@ -81,7 +81,7 @@ impl TaskStart {
         terms: Terms<'t>,
         stall: &S,
         gate: &G,
-    ) -> Result<Found, RunError>
+    ) -> Result<TaskResult, RunError>
         requires terms { AreTerms terms }
         requires start { IsStart terms.table.now self.number self }
         requires there { self.number < tasks_of (run_by terms) }
@@ -129,7 +129,7 @@ pub(crate) fn first_runs(
     requires ready { IsReady program.now prepared.now }
     ensures many { IfOk result (λ made. length made.0.items ≡ runs) }
     ensures given { (settings : Settings) → IsPrepared program.now settings prepared.now → CanBeMade (run_of program.now settings (sites_in prepared.now))
-        → RunList (run_of program.now settings (sites_in prepared.now)) []
+        → Execution (run_of program.now settings (sites_in prepared.now)) []
         → IfOk result (λ made. AreGivenEach program.now settings prepared.now made.0.items) }
     ensures starts { IfOk result (λ made. AreStartsOfEach made.0.items (map (λ row. row.items) made.1.items)) }
 {
@@ -148,7 +148,7 @@ pub(crate) fn first_runs(
 pub(crate) struct TaskStarts {
     pub(crate) number: usize,
     pub(crate) starts: Vec<TaskStart>,
-    pub(crate) outcomes: Vec<Result<Found, RunError>>,
+    pub(crate) outcomes: Vec<Result<TaskResult, RunError>>,
 }
 
 impl TaskStarts {
@@ -160,7 +160,7 @@ impl TaskStarts {
         batch: Batch<'t>,
         stalls: &[S],
         gates: &[G],
-    ) -> Vec<Result<Found, RunError>>
+    ) -> Vec<Result<TaskResult, RunError>>
         requires given { AreGivenEach batch.program.now batch.settings.now batch.prepared.now batch.tables.now }
         requires start { IsTaskStart batch.tables.now self.number self }
         requires there { self.number < tasks_of (run_of_batch batch) }

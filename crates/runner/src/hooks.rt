@@ -99,7 +99,7 @@ pub(crate) fn has_passed<G: Gate>(gate: &G, task: usize, after: After) {
     }
 }
 
-/// What follows on a step that is a vain try of a wait: of a lock that isn't free, or of a pair word whose other half
+/// What follows on a step that is a failed try of a wait: of a lock that isn't free, or of a pair word whose other half
 /// is still empty, which is loaded again next.
 pub(crate) fn waits<S: Stall>(
     stall: &S,

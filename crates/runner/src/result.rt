@@ -2,14 +2,14 @@
 
 ghost use Rattle.std.specs.Prelude.{◌≡◌, ◌<◌, All, IfOk, List, length, slice_index_or};
 ghost use Rattle.accepted_traces.specs.Parts.{ReportFits};
-ghost use Rattle.executions.specs.run_lists.Run.{Run};
-ghost use Rattle.executions.specs.run_lists.RunList.{RunList};
+ghost use Rattle.executions.specs.execution.Run.{Run};
+ghost use Rattle.executions.specs.execution.Execution.{Execution};
 ghost use Rattle.log_correctness.specs.Lists.{AreAccesses, AreArms, AreTakes};
 ghost use Rattle.log_correctness.specs.Totals.{CountsList};
 ghost use Rattle.runner.specs.Result.{IsOf};
 ghost use Rattle.slot_table.specs.declared.records.Record.{Record};
 
-use crate::laws::reports_are_of_ended_accesses;
+use crate::laws::law_reports_are_of_ended_accesses;
 use access_types::{Arm, Report, Stamped, Take};
 use litmus_step::Ran;
 use litmus_step::logs::{accesses_of, arms_of, counters_of, takes_of};
@@ -46,7 +46,7 @@ impl RunResult {
 
     /// How often each thing came of the checks of all tasks.
     pub fn counters(&self) -> Counters
-        ensures { (run : Run) (records : List Record) → (list : RunList run records) → IsOf list self.now → CountsList list result }
+        ensures { (run : Run) (records : List Record) → (list : Execution run records) → IsOf list self.now → CountsList list result }
     {
         counters_of(self.logs.as_slice())
     }
@@ -60,18 +60,18 @@ impl RunResult {
 
     /// The accesses, by task, and then in the order of their begins. The reports are of these.
     pub fn accesses(&self, alloc: Global) -> Result<Vec<Stamped>, AllocError>
-        ensures all { (run : Run) (records : List Record) → (list : RunList run records) → IsOf list self.now
+        ensures all { (run : Run) (records : List Record) → (list : Execution run records) → IsOf list self.now
             → IfOk result (λ all. AreAccesses list all.items) }
-        ensures races { (run : Run) (records : List Record) → (list : RunList run records) → IsOf list self.now
+        ensures races { (run : Run) (records : List Record) → (list : Execution run records) → IsOf list self.now
             → IfOk result (λ all. All (ReportFits all.items) self.now.reports.items) }
     {
-        reports_are_of_ended_accesses();
+        law_reports_are_of_ended_accesses();
         accesses_of(alloc, self.logs.as_slice())
     }
 
     /// The armings, by task, and then in the order of their removes.
     pub fn arms(&self, alloc: Global) -> Result<Vec<Arm>, AllocError>
-        ensures { (run : Run) (records : List Record) → (list : RunList run records) → IsOf list self.now
+        ensures { (run : Run) (records : List Record) → (list : Execution run records) → IsOf list self.now
             → IfOk result (λ all. AreArms list all.items) }
     {
         arms_of(alloc, self.logs.as_slice())
@@ -79,7 +79,7 @@ impl RunResult {
 
     /// The takings, by task, and then in the order of their tells.
     pub fn takes(&self, alloc: Global) -> Result<Vec<Take>, AllocError>
-        ensures { (run : Run) (records : List Record) → (list : RunList run records) → IsOf list self.now
+        ensures { (run : Run) (records : List Record) → (list : Execution run records) → IsOf list self.now
             → IfOk result (λ all. AreTakes list all.items) }
     {
         takes_of(alloc, self.logs.as_slice())
@@ -109,7 +109,7 @@ impl RunResult {
 }
 
 impl Ran for RunResult {
-    ghost comes_of = { λ result run records. (list : RunList run records) × IsOf list result };
+    ghost comes_of = { λ result run records. (list : Execution run records) × IsOf list result };
 
     ghost list_of = { λ result run records is. is.0 };
 

@@ -7,7 +7,7 @@ ghost use Rattle.litmus_step.specs.Runs.{run_of};
 ghost use Rattle.litmus_syntax.specs.Limits.{KeepsLimits};
 ghost use Rattle.litmus_syntax.specs.Views.{program_of};
 ghost use Rattle.prepared_program.specs.program_layout.Places.{AreFit};
-ghost use Rattle.runner.specs.Found.{IsInVain, IsOfThreads, IsThrough};
+ghost use Rattle.runner.specs.TaskResult.{IsFailedWait, IsOfThreads, IsThrough};
 ghost use Rattle.runner.specs.Result.{AreResultsOf, IsRunOnce};
 ghost use Rattle.prepared_program.specs.declared.program_sites.error.RunError.TheVariants.{BadPlace, BadSchedule, BadSlots, NoThread, OutOfMemory, Stuck};
 
@@ -18,7 +18,7 @@ use crate::result::RunResult;
 use crate::terms::Batch;
 use crate::threads::on_threads_from;
 use crate::together::results_of;
-use litmus_step::laws::runs_begin;
+use litmus_step::laws::law_runs_begin;
 use litmus_step::{Prepared, RunError, Settings};
 use litmus_syntax::Program;
 use std::alloc::Global;
@@ -29,7 +29,7 @@ use std::thread::Threads;
 ///
 /// `BadSlots`: there are fewer than 3 page slots, or more than 1,024. `BadPlace`: a place is no multiple of its
 /// variable's size or is above 2^62, its name is unknown, a lock's, or placed twice. `Stuck`: a wait of the task had as
-/// many vain tries as are allowed; of several such tasks the smallest is named. `NoThread`: a thread couldn't be
+/// many failed tries as are allowed; of several such tasks the smallest is named. `NoThread`: a thread couldn't be
 /// started.
 pub fn run_once<R: Threads + Wait + Sync, S: Stall, G: Gate>(
     rt: &R,
@@ -44,7 +44,7 @@ pub fn run_once<R: Threads + Wait + Sync, S: Stall, G: Gate>(
     ensures bad_slots { IsErrOf result BadSlots → (settings.now.slots < 3 ⊎ 1024 < settings.now.slots) }
     ensures bad_place { IsErrOf result BadPlace → AreFit program.now.variables settings.now.places.items → ⊥ }
     ensures no_schedule { ¬ (IsErrOf result BadSchedule) }
-    ensures stuck { (task : ℕ) → IsErrOf result (Stuck task) → (sites : AccessMap) × IsInVain (run_of program.now settings.now sites) task
+    ensures stuck { (task : ℕ) → IsErrOf result (Stuck task) → (sites : AccessMap) × IsFailedWait (run_of program.now settings.now sites) task
         × ((below : ℕ) → below < task → IsThrough (run_of program.now settings.now sites) below) }
 {
     let prepared = Prepared::new(alloc, program, settings)?;
@@ -81,7 +81,7 @@ pub fn run_prepared<R: Threads + Wait + Sync, S: Stall, G: Gate>(
     ensures once { IfOk result (IsRunOnce program.now settings.now) }
     ensures number { IfOk result (λ ran. ran.number ≡ turn.number) }
     ensures errors { IfErr result IsOfThreads }
-    ensures stuck { (task : ℕ) → IsErrOf result (Stuck task) → (sites : AccessMap) × IsInVain (run_of program.now settings.now sites) task
+    ensures stuck { (task : ℕ) → IsErrOf result (Stuck task) → (sites : AccessMap) × IsFailedWait (run_of program.now settings.now sites) task
         × ((below : ℕ) → below < task → IsThrough (run_of program.now settings.now sites) below) }
 {
     let mut all = run_batch(
@@ -123,7 +123,7 @@ pub fn run_batch<R: Threads + Wait + Sync, S: Stall, G: Gate>(
     ensures results { IfOk result (λ all. AreResultsOf program.now settings.now turns.now all.items) }
     ensures errors { IfErr result (λ error. (error ≡ NoThread) ⊎ (error ≡ OutOfMemory)) }
 {
-    runs_begin();
+    law_runs_begin();
     let (tables, rows) = first_runs(alloc, program, prepared, turns.len())?;
     let columns = columns_of(alloc, rows, program.tasks.as_slice().len())?;
     let starts = task_starts(alloc, columns)?;

@@ -10,7 +10,7 @@ ghost use Rattle.prepared_program.specs.declared.program_sites.error.RunError.Th
 
 use crate::first::TaskStarts;
 use crate::hooks::{Gate, Stall};
-use crate::seated::Found;
+use crate::seated::TaskResult;
 use crate::terms::Batch;
 use litmus_step::{Prepared, RunError, Settings};
 use litmus_syntax::Program;
@@ -27,7 +27,7 @@ pub(crate) struct OfTask<'t> {
     task: usize,
 }
 
-impl<'t> Promise<Vec<Result<Found, RunError>>> for OfTask<'t> {
+impl<'t> Promise<Vec<Result<TaskResult, RunError>>> for OfTask<'t> {
     ghost kept_by = { λ promise outcomes. IsOutcomeOfEach (run_of_batch promise.batch) promise.batch.tables.now promise.task outcomes.items };
 }
 
@@ -44,7 +44,7 @@ pub(crate) fn on_threads_from<'t, R: Threads + Wait + Sync, S: Stall, G: Gate>(
     first: usize,
     stalls: &'t [S],
     gates: &'t [G],
-) -> Result<Vec<Vec<Result<Found, RunError>>>, RunError>
+) -> Result<Vec<Vec<Result<TaskResult, RunError>>>, RunError>
     requires given { AreGivenEach batch.program.now batch.settings.now batch.prepared.now batch.tables.now }
     requires starts { AreAllStarts batch.tables.now (tasks_of (run_of_batch batch)) starts.items }
     requires stalls { length stalls.now ≡ length batch.tables.now }
@@ -72,7 +72,7 @@ fn on_threads<'t, R: Threads + Wait + Sync, S: Stall, G: Gate>(
     starts: Vec<TaskStarts>,
     stalls: &'t [S],
     gates: &'t [G],
-) -> Result<Vec<Vec<Result<Found, RunError>>>, RunError>
+) -> Result<Vec<Vec<Result<TaskResult, RunError>>>, RunError>
     requires given { AreGivenEach batch.program.now batch.settings.now batch.prepared.now batch.tables.now }
     requires starts { AreSomeStarts batch.tables.now (tasks_of (run_of_batch batch)) starts.items }
     requires stalls { length stalls.now ≡ length batch.tables.now }
@@ -91,7 +91,7 @@ fn on_threads<'t, R: Threads + Wait + Sync, S: Stall, G: Gate>(
     thread::scope(
         thread::scope_env(),
         rt,
-        move |scope| -> Result<Vec<Vec<Result<Found, RunError>>>, RunError>
+        move |scope| -> Result<Vec<Vec<Result<TaskResult, RunError>>>, RunError>
             requires sync { IsSync R.row × IsSync S.row × IsSync G.row }
             requires given { AreGivenEach program.now settings.now prepared.now tables.now }
             requires starts { AreSomeStarts tables.now (tasks_of (run_of program.now settings.now (sites_in prepared.now))) starts.items }
@@ -113,7 +113,7 @@ fn on_threads<'t, R: Threads + Wait + Sync, S: Stall, G: Gate>(
                     batch,
                     task: start.number,
                 };
-                let steps = move || -> Vec<Result<Found, RunError>>
+                let steps = move || -> Vec<Result<TaskResult, RunError>>
                     requires given { AreGivenEach program.now settings.now prepared.now tables.now }
                     requires start { IsTaskStart tables.now start.number start }
                     requires there { start.number < tasks_of (run_of program.now settings.now (sites_in prepared.now)) }

@@ -5,36 +5,39 @@ ghost use Rattle.std.specs.List.{flat_map};
 ghost use Rattle.access_types.specs.Sites.{AccessMap};
 ghost use Rattle.prepared_program.specs.program_sites.Prepared.{sites_in};
 ghost use Rattle.litmus_step.specs.Runs.{run_of, tasks_of};
-ghost use Rattle.executions.specs.run_lists.Run.{Run};
-ghost use Rattle.runner.specs.Found.{AreFound, IsInVain, IsOfThreads, IsThrough, calls_below};
+ghost use Rattle.executions.specs.execution.Run.{Run};
+ghost use Rattle.runner.specs.TaskResult.{AreFound, IsFailedWait, IsOfThreads, IsThrough, calls_below};
 ghost use Rattle.runner.specs.Result.{AreResultsOf, IsRunOnce};
 ghost use Rattle.runner.specs.Starts.{AreOutcomes, AreOutcomesOfEach};
 ghost use Rattle.runner.specs.Terms.{AreGiven, AreGivenEach};
 ghost use Rattle.prepared_program.specs.declared.program_sites.error.RunError.TheVariants.{OutOfMemory, Stuck};
 ghost use Rattle.shared_table.specs.Seats.{Opened};
 
-use crate::laws::sides_of_hits_overlap;
+use crate::laws::law_sides_of_hits_overlap;
 use crate::result::RunResult;
 use crate::run::RunIndex;
-use crate::seated::Found;
+use crate::seated::TaskResult;
 use access_types::Report;
 use litmus_step::{Prepared, RunError, Settings};
 use litmus_syntax::Program;
-use log_correctness::reports::a_task_reports_its_own;
-use program_order::the_written_order_keeps_the_discipline;
+use log_correctness::reports::law_a_task_reports_its_own;
+use program_order::law_the_written_order_keeps_the_discipline;
 use shared_table::{SharedTable, TaskSeat};
-use soundness::laws::the_headline_holds;
+use soundness::laws::law_the_headline_holds;
 use std::alloc::{AllocError, Global};
 use task_log::TaskLog;
 
 /// What is found of all tasks, if it is of each.
 ///
-/// `Stuck`: a wait of the task had as many vain tries as are allowed, and all tasks below have made their steps.
-fn all_found(alloc: Global, outcomes: Vec<Result<Found, RunError>>) -> Result<Vec<Found>, RunError>
+/// `Stuck`: a wait of the task had as many failed tries as are allowed, and all tasks below have made their steps.
+fn all_found(
+    alloc: Global,
+    outcomes: Vec<Result<TaskResult, RunError>>,
+) -> Result<Vec<TaskResult>, RunError>
     ensures found { (run : Run) (opened : Opened) → AreOutcomes run opened (tasks_of run) outcomes.items
         → IfOk result (λ found. AreFound run opened found.items) }
     ensures stuck { (run : Run) (opened : Opened) (task : ℕ) → AreOutcomes run opened (tasks_of run) outcomes.items
-        → IsErrOf result (Stuck task) → IsInVain run task }
+        → IsErrOf result (Stuck task) → IsFailedWait run task }
     ensures smallest { (run : Run) (opened : Opened) (task : ℕ) → AreOutcomes run opened (tasks_of run) outcomes.items
         → IsErrOf result (Stuck task) → (below : ℕ) → below < task → IsThrough run below }
     ensures errors { (run : Run) (opened : Opened) → AreOutcomes run opened (tasks_of run) outcomes.items
@@ -49,7 +52,7 @@ fn all_found(alloc: Global, outcomes: Vec<Result<Found, RunError>>) -> Result<Ve
 }
 
 /// What was reported, by task.
-fn reports_of(alloc: Global, found: &[Found]) -> Result<Vec<Report>, AllocError>
+fn reports_of(alloc: Global, found: &[TaskResult]) -> Result<Vec<Report>, AllocError>
     ensures { IfOk result (λ reports. reports.items ≡ flat_map (λ one. one.reports.items) found.now) }
 {
     let mut reports = Vec::new(alloc);
@@ -61,7 +64,7 @@ fn reports_of(alloc: Global, found: &[Found]) -> Result<Vec<Report>, AllocError>
 
 /// How many calls had nothing to end, up to the largest number that there is: so the sum needs no bound on what each
 /// task counted, and never begins again at 0.
-fn calls_of(found: &[Found]) -> u64
+fn calls_of(found: &[TaskResult]) -> u64
     ensures { result ≡ calls_below found.now (length found.now) }
 {
     let mut unbalanced: u64 = 0;
@@ -80,7 +83,7 @@ struct Parts {
 }
 
 /// Takes apart what was found of each task.
-fn apart(alloc: Global, found: Vec<Found>) -> Result<Parts, AllocError>
+fn apart(alloc: Global, found: Vec<TaskResult>) -> Result<Parts, AllocError>
     ensures seats { IfOk result (λ parts. parts.seats.items ≡ map (λ one. one.seat) found.items) }
     ensures logs { IfOk result (λ parts. parts.logs.items ≡ map (λ one. one.log) found.items) }
     ensures registers { IfOk result (λ parts. parts.registers.items ≡ map (λ one. one.registers) found.items) }
@@ -102,7 +105,7 @@ fn apart(alloc: Global, found: Vec<Found>) -> Result<Parts, AllocError>
 
 /// What comes of a run of this turn, by what comes of each of its tasks on the words of this table.
 ///
-/// `Stuck`: a wait of the task had as many vain tries as are allowed; of several such tasks the smallest is named.
+/// `Stuck`: a wait of the task had as many failed tries as are allowed; of several such tasks the smallest is named.
 fn result_of(
     alloc: Global,
     program: &Program,
@@ -110,7 +113,7 @@ fn result_of(
     prepared: &Prepared,
     turn: RunIndex,
     table: SharedTable,
-    outcomes: Vec<Result<Found, RunError>>,
+    outcomes: Vec<Result<TaskResult, RunError>>,
 ) -> Result<RunResult, RunError>
     requires given { AreGiven program.now settings.now prepared.now table }
     requires outcomes { AreOutcomes (run_of program.now settings.now (sites_in prepared.now)) table
@@ -118,13 +121,13 @@ fn result_of(
     ensures once { IfOk result (IsRunOnce program.now settings.now) }
     ensures number { IfOk result (λ ran. ran.number ≡ turn.number) }
     ensures errors { IfErr result IsOfThreads }
-    ensures stuck { (task : ℕ) → IsErrOf result (Stuck task) → (sites : AccessMap) × IsInVain (run_of program.now settings.now sites) task
+    ensures stuck { (task : ℕ) → IsErrOf result (Stuck task) → (sites : AccessMap) × IsFailedWait (run_of program.now settings.now sites) task
         × ((below : ℕ) → below < task → IsThrough (run_of program.now settings.now sites) below) }
 {
-    the_written_order_keeps_the_discipline();
-    a_task_reports_its_own();
-    the_headline_holds();
-    sides_of_hits_overlap();
+    law_the_written_order_keeps_the_discipline();
+    law_a_task_reports_its_own();
+    law_the_headline_holds();
+    law_sides_of_hits_overlap();
     let found = all_found(alloc, outcomes)?;
     let reports = reports_of(alloc, found.as_slice())?;
     let unbalanced = calls_of(found.as_slice());
@@ -155,7 +158,7 @@ pub(crate) fn results_of(
     prepared: &Prepared,
     turns: &[RunIndex],
     tables: Vec<SharedTable>,
-    rows: Vec<Vec<Result<Found, RunError>>>,
+    rows: Vec<Vec<Result<TaskResult, RunError>>>,
 ) -> Result<Vec<Result<RunResult, RunError>>, AllocError>
     requires given { AreGivenEach program.now settings.now prepared.now tables.items }
     requires outcomes { AreOutcomesOfEach (run_of program.now settings.now (sites_in prepared.now)) tables.items

@@ -2,28 +2,28 @@
 use Rattle.std.proofs.Common.{◌≡◌, ◌∙◌, ◌∷◌, [], ℕ, List, ap, refl, suc, sym}
 use Rattle.litmus_semantics.specs.final_condition.Holds.{register_of, variable_of}
 use Rattle.litmus_semantics.specs.declared.final_condition.condition.Finals.{Finals}
-use Rattle.executions.specs.run_lists.Told.{history_of}
+use Rattle.executions.specs.execution.Observed.{history_of}
 use Rattle.program_order.specs.WrittenOrder.{stands_after}
 use Rattle.run_output.proofs.FinalLemmas.{all_registers_same, holds_alike, registers_same}
 use Rattle.run_output.specs.Finals.{AreAllRegisters, AreFinals, AreRegistersFrom, HoldsAtEnd, register_value, variable_value}
-use Rattle.executions.specs.run_lists.Run.{Run}
-use Rattle.executions.specs.run_lists.RunList.{RunList}
+use Rattle.executions.specs.execution.Run.{Run}
+use Rattle.executions.specs.execution.Execution.{Execution}
 use Rattle.slot_table.specs.declared.records.Record.{Record}
 use Rattle.search_output.specs.Ends.{EndTheSame}
 use Rattle.search_text.specs.States.{state_text}
 
 -- each task has the same registers where the lists end
-abbrev pub SameRegisters : {run : Run} {records others : List Record} → RunList run records → RunList run others → Type 0
+abbrev pub SameRegisters : {run : Run} {records others : List Record} → Execution run records → Execution run others → Type 0
 SameRegisters list other =
     (task : ℕ) → (stands_after (list.tasks task)).progress.registers ≡ (stands_after (other.tasks task)).progress.registers
 
 -- each variable has the same value there
-abbrev pub SameVariables : {run : Run} {records others : List Record} → RunList run records → RunList run others → Type 0
+abbrev pub SameVariables : {run : Run} {records others : List Record} → Execution run records → Execution run others → Type 0
 SameVariables {run = run} list other =
     (number : ℕ) → variable_value run.places run.program.variables (history_of list) number
     ≡ variable_value run.places run.program.variables (history_of other) number
 
-module _ {run : Run} {records others : List Record} (list : RunList run records) (other : RunList run others)
+module _ {run : Run} {records others : List Record} (list : Execution run records) (other : Execution run others)
     (registers : SameRegisters list other) (variables : SameVariables list other) where
   -- the registers of the one are those of the other
   carried_from : (from : ℕ) (all : List (List ℕ)) → AreRegistersFrom list from all → AreRegistersFrom other from all
@@ -60,7 +60,7 @@ module _ {run : Run} {records others : List Record} (list : RunList run records)
         ap (λ (values : ℕ → ℕ → ℕ). state_text run.program values (variable_of finals)) all_registers
         ∙ ap (λ (values : ℕ → ℕ). state_text run.program (register_of shown) values) all_variables
 
-pub end_the_same : {run : Run} {records others : List Record} (list : RunList run records) (other : RunList run others)
+pub end_the_same : {run : Run} {records others : List Record} (list : Execution run records) (other : Execution run others)
     → SameRegisters list other → SameVariables list other → EndTheSame list other
 end_the_same list other registers variables = record {
   states = state_same list other registers variables;

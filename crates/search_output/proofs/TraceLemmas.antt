@@ -5,8 +5,8 @@ use Rattle.std.specs.Option.{option_map}
 use Rattle.prepared_program.specs.declared.program_sites.settings.Settings.{Settings}
 use Rattle.access_types.specs.declared.report.Report.{Report}
 use Rattle.run_output.specs.Traces.{IsToBeAccepted, IsTraceOf}
-use Rattle.executions.specs.run_lists.Run.{Run}
-use Rattle.executions.specs.run_lists.RunList.{AllHaveEnded, RunList}
+use Rattle.executions.specs.execution.Run.{Run}
+use Rattle.executions.specs.execution.Execution.{AllHaveEnded, Execution}
 use Rattle.search_output.specs.Lists.{OneList}
 use Rattle.search_output.specs.Traces.{IsFirstTrace, IsTraceIfSome, IsTraceOfOne, first_reported}
 
@@ -97,7 +97,7 @@ some_of None = refl
 some_of (Some bytes) = refl
 
 -- the trace of a list that is this one
-pub traced_as : (settings : Settings) {run : Run} (one : OneList run) (list : RunList run one.records) (reports : List Report) (bytes : List ℕ)
+pub traced_as : (settings : Settings) {run : Run} (one : OneList run) (list : Execution run one.records) (reports : List Report) (bytes : List ℕ)
     → one.list ≡ list → one.reports ≡ reports → IsTraceOf settings list reports bytes → (AllHaveEnded run one.records → IsToBeAccepted bytes)
     → IsTraceOfOne settings one bytes
 traced_as settings {run} one list reports bytes same_list same_reports written accepted = record {

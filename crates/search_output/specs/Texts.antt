@@ -10,19 +10,19 @@ use Rattle.prepared_program.specs.program_layout.Places.{AreFit}
 use Rattle.prepared_program.specs.declared.program_sites.error.RunError.{RunError}
 use Rattle.prepared_program.specs.declared.program_sites.error.RunError.TheVariants.{BadPlace, BadSchedule, BadSlots, NoThread, OutOfMemory, Stuck}
 use Rattle.prepared_program.specs.declared.program_sites.settings.Settings.{Settings}
-use Rattle.executions.specs.run_lists.Run.{Run}
-use Rattle.executions.specs.run_lists.RunList.{RunList}
+use Rattle.executions.specs.execution.Run.{Run}
+use Rattle.executions.specs.execution.Execution.{Execution}
 use Rattle.run_output.specs.declared.error.EngineError.{EngineError}
 use Rattle.run_output.specs.declared.error.EngineError.TheVariants as engine
-use Rattle.context_bound.specs.searched_lists.Searched.{HasAtMostSwitches}
+use Rattle.context_bound.specs.bounded_executions.Searched.{HasAtMostPreemptions}
 use Rattle.slot_table.specs.declared.records.Record.{Record}
 use Rattle.access_types.specs.declared.report.Report.{Report}
-use Rattle.executions.specs.run_lists.Reports.{reports_of}
+use Rattle.executions.specs.execution.Reports.{reports_of}
 
--- the text of each report of a list of the run with no more switches than are allowed is among these
+-- the text of each report of a list of the run with no more preemptions than are allowed is among these
 abbrev pub AllAreTold : Run → Option ℕ → List (List ℕ) → Type 0
-AllAreTold run allowed texts = (records : List Record) (report : Report) → (list : RunList run records)
-    → IfSome allowed (λ most. HasAtMostSwitches run most records) → Contains (reports_of list) report
+AllAreTold run allowed texts = (records : List Record) (report : Report) → (list : Execution run records)
+    → IfSome allowed (λ most. HasAtMostPreemptions run most records) → Contains (reports_of list) report
     → Contains texts (report_text run.sites report)
 
 -- why a program is not searched: want of memory, too few slots or too many, or places that don't suit its variables

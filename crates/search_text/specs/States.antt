@@ -17,7 +17,8 @@ location_text program (Variable variable) = variable_name program.variables vari
 abbrev pub signed_text : ℕ → List ℕ
 signed_text value = if nat_lt value (2 ^ 63) then decimal value else codes "-" ++ decimal (2 ^ 64 - value)
 
--- the value of a location, where registers, by the numbers of their tasks and their own, and variables, by their numbers, have these
+-- the value of a location, where registers, by the numbers of their tasks and their own, and variables, by their
+-- numbers, have these
 abbrev pub value_at : (registers : ℕ → ℕ → ℕ) → (variables : ℕ → ℕ) → Location → ℕ
 value_at registers variables (Register task register) = registers task register
 value_at registers variables (Variable variable) = variables variable

@@ -6,7 +6,8 @@ use Rattle.search_text.specs.declared.found.Ending.{Ending}
 abbrev pub texts_in : List (Vec ℕ Global) → List (List ℕ)
 texts_in texts = map (λ text. text.items) texts
 
--- how a list ends after which all tasks have ended: its final state as text, and whether the proposition of the condition holds there
+-- how a list ends after which all tasks have ended: its final state as text, and whether the proposition of the
+-- condition holds there
 pub record End : Type 0 where
   pub state : List ℕ
   pub held : Bool

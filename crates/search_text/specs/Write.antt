@@ -58,17 +58,19 @@ observed held failed = line (codes " " ++ word_of held failed ++ codes " " ++ de
 abbrev pub observation_line : List ℕ → (held failed : ℕ) → List ℕ
 observation_line name held failed = codes "Observation " ++ (name ++ observed held failed)
 
--- how many schedules were searched, of those with at most so many switches, and that others remain, if they do
+-- how many schedules were searched, of those with at most so many preemptions, and that others remain, if they do
 abbrev pub bounds_text : (searched switches : ℕ) → (stopped : Bool) → List ℕ
 bounds_text searched switches stopped = searched_line searched switches ++ stopped_text stopped searched
 
--- how whole lists end: how many final states there are, each of them, and in how many the proposition of the condition holds, and doesn't
+-- how whole lists end: how many final states there are, each of them, and in how many the proposition of the condition
+-- holds, and doesn't
 abbrev pub endings_text : (name : List ℕ) → (states : List Sighting) → (held failed : ℕ) → List ℕ
 endings_text name states held failed =
     states_line (length states) ++ (flat_map state_line states ++ observation_line name held failed)
 
--- What a search over the schedules of the test of this name writes, with at most so many switches, stopped at its limit or not: each
--- distinct report and in how many lists it was seen; in how many not all tasks ended; how many lists were searched; and how the others end.
+-- What a search over the schedules of the test of this name writes, with at most so many preemptions, stopped at its
+-- limit or not: each distinct report and in how many lists it was seen; in how many not all tasks ended; how many lists
+-- were searched; and how the others end.
 abbrev pub found_text : (name : List ℕ) → (switches : ℕ) → (stopped : Bool) → (reports : List Sighting) → (stuck : Option Times)
     → (states : List Sighting) → (searched held failed : ℕ) → List ℕ
 found_text name switches stopped reports stuck states searched held failed =
@@ -114,9 +116,10 @@ abbrev pub deadlock_text : Option Times → List ℕ
 deadlock_text None = []
 deadlock_text (Some times) = codes "stuck, " ++ first_line times.1
 
--- What a search over the states of the test of this name writes, stopped at its limit or not: each distinct report and the schedule of the
--- first list in which it was seen; that of the first after which not all tasks have ended; how many states were searched; and how the others
--- end. No lists are counted: which of the lists that lead to a state is visited says nothing.
+-- What a search over the states of the test of this name writes, stopped at its limit or not: each distinct report and
+-- the schedule of the first list in which it was seen; that of the first after which not all tasks have ended; how many
+-- states were searched; and how the others end. No lists are counted: which of the lists that lead to a state is
+-- visited says nothing.
 abbrev pub states_text : (name : List ℕ) → (stopped : Bool) → (visited : ℕ) → (reports : List Sighting) → (stuck : Option Times)
     → (states : List Sighting) → (held failed : ℕ) → List ℕ
 states_text name stopped visited reports stuck states held failed =

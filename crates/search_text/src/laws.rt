@@ -9,13 +9,13 @@ ghost use Rattle.option_lists.specs.step_schedule.Spelling.{Spells};
 ghost use Rattle.option_lists.specs.declared.step_schedule.schedule.Entry as entries;
 
 /// Law: a schedule that is written is read back.
-pub fn schedules_are_read_back()
+pub fn law_schedules_are_read_back()
     ensures { (schedule : List entries.Entry) → All (λ entry. (entry.task < 2 ^ 64) × (entry.steps < 2 ^ 64)) schedule
         → Spells (schedule_text schedule) schedule }
 {}
 
 /// Law: where no two lists have one final state, each final state is counted once.
-pub fn states_are_counted_once()
+pub fn law_states_are_counted_once()
     ensures { (lists : List Searched) → IsDistinct is_text (flat_map states_of lists)
         → All (λ sighting. sighting.1.0 ≡ 1) (sightings_in states_of lists) }
 {}

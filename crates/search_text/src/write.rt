@@ -15,7 +15,8 @@ use option_lists::step_schedule::Entry;
 use report_text::pieces::{Piece, write_pieces};
 use report_text::{Sink, WriteError, write_all};
 
-/// Which schedules were searched: those with at most so many switches, all of them or as many as there may be at most.
+/// Which schedules were searched: those with at most so many preemptions, all of them or as many as there may be at
+/// most.
 #[derive(Clone, Copy, PartialEq, Eq)]
 pub struct Asked {
     pub switches: u64,
@@ -224,7 +225,7 @@ fn write_observation<K: Sink>(
     write_observed(sink, held, failed)
 }
 
-/// Writes how many lists were searched, of those with at most so many switches, and that others remain, if they do.
+/// Writes how many lists were searched, of those with at most so many preemptions, and that others remain, if they do.
 fn write_bounds<K: Sink>(sink: &mut K, searched: u64, asked: Asked) -> Result<(), WriteError>
     ensures { Writes K.written K.failures result (bounds_text searched asked.switches asked.stopped) sink.old sink.new }
 {

@@ -16,10 +16,10 @@ use Rattle.setup_access.specs.Shown.{context_of, outcomes_of}
 use Rattle.setup_access.specs.Waiting.{stage_wait}
 use Rattle.setup_access.specs.declared.begun.Begun.{Begun}
 use Rattle.setup_access.specs.declared.checker.Checker.{Checker}
-use Rattle.setup_access.specs.declared.stage.Stage.{Stage}
+use Rattle.setup_access.specs.declared.stage.CheckStage.{CheckStage}
 
 -- what the records lead to, where it stands at this stage
-abbrev Left : spec.Setting → List Begun → Doing → ℕ → List Record → ℕ → List Fallen → Stage → Type 0
+abbrev Left : spec.Setting → List Begun → Doing → ℕ → List Record → ℕ → List Fallen → CheckStage → Type 0
 Left s scopes doing asked records now fallen stage = (later : List Record) (passes : Passes) → Does s scopes doing asked (records ++ later) passes
     ↔ ((more : Passes) × StageLeft s scopes stage now later more × (passes ≡ record { outcomes = followed later fallen ++ more.outcomes; asked = more.asked }))
 
@@ -79,7 +79,7 @@ module _ (checker copy : Checker) (same : IsCopy checker copy) where
     fallen = leads.fallen;
     outcomes = same.outcomes ∙ leads.outcomes;
     falls = leads.falls;
-    left = subst (λ (stage : Stage). Left s scopes doing asked records leads.now leads.fallen stage) (sym same.stage) leads.left;
+    left = subst (λ (stage : CheckStage). Left s scopes doing asked records leads.now leads.fallen stage) (sym same.stage) leads.left;
   }
 
   pub copies_are_complete : (s : spec.Setting) (scopes : List Begun) (doing : Doing) (asked : ℕ) (records : List Record)

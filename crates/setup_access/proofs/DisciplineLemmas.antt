@@ -1,4 +1,5 @@
--- Step by step: what is in hand after each part of a check is what the next part may go on from. Each lemma is told how to go on.
+-- Step by step: what is in hand after each part of a check is what the next part may go on from. Each lemma is told how
+-- to go on.
 use Rattle.std.proofs.Common.{◌≡◌, ◌<◌, ◌∙◌, ◌∷◌, ◌+◌, ◌++◌, ◌||◌, [], ℕ, Bool, IsTrue, reverse, true, false, List, Option, None, Some, MatchBool, MatchOption, ap, inl, inr, refl, subst, sym}
 use Rattle.std.proofs.lemmas.Bool.{eq-eqb}
 use Rattle.std.proofs.lemmas.List.{append_assoc, append-nil, reverse-append}
@@ -19,7 +20,7 @@ use Rattle.watch_word.specs.declared.layout.Layout.{Layout}
 use Rattle.setup_access.specs.Check as cases
 use Rattle.setup_access.specs.Check.{Check, ChecksOnce, Close, Ends, GoesOn, NoneFound, Pass, Passes, Rechecks, left_to_check}
 use Rattle.setup_access.specs.Find.{LooksUp}
-use Rattle.setup_access.specs.Found.{FoundWatchpoint, Hears, Takes, Tells, finder_half, setter_half}
+use Rattle.setup_access.specs.Found.{FoundWatchpoint, Hears, Takes, FinderTells, finder_half, setter_half}
 use Rattle.setup_access.specs.MadeOfChecks as shapes
 use Rattle.setup_access.specs.MadeOfChecks.{FreesHeldLocks, IsBesides, MadeOfChecks}
 use Rattle.setup_access.specs.OwnAccesses.{AreOwn, IsOwn}
@@ -35,7 +36,8 @@ use Rattle.setup_access.specs.declared.outcome.Outcome.TheVariants.{Lost, Nothin
 use Rattle.setup_access.specs.declared.outcome.Watchpoint.{Watchpoint}
 use Rattle.setup_access.specs.declared.source.Source.{Source}
 
--- each of the records, the oldest first, is a step that the task may make after its own ones before it, the latest of those first
+-- each of the records, the oldest first, is a step that the task may make after its own ones before it, the latest of
+-- those first
 abbrev pub KeepsFrom : ℕ → List Record → List Record → Type 0
 KeepsFrom task earlier [] = Unit {0}
 KeepsFrom task earlier (first ∷ later) = Allows task earlier first.step × KeepsFrom task (first ∷ earlier) later
@@ -150,7 +152,7 @@ looks_up s a (index ∷ indices) records found rest earlier free h on =
 
 module _ (s : Setting) (a : Access) (own_ticket : IsOwnTicket s.task (ticket_number a)) where
   -- a finder that took hears its setter and tells
-  tells : (index word : ℕ) (records : List Record) (outcome : Outcome) (rest earlier : List Record) → HasPart index (parts.Taken word) earlier → Tells s a index records outcome rest
+  tells : (index word : ℕ) (records : List Record) (outcome : Outcome) (rest earlier : List Record) → HasPart index (parts.Taken word) earlier → FinderTells s a index records outcome rest
       → ((own : List Record) → in_hand own ≡ None → Good s.task own rest) → Good s.task earlier records
   tells index word records outcome rest earlier has h on =
       hears setter_half s.task index records h.0 h.1 earlier _ has h.2 (λ own is both above.
@@ -159,7 +161,7 @@ module _ (s : Setting) (a : Access) (own_ticket : IsOwnTicket s.task (ticket_num
 
   -- a try
   tried : (found : Watchpoint) (taken : Bool) (records : List Record) (outcome : Outcome) (rest earlier : List Record) (gone : Outcome) → in_hand earlier ≡ None
-      → MatchBool taken (Tells s a found.index records outcome rest) ((outcome ≡ gone) × (rest ≡ records))
+      → MatchBool taken (FinderTells s a found.index records outcome rest) ((outcome ≡ gone) × (rest ≡ records))
       → ((own : List Record) → in_hand own ≡ None → Good s.task own rest)
       → Good s.task (made s.task (TryConsume found.index found.word) (answers.Flag taken) ∷ earlier) records
   tried found true records outcome rest earlier gone free h on = tells found.index found.word records outcome rest (made s.task (TryConsume found.index found.word) (answers.Flag true) ∷ earlier) refl h on

@@ -1,4 +1,5 @@
--- Each outcome falls at one of the records: each part of a check reads a beginning of them, and its outcome falls at the last record that it reads.
+-- Each outcome falls at one of the records: each part of a check reads a beginning of them, and its outcome falls at
+-- the last record that it reads.
 use Rattle.std.proofs.Common.{◌≡◌, ◌∙◌, ◌∷◌, ◌+◌, ◌++◌, ◌||◌, [], ℕ, Bool, true, false, List, Option, None, Some}
 use Rattle.std.proofs.Common.{IsSome, MatchBool, MatchOption, ap, append_assoc, drop, inl, inr, is_some, refl, subst, sym}
 use Rattle.std.proofs.Common.{◌<◌, zero, suc, arith, if◌then◌else◌}
@@ -16,7 +17,7 @@ use Rattle.setup_access.specs.Checker.{RoleLeft, StageLeft}
 use Rattle.setup_access.specs.FallsAt.{AllFallIn, EndsLookUp, FallsAt, FallsIn, GivesAt, TakingFalls, WatchingFalls}
 use Rattle.setup_access.specs.Due.{extended}
 use Rattle.setup_access.specs.Fallen.{followed}
-use Rattle.setup_access.specs.Found.{Hears, Takes, Tells, TellsTo, finder_half, setter_half}
+use Rattle.setup_access.specs.Found.{Hears, Takes, FinderTells, TellsTo, finder_half, setter_half}
 use Rattle.setup_access.specs.Hits.{Hits}
 use Rattle.setup_access.specs.Parts.{FindLeft, SetupLeft, after_refusal, left_to_try, made}
 use Rattle.slot_table.specs.index_order.Indices.{look_index, place_after, try_index}
@@ -45,8 +46,8 @@ use Rattle.setup_access.specs.declared.setup.Watching.TheVariants as watchings
 use Rattle.setup_access.specs.declared.source.Source.{Source}
 use Rattle.setup_access.specs.declared.stage.Role.{Role}
 use Rattle.setup_access.specs.declared.stage.Role.TheVariants as roles
-use Rattle.setup_access.specs.declared.stage.Stage.{Stage}
-use Rattle.setup_access.specs.declared.stage.Stage.TheVariants as stages
+use Rattle.setup_access.specs.declared.stage.CheckStage.{CheckStage}
+use Rattle.setup_access.specs.declared.stage.CheckStage.TheVariants as stages
 use Rattle.setup_access.proofs.DisciplineLemmas.{on_flag, on_halves, on_word, record_is}
 
 -- the records end with these
@@ -184,7 +185,7 @@ module _ (s : Setting) (a : Access) where
         last_now Falls first later rest
         (as_known _ first h.2.1.0 (index, record_is first s.task (Tell index (ticket_number a)) answers.Done h.0 h.1 h.2.0, refl)) h.2.1.1
 
-    tells_last : (index : ℕ) (records rest : List Record) → Tells s a index records outcome rest → EndsAfter Falls records rest
+    tells_last : (index : ℕ) (records rest : List Record) → FinderTells s a index records outcome rest → EndsAfter Falls records rest
     tells_last index records rest h =
         last_after Falls records h.1 rest
         (past_last (HeardAt setter_half index h.0) records h.1 (hears_last setter_half index records h.0 h.1 h.2))
@@ -196,7 +197,7 @@ module _ (s : Setting) (a : Access) where
         let got = flag_made s.task (TryConsume found.index found.word) first _ h in by_flag got.0 got.1 got.2
       where
         by_flag : (taken : Bool) → first ≡ made s.task (TryConsume found.index found.word) (answers.Flag taken)
-            → MatchBool taken (Tells s a found.index later outcome rest) ((outcome ≡ Lost) × (rest ≡ later)) → EndsAfter Falls (first ∷ later) rest
+            → MatchBool taken (FinderTells s a found.index later outcome rest) ((outcome ≡ Lost) × (rest ≡ later)) → EndsAfter Falls (first ∷ later) rest
         by_flag true is h = last_later Falls first later rest (tells_last found.index later rest h)
         by_flag false is h = last_now Falls first later rest (as_known Lost first h.0 (found.index, found.word, is)) h.1
 
@@ -497,7 +498,7 @@ module _ (s : Setting) where
   role_come scopes roles.Closing settled asked records passes h = subst (λ (p : Passes). AllFallIn s records p.outcomes) (sym h.0) tt
 
   -- what is still given falls at what is left
-  pub stage_come : (scopes : List Begun) (stage : Stage) (asked : ℕ) (records : List Record) (passes : Passes)
+  pub stage_come : (scopes : List Begun) (stage : CheckStage) (asked : ℕ) (records : List Record) (passes : Passes)
       → StageLeft s scopes stage asked records passes → AllFallIn s records passes.outcomes
   stage_come scopes stages.Rest asked records passes h = subst (λ (p : Passes). AllFallIn s records p.outcomes) (sym h.0) tt
   stage_come scopes (stages.Begin begun) asked records passes h = (stamped_come scopes begun asked records passes [] h).0
@@ -516,8 +517,8 @@ module _ (s : Setting) where
 
   pub heard_falls : (a : Access) (index setter more : ℕ) (result : Taking) (last : Record) → (setter ≡ 0 → result ≡ takings.Going (founds.HearSetter index more))
       → (0 < setter → result ≡ takings.Going (founds.Tell index setter)) → TakingFalls s a result last
-  heard_falls a index zero more result last vain stands = subst (λ (t : Taking). TakingFalls s a t last) (sym (vain refl)) tt
-  heard_falls a index (suc n) more result last vain stands =
+  heard_falls a index zero more result last failed stands = subst (λ (t : Taking). TakingFalls s a t last) (sym (failed refl)) tt
+  heard_falls a index (suc n) more result last failed stands =
       let above : 0 < suc n = omega arith in subst (λ (t : Taking). TakingFalls s a t last) (sym (stands above)) tt
 
   -- an insertion, and the consume

@@ -34,8 +34,8 @@ use Rattle.setup_access.specs.declared.pass.Pass.{Pass}
 use Rattle.setup_access.specs.declared.pass.Transition.{Transition}
 use Rattle.setup_access.specs.declared.setting.Setting as code
 use Rattle.setup_access.specs.declared.stage.Role.{Role}
-use Rattle.setup_access.specs.declared.stage.Stage.{Stage}
-use Rattle.setup_access.specs.declared.stage.Stage.TheVariants as stages
+use Rattle.setup_access.specs.declared.stage.CheckStage.{CheckStage}
+use Rattle.setup_access.specs.declared.stage.CheckStage.TheVariants as stages
 use Rattle.setup_access.proofs.FallLemmas.{falls_extended, falls_followed}
 use Rattle.setup_access.proofs.PassLemmas.{through}
 use Rattle.setup_access.proofs.WaitLemmas.{wait_after_one}
@@ -57,7 +57,7 @@ abbrev pub after : List Fallen → Passes → Passes
 after outcomes more = record { outcomes = outcomes ++ more.outcomes; asked = more.asked }
 
 -- what a stage still gives, after the outcomes so far
-abbrev pub Still : Setting → List Begun → Stage → ℕ → List Fallen → List Record → Passes → Type 0
+abbrev pub Still : Setting → List Begun → CheckStage → ℕ → List Fallen → List Record → Passes → Type 0
 Still s scopes stage now outcomes records passes = (more : Passes) × StageLeft s scopes stage now records more × (passes ≡ after outcomes more)
 
 -- what has fallen, where more records follow
@@ -133,7 +133,7 @@ leads_first s scopes doing asked checker setting in_force own samples none last 
       (λ h. (passes, (does later passes).0 h, refl), λ h. subst (λ p. Does s scopes doing asked later p) (sym h.2) ((does later h.0).1 h.1));
 }
 
-module _ (s : Setting) (scopes : List Begun) (role : Role) (begun : Begun) (pass : Pass) (turn : Transition) (stage : Stage) (then now : ℕ) (first : Record) (later : List Record)
+module _ (s : Setting) (scopes : List Begun) (role : Role) (begun : Begun) (pass : Pass) (turn : Transition) (stage : CheckStage) (then now : ℕ) (first : Record) (later : List Record)
     (left : (given : Given) (rest : List Record) → PassLeft s begun pass then (first ∷ later) given rest ↔ TurnLeft s begun turn now later given rest)
     (leads : (passes : Passes) → ToRoleLeft s scopes turn.to role begun now later passes ↔ StageLeft s scopes stage now later passes) where
   -- an outcome that a turn gives goes to those so far
@@ -185,7 +185,7 @@ said : (s : Setting) (checker : Checker) (step : Step) → setting_with checker.
 said s checker step setting says = subst (λ (t : Setting). stage_step t checker.stage ≡ Some step) setting (says s.sites)
 
 -- an answer to the step that the checker is before is of the kind of this one, if that is what its stage says
-pub said_kind : (checker : Checker) (sites : AccessMap) (stage : Stage) (step other : Step) (answer : Answer) → checker.stage ≡ stage → Says checker step → Answers step answer
+pub said_kind : (checker : Checker) (sites : AccessMap) (stage : CheckStage) (step other : Step) (answer : Answer) → checker.stage ≡ stage → Says checker step → Answers step answer
     → stage_step (setting_with checker.setting sites) stage ≡ Some other → Answers other answer
 said_kind checker sites stage step other answer is says kind here =
     let there : stage_step (setting_with checker.setting sites) stage ≡ Some step = subst (λ x. stage_step (setting_with checker.setting sites) x ≡ Some step) is (says sites) in

@@ -7,7 +7,7 @@ pub mod SetupLemmas
 pub mod PassLemmas
 pub mod StageLemmas
 pub mod WaitLemmas
-pub mod VainLemmas
+pub mod FailedTryLemmas
 pub mod LeadsLemmas
 pub mod Copies
 pub mod NextLemmas

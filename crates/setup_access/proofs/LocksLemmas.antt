@@ -1,4 +1,5 @@
--- A check touches no lock: what holds of the records after it, and of a list with one more step in front that is none of a lock, holds of its records.
+-- A check touches no lock: what holds of the records after it, and of a list with one more step in front that is none
+-- of a lock, holds of its records.
 use Rattle.std.proofs.Common.{◌||◌, [], ◌∷◌, ℕ, Bool, List, subst, sym}
 use Rattle.slot_table.specs.declared.records.Record.{Record}
 use Rattle.slot_table.specs.declared.step.Step.{Step}

@@ -13,7 +13,7 @@ use Rattle.setup_access.specs.Check.{Fallen, Passes}
 use Rattle.setup_access.specs.Checker.{Does, Doing, StageLeft}
 use Rattle.setup_access.specs.Fallen.{followed}
 use Rattle.setup_access.specs.Kept.{setting_with}
-use Rattle.setup_access.specs.Leads.{GoOn, IsComplete, IsDone, IsOver, Leads, OnlyStep, Rests, stage_step}
+use Rattle.setup_access.specs.Leads.{GoOn, IsComplete, IsDone, IsCheckOver, Leads, OnlyStep, Rests, stage_step}
 use Rattle.setup_access.specs.Parts.{FindLeft, FoundLeft, SetupLeft, find_step, found_step, setup_step}
 use Rattle.setup_access.specs.PassLeft.{Given, PassLeft, pass_step}
 use Rattle.setup_access.specs.Records.{OnFlag, OnHalves, OnWord}
@@ -32,8 +32,8 @@ use Rattle.slot_table.specs.declared.index_order.place.ProbeIndex.{ProbeIndex}
 use Rattle.slot_table.specs.declared.index_order.place.ProbeIndex.TheVariants.{First, Second, Third}
 use Rattle.setup_access.specs.declared.setup.Setup.{Setup}
 use Rattle.setup_access.specs.declared.setup.Setup.TheVariants as setups
-use Rattle.setup_access.specs.declared.stage.Stage.{Stage}
-use Rattle.setup_access.specs.declared.stage.Stage.TheVariants as stages
+use Rattle.setup_access.specs.declared.stage.CheckStage.{CheckStage}
+use Rattle.setup_access.specs.declared.stage.CheckStage.TheVariants as stages
 use Rattle.setup_access.proofs.LeadsLemmas.{outcomes_followed}
 
 -- the kind of an answer of which something holds
@@ -105,7 +105,7 @@ pass_goes s begun (parts.Remove index) asked (first ∷ later) given rest h = (h
 known_step : (a b : Step) → Some a ≡ Some b → a ≡ b
 known_step a b e = cc
 
-stage_goes : (s : Setting) (scopes : List Begun) (stage : Stage) (now : ℕ) (records : List Record) (more : Passes) (step : Step)
+stage_goes : (s : Setting) (scopes : List Begun) (stage : CheckStage) (now : ℕ) (records : List Record) (more : Passes) (step : Step)
     → StageLeft s scopes stage now records more → stage_step s stage ≡ Some step → GoOn s.task step records
 stage_goes s scopes stages.Rest now records more step h is = absurd (let no : None ≡ Some step = is in cc)
 stage_goes s scopes (stages.Begin begun) now [] more step h is = h
@@ -146,14 +146,14 @@ complete_at_rest s scopes doing asked records checker leads rests =
 
 -- where the records are all of what is done, the checker rests
 rests_where_done : (s : Setting) (scopes : List Begun) (doing : Doing) (asked : ℕ) (records : List Record) (checker : Checker)
-    → Leads s scopes doing asked records checker → IsDone s scopes doing asked records → (stage : Stage) → checker.stage ≡ stage → checker.stage ≡ stages.Rest
+    → Leads s scopes doing asked records checker → IsDone s scopes doing asked records → (stage : CheckStage) → checker.stage ≡ stage → checker.stage ≡ stages.Rest
 rests_where_done s scopes doing asked records checker leads done stage is = by_step (stage_step s checker.stage) refl
   where
     none_left : (step : Step) → stage_step s checker.stage ≡ Some step → ⊥
     none_left step says = only_step s scopes doing asked records checker step leads says [] done.0
         (subst (λ (r : List Record). Does s scopes doing asked r done.0) (sym (append-nil records)) done.1)
 
-    at_rest : (there : Stage) → checker.stage ≡ there → stage_step s checker.stage ≡ None → checker.stage ≡ stages.Rest
+    at_rest : (there : CheckStage) → checker.stage ≡ there → stage_step s checker.stage ≡ None → checker.stage ≡ stages.Rest
     at_rest stages.Rest there none = there
     at_rest (stages.Begin begun) there none = absurd (let no : stage_step s (stages.Begin begun) ≡ None = subst (λ x. stage_step s x ≡ None) there none in cc)
     at_rest (stages.Check role begun pass) there none = absurd (let no : stage_step s (stages.Check role begun pass) ≡ None = subst (λ x. stage_step s x ≡ None) there none in cc)
@@ -170,18 +170,18 @@ complete_where_done s scopes doing asked records checker leads done =
     complete_at_rest s scopes doing asked records checker leads (rests_where_done s scopes doing asked records checker leads done checker.stage refl)
 
 -- unless the records are stuck, there is no step exactly where they are over
-pub over_where_none : (s : Setting) (scopes : List Begun) (doing : Doing) (asked : ℕ) (records : List Record) (checker : Checker) (stage : Stage)
+pub over_where_none : (s : Setting) (scopes : List Begun) (doing : Doing) (asked : ℕ) (records : List Record) (checker : Checker) (stage : CheckStage)
     → Leads s scopes doing asked records checker → checker.stage ≡ stage → ¬ IsStuckBy s.rules.turns records
-    → (IsNone (stage_step s stage) ↔ IsOver s scopes doing asked records)
+    → (IsNone (stage_step s stage) ↔ IsCheckOver s scopes doing asked records)
 over_where_none s scopes doing asked records checker stage leads is going = (rest_over stage is, over_rest)
   where
-    rest_over : (there : Stage) → checker.stage ≡ there → IsNone (stage_step s there) → IsOver s scopes doing asked records
+    rest_over : (there : CheckStage) → checker.stage ≡ there → IsNone (stage_step s there) → IsCheckOver s scopes doing asked records
     rest_over stages.Rest there none = inl (let complete = complete_at_rest s scopes doing asked records checker leads there in (_, complete.does))
     rest_over (stages.Begin begun) there none = absurd (let no : true ≡ false = none in cc)
     rest_over (stages.Check role begun pass) there none = absurd (let no : true ≡ false = none in cc)
     rest_over stages.End there none = absurd (let no : true ≡ false = none in cc)
 
-    over_rest : IsOver s scopes doing asked records → IsNone (stage_step s stage)
+    over_rest : IsCheckOver s scopes doing asked records → IsNone (stage_step s stage)
     over_rest (inl done) =
         let rests : stage ≡ stages.Rest = sym is ∙ rests_where_done s scopes doing asked records checker leads done stage is in
         subst (λ x. IsNone (stage_step s x)) (sym rests) refl
@@ -200,7 +200,7 @@ module _ (s : Setting) (scopes : List Begun) (checker : Checker) (result : Optio
       by_step (Some step) there = only_step s scopes doing asked records checker step leads (sym there)
 
   -- there is none exactly where the records are over, unless they are stuck
-  pub next_over : (doing : Doing) (asked : ℕ) (records : List Record) → Leads s scopes doing asked records checker → ¬ IsStuckBy s.rules.turns records → (IsNone result ↔ IsOver s scopes doing asked records)
+  pub next_over : (doing : Doing) (asked : ℕ) (records : List Record) → Leads s scopes doing asked records checker → ¬ IsStuckBy s.rules.turns records → (IsNone result ↔ IsCheckOver s scopes doing asked records)
   next_over doing asked records leads going =
       rw (in_setting leads.setting) (over_where_none s scopes doing asked records checker checker.stage leads refl going)
 

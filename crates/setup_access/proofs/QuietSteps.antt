@@ -12,7 +12,7 @@ use Rattle.watch_word.specs.Word.{word_of}
 use Rattle.setup_access.specs.Check as cases
 use Rattle.setup_access.specs.Check.{ChecksOnce, Ends, GoesOn, NoneFound, Pass, Passes, Rechecks}
 use Rattle.setup_access.specs.Find.{LooksUp}
-use Rattle.setup_access.specs.Found.{Hears, Takes, Tells, finder_half, setter_half}
+use Rattle.setup_access.specs.Found.{Hears, Takes, FinderTells, finder_half, setter_half}
 use Rattle.setup_access.specs.Records.{MakesDone, MakesFlag, MakesWord, OnFlag, OnHalves, OnWord}
 use Rattle.setup_access.specs.Setting.{Setting, look_order, slot_of, try_order}
 use Rattle.setup_access.specs.Setup.{Arms, Frees, Judged, Judges, TriesInsert, WatchesAt}
@@ -92,7 +92,7 @@ module _ (P : List Record → Type 0) (before : (first : Record) (later : List R
     | inr miss ↦ looks_up s a indices later found rest miss.1 p
   ])
 
-  tells : (s : Setting) (a : Access) (index : ℕ) (records : List Record) (outcome : Outcome) (rest : List Record) → Tells s a index records outcome rest
+  tells : (s : Setting) (a : Access) (index : ℕ) (records : List Record) (outcome : Outcome) (rest : List Record) → FinderTells s a index records outcome rest
       → P rest → P records
   tells s a index records outcome rest h p =
       hears setter_half s.task index records h.0 h.1 h.2 (step_done s.task (Tell index (ticket_number a)) _ h.1 tt h.3 (λ later got. ends later rest got.1 p))

@@ -20,7 +20,7 @@ use Rattle.setup_access.specs.declared.setup.Setup.TheVariants as setups
 use Rattle.setup_access.specs.declared.setup.Watching.{Watching}
 use Rattle.setup_access.specs.declared.setup.Watching.TheVariants as watchings
 use Rattle.setup_access.specs.declared.source.Source.{Source}
-use Rattle.setup_access.proofs.FoundLemmas.{hears_now, hears_vain}
+use Rattle.setup_access.proofs.FoundLemmas.{hears_now, hears_failed}
 use Rattle.setup_access.proofs.VerdictsUnique.{hit_unique, untouched_unique}
 
 module _ (s : Setting) (a : Access) (later : List Record) (judged : Option Judged) (rest : List Record) where
@@ -136,13 +136,13 @@ module _ (s : Setting) (a : Access) (index : ℕ) (later rest : List Record) whe
   consumed_left values false result judged over on = rw (on refl) (λ h. (h.0, h.1.2, h.2), λ h. (h.0, (refl, refl, h.1), h.2))
 
   -- the setter read the pair, and the finder's half was empty
-  pub vain_left : (values : Option (ℕ × ℕ)) (setter finder : ℕ) (judged : Option Judged) → finder ≡ 0
+  pub failed_left : (values : Option (ℕ × ℕ)) (setter finder : ℕ) (judged : Option Judged) → finder ≡ 0
       → (JudgedAt index (JudgesHit s a index values) (made s.task (steps.PairLoad index) (answers.Halves setter finder) ∷ later) judged rest
       ↔ JudgedAt index (JudgesHit s a index values) later judged rest)
-  vain_left values setter finder judged empty =
+  failed_left values setter finder judged empty =
       let heard : Halves = record { setter = setter; finder = finder } in (
-        λ h. (h.0, (h.1.0, (hears_vain finder_half s.task index heard later h.1.0 rest empty).0 h.1.1, h.1.2), h.2),
-        λ h. (h.0, (h.1.0, (hears_vain finder_half s.task index heard later h.1.0 rest empty).1 h.1.1, h.1.2), h.2),
+        λ h. (h.0, (h.1.0, (hears_failed finder_half s.task index heard later h.1.0 rest empty).0 h.1.1, h.1.2), h.2),
+        λ h. (h.0, (h.1.0, (hears_failed finder_half s.task index heard later h.1.0 rest empty).1 h.1.1, h.1.2), h.2),
       )
 
   -- the finder's half stood: there is the verdict for two sides

@@ -13,7 +13,7 @@ use Rattle.setup_access.specs.declared.pass.Pass.TheVariants as parts
 use Rattle.slot_table.specs.declared.index_order.place.ProbeIndex.TheVariants.{First}
 use Rattle.setup_access.specs.declared.stage.Role.{Role}
 use Rattle.setup_access.specs.declared.stage.Role.TheVariants as roles
-use Rattle.setup_access.specs.declared.stage.Stage.TheVariants as stages
+use Rattle.setup_access.specs.declared.stage.CheckStage.TheVariants as stages
 use Rattle.setup_access.proofs.PassLemmas.{through}
 
 pub not_true : (b : Bool) → not b ≡ true → b ≡ false

@@ -1,4 +1,4 @@
--- What an answer makes of a wait, in the definition and in the code's count of vain tries.
+-- What an answer makes of a wait, in the definition and in the code's count of failed tries.
 use Rattle.std.proofs.Common.{◌≡◌, ◌<◌, ◌≤◌, ◌+◌, ◌-◌, ◌^◌, ◌↔◌, ◌∷◌, ◌++◌, ◌∙◌, [], ℕ, zero, suc}
 use Rattle.std.proofs.Common.{Bool, true, false, List, Option, None, Some, IsSomeAnd, min, ap, refl, subst, sym, arith, if◌then◌else◌}
 use Rattle.slot.specs.Pair.{Halves}
@@ -47,11 +47,11 @@ module _ (half : Halves → ℕ) (tries setter finder : ℕ) where
   abbrev pub heard : Halves
   heard = record { setter = setter; finder = finder }
 
-  -- the half was empty: the wait goes on with one vain try more
-  pub vain_counts : (wait : Option Wait) → Some (record { half = half; tries = tries }) ≡ capped wait → half heard ≡ 0
+  -- the half was empty: the wait goes on with one failed try more
+  pub failed_counts : (wait : Option Wait) → Some (record { half = half; tries = tries }) ≡ capped wait → half heard ≡ 0
       → Some (record { half = half; tries = min (tries + 1) (2 ^ 64 - 1) }) ≡ capped (after_load wait (Heard setter finder))
-  vain_counts None is empty = absurd (let no : Some (record { half = half; tries = tries }) ≡ None = is in cc)
-  vain_counts (Some wait) is empty =
+  failed_counts None is empty = absurd (let no : Some (record { half = half; tries = tries }) ≡ None = is in cc)
+  failed_counts (Some wait) is empty =
       let same : half ≡ wait.half = ap half_in is in
       let count : tries ≡ min wait.tries (2 ^ 64 - 1) = ap tries_in is in
       let here : wait.half heard ≡ 0 = subst (λ (h : Halves → ℕ). h heard ≡ 0) same empty in
@@ -74,9 +74,9 @@ module _ (half : Halves → ℕ) (tries setter finder : ℕ) where
 pub heard_setter_counts : (index tries setter finder : ℕ) (result : Taking) (wait : Option Wait) → Some (record { half = setter_half; tries = tries }) ≡ capped wait
     → (setter ≡ 0 → result ≡ takings.Going (HearSetter index (min (tries + 1) (2 ^ 64 - 1)))) → (0 < setter → result ≡ takings.Going (Tell index setter))
     → taking_wait result ≡ capped (after_load wait (Heard setter finder))
-heard_setter_counts index tries zero finder result wait is vain stands =
-    ap taking_wait (vain refl) ∙ vain_counts setter_half tries 0 finder wait is refl
-heard_setter_counts index tries (suc n) finder result wait is vain stands =
+heard_setter_counts index tries zero finder result wait is failed stands =
+    ap taking_wait (failed refl) ∙ failed_counts setter_half tries 0 finder wait is refl
+heard_setter_counts index tries (suc n) finder result wait is failed stands =
     let above : 0 < suc n = omega arith in
     ap taking_wait (stands above) ∙ heard_counts setter_half tries (suc n) finder wait is above
 

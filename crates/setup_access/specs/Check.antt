@@ -15,13 +15,15 @@ use Rattle.setup_access.specs.declared.outcome.Outcome.{Outcome}
 use Rattle.setup_access.specs.declared.outcome.Outcome.TheVariants.{Capacity, Nothing, Unencodable}
 use Rattle.setup_access.specs.declared.outcome.Watchpoint.{Watchpoint}
 
--- an outcome that has fallen: the access that it is of, what it is, and the records that follow on the one at which it fell
+-- an outcome that has fallen: the access that it is of, what it is, and the records that follow on the one at which it
+-- fell
 pub record Fallen : Type 0 where
   pub access : Access
   pub outcome : Outcome
   pub later : List Record
 
--- what checking an access once comes to: its outcome, the records that follow on the one at which it falls, whether a watchpoint was found or set up, and how often the task's sampler has been asked by then
+-- what checking an access once comes to: its outcome, the records that follow on the one at which it falls, whether a
+-- watchpoint was found or set up, and how often the task's sampler has been asked by then
 pub record Pass : Type 0 where
   pub outcome : Outcome
   pub later : List Record
@@ -38,7 +40,8 @@ Ends s asked None records pass rest = (pass ≡ record { outcome = Capacity; lat
 Ends s asked (Some judged) records pass rest =
     (pass ≡ record { outcome = judged.outcome; later = records; settled = true; asked = asked }) × Frees s judged.index records rest
 
--- no watchpoint was found. An access that counts as marked asks nothing; another asks the sampler, and where it is watched sets a watchpoint up, if a word can stand for it
+-- no watchpoint was found. An access that counts as marked asks nothing; another asks the sampler, and where it is
+-- watched sets a watchpoint up, if a word can stand for it
 pub data NoneFound (s : Setting) (a : Access) (marked : Bool) (asked : ℕ) (records : List Record) (pass : Pass) (rest : List Record) : Type 0 where
   counts_as_marked : marked ≡ true → pass ≡ record { outcome = Nothing; later = records; settled = false; asked = asked } → rest ≡ records
       → NoneFound s a marked asked records pass rest
@@ -60,7 +63,8 @@ abbrev pub ChecksOnce : Setting → Access → Bool → ℕ → List Record → 
 ChecksOnce s a marked asked records pass rest =
     (found : Option Watchpoint) × (later : List Record) × Finds s a records found later × GoesOn s a marked asked found later pass rest
 
--- what a list of checks comes to: their outcomes, in the order in which they fall, and how often the sampler has been asked by then
+-- what a list of checks comes to: their outcomes, in the order in which they fall, and how often the sampler has been
+-- asked by then
 pub record Passes : Type 0 where
   pub outcomes : List Fallen
   pub asked : ℕ
@@ -81,7 +85,8 @@ abbrev pub left_to_check : Bool → List Begun → List Begun
 left_to_check true scopes = []
 left_to_check false scopes = scopes
 
--- the records begin with a check of the access, and, if it neither found a watchpoint nor set one up, of the scoped assertions in force
+-- the records begin with a check of the access, and, if it neither found a watchpoint nor set one up, of the scoped
+-- assertions in force
 abbrev pub ChecksAll : Setting → List Begun → Begun → ℕ → List Record → Passes → List Record → Type 0
 ChecksAll s scopes begun asked records passes rest =
     (pass : Pass) × (later : List Record) × (more : List Fallen)
@@ -106,7 +111,8 @@ abbrev pub ChecksStamped : Setting → List Begun → Begun → ℕ → List Rec
 ChecksStamped s scopes begun asked records passes rest =
     MakesWord s.task Clock (λ stamp later. ChecksBegun s scopes begun asked later passes rest) records
 
--- the records begin with the check of an access of the task, which begins while these scoped assertions are in force, the oldest first
+-- the records begin with the check of an access of the task, which begins while these scoped assertions are in force,
+-- the oldest first
 abbrev pub Check : Setting → List Begun → Begun → ℕ → List Record → Passes → List Record → Type 0
 Check s scopes begun asked records passes rest =
     IsOwn s begun.access × AreOwn s scopes × ChecksStamped s scopes begun asked records passes rest

@@ -11,10 +11,11 @@ use Rattle.setup_access.specs.declared.begun.Begun.{Begun}
 use Rattle.setup_access.specs.declared.pass.Next.{Next}
 use Rattle.setup_access.specs.declared.stage.Role.{Role}
 use Rattle.setup_access.specs.declared.stage.Role.TheVariants as roles
-use Rattle.setup_access.specs.declared.stage.Stage.{Stage}
-use Rattle.setup_access.specs.declared.stage.Stage.TheVariants as stages
+use Rattle.setup_access.specs.declared.stage.CheckStage.{CheckStage}
+use Rattle.setup_access.specs.declared.stage.CheckStage.TheVariants as stages
 
--- what a task does with its checker: steps 1 to 6 of an access that has begun, or the close of a scoped assertion while its task is silenced or not
+-- what a task does with its checker: steps 1 to 6 of an access that has begun, or the close of a scoped assertion while
+-- its task is silenced or not
 pub data Doing : Type 0 where
   Checks : Begun → Doing
   Closes : Begun → Bool → Doing
@@ -37,7 +38,7 @@ RoleLeft s scopes roles.Closing settled asked records passes =
     (passes ≡ record { outcomes = []; asked = asked }) × MakesWord s.task Clock (λ stamp after. [] ≡ after) records
 
 -- the records are what is left of what is done, with what it still gives
-abbrev pub StageLeft : Setting → List Begun → Stage → ℕ → List Record → Passes → Type 0
+abbrev pub StageLeft : Setting → List Begun → CheckStage → ℕ → List Record → Passes → Type 0
 StageLeft s scopes stages.Rest asked records passes = (passes ≡ record { outcomes = []; asked = asked }) × ([] ≡ records)
 StageLeft s scopes (stages.Begin begun) asked records passes = ChecksStamped s scopes begun asked records passes []
 StageLeft s scopes (stages.Check role begun pass) asked records passes =
@@ -61,7 +62,7 @@ role_due (roles.Scope number) = 7 - number
 role_due roles.Closing = 0
 
 -- how many outcomes may still come
-abbrev pub stage_due : Stage → ℕ
+abbrev pub stage_due : CheckStage → ℕ
 stage_due stages.Rest = 0
 stage_due (stages.Begin begun) = 9
 stage_due (stages.Check role begun pass) = pass_due pass + role_due role

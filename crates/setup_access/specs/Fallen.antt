@@ -18,7 +18,8 @@ abbrev pub outcomes_in : List Fallen → List Outcome
 outcomes_in [] = []
 outcomes_in (first ∷ others) = first.outcome ∷ outcomes_in others
 
--- these outcomes have fallen by the records so far: each at one of them; and whatever completes the records, these come first, and all others fall at records that follow
+-- these outcomes have fallen by the records so far: each at one of them; and whatever completes the records, these come
+-- first, and all others fall at records that follow
 pub record HaveFallen (s : Setting) (scopes : List Begun) (doing : Doing) (asked : ℕ) (records : List Record) (fallen : List Fallen) : Type 0 where
   pub falls : AllFallIn s records fallen
   pub first : (later : List Record) (passes : Passes) → Does s scopes doing asked (records ++ later) passes

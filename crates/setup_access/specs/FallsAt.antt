@@ -19,7 +19,8 @@ use Rattle.slot_table.specs.declared.index_order.place.ProbeIndex.{ProbeIndex}
 use Rattle.setup_access.specs.declared.setup.Watching.{Watching}
 use Rattle.setup_access.specs.declared.setup.Watching.TheVariants as watchings
 
--- the record ends a look-up of this access: the load of the third index, whose word doesn't match; or of one of the three whose word does
+-- the record ends a look-up of this access: the load of the third index, whose word doesn't match; or of one of the
+-- three whose word does
 abbrev pub EndsLookUp : Setting → Access → Option Watchpoint → Record → Type 0
 EndsLookUp s a None last =
     (word : ℕ) × (last ≡ made s.task (Load (slot_of s a + 2)) (answers.Word word)) × ¬ Hits s.rules.layout a word
@@ -32,8 +33,8 @@ abbrev pub HearsFinder : Setting → ℕ → ℕ → Record → Type 0
 HearsFinder s setter finder last =
     (index : ℕ) × (last ≡ made s.task (PairLoad index) (answers.Halves setter finder)) × (0 < finder)
 
--- the record is one at which an outcome of this access falls: the load that ends the look-up, where nothing comes of it or no word stands
--- for it (an access with a mask takes nothing of what it found), else the step that settles it
+-- the record is one at which an outcome of this access falls: the load that ends the look-up, where nothing comes of it
+-- or no word stands for it (an access with a mask takes nothing of what it found), else the step that settles it
 abbrev pub FallsAt : Setting → Access → Outcome → Record → Type 0
 FallsAt s a Nothing last = EndsLookUp s a None last ⊎ ((found : Watchpoint) × IsSome a.mask × EndsLookUp s a (Some found) last)
 FallsAt s a Lost last = (index word : ℕ) × (last ≡ made s.task (TryConsume index word) (answers.Flag false))

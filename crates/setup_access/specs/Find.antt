@@ -8,7 +8,8 @@ use Rattle.setup_access.specs.Records.{MakesWord}
 use Rattle.setup_access.specs.Setting.{Setting, look_order, slot_of}
 use Rattle.setup_access.specs.declared.outcome.Watchpoint.{Watchpoint}
 
--- the records begin with loads of these indices, in order, up to the first word that matches the access; this was found, or none, and the rest follows
+-- the records begin with loads of these indices, in order, up to the first word that matches the access; this was
+-- found, or none, and the rest follows
 abbrev pub LooksUp : Setting → Access → List ℕ → List Record → Option Watchpoint → List Record → Type 0
 LooksUp s a [] records found rest = (found ≡ None) × (rest ≡ records)
 LooksUp s a (index ∷ indices) records found rest = MakesWord s.task (Load index) (λ word later.

@@ -11,7 +11,8 @@ use Rattle.setup_access.specs.declared.outcome.Outcome.{Outcome}
 use Rattle.setup_access.specs.declared.outcome.Outcome.TheVariants.{Lost, Nothing, Told}
 use Rattle.setup_access.specs.declared.outcome.Watchpoint.{Watchpoint}
 
--- the records begin with loads of the pair at an index, as many as it takes until this half stands; both halves were heard then, and the rest follows
+-- the records begin with loads of the pair at an index, as many as it takes until this half stands; both halves were
+-- heard then, and the rest follows
 abbrev pub Hears : (Halves → ℕ) → ℕ → ℕ → List Record → Halves → List Record → Type 0
 Hears half task index [] both rest = ⊥
 Hears half task index (first ∷ later) both rest =
@@ -33,14 +34,15 @@ TellsTo s a index setter records outcome rest = MakesDone s.task (Tell index (ti
     (outcome ≡ Told (record { setter = setter; finder = ticket_number a })) × (rest ≡ after)) records
 
 -- it does so once the setter has named itself
-abbrev pub Tells : Setting → Access → ℕ → List Record → Outcome → List Record → Type 0
-Tells s a index records outcome rest =
+abbrev pub FinderTells : Setting → Access → ℕ → List Record → Outcome → List Record → Type 0
+FinderTells s a index records outcome rest =
     (both : Halves) × (later : List Record) × Hears setter_half s.task index records both later × TellsTo s a index both.setter later outcome rest
 
--- the task tries to take the watchpoint that was found, by the word that was read: taken, it tells its setter; refused, it is lost
+-- the task tries to take the watchpoint that was found, by the word that was read: taken, it tells its setter; refused,
+-- it is lost
 abbrev pub Takes : Setting → Access → Watchpoint → List Record → Outcome → List Record → Type 0
 Takes s a found records outcome rest = MakesFlag s.task (TryConsume found.index found.word) (λ taken later.
-    MatchBool taken (Tells s a found.index later outcome rest) ((outcome ≡ Lost) × (rest ≡ later))) records
+    MatchBool taken (FinderTells s a found.index later outcome rest) ((outcome ≡ Lost) × (rest ≡ later))) records
 
 -- a watchpoint was found: an access with a mask takes nothing
 abbrev pub FoundWatchpoint : Setting → Access → Watchpoint → List Record → Outcome → List Record → Type 0

@@ -6,7 +6,8 @@ use Rattle.watch_word.specs.declared.layout.Layout.{Layout}
 use Rattle.watch_word.specs.Match.{Matches}
 use Rattle.watch_word.specs.Word.{IsWatchWord, watch_in}
 
--- a watch word matches an access: it is neither 0 nor 1, it or the access has the write bit, and the ranges at the masked addresses meet
+-- a watch word matches an access: it is neither 0 nor 1, it or the access has the write bit, and the ranges at the
+-- masked addresses meet
 pub record Hits (layout : Layout) (access : Access) (word : ℕ) : Type 0 where
   pub is_watch_word : IsWatchWord layout word
   pub breaks : IsTrue ((watch_in layout word).write || write_flag access.kind)

@@ -17,11 +17,11 @@ use Rattle.setup_access.specs.Waiting.{capped, stage_wait}
 use Rattle.setup_access.specs.Waits.{IsStuckBy, wait_after}
 use Rattle.setup_access.specs.declared.begun.Begun.{Begun}
 use Rattle.setup_access.specs.declared.checker.Checker.{Checker}
-use Rattle.setup_access.specs.declared.stage.Stage.{Stage}
-use Rattle.setup_access.specs.declared.stage.Stage.TheVariants as stages
+use Rattle.setup_access.specs.declared.stage.CheckStage.{CheckStage}
+use Rattle.setup_access.specs.declared.stage.CheckStage.TheVariants as stages
 
 -- the step that a stage makes next
-abbrev pub stage_step : Setting → Stage → Option Step
+abbrev pub stage_step : Setting → CheckStage → Option Step
 stage_step s stages.Rest = None
 stage_step s (stages.Begin begun) = Some Clock
 stage_step s (stages.Check role begun pass) = Some (pass_step s begun pass)
@@ -31,7 +31,8 @@ stage_step s stages.End = Some Clock
 abbrev pub Says : Checker → Step → Type 0
 Says checker step = (sites : AccessMap) → stage_step (setting_with checker.setting sites) checker.stage ≡ Some step
 
--- a checker of this setting that is at rest: these scoped assertions are in force, the oldest first, its sampler has been asked so many times, and this access may be put in force too
+-- a checker of this setting that is at rest: these scoped assertions are in force, the oldest first, its sampler has
+-- been asked so many times, and this access may be put in force too
 pub record Rests (s : Setting) (scopes : List Begun) (asked : ℕ) (last : Option Begun) (checker : Checker) : Type 0 where
   pub setting : setting_with checker.setting s.sites ≡ s
   pub in_force : checker.scopes.items ≡ scopes
@@ -40,7 +41,9 @@ pub record Rests (s : Setting) (scopes : List Begun) (asked : ℕ) (last : Optio
   pub may_open : checker.last ≡ last
   pub stage : checker.stage ≡ stages.Rest
 
--- what is done leads, by these records so far, to the checker: whatever completes the records completes what the checker has left, after the outcomes that have fallen, which it has; and it has counted the vain tries of their last wait
+-- what is done leads, by these records so far, to the checker: whatever completes the records completes what the
+-- checker has left, after the outcomes that have fallen, which it has; and it has counted the failed tries of their
+-- last wait
 pub record Leads (s : Setting) (scopes : List Begun) (doing : Doing) (asked : ℕ) (records : List Record) (checker : Checker) : Type 0 where
   pub setting : setting_with checker.setting s.sites ≡ s
   pub in_force : checker.scopes.items ≡ scopes
@@ -69,8 +72,8 @@ abbrev pub IsDone : Setting → List Begun → Doing → ℕ → List Record →
 IsDone s scopes doing asked records = (passes : Passes) × Does s scopes doing asked records passes
 
 -- no step follows on the records: they are all of what is done, or stuck
-abbrev pub IsOver : Setting → List Begun → Doing → ℕ → List Record → Type 0
-IsOver s scopes doing asked records = IsDone s scopes doing asked records ⊎ IsStuckBy s.rules.turns records
+abbrev pub IsCheckOver : Setting → List Begun → Doing → ℕ → List Record → Type 0
+IsCheckOver s scopes doing asked records = IsDone s scopes doing asked records ⊎ IsStuckBy s.rules.turns records
 
 -- the records are complete, nothing goes on with them, and the checker rests with their outcomes
 pub record IsComplete (s : Setting) (scopes : List Begun) (doing : Doing) (asked : ℕ) (records : List Record) (checker : Checker) : Type 0 where

@@ -8,7 +8,8 @@ use Rattle.setup_access.specs.Check.{Check, Close, Passes}
 use Rattle.setup_access.specs.Setting.{Setting}
 use Rattle.setup_access.specs.declared.begun.Begun.{Begun}
 
--- where these records, the oldest first, follow on the task's own ones before them, the latest first, it frees only locks that it holds
+-- where these records, the oldest first, follow on the task's own ones before them, the latest first, it frees only
+-- locks that it holds
 abbrev pub FreesHeldLocks : List Record → List Record → Type 0
 FreesHeldLocks earlier [] = Unit {0}
 FreesHeldLocks earlier (first ∷ later) =

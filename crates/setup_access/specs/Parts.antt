@@ -7,7 +7,7 @@ use Rattle.slot_table.specs.declared.step.Answer.{Answer}
 use Rattle.slot_table.specs.declared.step.Step.{Step}
 use Rattle.slot_table.specs.declared.step.Step.TheVariants.{CellLoad, Consume, Insert, Load, Name, PairLoad, Tell, TryConsume}
 use Rattle.setup_access.specs.Find.{LooksUp}
-use Rattle.setup_access.specs.Found.{Takes, Tells, TellsTo}
+use Rattle.setup_access.specs.Found.{Takes, FinderTells, TellsTo}
 use Rattle.setup_access.specs.Setting as spec
 use Rattle.setup_access.specs.Setting.{look_order, slot_of}
 use Rattle.setup_access.specs.Setup.{Arms, Judged, Judges, JudgesHit, TriesInsert, WatchesAt}
@@ -69,7 +69,7 @@ found_step a (founds.Tell index setter) = Tell index (ticket_number a)
 -- the records are what it has left to do
 abbrev pub FoundLeft : spec.Setting → Access → Found → List Record → Outcome → List Record → Type 0
 FoundLeft s a (founds.TryConsume watchpoint) = Takes s a watchpoint
-FoundLeft s a (founds.HearSetter index tries) = Tells s a index
+FoundLeft s a (founds.HearSetter index tries) = FinderTells s a index
 FoundLeft s a (founds.Tell index setter) = TellsTo s a index setter
 
 -- what is left after an answer

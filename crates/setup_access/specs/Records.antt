@@ -34,7 +34,8 @@ OnHalves (answers.Flag flag) P = ⊥
 OnHalves (answers.Halves setter finder) P = P (record { setter = setter; finder = finder })
 OnHalves answers.Done P = ⊥
 
--- the first record is a step of the task with a word for its answer, and of this word and of the records after it this holds
+-- the first record is a step of the task with a word for its answer, and of this word and of the records after it this
+-- holds
 abbrev pub MakesWord : ℕ → Step → (ℕ → List Record → Type 0) → List Record → Type 0
 MakesWord task step Goes = Makes task step (λ answer later. OnWord answer (λ word. Goes word later))
 

@@ -5,7 +5,8 @@ use Rattle.access_types.specs.Sites.{AccessMap}
 use Rattle.skip_sampler.specs.Sampler.{SamplerPositions}
 use Rattle.setup_access.specs.declared.rules.Rules.{Rules}
 
--- what a task's checks go by: whose they are, the rules of the run, the addresses of the cells, and the accesses that tickets name
+-- what a task's checks go by: whose they are, the rules of the run, the addresses of the cells, and the accesses that
+-- tickets name
 pub record Setting : Type 0 where
   pub task : ℕ
   pub rules : Rules

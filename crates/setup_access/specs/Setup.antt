@@ -12,7 +12,8 @@ use Rattle.setup_access.specs.Values.{LoadsValue, both_values}
 use Rattle.setup_access.specs.Verdicts.{HitOutcome, UntouchedOutcome}
 use Rattle.setup_access.specs.declared.outcome.Outcome.{Outcome}
 
--- the records begin with tries to insert a word at these indices, in order, up to the first that is accepted; it stands there then, or nowhere, and the rest follows
+-- the records begin with tries to insert a word at these indices, in order, up to the first that is accepted; it stands
+-- there then, or nowhere, and the rest follows
 abbrev pub TriesInsert : ℕ → ℕ → List ℕ → List Record → Option ℕ → List Record → Type 0
 TriesInsert task word [] records place rest = (place ≡ None) × (rest ≡ records)
 TriesInsert task word (index ∷ indices) records place rest = MakesFlag task (Insert index word) (λ accepted later.

@@ -20,7 +20,8 @@ lies_in a cell = nat_le cell a.addr && nat_le (a.addr + a.size) (cell + 8)
 abbrev pub source_in : Setting → Access → ℕ → Source
 source_in s a cell = record { cell = cell; first = a.addr - slice_index s.cells cell }
 
--- where an access's value is loaded from, if it has one: bytes of such a size, in one cell; the first such, and the only one where no two cells have one address
+-- where an access's value is loaded from, if it has one: bytes of such a size, in one cell; the first such, and the
+-- only one where no two cells have one address
 abbrev pub source_of : Setting → Access → Option Source
 source_of s a = if has_value a.size then option_map (source_in s a) (position (lies_in a) s.cells) else None
 

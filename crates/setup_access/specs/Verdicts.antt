@@ -32,7 +32,8 @@ pub data UntouchedOutcome (s : Setting) (a : Access) (values : Option (ℕ × �
   quiet : (change : Change) → ChangeOf a values change → VerdictOf a false change s.rules.value_change_only verdicts.Quiet
       → outcome ≡ Quiet → UntouchedOutcome s a values outcome
 
--- the verdict on a watch that was hit, by the access whose ticket was heard: the first row of the table is that the two share no byte
+-- the verdict on a watch that was hit, by the access whose ticket was heard: the first row of the table is that the two
+-- share no byte
 pub data HitOutcome (s : Setting) (a : Access) (values : Option (ℕ × ℕ)) (both : Halves) (outcome : Outcome) : Type 0 where
   encoding : ¬ SharesByte s.sites a both.finder → outcome ≡ Dropped Encoding → HitOutcome s a values both outcome
   reported : (change : Change) → SharesByte s.sites a both.finder → ChangeOf a values change → VerdictOf a true change s.rules.value_change_only verdicts.Report

@@ -1,4 +1,4 @@
--- Which wait a check is in, and the count of its vain tries.
+-- Which wait a check is in, and the count of its failed tries.
 use Rattle.std.specs.Prelude.{◌≡◌, ◌-◌, ◌^◌, ℕ, Option, None, Some, min}
 use Rattle.slot_table.specs.declared.step.Answer.{Answer}
 use Rattle.slot_table.specs.declared.step.Step.{Step}
@@ -16,8 +16,8 @@ use Rattle.setup_access.specs.declared.setup.Setup.{Setup}
 use Rattle.setup_access.specs.declared.setup.Setup.TheVariants as setups
 use Rattle.setup_access.specs.declared.setup.Watching.{Watching}
 use Rattle.setup_access.specs.declared.setup.Watching.TheVariants as watchings
-use Rattle.setup_access.specs.declared.stage.Stage.{Stage}
-use Rattle.setup_access.specs.declared.stage.Stage.TheVariants as stages
+use Rattle.setup_access.specs.declared.stage.CheckStage.{CheckStage}
+use Rattle.setup_access.specs.declared.stage.CheckStage.TheVariants as stages
 
 -- the wait that each part of a check is in
 abbrev pub found_wait : Found → Option Wait
@@ -54,18 +54,18 @@ to_wait (tos.Going pass) = pass_wait pass
 to_wait tos.Settled = None
 to_wait tos.Unsettled = None
 
-abbrev pub stage_wait : Stage → Option Wait
+abbrev pub stage_wait : CheckStage → Option Wait
 stage_wait stages.Rest = None
 stage_wait (stages.Begin begun) = None
 stage_wait (stages.Check role begun pass) = pass_wait pass
 stage_wait stages.End = None
 
--- its vain tries
+-- its failed tries
 abbrev pub tries_of : Option Wait → Option ℕ
 tries_of None = None
 tries_of (Some wait) = Some wait.tries
 
--- the count of vain tries rests at its last value
+-- the count of failed tries rests at its last value
 abbrev pub capped : Option Wait → Option Wait
 capped None = None
 capped (Some wait) = Some (record wait { tries = min wait.tries (2 ^ 64 - 1) })

@@ -1,4 +1,4 @@
--- What a vain try is, how many of them a task has made, and when it waits too long.
+-- What a failed try is, how many of them a task has made, and when it waits too long.
 use Rattle.std.specs.Prelude.{◌+◌, ◌≤◌, ℕ, zero, suc, Bool, List, [], ◌∷◌, Option, None, Some, IsSomeAnd, true, false, not, if◌then◌else◌}
 use Rattle.slot.specs.Pair.{Halves}
 use Rattle.slot_table.specs.declared.records.Record.{Record}
@@ -29,30 +29,33 @@ is_unheard None answer = false
 is_unheard (Some half) (answers.Halves setter finder) = is_empty (half (record { setter = setter; finder = finder }))
 is_unheard (Some half) answer = false
 
--- A vain try, of a task that waits for this half of a pair or for none: an exchange of a cell that was refused, a try of a lock that was refused, or a load of a pair whose half was empty.
--- All that is said of vain tries, here and in the crates above, is said by this.
-abbrev pub is_vain : Option (Halves → ℕ) → Step → Answer → Bool
-is_vain half (CellExchange cell seen new) answer = is_word answer
-is_vain half (LockTry lock task) answer = is_no answer
-is_vain half (PairLoad index) answer = is_unheard half answer
-is_vain half step answer = false
+-- A failed try, of a task that waits for this half of a pair or for none: an exchange of a cell that was refused, a try
+-- of a lock that was refused, or a load of a pair whose half was empty. All that is said of failed tries, here and in
+-- the crates above, is said by this.
+abbrev pub is_failed : Option (Halves → ℕ) → Step → Answer → Bool
+is_failed half (CellExchange cell seen new) answer = is_word answer
+is_failed half (LockTry lock task) answer = is_no answer
+is_failed half (PairLoad index) answer = is_unheard half answer
+is_failed half step answer = false
 
--- the half that a task waits for after a step: who tries to take a watchpoint may have to hear its setter, who consumes its own its finder
+-- the half that a task waits for after a step: who tries to take a watchpoint may have to hear its setter, who consumes
+-- its own its finder
 abbrev pub awaited : Option (Halves → ℕ) → Step → Option (Halves → ℕ)
 awaited half (TryConsume index word) = Some setter_half
 awaited half (Consume index) = Some finder_half
 awaited half (PairLoad index) = half
 awaited half step = None
 
--- how many vain tries a task has made at the end of these records, after so many before them, where it waits for this half
-abbrev pub vain_from : Option (Halves → ℕ) → ℕ → List Record → ℕ
-vain_from half tries [] = tries
-vain_from half tries (first ∷ later) =
-    vain_from (awaited half first.step) (if is_vain half first.step first.answer then tries + 1 else 0) later
+-- how many failed tries a task has made at the end of these records, after so many before them, where it waits for this
+-- half
+abbrev pub failed_from : Option (Halves → ℕ) → ℕ → List Record → ℕ
+failed_from half tries [] = tries
+failed_from half tries (first ∷ later) =
+    failed_from (awaited half first.step) (if is_failed half first.step first.answer then tries + 1 else 0) later
 
 -- the same from its first record on
-abbrev pub vain_tries : List Record → ℕ
-vain_tries records = vain_from None 0 records
+abbrev pub failed_tries : List Record → ℕ
+failed_tries records = failed_from None 0 records
 
 -- a wait for a half of a pair: whose half, and how many loads of the pair found it empty
 pub record Wait : Type 0 where
@@ -74,7 +77,7 @@ after_consume (answers.Flag true) = None
 after_consume (answers.Flag false) = waits_for finder_half
 after_consume _ = None
 
--- a half that was heard ends the wait, and an empty one is a vain try
+-- a half that was heard ends the wait, and an empty one is a failed try
 abbrev pub after_half : Wait → ℕ → Option Wait
 after_half wait zero = Some (record wait { tries = wait.tries + 1 })
 after_half wait (suc _) = None
@@ -100,6 +103,6 @@ wait_from wait (first ∷ later) = wait_from (wait_on wait first.step first.answ
 abbrev pub wait_after : List Record → Option Wait
 wait_after records = wait_from None records
 
--- that wait has had as many vain tries as are allowed
+-- that wait has had as many failed tries as are allowed
 abbrev pub IsStuckBy : ℕ → List Record → Type 0
 IsStuckBy turns records = IsSomeAnd (wait_after records) (λ wait. turns ≤ wait.tries)

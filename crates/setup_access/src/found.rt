@@ -100,7 +100,7 @@ fn tried(found: Watchpoint, taken: bool) -> Taking
 
 /// The pair was loaded. A half of 0 isn't the setter's yet, who names itself right after its insertion.
 fn heard_setter(index: usize, tries: u64, setter: u32) -> Taking
-    ensures vain { setter ≡ 0 → result ≡ Taking.Going (Found.HearSetter index (min (tries + 1) (2 ^ 64 - 1))) }
+    ensures failed { setter ≡ 0 → result ≡ Taking.Going (Found.HearSetter index (min (tries + 1) (2 ^ 64 - 1))) }
     ensures stands { 0 < setter → result ≡ Taking.Going (Found.Tell index setter) }
 {
     if setter == 0 {

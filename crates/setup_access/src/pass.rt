@@ -138,7 +138,7 @@ impl Pass {
         }
     }
 
-    /// How many tries of its wait were in vain, if it waits.
+    /// How many tries of its wait failed, if it waits.
     pub(crate) fn tries(self) -> Option<u64>
         ensures { result ≡ tries_of (pass_wait self) }
     {

@@ -19,6 +19,6 @@ pub struct Rules {
     pub plain_writes_atomic: bool,
     /// How many bits a watch word has.
     pub layout: Layout,
-    /// At so many vain tries of one wait the task is stuck.
+    /// At so many failed tries of one wait the task is stuck.
     pub turns: u64,
 }

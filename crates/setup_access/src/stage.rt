@@ -31,7 +31,7 @@ pub enum Role {
 
 /// What a checker does next.
 #[derive(Clone, Copy, PartialEq, Eq)]
-pub enum Stage {
+pub enum CheckStage {
     /// Nothing: the check is over.
     Rest,
     /// Draw the stamp of the access's begin.
@@ -47,10 +47,10 @@ pub enum Stage {
 }
 
 /// The check of an access from its look-up on: it has made no step yet.
-fn check_of(role: Role, begun: Begun) -> Stage
-    ensures { result ≡ Stage.Check role begun (Pass.Find (record { place = ProbeIndex.First })) }
+fn check_of(role: Role, begun: Begun) -> CheckStage
+    ensures { result ≡ CheckStage.Check role begun (Pass.Find (record { place = ProbeIndex.First })) }
 {
-    Stage::Check {
+    CheckStage::Check {
         role,
         begun,
         pass: Pass::Find(Find::new()),
@@ -59,7 +59,12 @@ fn check_of(role: Role, begun: Begun) -> Stage
 
 /// The stamp of an access's begin is drawn. A silenced access takes and sets up nothing, so no report names it.
 /// But it counts as skipped: which accesses of a task are watched doesn't hang on what is silenced.
-pub(crate) fn began(setting: &Setting, sites: &Sites, sampler: &mut Sampler, begun: Begun) -> Stage
+pub(crate) fn began(
+    setting: &Setting,
+    sites: &Sites,
+    sampler: &mut Sampler,
+    begun: Begun,
+) -> CheckStage
     ensures fits { stage_due result ≤ 9 }
     ensures waits { stage_wait result ≡ None }
     ensures left { (scopes : List Begun) (asked : ℕ) → let s = setting_with setting.now sites.now in Samples s asked sampler.old → (asked_now : ℕ) × Samples s asked_now sampler.new
@@ -69,27 +74,27 @@ pub(crate) fn began(setting: &Setting, sites: &Sites, sampler: &mut Sampler, beg
         return check_of(Role::Access, begun);
     }
     if begun.marked {
-        return Stage::Rest;
+        return CheckStage::Rest;
     }
     sampler.should_watch();
-    Stage::Rest
+    CheckStage::Rest
 }
 
 /// A scope ends: its assertion is checked a last time, unless it or its task by now is silenced. What breaks it
 /// after its task's last access within the scope meets this check alone.
-pub(crate) fn closing(begun: Begun, silenced: bool) -> Stage
+pub(crate) fn closing(begun: Begun, silenced: bool) -> CheckStage
     ensures fits { stage_due result ≤ 9 }
     ensures waits { stage_wait result ≡ None }
     ensures left { (s : spec.Setting) (scopes : List Begun) (asked : ℕ) (records : List Record) (passes : Passes) →
         ChecksLast s begun silenced asked records passes [] ↔ StageLeft s scopes result asked records passes }
 {
     if begun.silenced || silenced {
-        return Stage::End;
+        return CheckStage::End;
     }
     check_of(Role::Closing, begun)
 }
 
-pub(crate) fn after_turn(to: Next, role: Role, begun: Begun, scopes: &[Begun]) -> Stage
+pub(crate) fn after_turn(to: Next, role: Role, begun: Begun, scopes: &[Begun]) -> CheckStage
     requires { length scopes.now ≤ 8 }
     ensures fits { stage_due result ≤ to_due to + role_due role }
     ensures waits { stage_wait result ≡ to_wait to }
@@ -97,7 +102,7 @@ pub(crate) fn after_turn(to: Next, role: Role, begun: Begun, scopes: &[Begun]) -
         ToRoleLeft s scopes.now to role begun asked records passes ↔ StageLeft s scopes.now result asked records passes }
 {
     match to {
-        Next::Going(pass) => Stage::Check { role, begun, pass },
+        Next::Going(pass) => CheckStage::Check { role, begun, pass },
         Next::Settled => after_check(role, true, scopes),
         Next::Unsettled => after_check(role, false, scopes),
     }
@@ -106,7 +111,7 @@ pub(crate) fn after_turn(to: Next, role: Role, begun: Begun, scopes: &[Begun]) -
 /// What follows on a check of an access that is over. One that found a watchpoint or stalled for its own has
 /// done enough here. After another, also where no index was free or no word stands for it, the scoped
 /// assertions have their turn: one after the other, whatever each finds, since each is a claim apart.
-fn after_check(role: Role, is_settled: bool, scopes: &[Begun]) -> Stage
+fn after_check(role: Role, is_settled: bool, scopes: &[Begun]) -> CheckStage
     requires { length scopes.now ≤ 8 }
     ensures fits { stage_due result ≤ role_due role }
     ensures waits { stage_wait result ≡ None }
@@ -114,16 +119,16 @@ fn after_check(role: Role, is_settled: bool, scopes: &[Begun]) -> Stage
         RoleLeft s scopes.now role is_settled asked records passes ↔ StageLeft s scopes.now result asked records passes }
 {
     match role {
-        Role::Access if is_settled => Stage::Rest,
+        Role::Access if is_settled => CheckStage::Rest,
         Role::Access => check_scoped_accesses(scopes, 0),
         // Goes on to the next one: KCSAN's kcsan_check_scoped_accesses() too avoids that its checks start others.
         Role::Scope(number) => check_scoped_accesses(scopes, number.saturating_add(1)),
-        Role::Closing => Stage::End,
+        Role::Closing => CheckStage::End,
     }
 }
 
 /// `kcsan_check_scoped_accesses`, from a number on: the first that isn't silenced is checked.
-fn check_scoped_accesses(scopes: &[Begun], from: usize) -> Stage
+fn check_scoped_accesses(scopes: &[Begun], from: usize) -> CheckStage
     requires { length scopes.now ≤ 8 }
     ensures fits { stage_due result ≤ 8 - from }
     ensures waits { stage_wait result ≡ None }
@@ -136,5 +141,5 @@ fn check_scoped_accesses(scopes: &[Begun], from: usize) -> Stage
             return check_of(Role::Scope(number), begun);
         }
     }
-    Stage::Rest
+    CheckStage::Rest
 }

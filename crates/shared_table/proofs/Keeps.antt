@@ -25,7 +25,7 @@ use Rattle.shared_table.specs.Plays.{Me, Notes}
 use Rattle.slot.specs.Pair.{unnamed}
 use Rattle.shared_table.specs.Row.{cells_from, halves_in, indices, locks_from, pairs_from, row_length, section, words_in}
 use Rattle.shared_table.specs.RunningWords.{IsHeld, IsHeldByNobody, RunningWords}
-use Rattle.shared_table.specs.Touches.{HasList, Told}
+use Rattle.shared_table.specs.Touches.{HasList, NotesAndKeeps}
 use Rattle.shared_table.specs.Views.{alone, noted}
 use Rattle.shared_table.specs.declared.view.Held.{Held}
 use Rattle.shared_table.specs.declared.view.View.{View}
@@ -199,10 +199,10 @@ module _ (given : Given) (id task : ℕ) (own : List Record) (step : Step) (plac
 
     pub allows : (key : Given) (slots : ℕ) (me : Me) → key ≡ given → me ≡ (alone given task own, [])
         → AllowsStep (λ (state : State (Unit {0}) View). RunningWords key state.words state.views) slots id me place change
-        (Told (λ found after. Notes step (answer found) me after) me)
+        (NotesAndKeeps (λ found after. Notes step (answer found) me after) me)
     allows key slots me is me_is =
         let P : Given × Me → Type 0 = λ p. AllowsStep (λ (state : State (Unit {0}) View). RunningWords p.0 state.words state.views) slots id p.1 place change
-        (Told (λ found after. Notes step (answer found) p.1 after) p.1) in
+        (NotesAndKeeps (λ found after. Notes step (answer found) p.1 after) p.1) in
         subst P (λ i. (sym is i, sym me_is i))
         (λ state now homes at fits. (
           view_after (found_in state.words),

@@ -55,8 +55,8 @@ abbrev pub Names : Operation → Me → ℕ → Me → Type 0
 Names on before found after =
     Notes (Name (pair_index on before) (on.first / 2 ^ 32)) answers.Done before after
 
-abbrev pub Tells : Operation → Me → ℕ → Me → Type 0
-Tells on before found after =
+abbrev pub TellsFinder : Operation → Me → ℕ → Me → Type 0
+TellsFinder on before found after =
     Notes (Tell (pair_index on before) on.first) answers.Done before after
 
 abbrev pub Clears : Operation → Me → ℕ → Me → Type 0

@@ -23,8 +23,8 @@ abbrev pub NotesOne : View → View → Type 0
 NotesOne before after = (step : Step) × (answer : Answer) × (after ≡ noted before step answer)
 
 -- what is told of an operation, which notes one record at the seat
-abbrev pub Told : (ℕ → Me → Type 0) → Me → ℕ → Me → Type 0
-Told then before found after = then found after × NotesOne before.0 after.0 × HasList after.0
+abbrev pub NotesAndKeeps : (ℕ → Me → Type 0) → Me → ℕ → Me → Type 0
+NotesAndKeeps then before found after = then found after × NotesOne before.0 after.0 × HasList after.0
 
 -- a seat may make an operation on the word at a place, which becomes `change` of what it was: this
 -- keeps the rule, and notes one record
@@ -32,7 +32,7 @@ abbrev pub MayTouch : Opened → Seat (Unit {0}) View → ℕ → (ℕ → ℕ) 
 MayTouch opened seat place change then =
     (seat.table_id ≡ opened.id) × (place < row_length opened.given)
     × Allows (λ (state : State (Unit {0}) View). RunningWords opened.given state.words state.views)
-    opened.id.slots seat.id seat.me place change (Told then seat.me)
+    opened.id.slots seat.id seat.me place change (NotesAndKeeps then seat.me)
 
 -- it has made it
 abbrev pub HasTouched : Seat (Unit {0}) View → Seat (Unit {0}) View → (Me → Type 0) → Type 0

@@ -14,7 +14,7 @@ use crate::seat::TaskSeat;
 use crate::table::SharedTable;
 use crate::words::SharedWords;
 use slot::CONSUMED;
-use slot_table::laws::roles;
+use slot_table::laws::law_roles;
 use slot_table::{Answer, Board, Step};
 use std::marker::Model;
 
@@ -86,20 +86,20 @@ impl<'a> SharedBoard<'a> {
 
     /// Law: a list that is legal from the first words on, each task by the discipline, has just the
     /// seat's records of its task. No step is made. Each call tells of a list of its own.
-    pub fn has_one_list(&self)
+    pub fn law_has_one_list(&self)
         ensures { (records : List Record) × IsListAt self.now records }
     {
-        self.seat.has_one_list();
+        self.seat.law_has_one_list();
     }
 
     /// Law: in such a list the words and the parts of all tasks stand, index by index, as the table of
     /// roles has it. Who needs both facts of one list takes them here.
-    pub fn has_roles(&self)
+    pub fn law_has_roles(&self)
         ensures { (records : List Record) × IsListAt self.now records
             × ((index : ℕ) → Stands (words_after (first_words self.now.table.given) records) records index) }
     {
-        roles();
-        self.seat.has_one_list();
+        law_roles();
+        self.seat.law_has_one_list();
     }
 
     /// Makes a step, by the operation of its kind.
@@ -143,7 +143,7 @@ impl<'a> Board for SharedBoard<'a> {
         ensures list { (records : List Record) × IsListAt self.new records }
     {
         let answer = self.make(step);
-        self.has_one_list();
+        self.law_has_one_list();
         answer
     }
 }

@@ -19,7 +19,7 @@ use crate::seat::TaskSeat;
 use crate::table::{Row, SharedTable};
 use crate::view::View;
 use atomic_table::{Closed, Seat};
-use slot_table::laws::{armings_are_met_once, heard_is_told};
+use slot_table::laws::{law_armings_are_met_once, law_heard_is_told};
 use std::alloc::Global;
 use std::marker::Model;
 use std::snapshot::Snapshot;
@@ -62,7 +62,7 @@ impl Gathered {
     }
 
     /// Law: there is one legal list with all records of all seats.
-    pub fn has_one_list(&self)
+    pub fn law_has_one_list(&self)
         ensures { (records : List Record) × IsListOf self.now records }
     {
         let _ = &self.opening;
@@ -71,15 +71,15 @@ impl Gathered {
     /// Law: in that list each arming is taken at most once, the pairs of halves that setters heard
     /// are those that finders told, as a bag, and each arming is in it at most once. Each call of a law
     /// tells of a list of its own, so who needs several of these facts of one list takes them here.
-    pub fn has_its_laws(&self)
+    pub fn law_has_its_laws(&self)
         ensures { (records : List Record) × IsListOf self.now records × MeetOnce records
             × AllPairs ◌≢◌ (armings_taken records)
             × IsPermutation (setters_heard records) (finders_told records)
             × AllPairs ◌≢◌ (numbers_met (finders_told records)) }
     {
-        self.has_one_list();
-        armings_are_met_once();
-        heard_is_told();
+        self.law_has_one_list();
+        law_armings_are_met_once();
+        law_heard_is_told();
     }
 }
 
@@ -103,7 +103,7 @@ impl SharedTable {
             return None;
         }
         let gathered = self.end(seats);
-        gathered.has_one_list();
+        gathered.law_has_one_list();
         Some(gathered)
     }
 

@@ -4,7 +4,7 @@
 
 ghost use Rattle.shared_table.specs.Plays.{Clears, Consumes, ExchangesCell, Inserts, Loads};
 ghost use Rattle.shared_table.specs.Plays.{LoadsCell, LoadsPair, Names, Removes, Sits, StoresLock};
-ghost use Rattle.shared_table.specs.Plays.{Tells, Ticks, TriesLock, TriesToConsume};
+ghost use Rattle.shared_table.specs.Plays.{TellsFinder, Ticks, TriesLock, TriesToConsume};
 
 use crate::view::View;
 use atomic_table::{Join, Play, Split};
@@ -55,7 +55,7 @@ impl Play<(), View> for Name {
 pub struct Tell;
 
 impl Play<(), View> for Tell {
-    ghost then = { Tells };
+    ghost then = { TellsFinder };
 }
 
 pub struct Clear;
@@ -129,7 +129,7 @@ pub struct Noted<M> {
 }
 
 impl<M: Play<(), View>> Play<(), View> for Noted<M> {
-    ghost use Rattle.shared_table.specs.Touches.{Told};
+    ghost use Rattle.shared_table.specs.Touches.{NotesAndKeeps};
 
-    ghost then = { λ on before found after. Told (M.then on before) before found after };
+    ghost then = { λ on before found after. NotesAndKeeps (M.then on before) before found after };
 }

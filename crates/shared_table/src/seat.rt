@@ -96,10 +96,10 @@ impl TaskSeat {
 
     /// Law: a list that is legal from the first words on, each task by the discipline, has just these
     /// records of the task. Each call tells of a list of its own.
-    pub fn has_one_list(&self)
+    pub fn law_has_one_list(&self)
         ensures { (records : List Record) × IsListAt self.now records }
     {
-        self.seat.has_one_list();
+        self.seat.law_has_one_list();
     }
 
     /// Reads the watch word at an index.
@@ -191,7 +191,7 @@ impl TaskSeat {
         Answer::Done
     }
 
-    /// Tells the setter at an index who took its watchpoint, by the finder's ticket.
+    /// TellsFinder the setter at an index who took its watchpoint, by the finder's ticket.
     pub(crate) fn tell(&mut self, words: &SharedWords<'_>, index: usize, ticket: u32) -> Answer
         requires table { self.old.table ≡ words.now }
         requires may { MayMake self.old (steps.Tell index ticket) }

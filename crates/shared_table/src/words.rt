@@ -82,7 +82,7 @@ impl RowSeat {
     }
 
     /// Law: a legal list has just the records that it holds.
-    pub(crate) fn has_one_list(&self)
+    pub(crate) fn law_has_one_list(&self)
         ensures { HasList self.now.me.0 }
     {
         let _ = &self.seat;

@@ -15,7 +15,8 @@ use std::marker::Model;
 pub mod laws;
 
 pub use laws::{
-    askings_lead_to_samplers, gaps_are_within_skip, positions_of_seed_one, positions_without_chance,
+    law_askings_lead_to_samplers, law_gaps_are_within_skip, law_positions_of_seed_one,
+    law_positions_without_chance,
 };
 
 /// Says of each access that asks whether it is watched. Of two that are watched, `skip` others are

@@ -19,7 +19,7 @@ use crate::records::Record;
 
 /// Law: the watch word at each index tells who is its setter and who its finder, and what the
 /// halves of the pair are.
-pub fn roles()
+pub fn law_roles()
     ensures { (page_slots locks : ℕ) (cells : List ℕ) (records : List Record)
         → LegalInDiscipline page_slots locks cells records
         → (index : ℕ)
@@ -28,7 +28,7 @@ pub fn roles()
 
 /// Law: a task is setter, or finder that has not yet told, of at most one index at a time, and
 /// never both.
-pub fn one_part_at_a_time()
+pub fn law_one_part_at_a_time()
     ensures one_index { (page_slots locks : ℕ) (cells : List ℕ) (records : List Record)
         → LegalInDiscipline page_slots locks cells records
         → (task i j : ℕ) → IsEitherAt task i records → IsEitherAt task j records → i ≡ j }
@@ -40,7 +40,7 @@ pub fn one_part_at_a_time()
 /// Law: each taking is of the last arming at its index, which nobody took before, and each tell is
 /// for one that was not told of before. So the armings of all takings are different, and those of
 /// all tells.
-pub fn armings_are_met_once()
+pub fn law_armings_are_met_once()
     ensures once { (page_slots locks : ℕ) (cells : List ℕ) (records : List Record)
         → LegalInDiscipline page_slots locks cells records → MeetOnce records }
     ensures taken { (page_slots locks : ℕ) (cells : List ℕ) (records : List Record)
@@ -54,7 +54,7 @@ pub fn armings_are_met_once()
 /// word hit is the ticket that the finder which took this very arming has told. So it is at each
 /// tell, and at each clear of a setter whose word was hit. The insertion, the taking, the name and
 /// the tell stand in the list, each of this arming.
-pub fn each_hears_the_other()
+pub fn law_each_hears_the_other()
     ensures finder { (page_slots locks : ℕ) (cells : List ℕ) (records : List Record)
         → LegalInDiscipline page_slots locks cells records
         → (task index word : ℕ) (both : Halves)
@@ -73,7 +73,7 @@ pub fn each_hears_the_other()
 
 /// Law: where no check is unfinished, the pairs of halves that setters heard at an index are those
 /// that finders told there, over the same armings in the same order.
-pub fn meetings_keep_their_order()
+pub fn law_meetings_keep_their_order()
     ensures { (page_slots locks : ℕ) (cells : List ℕ) (records : List Record)
         → LegalInDiscipline page_slots locks cells records → AllAreFinished records
         → (index : ℕ)
@@ -82,7 +82,7 @@ pub fn meetings_keep_their_order()
 
 /// Law: where no check is unfinished, the pairs of halves that setters heard are those that finders
 /// told, as a bag. Each tell stands in it with its arming, and each arming at most once.
-pub fn heard_is_told()
+pub fn law_heard_is_told()
     ensures bag { (page_slots locks : ℕ) (cells : List ℕ) (records : List Record)
         → LegalInDiscipline page_slots locks cells records → AllAreFinished records
         → IsPermutation (setters_heard records) (finders_told records) }

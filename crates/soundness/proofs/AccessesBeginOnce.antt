@@ -10,7 +10,7 @@ use Rattle.slot_table.specs.declared.records.Record.{Record}
 use Rattle.program_order.specs.Standing.{Setting}
 use Rattle.program_order.specs.WrittenOrder.{SpellsAll}
 use Rattle.program_order.proofs.MeaningLemmas.{whole_means}
-use Rattle.executions.proofs.run_lists.OwnMarks.{begins_once}
+use Rattle.executions.proofs.execution.OwnMarks.{begins_once}
 
 pub there : (before later : List Happening) (x : Happening) → slice_get (before ++ x ∷ later) (length before) ≡ Some x
 there [] later x = refl

@@ -8,10 +8,10 @@ use Rattle.slot_table.specs.Meetings.{finders_told, setters_heard}
 use Rattle.slot_table.specs.Words.{words_at_first}
 use Rattle.slot_table.specs.declared.records.Record.{Record}
 use Rattle.task_log.specs.Counters.{is_arming, is_lost, is_quiet, is_taken, is_unknown}
-use Rattle.executions.specs.run_lists.Answers.{is_answer}
-use Rattle.executions.specs.run_lists.Run.{Run, first_cells, locks_of}
-use Rattle.executions.specs.run_lists.RunList.{RunList}
-use Rattle.executions.specs.run_lists.Told.{OutcomeAt, outcomes_of}
+use Rattle.executions.specs.execution.Answers.{is_answer}
+use Rattle.executions.specs.execution.Run.{Run, first_cells, locks_of}
+use Rattle.executions.specs.execution.Execution.{Execution}
+use Rattle.executions.specs.execution.Observed.{OutcomeAt, outcomes_of}
 use Rattle.soundness.specs.Takings.{EachSettles}
 use Rattle.soundness.specs.Totals.{Totals, is_try, made_so}
 use Rattle.soundness.proofs.Answered.{answers_heard, kinds_of_answers, unknown_quiet}
@@ -20,7 +20,7 @@ use Rattle.soundness.proofs.Heard.{of_hearing, takings_heard}
 use Rattle.soundness.proofs.Bags.{clears_heard, tells_told, tries_end}
 use Rattle.soundness.proofs.Weights.{alike_all, counts_weigh, of_step, weigh, weigh_both}
 
-module _ (run : Run) (records : List Record) (list : RunList run records)
+module _ (run : Run) (records : List Record) (list : Execution run records)
     (rules : LegalInDiscipline run.rules.slots (locks_of run) (first_cells run) records) (over : AllAreFinished records) where
   arms_ended : made_so is_arming records ≡ made_so is_quiet records + made_so is_taken records
   arms_ended =

@@ -1,4 +1,5 @@
--- While an access is in progress its task has but the access's own moments, scoped assertions aside: by what its text means.
+-- While an access is in progress its task has but the access's own moments, scoped assertions aside: by what its text
+-- means.
 use Rattle.std.proofs.Common.{◌≡◌, ◌∙◌, ◌<◌, ◌+◌, ◌==◌, ◌∷◌, ◌++◌, [], inl, inr, ℕ, zero, suc, Bool, true, false, All, IfSome, IsTrue, List, Option}
 use Rattle.std.proofs.Common.{None, Some, MatchOption, ap, append_assoc, drop, length, refl, replicate, slice_get, subst, sym, take, if◌then◌else◌}
 use Rattle.std.proofs.lemmas.Bool.{eq-eqb}
@@ -29,11 +30,11 @@ use Rattle.litmus_syntax.specs.declared.statement.Call.{Call}
 use Rattle.litmus_syntax.specs.declared.statement.Call.TheVariants as calls
 use Rattle.slot_table.specs.declared.records.Record.{Record}
 use Rattle.program_order.proofs.MeaningLemmas.{whole_means}
-use Rattle.executions.specs.run_lists.Run.{Run, task_of, task_setting}
-use Rattle.executions.specs.run_lists.RunList.{RunList}
-use Rattle.executions.specs.run_lists.Told.{history_of, made_by}
-use Rattle.executions.proofs.run_lists.Histories.{did_of_all, has_own, of_both, of_task, own_has}
-use Rattle.executions.proofs.run_lists.Intervals.{Has, contains_has, has_contains}
+use Rattle.executions.specs.execution.Run.{Run, task_of, task_setting}
+use Rattle.executions.specs.execution.Execution.{Execution}
+use Rattle.executions.specs.execution.Observed.{history_of, made_by}
+use Rattle.executions.proofs.execution.Histories.{did_of_all, has_own, of_both, of_task, own_has}
+use Rattle.executions.proofs.execution.Intervals.{Has, contains_has, has_contains}
 use Rattle.soundness.proofs.Opens.{has_split}
 
 -- what follows on the begin of an access: its reads and writes, and its end
@@ -285,7 +286,7 @@ if_some : (o : Option Moment) (Q : Moment → Type 0) → ((moment : Moment) →
 if_some None Q each = tt
 if_some (Some moment) Q each = each moment refl
 
-module _ (run : Run) (records : List Record) (list : RunList run records)
+module _ (run : Run) (records : List Record) (list : Execution run records)
     (tasks : All (λ (moment : Moment). moment.task < length run.program.tasks) (history_of list)) where
   own_moment : (task : ℕ) (moment : Moment) (later : History) → moment.task ≡ task → happenings_of task (moment ∷ later) ≡ moment.happening ∷ happenings_of task later
   own_moment task moment later is = rw (eq-eqb moment.task task is) refl

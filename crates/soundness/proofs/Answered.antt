@@ -13,10 +13,10 @@ use Rattle.slot_table.specs.declared.step.Step.{Step}
 use Rattle.slot_table.specs.declared.step.Step.TheVariants.{Consume, Insert, Load, PairLoad, Tell, TryConsume}
 use Rattle.task_log.specs.Counters.{is_encoding, is_masked, is_quiet, is_same, is_two_sided, is_unknown}
 use Rattle.value_filter.specs.declared.verdict.Reason.TheVariants.{Encoding, MaskedBits, SameValue}
-use Rattle.executions.specs.run_lists.Answers.{is_answer}
-use Rattle.executions.specs.run_lists.Run.{Run}
-use Rattle.executions.specs.run_lists.RunList.{RunList}
-use Rattle.executions.specs.run_lists.Told.{OutcomeAt, came_next, outcomes_by}
+use Rattle.executions.specs.execution.Answers.{is_answer}
+use Rattle.executions.specs.execution.Run.{Run}
+use Rattle.executions.specs.execution.Execution.{Execution}
+use Rattle.executions.specs.execution.Observed.{OutcomeAt, came_next, outcomes_by}
 use Rattle.soundness.specs.Settles.{AnswersTo, IsUntouched, IsUnwatched, One, OneAtMost, Settles, TellsOf, hears_finder}
 use Rattle.soundness.specs.Takings.{EachSettles}
 use Rattle.soundness.proofs.Heard.{hears_now, of_hearing}
@@ -120,7 +120,7 @@ counted_alike p (one ∷ others) =
     ∙ (ap (λ (n : ℕ). cond (p one.outcome) 1 0 + n) (counted_alike p others)
     ∙ sym (counted p one.outcome (map (λ (c : OutcomeAt). c.outcome) others)))
 
-module _ {run : Run} {all : List Record} (list : RunList run all) where
+module _ {run : Run} {all : List Record} (list : Execution run all) where
   abbrev told_so : (Outcome → Bool) → List Record → ℕ
   told_so p records = count_by (λ (came : OutcomeAt). p came.outcome) (outcomes_by list records)
 

@@ -7,7 +7,7 @@ use Rattle.std.proofs.lemmas.List.{get_or_append_left, length-append}
 use Rattle.std.proofs.Math.Seq.{get_or-append_seam}
 use Rattle.std.specs.List.{list_any}
 use Rattle.access_types.specs.declared.history.Bytes.{Bytes}
-use Rattle.litmus_semantics.specs.Layout.{Place, block_of, cells_of, initial_values, with_cell}
+use Rattle.litmus_semantics.specs.Layout.{VariablePlace, block_of, cells_of, initial_values, with_cell}
 use Rattle.litmus_syntax.specs.declared.program.Variable.{Variable}
 
 -- each stands at a multiple of 8, and none twice
@@ -84,7 +84,7 @@ are_blocks cells (value ∷ values) blocks =
     (with_or_without (value.0.size == 0) (list_any (λ other. other == block_of value.0.addr) cells) cells (block_of value.0.addr) refl blocks (block_is value.0.addr))
 
 -- so are the cells of variables
-pub cells_are_blocks : (places : List Place) (variables : List Variable) → AreBlocks (cells_of places variables)
+pub cells_are_blocks : (places : List VariablePlace) (variables : List Variable) → AreBlocks (cells_of places variables)
 cells_are_blocks places variables =
     are_blocks [] (initial_values places 0 variables)
     (record { multiple = λ i below. absurd (omega (arith, below)); once = λ i j below other same. absurd (omega (arith, below)) })

@@ -27,10 +27,10 @@ use Rattle.slot_table.specs.declared.step.Answer.TheVariants as answers
 use Rattle.slot_table.specs.declared.step.Step.{Step}
 use Rattle.slot_table.specs.declared.step.Step.TheVariants.{CellExchange, CellLoad, Clear, Clock, Consume, Insert, Load, LockStore, LockTry, Name, PairLoad, Remove, Tell, TryConsume}
 use Rattle.program_order.specs.Standing.{Setting, checks_of}
-use Rattle.program_order.specs.Told.{did_by, did_next}
-use Rattle.executions.specs.run_lists.Run.{Run, first_words, task_setting}
-use Rattle.executions.specs.run_lists.RunList.{RunList}
-use Rattle.executions.specs.run_lists.Told.{first_moments, history_by, history_of, made_by, moments_of}
+use Rattle.program_order.specs.TaskObserved.{did_by, did_next}
+use Rattle.executions.specs.execution.Run.{Run, first_words, task_setting}
+use Rattle.executions.specs.execution.Execution.{Execution}
+use Rattle.executions.specs.execution.Observed.{first_moments, history_by, history_of, made_by, moments_of}
 use Rattle.soundness.specs.Events.{AreMarks, EachDoesItsEvent, IsEvent, ReadsAtMost, Writes}
 use Rattle.soundness.specs.Cells.{CellsHold, memory_after, run_cells}
 use Rattle.soundness.proofs.CellBlocks.{AreBlocks, apart, cells_are_blocks}
@@ -255,7 +255,7 @@ module _ (s : Setting) (before : List Happening) (cells : List ℕ) (same_cells 
       stays did words.cells (ap (λ (d : List Happening). after_did memory d) event.3) refl
   one_record Clock answer did names answered event = stays did words.cells (at_clock did event) refl
 
-module _ (run : Run) (records : List Record) (list : RunList run records) (first : (task : ℕ) → AreMarks (did_by (list.tasks task) 0)) where
+module _ (run : Run) (records : List Record) (list : Execution run records) (first : (task : ℕ) → AreMarks (did_by (list.tasks task) 0)) where
   abbrev at_first : Memory
   at_first = memory_at_first run.places run.program.variables
 
@@ -318,7 +318,7 @@ taken_all [] = refl
 taken_all (moment ∷ history) = ap (λ (h : History). moment ∷ h) (taken_all history)
 
 -- so the content of an access's bytes is their value in the word
-pub value_at : (run : Run) (records : List Record) (list : RunList run records)
+pub value_at : (run : Run) (records : List Record) (list : Execution run records)
     → CellsHold (run_cells run) (memory_after run (history_of list)) (words_after (first_words run) records).cells
     → (task : ℕ) (a : Access) (source : Source) → source_of (checks_of (task_setting run task)) a ≡ Some source
     → content (memory_at_first run.places run.program.variables) (history_of list) (length (history_of list)) (bytes_of a)

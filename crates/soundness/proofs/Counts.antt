@@ -6,8 +6,8 @@ use Rattle.std.specs.Option.{option_map}
 use Rattle.std.specs.Prelude.{slice_index_or}
 use Rattle.std.proofs.lemmas.Bool.{eq-eqb, ne_eqb}
 use Rattle.std.proofs.lemmas.Bool.Decides.{eqb_tells}
-use Rattle.executions.specs.run_lists.Answers.{is_answer}
-use Rattle.executions.specs.run_lists.Told.{Armed, OutcomeAt, outcome_at}
+use Rattle.executions.specs.execution.Answers.{is_answer}
+use Rattle.executions.specs.execution.Observed.{Armed, OutcomeAt, outcome_at}
 use Rattle.setup_access.specs.Check.{Fallen}
 use Rattle.setup_access.specs.declared.outcome.Outcome.{Outcome}
 use Rattle.setup_access.specs.declared.outcome.Outcome.TheVariants as outcomes

@@ -29,14 +29,14 @@ use Rattle.slot_table.proofs.Lists.{allowed_at, kept_before}
 use Rattle.slot_table.proofs.Moves.{some_same}
 use Rattle.slot_table.proofs.Steps.{here_part}
 use Rattle.program_order.specs.Standing.{Setting}
-use Rattle.program_order.specs.Told.{did_by, did_next}
-use Rattle.executions.specs.run_lists.Run.{Run, task_setting}
-use Rattle.executions.specs.run_lists.RunList.{RunList}
-use Rattle.executions.specs.run_lists.Told.{Armed, armed_in, history_by, history_of, made_by, moments_of}
-use Rattle.executions.proofs.run_lists.Intervals.{Has, contains_has, has_contains, has_either}
-use Rattle.executions.proofs.run_lists.OwnLasts.{last_below, own_latest}
+use Rattle.program_order.specs.TaskObserved.{did_by, did_next}
+use Rattle.executions.specs.execution.Run.{Run, task_setting}
+use Rattle.executions.specs.execution.Execution.{Execution}
+use Rattle.executions.specs.execution.Observed.{Armed, armed_in, history_by, history_of, made_by, moments_of}
+use Rattle.executions.proofs.execution.Intervals.{Has, contains_has, has_contains, has_either}
+use Rattle.executions.proofs.execution.OwnLasts.{last_below, own_latest}
 use Rattle.soundness.specs.Events.{AreMarks, DoesEvent, EachDoesItsEvent, IsEvent, ReadsAtMost, Writes}
-use Rattle.soundness.specs.Takings.{IsOver}
+use Rattle.soundness.specs.Takings.{IsTakingOver}
 use Rattle.soundness.specs.Ended.{HasEndedSince}
 use Rattle.soundness.proofs.Origins.{told_front}
 
@@ -423,7 +423,7 @@ module _ (index n setter word finder taken_word : ℕ) (words : Words) (records 
         ]
       ]
 
-  pub is_over : IsOver index n records
+  pub is_over : IsTakingOver index n records
   is_over task armed =
       let it = in_hand_so (in_hand (records_of task records)) records index n armed in by_table task it.0 it.1 it.2 table
 
@@ -518,7 +518,7 @@ in_moments task [] a h = absurd h
 in_moments task (x ∷ did) a (inl is) = (ap (λ (m : Moment). m.task) is, inl (ap (λ (m : Moment). m.happening) is))
 in_moments task (x ∷ did) a (inr more) = let it = in_moments task did a more in (it.0, inr it.1)
 
-module _ (run : Run) (records : List Record) (list : RunList run records) where
+module _ (run : Run) (records : List Record) (list : Execution run records) where
   record ClockIn (a : Access) (more : List Record) : Type 0 where
     later : List Record
     clock : Record
@@ -585,7 +585,7 @@ module _ (run : Run) (records : List Record) (list : RunList run records) where
       }
 
   pub ended_over : (index n setter word finder taken_word : ℕ) (words : Words) → AllKeepDiscipline records → MeetOnce records → roles.Stands words records index
-      → EachDoesItsEvent list records → HasEndedSince list (IsArming index n setter word) → HasEndedSince list (IsTaking index n finder taken_word) → IsOver index n records
+      → EachDoesItsEvent list records → HasEndedSince list (IsArming index n setter word) → HasEndedSince list (IsTaking index n finder taken_word) → IsTakingOver index n records
   ended_over index n setter word finder taken_word words keeps once table events arming taking =
       is_over index n setter word finder taken_word words records keeps once table
       (clock_since (IsArming index n setter word) setter (λ made earlier it. (it.task, λ clock. let no : Insert index word ≡ Clock = sym it.step ∙ clock in cc)) events arming)

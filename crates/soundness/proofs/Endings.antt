@@ -23,9 +23,9 @@ use Rattle.slot_table.proofs.Moves.{is_finder, some_same}
 use Rattle.slot_table.proofs.Phases as phases
 use Rattle.slot_table.proofs.Phases.{Fits, Open, View, finder_in, finder_part}
 use Rattle.slot_table.proofs.Steps.{here_part}
-use Rattle.executions.specs.run_lists.Told.{armed_by, armed_in}
-use Rattle.executions.proofs.run_lists.OwnLasts.{own_latest}
-use Rattle.soundness.specs.Takings.{IsOver}
+use Rattle.executions.specs.execution.Observed.{armed_by, armed_in}
+use Rattle.executions.proofs.execution.OwnLasts.{own_latest}
+use Rattle.soundness.specs.Takings.{IsTakingOver}
 use Rattle.soundness.proofs.Counts.{fewer_of, hand_with, stands_once, times, times_more}
 use Rattle.soundness.proofs.Waiting.{same_index}
 
@@ -248,7 +248,7 @@ module _ (index : ℕ) where
         ∙ ap (λ (l : Option ℕ). option_map (λ (x : ℕ). record { index = index; number = x }) l) last
 
     -- one that nobody has in hand was heard by its setter
-    pub heard_of : (records : List Record) (word : ℕ) → Rules records → SomeRecord (IsTaking index n finder word) records → IsOver index n records
+    pub heard_of : (records : List Record) (word : ℕ) → Rules records → SomeRecord (IsTaking index n finder word) records → IsTakingOver index n records
         → 1 ≤ times n (view_at records).heard
     heard_of records word rules taken over = elim (told_or_not records word rules taken) [
       | inr untold ↦ absurd (over finder (armed_with finder (parts.Taken untold.word) records n untold.has untold.last))

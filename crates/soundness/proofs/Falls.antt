@@ -17,7 +17,7 @@ use Rattle.watch_word.specs.Word.{word_of}
 use Rattle.setup_access.specs.Check as cases
 use Rattle.setup_access.specs.Check.{Check, ChecksOnce, Close, Ends, Fallen, GoesOn, NoneFound, Pass, Passes, Rechecks, fallen_of, left_to_check}
 use Rattle.setup_access.specs.Find.{LooksUp}
-use Rattle.setup_access.specs.Found.{Hears, Takes, Tells, finder_half, setter_half}
+use Rattle.setup_access.specs.Found.{Hears, Takes, FinderTells, finder_half, setter_half}
 use Rattle.setup_access.specs.Parts.{made}
 use Rattle.setup_access.specs.Records.{MakesDone, MakesFlag, MakesWord}
 use Rattle.setup_access.specs.Setting.{Setting, slot_of}
@@ -221,7 +221,7 @@ module _ (s : Setting) where
 
     tried : (found : Watchpoint) (taken : Bool) (outcome : Outcome) (pass_later : List Record) → pass_later ≡ rest → (later own : List Record)
         → in_hand own ≡ None
-        → MatchBool taken (Tells s a found.index later outcome rest) ((outcome ≡ outcomes.Lost) × (rest ≡ later))
+        → MatchBool taken (FinderTells s a found.index later outcome rest) ((outcome ≡ outcomes.Lost) × (rest ≡ later))
         → Falls own (made s.task (TryConsume found.index found.word) (answers.Flag taken) ∷ later) (out outcome pass_later ∷ more)
     tried found true outcome pass_later is later own idle h =
         let took : Record = made s.task (TryConsume found.index found.word) (answers.Flag true) in

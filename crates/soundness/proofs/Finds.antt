@@ -1,4 +1,4 @@
--- Each telling that a run list tells is on a find of an access in progress, of the arming that it took.
+-- Each telling that an execution tells is on a find of an access in progress, of the arming that it took.
 use Rattle.std.proofs.Common.{◌≡◌, ◌∙◌, ◌<◌, ◌++◌, [], ◌∷◌, inl, inr, ℕ, suc, true, All, List, Option, Some, ap, append_assoc, refl, reverse, subst, sym}
 use Rattle.std.proofs.lemmas.Bool.{eq-eqb}
 use Rattle.std.proofs.lemmas.List.{reverse-append}
@@ -26,11 +26,11 @@ use Rattle.slot_table.specs.declared.step.Step.{Step}
 use Rattle.slot_table.specs.declared.step.Step.TheVariants.{PairLoad, Tell, TryConsume}
 use Rattle.slot_table.proofs.Steps.{here_part}
 use Rattle.program_order.specs.Standing.{checks_of}
-use Rattle.executions.specs.run_lists.Run.{Run, task_setting}
-use Rattle.executions.specs.run_lists.RunList.{RunList}
-use Rattle.executions.specs.run_lists.Told.{OutcomeAt, outcomes_of}
-use Rattle.executions.proofs.run_lists.CheckFacts.{back}
-use Rattle.executions.proofs.run_lists.OwnLasts.{hears_at, own_latest}
+use Rattle.executions.specs.execution.Run.{Run, task_setting}
+use Rattle.executions.specs.execution.Execution.{Execution}
+use Rattle.executions.specs.execution.Observed.{OutcomeAt, outcomes_of}
+use Rattle.executions.proofs.execution.CheckFacts.{back}
+use Rattle.executions.proofs.execution.OwnLasts.{hears_at, own_latest}
 use Rattle.soundness.specs.Finds.{IfTelling, IsFind, IsOfFind}
 use Rattle.soundness.proofs.Watches.{OfFind, all_of_finds}
 
@@ -211,7 +211,7 @@ module _ (run : Run) where
         told = ends.told;
       }
 
-module _ (run : Run) (records : List Record) (list : RunList run records) (each : EachHearsTheOther records) where
+module _ (run : Run) (records : List Record) (list : Execution run records) (each : EachHearsTheOther records) where
   of_find : (came : OutcomeAt) → OfFind run records list came → IsOfFind list came
   of_find came it =
       let a : Access = came.access in

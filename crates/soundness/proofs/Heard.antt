@@ -15,9 +15,9 @@ use Rattle.slot_table.specs.declared.step.Answer.TheVariants as answers
 use Rattle.slot_table.specs.declared.step.Step.{Step}
 use Rattle.slot_table.specs.declared.step.Step.TheVariants.{Clear, Consume, Insert, Name, PairLoad, Remove, Tell, TryConsume}
 use Rattle.task_log.specs.Counters.{is_taken}
-use Rattle.executions.specs.run_lists.Run.{Run}
-use Rattle.executions.specs.run_lists.RunList.{RunList}
-use Rattle.executions.proofs.run_lists.OwnLasts.{own_latest}
+use Rattle.executions.specs.execution.Run.{Run}
+use Rattle.executions.specs.execution.Execution.{Execution}
+use Rattle.executions.proofs.execution.OwnLasts.{own_latest}
 use Rattle.soundness.specs.Settles.{hears_finder, is_hit}
 use Rattle.soundness.proofs.Falls.{ClearsNext}
 use Rattle.soundness.proofs.Lists.{settled_at}
@@ -167,8 +167,8 @@ hearings_end task own keeps clears over =
     let all = held task own keeps clears in
     let none : waiting (in_hand own) (heard_of own) ≡ 0 = ap (λ (h : Option InHand). waiting h (heard_of own)) over in omega (arith, all, none)
 
--- so it is of each task of a run list
-module _ (run : Run) (records : List Record) (list : RunList run records) where
+-- so it is of each task of an execution
+module _ (run : Run) (records : List Record) (list : Execution run records) where
   each_clears : (task : ℕ) (later earlier : List Record) → records ≡ later ++ earlier → EachClears (records_of task earlier)
   each_clears task later [] is = tt
   each_clears task later (latest ∷ earlier) is =

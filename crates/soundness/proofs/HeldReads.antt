@@ -1,4 +1,4 @@
--- Each read of the history of a run list holds the content just before it.
+-- Each read of the history of an execution holds the content just before it.
 use Rattle.std.proofs.Common.{◌≡◌, ◌∙◌, ◌⊎◌, ◌==◌, ◌∷◌, ◌++◌, [], inl, inr, ℕ, zero, suc, Bool, true, false, IfSome, List, ap, length, refl, slice_get, subst, sym, take, if◌then◌else◌}
 use Rattle.std.specs.Prelude.{slice_index}
 use Rattle.std.proofs.lemmas.Bool.Decides.{eqb_tells}
@@ -19,10 +19,10 @@ use Rattle.slot_table.specs.declared.step.Answer.TheVariants as answers
 use Rattle.slot_table.specs.declared.step.Step.{Step}
 use Rattle.slot_table.specs.declared.step.Step.TheVariants.{CellExchange, CellLoad, Clear, Clock, Consume, Insert, Load, LockStore, LockTry, Name, PairLoad, Remove, Tell, TryConsume}
 use Rattle.program_order.specs.Standing.{Setting, checks_of}
-use Rattle.program_order.specs.Told.{did_by, did_next}
-use Rattle.executions.specs.run_lists.Run.{Run, first_words, task_setting}
-use Rattle.executions.specs.run_lists.RunList.{RunList}
-use Rattle.executions.specs.run_lists.Told.{first_moments, history_by, history_of, made_by, moments_of}
+use Rattle.program_order.specs.TaskObserved.{did_by, did_next}
+use Rattle.executions.specs.execution.Run.{Run, first_words, task_setting}
+use Rattle.executions.specs.execution.Execution.{Execution}
+use Rattle.executions.specs.execution.Observed.{first_moments, history_by, history_of, made_by, moments_of}
 use Rattle.soundness.specs.Events.{AreMarks, EachDoesItsEvent, IsEvent, ReadsAtMost, Writes}
 use Rattle.soundness.specs.Cells.{CellsHold, memory_after, run_cells}
 use Rattle.soundness.specs.HeldReads.{HoldsContent, ReadsHold}
@@ -169,7 +169,7 @@ module _ (s : Setting) (before : List Happening) (cells : List ℕ) (same_cells 
   one_record (LockStore lock) answer did answered event = subst (λ (d : List Happening). AllHold memory d) (sym event.3) (tt, tt)
   one_record Clock answer did answered event = at_clock did event
 
-module _ (run : Run) (records : List Record) (list : RunList run records) (first : (task : ℕ) → AreMarks (did_by (list.tasks task) 0)) where
+module _ (run : Run) (records : List Record) (list : Execution run records) (first : (task : ℕ) → AreMarks (did_by (list.tasks task) 0)) where
   abbrev at_first : Memory
   at_first = memory_at_first run.places run.program.variables
 
@@ -199,7 +199,7 @@ if_some [] k P Q each h = tt
 if_some (first ∷ history) zero P Q each h = each first h
 if_some (first ∷ history) (suc k) P Q each h = if_some history k P Q each h
 
-pub reads_hold : (run : Run) (records : List Record) (list : RunList run records) → ((task : ℕ) → AreMarks (did_by (list.tasks task) 0))
+pub reads_hold : (run : Run) (records : List Record) (list : Execution run records) → ((task : ℕ) → AreMarks (did_by (list.tasks task) 0))
     → EachDoesItsEvent list records → ReadsHold (memory_at_first run.places run.program.variables) (history_of list)
 reads_hold run records list first events k =
     let initial : Memory = memory_at_first run.places run.program.variables in

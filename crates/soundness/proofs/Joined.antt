@@ -42,14 +42,14 @@ use Rattle.slot_table.proofs.Phases.{meeting}
 use Rattle.slot_table.proofs.Steps.{here_part}
 use Rattle.watch_word.specs.Word.{word_of}
 use Rattle.program_order.specs.Standing.{checks_of}
-use Rattle.program_order.specs.Told.{fell_next}
-use Rattle.executions.specs.run_lists.Answers.{AnswersTaking, IfAnswer, is_answer}
-use Rattle.executions.specs.run_lists.Run.{Run, first_cells, locks_of, task_setting}
-use Rattle.executions.specs.run_lists.RunList.{RunList}
-use Rattle.executions.specs.run_lists.Told.{Armed, OutcomeAt, armed_by, armed_in, came_next, history_by, history_of, made_by, outcome_at, outcomes_by, outcomes_of}
-use Rattle.executions.proofs.run_lists.CheckFacts.{back}
-use Rattle.executions.proofs.run_lists.Intervals.{Has, contains_has, has_contains, has_first, has_last}
-use Rattle.executions.proofs.run_lists.OwnLasts.{finder_told, last_below, own_latest, own_split, same_arming}
+use Rattle.program_order.specs.TaskObserved.{fell_next}
+use Rattle.executions.specs.execution.Answers.{AnswersTaking, IfAnswer, is_answer}
+use Rattle.executions.specs.execution.Run.{Run, first_cells, locks_of, task_setting}
+use Rattle.executions.specs.execution.Execution.{Execution}
+use Rattle.executions.specs.execution.Observed.{Armed, OutcomeAt, armed_by, armed_in, came_next, history_by, history_of, made_by, outcome_at, outcomes_by, outcomes_of}
+use Rattle.executions.proofs.execution.CheckFacts.{back}
+use Rattle.executions.proofs.execution.Intervals.{Has, contains_has, has_contains, has_first, has_last}
+use Rattle.executions.proofs.execution.OwnLasts.{finder_told, last_below, own_latest, own_split, same_arming}
 use Rattle.soundness.specs.Finds.{IfTelling, IsOfFind, is_telling}
 use Rattle.soundness.specs.Joined.{IfAnswersBoth, IsHitWatch, JudgesWatch, NamesFinder}
 use Rattle.soundness.specs.Settles.{One, Settles, TellsOf}
@@ -439,7 +439,7 @@ armed_index index (Some n) armed is =
     let same : record { index = index; number = n } ≡ armed = cc in
     (ap (λ (x : Armed). x.index) same, ap (λ (x : Armed). Some x.number) same)
 
-module _ (run : Run) (records : List Record) (list : RunList run records)
+module _ (run : Run) (records : List Record) (list : Execution run records)
     (rules : Keeps run.rules.slots (locks_of run) (first_cells run) records) where
   abbrev Rules : List Record → Type 0
   Rules l = Keeps run.rules.slots (locks_of run) (first_cells run) l

@@ -8,7 +8,7 @@ pub mod Endings
 pub mod Makers
 pub mod Opens
 pub mod AccessesBeginOnce
-pub mod Tells
+pub mod PointsTell
 pub mod Watched
 pub mod TextTells
 pub mod RecordsDoEvents

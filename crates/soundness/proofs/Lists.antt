@@ -1,4 +1,4 @@
--- What each record of a run list settles.
+-- What each record of an execution settles.
 use Rattle.std.proofs.Common.{◌≡◌, ◌<◌, ◌≤◌, ◌==◌, ◌+◌, ◌∙◌, ◌∷◌, ◌++◌, [], inl, inr, ℕ, suc, List, Option, ap, append_assoc, arith, length, map, refl, reverse, subst, sym}
 use Rattle.std.specs.List.{filter}
 use Rattle.std.proofs.lemmas.Bool.{eq-eqb, ne_eqb}
@@ -10,14 +10,14 @@ use Rattle.setup_access.specs.declared.outcome.Outcome.{Outcome}
 use Rattle.slot_table.specs.Discipline.{in_hand}
 use Rattle.slot_table.specs.Records.{records_of}
 use Rattle.slot_table.specs.declared.records.Record.{Record}
-use Rattle.program_order.specs.Told.{fell_next, to_come}
-use Rattle.executions.specs.run_lists.Run.{Run, task_of, task_setting}
-use Rattle.executions.specs.run_lists.RunList.{RunList}
-use Rattle.executions.specs.run_lists.Told.{Armed, OutcomeAt, armed_by, made_by, outcome_at}
-use Rattle.executions.proofs.run_lists.CheckFacts.{back}
-use Rattle.executions.proofs.run_lists.Histories.{front_of}
-use Rattle.executions.proofs.run_lists.OwnLasts.{own_latest}
-use Rattle.executions.proofs.run_lists.TwoSides.{back_own}
+use Rattle.program_order.specs.TaskObserved.{fell_next, to_come}
+use Rattle.executions.specs.execution.Run.{Run, task_of, task_setting}
+use Rattle.executions.specs.execution.Execution.{Execution}
+use Rattle.executions.specs.execution.Observed.{Armed, OutcomeAt, armed_by, made_by, outcome_at}
+use Rattle.executions.proofs.execution.CheckFacts.{back}
+use Rattle.executions.proofs.execution.Histories.{front_of}
+use Rattle.executions.proofs.execution.OwnLasts.{own_latest}
+use Rattle.executions.proofs.execution.TwoSides.{back_own}
 use Rattle.soundness.specs.Settles.{Settles}
 use Rattle.soundness.specs.Takings.{EachSettles}
 use Rattle.soundness.proofs.Falls.{AllBefore, ClearsNext, Falls, outcomes_in}
@@ -105,7 +105,7 @@ told_outcomes : (count : ℕ) (arming : Option Armed) (here : List Fallen)
 told_outcomes count arming [] = refl
 told_outcomes count arming (fallen ∷ here) = ap (λ (l : List Outcome). fallen.outcome ∷ l) (told_outcomes count arming here)
 
-module _ (run : Run) (records : List Record) (list : RunList run records) where
+module _ (run : Run) (records : List Record) (list : Execution run records) where
   -- what a record of the list settles
   pub record SettledAt (latest : Record) (earlier : List Record) : Type 0 where
     pub here : List Fallen

@@ -1,4 +1,4 @@
--- In the history of a run list a lock is taken only when it is free, and given up only by its holder: its word tells.
+-- In the history of an execution a lock is taken only when it is free, and given up only by its holder: its word tells.
 use Rattle.std.proofs.Common.{◌≡◌, ◌≢◌, ◌∙◌, ◌⊎◌, ◌<◌, ◌+◌, ◌==◌, ◌∷◌, ◌++◌, [], inl, inr, ℕ, zero, suc, Bool, true, false, IfSome, List, Option}
 use Rattle.std.proofs.Common.{None, Some, ap, append_assoc, arith, fold, length, refl, replicate, slice_get, subst, sym, take, if◌then◌else◌}
 use Rattle.std.specs.Prelude.{slice_index, slice_set}
@@ -22,12 +22,12 @@ use Rattle.slot_table.specs.declared.step.Step.{Step}
 use Rattle.slot_table.specs.declared.step.Step.TheVariants.{CellExchange, CellLoad, Clear, Clock, Consume, Insert, Load, LockStore, LockTry, Name, PairLoad, Remove, Tell, TryConsume}
 use Rattle.slot_table.proofs.Moves.{some_same}
 use Rattle.program_order.specs.Standing.{IsLockAt, Setting, lock_number}
-use Rattle.program_order.specs.Told.{did_by, did_next}
+use Rattle.program_order.specs.TaskObserved.{did_by, did_next}
 use Rattle.program_order.proofs.HeldLocks.{AreQuiet, own_number, quiet_leaves}
-use Rattle.executions.specs.run_lists.Run.{Run, first_words, locks_of, task_setting}
-use Rattle.executions.specs.run_lists.RunList.{RunList}
-use Rattle.executions.specs.run_lists.Told.{first_moments, history_by, history_of, made_by, moments_of}
-use Rattle.executions.proofs.run_lists.Histories.{of_both, of_task}
+use Rattle.executions.specs.execution.Run.{Run, first_words, locks_of, task_setting}
+use Rattle.executions.specs.execution.Execution.{Execution}
+use Rattle.executions.specs.execution.Observed.{first_moments, history_by, history_of, made_by, moments_of}
+use Rattle.executions.proofs.execution.Histories.{of_both, of_task}
 use Rattle.soundness.specs.Events.{AreMarks, EachDoesItsEvent, IsEvent, ReadsAtMost, Writes}
 use Rattle.soundness.proofs.Watches.{is_below}
 
@@ -344,7 +344,7 @@ module _ (run : Run) where
     are_locks = λ task lock is. absurd (let never : None ≡ Some task = is in cc);
   }
 
-module _ (run : Run) (records : List Record) (list : RunList run records) (first : (task : ℕ) → AreMarks (did_by (list.tasks task) 0)) where
+module _ (run : Run) (records : List Record) (list : Execution run records) (first : (task : ℕ) → AreMarks (did_by (list.tasks task) 0)) where
   abbrev Both : History → List ℕ → Type 0
   Both history locks = HistoryLocks (λ lock. None) history × LocksStand run history locks
 

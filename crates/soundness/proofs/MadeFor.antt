@@ -6,18 +6,18 @@ use Rattle.slot_table.specs.declared.records.Record.{Record}
 use Rattle.slot_table.specs.declared.step.Step.{Step}
 use Rattle.slot_table.specs.declared.step.Step.TheVariants.{Insert, TryConsume}
 use Rattle.program_order.specs.Standing.{checks_of}
-use Rattle.program_order.specs.Told.{did_by}
-use Rattle.executions.specs.run_lists.Run.{Run, task_setting}
-use Rattle.executions.specs.run_lists.RunList.{RunList}
-use Rattle.executions.specs.run_lists.Told.{made_by}
-use Rattle.executions.proofs.run_lists.Histories.{in_progress}
-use Rattle.executions.proofs.run_lists.Intervals.{IsOpen}
+use Rattle.program_order.specs.TaskObserved.{did_by}
+use Rattle.executions.specs.execution.Run.{Run, task_setting}
+use Rattle.executions.specs.execution.Execution.{Execution}
+use Rattle.executions.specs.execution.Observed.{made_by}
+use Rattle.executions.proofs.execution.Histories.{in_progress}
+use Rattle.executions.proofs.execution.Intervals.{IsOpen}
 use Rattle.soundness.specs.Made.{EachIsMadeFor, IsInHand, IsMadeFor}
 use Rattle.soundness.proofs.RecordsDoEvents.{made_at}
-use Rattle.soundness.proofs.Tells.{MadeFor}
+use Rattle.soundness.proofs.PointsTell.{MadeFor}
 use Rattle.soundness.proofs.Watches.{is_below, of_program}
 
-module _ (run : Run) (records : List Record) (list : RunList run records) where
+module _ (run : Run) (records : List Record) (list : Execution run records) where
   in_hand_at : (later earlier : List Record) (task : ℕ) → records ≡ later ++ earlier → task < length run.program.tasks → (a : Access)
       → IsOwn (checks_of (task_setting run task)) a → IsOpen (did_by (list.tasks task) (made_by task earlier)) a → IsInHand list task earlier a
   in_hand_at later earlier task is below a own goes =

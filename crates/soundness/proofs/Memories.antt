@@ -5,7 +5,7 @@ use Rattle.access_types.specs.History.{History, Memory, after_happening, after_m
 use Rattle.access_types.specs.declared.history.Bytes.{Bytes}
 use Rattle.access_types.specs.declared.history.Happening.{Happening}
 use Rattle.access_types.specs.declared.history.Happening.TheVariants as happenings
-use Rattle.executions.specs.run_lists.Told.{moments_of}
+use Rattle.executions.specs.execution.Observed.{moments_of}
 use Rattle.soundness.specs.Events.{AreMarks}
 
 -- what was laid at an offset of the bytes, and what stands at an address that is none of them

@@ -5,11 +5,11 @@ use Rattle.access_types.specs.Access.{Access}
 use Rattle.access_types.specs.Race.{TrueRace}
 use Rattle.access_types.specs.Ticket.{ticket_number}
 use Rattle.soundness.specs.Races.{IfTwoSided, NamesRaceOfBoth, NamesTheRace}
-use Rattle.executions.specs.run_lists.Answers.{IsOfPair, is_answer}
-use Rattle.executions.specs.run_lists.Run.{Run}
-use Rattle.executions.specs.run_lists.RunList.{RunList}
-use Rattle.executions.specs.run_lists.Told.{OutcomeAt, history_of, outcomes_of}
-use Rattle.executions.specs.run_lists.TwoSides as sides
+use Rattle.executions.specs.execution.Answers.{IsOfPair, is_answer}
+use Rattle.executions.specs.execution.Run.{Run}
+use Rattle.executions.specs.execution.Execution.{Execution}
+use Rattle.executions.specs.execution.Observed.{OutcomeAt, history_of, outcomes_of}
+use Rattle.executions.specs.execution.TwoSides as sides
 use Rattle.soundness.specs.Joined.{AnswersBoth, IfAnswersBoth}
 use Rattle.setup_access.specs.declared.outcome.Outcome.{Outcome}
 use Rattle.setup_access.specs.declared.outcome.Outcome.TheVariants as outcomes
@@ -17,7 +17,7 @@ use Rattle.slot.specs.Pair.{Halves}
 use Rattle.slot_table.specs.declared.records.Record.{Record}
 use Rattle.slot_table.proofs.Moves.{some_same}
 
-module _ (run : Run) (records : List Record) (list : RunList run records) where
+module _ (run : Run) (records : List Record) (list : Execution run records) where
   names_both : (came : OutcomeAt) (pair : Halves) → ((heard : Halves) → IsOfPair heard came.outcome → pair ≡ heard) → AnswersBoth list came → sides.NamesTwoSides list came pair → NamesTheRace list came pair
   names_both came pair of both two =
       let is : pair ≡ both.answer.pair = of both.answer.pair both.answer.of_pair in

@@ -5,7 +5,7 @@ use Rattle.access_types.specs.Access.{Access}
 use Rattle.access_types.specs.declared.history.Happening.{Happening}
 use Rattle.access_types.specs.declared.history.Happening.TheVariants as happenings
 use Rattle.setup_access.specs.declared.begun.Begun.{Begun}
-use Rattle.executions.proofs.run_lists.Intervals.{Has, IsNoEnd, IsOpen, IsPaired, has_either, has_first, has_last}
+use Rattle.executions.proofs.execution.Intervals.{Has, IsNoEnd, IsOpen, IsPaired, has_either, has_first, has_last}
 
 pub has_split : (xs : List Happening) (x : Happening) → Has xs x → (p : List Happening) × (q : List Happening) × (xs ≡ p ++ x ∷ q)
 has_split [] x h = absurd h

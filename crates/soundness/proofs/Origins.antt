@@ -41,11 +41,11 @@ use Rattle.value_filter.specs.declared.verdict.Verdict.TheVariants as verdict
 use Rattle.value_filter.proofs.ChangedBits.{differ_from_bits}
 use Rattle.watch_word.specs.Word.{word_of}
 use Rattle.program_order.specs.Standing.{checks_of}
-use Rattle.program_order.specs.Told.{did_next}
-use Rattle.executions.specs.run_lists.Run.{Run, first_words, task_setting}
-use Rattle.executions.specs.run_lists.RunList.{RunList}
-use Rattle.executions.specs.run_lists.Told.{OutcomeAt, history_by, history_of, made_by, moments_of}
-use Rattle.executions.proofs.run_lists.OwnLasts.{own_latest, own_split}
+use Rattle.program_order.specs.TaskObserved.{did_next}
+use Rattle.executions.specs.execution.Run.{Run, first_words, task_setting}
+use Rattle.executions.specs.execution.Execution.{Execution}
+use Rattle.executions.specs.execution.Observed.{OutcomeAt, history_by, history_of, made_by, moments_of}
+use Rattle.executions.proofs.execution.OwnLasts.{own_latest, own_split}
 use Rattle.soundness.specs.Watches.{IsOfWatch, IsWatch, is_verdict}
 use Rattle.soundness.specs.Cells.{CellsHold, memory_after, run_cells}
 use Rattle.soundness.specs.Origins.{IfUnknown}
@@ -374,7 +374,7 @@ taken_front : (first rest : History) → take (length first) (first ++ rest) ≡
 taken_front [] rest = refl
 taken_front (one ∷ first) rest = ap (λ (h : History). one ∷ h) (taken_front first rest)
 
-module _ (run : Run) (records : List Record) (list : RunList run records) where
+module _ (run : Run) (records : List Record) (list : Execution run records) where
   -- what is told by earlier records is the front of what is told by all
   told_more : (later earlier : List Record) → (more : History) × (history_by list (later ++ earlier) ≡ history_by list earlier ++ more)
   told_more [] earlier = ([], sym (append-nil (history_by list earlier)))
@@ -562,7 +562,7 @@ module _ (run : Run) (records : List Record) (list : RunList run records) where
     names_change came (outcomes.Dropped reason) is watched = tt
 
 -- so its bytes changed under its watch
-pub in_watch : {run : Run} {records : List Record} (list : RunList run records) (came : OutcomeAt) (outcome : Outcome) → IfUnknownInWatch list came outcome
+pub in_watch : {run : Run} {records : List Record} (list : Execution run records) (came : OutcomeAt) (outcome : Outcome) → IfUnknownInWatch list came outcome
     → IfUnknown list came outcome
 in_watch list came (outcomes.Unknown old new) it = it.changed
 in_watch list came outcomes.Nothing it = tt

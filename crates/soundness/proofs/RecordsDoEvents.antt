@@ -1,22 +1,22 @@
--- Each record of a run list does the one event of its step, and besides it nothing but marks.
+-- Each record of an execution does the one event of its step, and besides it nothing but marks.
 use Rattle.std.proofs.Common.{◌≡◌, ◌+◌, ◌∙◌, ◌∷◌, ◌++◌, [], ℕ, suc, List, ap, append_assoc, arith, drop, length, refl, reverse, subst, sym}
 use Rattle.std.proofs.lemmas.List.{append-nil, length-append, length-reverse, reverse-append}
 use Rattle.access_types.specs.declared.history.Happening.{Happening}
 use Rattle.slot_table.specs.Records.{records_of}
 use Rattle.slot_table.specs.declared.records.Record.{Record}
 use Rattle.program_order.specs.Standing.{Point, Setting, point_by}
-use Rattle.program_order.specs.Told.{did_by, did_next, to_come}
+use Rattle.program_order.specs.TaskObserved.{did_by, did_next, to_come}
 use Rattle.program_order.specs.WrittenOrder.{first_point}
-use Rattle.executions.specs.run_lists.Run.{Run, task_of, task_setting}
-use Rattle.executions.specs.run_lists.RunList.{RunList}
-use Rattle.executions.specs.run_lists.Told.{made_by}
-use Rattle.executions.proofs.run_lists.Histories.{front_of}
-use Rattle.executions.proofs.run_lists.OwnLasts.{own_latest}
+use Rattle.executions.specs.execution.Run.{Run, task_of, task_setting}
+use Rattle.executions.specs.execution.Execution.{Execution}
+use Rattle.executions.specs.execution.Observed.{made_by}
+use Rattle.executions.proofs.execution.Histories.{front_of}
+use Rattle.executions.proofs.execution.OwnLasts.{own_latest}
 use Rattle.soundness.specs.Events.{AreMarks, DoesEvent, EachDoesItsEvent, IsEvent}
-use Rattle.soundness.proofs.Tells as tells
+use Rattle.soundness.proofs.PointsTell as tells
 use Rattle.setup_access.specs.Check.{Fallen}
 use Rattle.soundness.proofs.AccessesBeginOnce.{begin_once}
-use Rattle.soundness.proofs.Tells.{MadeFor, Tells, goes_on, made_anyway, stays, stops}
+use Rattle.soundness.proofs.PointsTell.{MadeFor, PointsTell, goes_on, made_anyway, stays, stops}
 use Rattle.soundness.proofs.TextTells.{whole_tells}
 
 marks_both : (first second : List Happening) → AreMarks first → AreMarks second → AreMarks (first ++ second)
@@ -29,7 +29,7 @@ pub record Computes (last : Point) (records : List Record) (points : List Point)
   pub all : (point_by (length records) last points).progress.did ≡ last.progress.did ++ marks
   pub are : AreMarks marks
 
-computes : (s : Setting) (last : Point) (records : List Record) (did : List Happening) (points : List Point) (outs : List Fallen) → last.progress.did ≡ did → Tells s records did points outs
+computes : (s : Setting) (last : Point) (records : List Record) (did : List Happening) (points : List Point) (outs : List Fallen) → last.progress.did ≡ did → PointsTell s records did points outs
     → Computes last records points
 computes s last records did points outs same (tells.over d) = record { marks = []; all = sym (append-nil last.progress.did); are = tt }
 computes s last records did points outs same (tells.marks r d more point others o here says are goes) =
@@ -64,7 +64,7 @@ pub record DoneWith (s : Setting) (last : Point) (x : Record) (q : List Record) 
 same_first : (first x : Record) (later q : List Record) → first ∷ later ≡ x ∷ q → (first ≡ x) × (later ≡ q)
 same_first first x later q is = (cc, cc)
 
-pub done_with : (s : Setting) (last : Point) (records : List Record) (did : List Happening) (points : List Point) (outs : List Fallen) → last.progress.did ≡ did → Tells s records did points outs
+pub done_with : (s : Setting) (last : Point) (records : List Record) (did : List Happening) (points : List Point) (outs : List Fallen) → last.progress.did ≡ did → PointsTell s records did points outs
     → (p : List Record) (x : Record) (q : List Record) → records ≡ p ++ x ∷ q → DoneWith s last x q points
 done_with s last records did points outs same (tells.over d) p x q is =
     let long : 0 ≡ length p + suc (length q) = ap (λ (r : List Record). length r) is ∙ length-append p (x ∷ q) in absurd (omega (arith, long))
@@ -85,7 +85,7 @@ done_with s last records did points outs same (tells.marks r d more point others
     }
 done_with s last records did points outs same (tells.silent first later d others o event made goes) [] x q is =
     let it = same_first first x later q is in
-    let at_q : Tells s q d others o = subst (λ (r : List Record). Tells s r d others o) it.1 goes in
+    let at_q : PointsTell s q d others o = subst (λ (r : List Record). PointsTell s r d others o) it.1 goes in
     let then = computes s last q d others o same at_q in
     let before : point_by (suc (length q)) last others ≡ last = stays s (suc (length q)) last q d others o at_q (omega arith) in
     record {
@@ -104,7 +104,7 @@ done_with s last records did points outs same (tells.silent first later d others
     let it = same_first first f later (p ++ x ∷ q) is in done_with s last later d others o same goes p x q it.1
 done_with s last records did points outs same (tells.event first later d more point others o here says event none goes) [] x q is =
     let it = same_first first x later q is in
-    let at_q : Tells s q point.progress.did others o = subst (λ (r : List Record). Tells s r point.progress.did others o) it.1 goes in
+    let at_q : PointsTell s q point.progress.did others o = subst (λ (r : List Record). PointsTell s r point.progress.did others o) it.1 goes in
     let then = computes s point q point.progress.did others o refl at_q in
     let there : point.to_come ≡ length q = here ∙ ap (λ (r : List Record). length r) it.1 in
     let before : point_by (suc (length q)) last (point ∷ others) ≡ last = stops (suc (length q)) last point others (omega (arith, there)) in
@@ -143,9 +143,9 @@ drop_front : (first rest : List Happening) → drop (length first) (first ++ res
 drop_front [] rest = refl
 drop_front (one ∷ first) rest = drop_front first rest
 
-module _ (run : Run) (records : List Record) (list : RunList run records) where
+module _ (run : Run) (records : List Record) (list : Execution run records) where
   -- all records of a task
-  pub told_whole : (task : ℕ) → Tells (task_setting run task) (reverse (records_of task records) ++ (list.tasks task).more) []
+  pub told_whole : (task : ℕ) → PointsTell (task_setting run task) (reverse (records_of task records) ++ (list.tasks task).more) []
       (list.tasks task).whole.end.way (list.tasks task).whole.end.outcomes
   told_whole task =
       let registers : ℕ = length (task_of run task).registers in

@@ -7,11 +7,11 @@ use Rattle.std.proofs.lemmas.Option.{same_Some}
 use Rattle.access_types.specs.Ticket.{ticket_number}
 use Rattle.access_types.specs.declared.report.Report.{Report}
 use Rattle.access_types.specs.declared.report.Report.TheVariants as reports
-use Rattle.executions.specs.run_lists.Reports.{reported, reports_of}
-use Rattle.executions.specs.run_lists.Run.{Run}
-use Rattle.executions.specs.run_lists.RunList.{RunList}
-use Rattle.executions.specs.run_lists.Told.{OutcomeAt, outcomes_of}
-use Rattle.executions.specs.run_lists.TwoSides.{IfTwoSided, NamesBoth}
+use Rattle.executions.specs.execution.Reports.{reported, reports_of}
+use Rattle.executions.specs.execution.Run.{Run}
+use Rattle.executions.specs.execution.Execution.{Execution}
+use Rattle.executions.specs.execution.Observed.{OutcomeAt, outcomes_of}
+use Rattle.executions.specs.execution.TwoSides.{IfTwoSided, NamesBoth}
 use Rattle.setup_access.specs.declared.outcome.Outcome.{Outcome}
 use Rattle.setup_access.specs.declared.outcome.Outcome.TheVariants as outcomes
 use Rattle.slot.specs.Pair.{Halves}
@@ -20,7 +20,7 @@ use Rattle.soundness.specs.Watches.{IfVerdict, IsOfWatch, is_verdict}
 use Rattle.soundness.specs.Origins.{IfUnknown, NamesChange}
 use Rattle.soundness.specs.Reported.{IsOfOutcome, IsTrueReport}
 
-module _ {run : Run} {records : List Record} (list : RunList run records) where
+module _ {run : Run} {records : List Record} (list : Execution run records) where
   abbrev report_of : OutcomeAt → Option Report
   report_of came = reported came.access came.outcome
 

@@ -1,4 +1,4 @@
--- The history that a run list tells is that of a run of the program.
+-- The history that an execution tells is that of a run of the program.
 use Rattle.std.proofs.Common.{◌≡◌, ◌<◌, ◌≤◌, ◌∷◌, ◌++◌, ◌∙◌, [], ℕ, zero, suc, All, IfSome, List, None, Option, Some, append_assoc, arith, length, refl, slice_get, sym, take}
 use Rattle.std.proofs.lemmas.List.Elements.{All-append, All-cons, All-nil}
 use Rattle.access_types.specs.History.{History, Memory}
@@ -8,11 +8,11 @@ use Rattle.access_types.specs.declared.history.Moment.{Moment}
 use Rattle.litmus_semantics.specs.Layout.{memory_at_first}
 use Rattle.litmus_semantics.specs.RunOfProgram.{IsPossible, RunOfProgram}
 use Rattle.slot_table.specs.declared.records.Record.{Record}
-use Rattle.program_order.specs.Told.{did_by, did_next}
-use Rattle.executions.specs.run_lists.Run.{Run}
-use Rattle.executions.specs.run_lists.RunList.{RunList}
-use Rattle.executions.specs.run_lists.Told.{first_moments, history_by, history_of, made_by, moments_of}
-use Rattle.executions.proofs.run_lists.Histories.{each_begins}
+use Rattle.program_order.specs.TaskObserved.{did_by, did_next}
+use Rattle.executions.specs.execution.Run.{Run}
+use Rattle.executions.specs.execution.Execution.{Execution}
+use Rattle.executions.specs.execution.Observed.{first_moments, history_by, history_of, made_by, moments_of}
+use Rattle.executions.proofs.execution.Histories.{each_begins}
 use Rattle.soundness.specs.Events.{AreMarks, EachDoesItsEvent}
 use Rattle.soundness.proofs.Watches.{is_below}
 use Rattle.soundness.specs.HeldReads.{HoldsContent, ReadsHold}
@@ -34,7 +34,7 @@ both_there : (o : Option Moment) (P Q R : Moment → Type 0) → ((moment : Mome
 both_there None P Q R each p q = tt
 both_there (Some moment) P Q R each p q = each moment p q
 
-module _ (run : Run) (records : List Record) (list : RunList run records) where
+module _ (run : Run) (records : List Record) (list : Execution run records) where
   abbrev IsTask : Moment → Type 0
   IsTask moment = moment.task < length run.program.tasks
 

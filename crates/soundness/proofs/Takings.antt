@@ -23,11 +23,11 @@ use Rattle.slot_table.proofs.Lists.{Keeps, allowed_at, fits_all, keeps_before, v
 use Rattle.slot_table.proofs.Meetings.{meetings_differ}
 use Rattle.slot_table.proofs.Phases.{Fits, View}
 use Rattle.slot_table.proofs.Steps.{here_part}
-use Rattle.executions.specs.run_lists.Answers.{is_answer}
-use Rattle.executions.specs.run_lists.Run.{Run, first_cells, locks_of}
-use Rattle.executions.specs.run_lists.RunList.{RunList}
-use Rattle.executions.specs.run_lists.Told.{Armed, OutcomeAt, armed_by, armed_in, came_next, outcome_at, outcomes_by}
-use Rattle.executions.proofs.run_lists.OwnLasts.{own_latest}
+use Rattle.executions.specs.execution.Answers.{is_answer}
+use Rattle.executions.specs.execution.Run.{Run, first_cells, locks_of}
+use Rattle.executions.specs.execution.Execution.{Execution}
+use Rattle.executions.specs.execution.Observed.{Armed, OutcomeAt, armed_by, armed_in, came_next, outcome_at, outcomes_by}
+use Rattle.executions.proofs.execution.OwnLasts.{own_latest}
 use Rattle.soundness.specs.Takings as spec
 use Rattle.soundness.specs.Takings.{HasOneAnswer, answers_to}
 use Rattle.soundness.proofs.Counts.{Answered, elsewhere_alone, fell_cases, hand_with, its, none_its, once_at_most, one_its, stands_once, times, times_more, told_covers}
@@ -68,7 +68,7 @@ heard_adds index number both part last halves before part_is last_is halves_is n
     let here : meetings_at index (met ∷ before) ≡ met ∷ meetings_at index before = rw (eq-eqb index index refl) refl in
     ap (λ (l : List Meeting). times n (meetings_at index l)) all ∙ (ap (times n) here ∙ times_more n number met (meetings_at index before) refl)
 
-module _ (run : Run) (records : List Record) (list : RunList run records) (rules : Keeps run.rules.slots (locks_of run) (first_cells run) records)
+module _ (run : Run) (records : List Record) (list : Execution run records) (rules : Keeps run.rules.slots (locks_of run) (first_cells run) records)
     (index n : ℕ) where
   abbrev Rules : List Record → Type 0
   Rules l = Keeps run.rules.slots (locks_of run) (first_cells run) l
@@ -311,12 +311,12 @@ module _ (run : Run) (records : List Record) (list : RunList run records) (rules
         | inr some_waits ↦ let all : count records ≡ told_times records = some_waits.1 in omega (arith, all, stands, fewer, most)
       ])
 
-pub is_answered : (run : Run) (records : List Record) (list : RunList run records) → Keeps run.rules.slots (locks_of run) (first_cells run) records
+pub is_answered : (run : Run) (records : List Record) (list : Execution run records) → Keeps run.rules.slots (locks_of run) (first_cells run) records
     → (index number : ℕ) → 1 ≤ times number (meetings_at index (setters_heard records)) → HasOneAnswer list index number
 is_answered run records list rules index number stands =
     let it = answered_once run records list rules index number stands in record { answer = it.0; only = it.1 }
 
-pub has_one_answer : (run : Run) (records : List Record) (list : RunList run records) → Keeps run.rules.slots (locks_of run) (first_cells run) records
+pub has_one_answer : (run : Run) (records : List Record) (list : Execution run records) → Keeps run.rules.slots (locks_of run) (first_cells run) records
     → (met : Meeting) → Contains (setters_heard records) met → HasOneAnswer list met.index met.number
 has_one_answer run records list rules met stands =
     is_answered run records list rules met.index met.number (stands_once (setters_heard records) met stands)

@@ -32,13 +32,13 @@ use Rattle.program_order.proofs.AccessLemmas.{access_does, counting_progress, ma
 use Rattle.program_order.proofs.Induction.{Kept, by_block}
 use Rattle.program_order.proofs.ScopesLemmas.{counting_scopes, operated_scopes}
 use Rattle.program_order.proofs.WayLemmas.{Begins}
-use Rattle.executions.proofs.run_lists.Intervals.{IsOpen, IsPaired, NoneEnds, none_of_effect, none_of_marks, paired_access, paired_both, paired_none}
-use Rattle.executions.proofs.run_lists.TaskFacts.{counting_outcomes}
+use Rattle.executions.proofs.execution.Intervals.{IsOpen, IsPaired, NoneEnds, none_of_effect, none_of_marks, paired_access, paired_both, paired_none}
+use Rattle.executions.proofs.execution.TaskFacts.{counting_outcomes}
 use Rattle.soundness.specs.Events.{AreMarks, IsEvent, ReadsAtMost}
 use Rattle.soundness.proofs.Opens.{AllOpen, all_later, all_with, opens_now}
-use Rattle.soundness.proofs.Tells.{NoWatch, Tells, begun_part, comes_at, counting_way, ended_part, made_anyway, makes_changes, marks_of_one, only_writes, read_of, read_once, writes_once}
+use Rattle.soundness.proofs.PointsTell.{NoWatch, PointsTell, begun_part, comes_at, counting_way, ended_part, made_anyway, makes_changes, marks_of_one, only_writes, read_of, read_once, writes_once}
 use Rattle.soundness.proofs.Watched.{checked, rechecks}
-use Rattle.soundness.proofs.Tells as tells
+use Rattle.soundness.proofs.PointsTell as tells
 
 reads_at : (s : Setting) (before : List Happening) (first : Record) (cell : ℕ) (did : List Happening) → first.step ≡ CellLoad cell
     → ReadsAtMost s cell first.answer did → IsEvent s before first.step first.answer did
@@ -49,14 +49,14 @@ module _ (s : Setting) where
   record Operated (before : Standing) (records : List Record) (after : Standing) (rest : List Record) : Type 0 where
     points : List Point
     adds : after.way ≡ before.way ++ points
-    tells : (more : List Point) (outs : List Fallen) → Tells s rest after.progress.did more outs → Tells s records before.progress.did (points ++ more) outs
+    tells : (more : List Point) (outs : List Fallen) → PointsTell s rest after.progress.did more outs → PointsTell s records before.progress.did (points ++ more) outs
 
   operated_part : (a : access.Access) (operation : Option Operation) (before : Standing) (records : List Record) (effect : Effect) (rest : List Record)
       → Operates (checks_of s) a operation records effect rest → Operated before records (operated a operation before records effect rest) rest
   operated_part a None before records effect rest h = record {
     points = [];
     adds = sym (append-nil before.way);
-    tells = λ more outs goes. subst (λ (r : List Record). Tells s r before.progress.did more outs) h.1 goes;
+    tells = λ more outs goes. subst (λ (r : List Record). PointsTell s r before.progress.did more outs) h.1 goes;
   }
   operated_part a (Some operations.Load) before [] effect rest h = absurd h.2
   operated_part a (Some operations.Load) before (first ∷ later) effect rest h =
@@ -69,7 +69,7 @@ module _ (s : Setting) where
         adds = refl;
         tells = λ more outs goes. tells.event first later before.progress.did (moments_of a effect) point more outs (ap (λ (r : List Record). length r) got.2.1) refl
             (reads_at s before.progress.did first h.0.cell (moments_of a effect) h.2.1 reads) (subst NoWatch (sym h.2.1) tt)
-            (subst (λ (r : List Record). Tells s r point.progress.did more outs) got.2.1 goes);
+            (subst (λ (r : List Record). PointsTell s r point.progress.did more outs) got.2.1 goes);
       }
   operated_part a (Some (operations.Add amount)) before [] effect rest h = absurd h.2
   operated_part a (Some (operations.Add amount)) before (first ∷ later) effect rest h =
@@ -103,8 +103,8 @@ module _ (s : Setting) where
 
   takes_lock : (variable : ℕ) (did : List Happening) (point : Point) (more : List Point) (outs : List Fallen) (records rest : List Record)
       → IsLockAt s variable → TakesLock s.text.task (lock_number s variable) records rest
-      → point.to_come ≡ length rest → point.progress.did ≡ did ++ happenings.Lock variable ∷ [] → Tells s rest point.progress.did more outs
-      → Tells s records did (point ∷ more) outs
+      → point.to_come ≡ length rest → point.progress.did ≡ did ++ happenings.Lock variable ∷ [] → PointsTell s rest point.progress.did more outs
+      → PointsTell s records did (point ∷ more) outs
   takes_lock variable did point more outs [] rest is_lock h here says goes = absurd h
   takes_lock variable did point more outs (first ∷ later) rest is_lock h here says goes =
       let lock : ℕ = lock_number s variable in
@@ -118,24 +118,24 @@ module _ (s : Setting) where
           → ((more_did : List Happening) → IsEvent s did (LockTry (lock_number s variable) s.text.task) (answers.Flag was_free) more_did
           → IsEvent s did first.step first.answer more_did)
           → NoWatch first.step → MatchBool was_free (rest ≡ later) (TakesLock s.text.task (lock_number s variable) later rest)
-          → (TakesLock s.text.task (lock_number s variable) later rest → Tells s later did (point ∷ more) outs)
-          → Tells s (first ∷ later) did (point ∷ more) outs
+          → (TakesLock s.text.task (lock_number s variable) later rest → PointsTell s later did (point ∷ more) outs)
+          → PointsTell s (first ∷ later) did (point ∷ more) outs
       by_answer true event_of none taken again =
           tells.event first later did (happenings.Lock variable ∷ []) point more outs (here ∙ ap (λ (r : List Record). length r) taken) says
           (event_of (happenings.Lock variable ∷ []) (variable, refl, is_lock, refl, refl)) none
-          (subst (λ (r : List Record). Tells s r point.progress.did more outs) taken goes)
+          (subst (λ (r : List Record). PointsTell s r point.progress.did more outs) taken goes)
       by_answer false event_of none refused again =
           tells.silent first later did (point ∷ more) outs (event_of [] refl) (made_anyway s did first.step none) (again refused)
 
   frees_lock : (variable : ℕ) (did : List Happening) (point : Point) (more : List Point) (outs : List Fallen) (records rest : List Record)
       → IsTrue (has_lock variable did) → MakesDone s.text.task (LockStore (lock_number s variable)) (λ later. rest ≡ later) records
-      → point.to_come ≡ length rest → point.progress.did ≡ did ++ happenings.Unlock variable ∷ [] → Tells s rest point.progress.did more outs
-      → Tells s records did (point ∷ more) outs
+      → point.to_come ≡ length rest → point.progress.did ≡ did ++ happenings.Unlock variable ∷ [] → PointsTell s rest point.progress.did more outs
+      → PointsTell s records did (point ∷ more) outs
   frees_lock variable did point more outs [] rest has h here says goes = absurd h
   frees_lock variable did point more outs (first ∷ later) rest has h here says goes =
       tells.event first later did (happenings.Unlock variable ∷ []) point more outs (here ∙ ap (λ (r : List Record). length r) h.2.1) says
       (subst (λ (st : Step). IsEvent s did st first.answer (happenings.Unlock variable ∷ [])) (sym h.1) (variable, has, refl, refl)) (subst NoWatch (sym h.1) tt)
-      (subst (λ (r : List Record). Tells s r point.progress.did more outs) h.2.1 goes)
+      (subst (λ (r : List Record). PointsTell s r point.progress.did more outs) h.2.1 goes)
 
 -- what a task does in all, by which each access begins once
 module _ (s : Setting) (end : List Happening)
@@ -150,8 +150,8 @@ module _ (s : Setting) (end : List Happening)
   pub record Gives (before : Standing) (records : List Record) (after : Standing) (rest : List Record) (points : List Point) : Type 0 where
     pub new : List Fallen
     pub outcomes : after.outcomes ≡ before.outcomes ++ new
-    pub tells : (more : List Point) (outs : List Fallen) → Tells s rest after.progress.did more outs
-        → Tells s records before.progress.did (points ++ more) (new ++ outs)
+    pub tells : (more : List Point) (outs : List Fallen) → PointsTell s rest after.progress.did more outs
+        → PointsTell s records before.progress.did (points ++ more) (new ++ outs)
 
   pub record Part (before : Standing) (records : List Record) (after : Standing) (rest : List Record) : Type 0 where
     pub begins : Begins before.progress.did after.progress.did
@@ -179,8 +179,8 @@ module _ (s : Setting) (end : List Happening)
   both_given before between after records later rest first second one two = record {
     new = one.new ++ two.new;
     outcomes = two.outcomes ∙ (ap (λ (o : List Fallen). o ++ two.new) one.outcomes ∙ append_assoc before.outcomes one.new two.new);
-    tells = λ more outs goes. subst (λ (l : List Point). Tells s records before.progress.did l ((one.new ++ two.new) ++ outs)) (sym (append_assoc first second more))
-        (subst (λ (o : List Fallen). Tells s records before.progress.did (first ++ (second ++ more)) o) (sym (append_assoc one.new two.new outs))
+    tells = λ more outs goes. subst (λ (l : List Point). PointsTell s records before.progress.did l ((one.new ++ two.new) ++ outs)) (sym (append_assoc first second more))
+        (subst (λ (o : List Fallen). PointsTell s records before.progress.did (first ++ (second ++ more)) o) (sym (append_assoc one.new two.new outs))
         (one.tells (second ++ more) (two.new ++ outs) (two.tells more outs goes)));
   }
 
@@ -208,7 +208,7 @@ module _ (s : Setting) (end : List Happening)
   -- a part that does this without a check, at one point
   plainly : (before after : Standing) (records rest : List Record) (did : List Happening) (point : Point) → after.progress.did ≡ before.progress.did ++ did
       → NoneEnds did → after.scopes ≡ before.scopes → after.way ≡ before.way ++ point ∷ [] → after.outcomes ≡ before.outcomes
-      → ((more : List Point) (outs : List Fallen) → Tells s rest after.progress.did more outs → Tells s records before.progress.did (point ∷ more) outs)
+      → ((more : List Point) (outs : List Fallen) → PointsTell s rest after.progress.did more outs → PointsTell s records before.progress.did (point ∷ more) outs)
       → Part before records after rest
   plainly before after records rest did point is none scopes way same tells_so = record {
     begins = (did, is);
@@ -232,8 +232,8 @@ module _ (s : Setting) (end : List Happening)
   begins_checked : (a : access.Access) (begun : Begun) (before : Standing) (records : List Record) (passes : Passes) (rest : List Record) → begun.access ≡ a
       → IsOpen (before.progress.did ++ happenings.Begin a ∷ []) a → AllOpen (before.progress.did ++ happenings.Begin a ∷ []) before.scopes
       → Check (checks_of s) before.scopes begun before.asked records passes rest → (more : List Point) (outs : List Fallen)
-      → Tells s rest (before.progress.did ++ happenings.Begin a ∷ []) more outs
-      → Tells s records before.progress.did (comes_at before (drop 1 records) (meaning.doing before.progress (happenings.Begin a ∷ [])) ∷ more)
+      → PointsTell s rest (before.progress.did ++ happenings.Begin a ∷ []) more outs
+      → PointsTell s records before.progress.did (comes_at before (drop 1 records) (meaning.doing before.progress (happenings.Begin a ∷ [])) ∷ more)
       (passes.outcomes ++ outs)
   begins_checked a begun before [] passes rest same goes all h more outs told = absurd h.2
   begins_checked a begun before (first ∷ later) passes rest same goes all h more outs told =
@@ -283,9 +283,9 @@ module _ (s : Setting) (end : List Happening)
               outcomes = ap (λ (st : Standing). st.outcomes) h.comes_to;
               tells = λ more outs goes. begins_checked a h.begun before records h.passes h.checked h.begins.access
                   (opened_now a before rest_of w.paired all) (others_open a before rest_of w.scopes all) h.check ((middle.points ++ last ∷ []) ++ more) outs
-                  (subst (λ (l : List Point). Tells s h.checked began.progress.did l outs) (sym (append_assoc middle.points (last ∷ []) more))
+                  (subst (λ (l : List Point). PointsTell s h.checked began.progress.did l outs) (sym (append_assoc middle.points (last ∷ []) more))
                   (middle.tells (last ∷ more) outs
-                  (ended_part s a made made.progress.did h.done rest h.ends refl more outs (subst (λ (d : List Happening). Tells s rest d more outs) did goes))));
+                  (ended_part s a made made.progress.did h.done rest h.ends refl more outs (subst (λ (d : List Happening). PointsTell s rest d more outs) did goes))));
             };
       }
 
@@ -330,7 +330,7 @@ module _ (s : Setting) (end : List Happening)
               new = opens.passes.outcomes;
               outcomes = ap (λ (st : Standing). st.outcomes) opens.comes_to;
               tells = λ more outs goes. begins_checked a begun before records opens.passes inside opens.begins.access its others opens.check more outs
-                  (subst (λ (d : List Happening). Tells s inside d more outs) opened_did goes);
+                  (subst (λ (d : List Happening). PointsTell s inside d more outs) opened_did goes);
             } in
             let opened_open : AllOpen opened.progress.did opened.scopes =
             subst (λ (l : List Begun). AllOpen opened.progress.did l) (sym opened_scopes)
@@ -351,7 +351,7 @@ module _ (s : Setting) (end : List Happening)
                   rechecks s closing.progress.did (last ∷ more) (record begun { silenced = begun.silenced || closes.silenced } ∷ []) (closes.close.0, tt) closing_open
                   closing.asked later closes.passes mid closes.close.1.1 outs
                   (ended_part s begun.access closing closing.progress.did mid rest closes.close.1.2 refl more outs
-                  (subst (λ (d : List Happening). Tells s rest d more outs) after_did goes));
+                  (subst (λ (d : List Happening). PointsTell s rest d more outs) after_did goes));
             } in
             both_given before opened after records inside rest (first ∷ []) (inner.points ++ last ∷ []) opening
             (both_given opened closing after inside later rest inner.points (last ∷ []) middle ending);
@@ -393,10 +393,10 @@ module _ (s : Setting) (end : List Happening)
 pub whole_tells : (s : Setting) (registers : ℕ) (body : Block) (records : List Record) (whole : SpellsAll s registers body records)
     → ((a : access.Access) (p q r t : List Happening) → whole.end.progress.did ≡ p ++ happenings.Begin a ∷ q
     → whole.end.progress.did ≡ r ++ happenings.Begin a ∷ t → p ≡ r)
-    → Tells s records [] whole.end.way whole.end.outcomes
+    → PointsTell s records [] whole.end.way whole.end.outcomes
 whole_tells s registers body records whole once =
     let part = by_block s (Part s whole.end.progress.did once) (kept_parts s whole.end.progress.did once) 0 body (at_first registers) records whole.end [] whole.steps in
     let given = part.gives (record { ends = ([], sym (append-nil whole.end.progress.did)); paired = paired_none [] tt; scopes = tt }) in
-    subst (λ (o : List Fallen). Tells s records [] whole.end.way o) (append-nil given.new ∙ sym given.outcomes)
-    (subst (λ (l : List Point). Tells s records [] l (given.new ++ [])) (append-nil part.points ∙ sym part.adds)
+    subst (λ (o : List Fallen). PointsTell s records [] whole.end.way o) (append-nil given.new ∙ sym given.outcomes)
+    (subst (λ (l : List Point). PointsTell s records [] l (given.new ++ [])) (append-nil part.points ∙ sym part.adds)
     (given.tells [] [] (tells.over whole.end.progress.did)))

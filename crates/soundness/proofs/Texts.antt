@@ -16,7 +16,7 @@ use Rattle.program_order.specs.Access.{Makes, operated}
 use Rattle.program_order.specs.Standing.{Setting, Standing, checks_of, lock_number}
 use Rattle.program_order.specs.WrittenOrder.{ClosesScope, OpensScope, SpellsAll, at_first}
 use Rattle.program_order.proofs.Induction.{Kept, by_block}
-use Rattle.executions.proofs.run_lists.TaskFacts.{IsPlain, counting_outcomes, done_step, operates, takes_lock, word_step}
+use Rattle.executions.proofs.execution.TaskFacts.{IsPlain, counting_outcomes, done_step, operates, takes_lock, word_step}
 use Rattle.soundness.specs.Settles.{Settles}
 use Rattle.soundness.proofs.Falls.{Falls, check, close, nothing_here, unhit}
 

@@ -125,7 +125,7 @@ module _ (index : ℕ) where
       (subst (λ (a : Answer). IsWaiting index (record { task = latest.task; step = PairLoad index; answer = a } ∷ own)) (sym now.answer_is) it)
 
   -- by what a view says who waits is the setter, its finder has told, and nobody has the arming taken
-  pub record Told (v : View) (task : ℕ) : Type 0 where
+  pub record FinderHasTold (v : View) (task : ℕ) : Type 0 where
     pub number : ℕ
     pub numbered : v.last.number ≡ Some number
     pub met : Meeting
@@ -135,7 +135,7 @@ module _ (index : ℕ) where
 
   told_in : (phase : phases.Phase) (v : View) (h : Open index phase v) (task : ℕ) (both : Halves) → phases.setter_part phase h.word ≡ parts.Hit
       → StillStands both v.pair
-      → 0 < both.finder → Told v task
+      → 0 < both.finder → FinderHasTold v task
   told_in (phases.HitTaken finder ticket) v h task both e stands above =
       let none : v.pair.finder ≡ 0 = ap (λ (pair : Halves). pair.finder) h.pair_is in
       let it : v.pair.finder ≡ both.finder = stands.1 above in absurd (omega (arith, none, it, above))
@@ -151,7 +151,7 @@ module _ (index : ℕ) where
   }
   told_in phase v h task both e stands above = absurd (cc)
 
-  pub told_of : (v : View) (task : ℕ) (both : Halves) → Fits index v → v.part task ≡ Some parts.Hit → v.hears task ≡ Some both → 0 < both.finder → Told v task
+  pub told_of : (v : View) (task : ℕ) (both : Halves) → Fits index v → v.part task ≡ Some parts.Hit → v.hears task ≡ Some both → 0 < both.finder → FinderHasTold v task
   told_of v task both (hears, inl idle) has heard_so above = let none = idle.nobody task in absurd (cc)
   told_of v task both (hears, inr (phase, h)) has heard_so above =
       let it = is_setter index phase v h task parts.Hit has (λ other e. cc) in

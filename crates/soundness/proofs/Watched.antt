@@ -9,7 +9,7 @@ use Rattle.access_run.proofs.PartFronts.{found_watchpoint, looks_up, sets_up}
 use Rattle.setup_access.specs.Check as cases
 use Rattle.setup_access.specs.Check.{Check, ChecksLast, ChecksOnce, Close, Ends, Fallen, GoesOn, NoneFound, Pass, Passes, Rechecks, fallen_of, left_to_check}
 use Rattle.setup_access.specs.Find.{Finds}
-use Rattle.setup_access.specs.Found.{FoundWatchpoint, Takes, Tells}
+use Rattle.setup_access.specs.Found.{FoundWatchpoint, Takes, FinderTells}
 use Rattle.setup_access.specs.Hits.{Hits}
 use Rattle.setup_access.specs.OwnAccesses.{AreOwn, IsOwn}
 use Rattle.setup_access.specs.Records.{MakesDone, MakesFlag, OnFlag}
@@ -31,15 +31,15 @@ use Rattle.slot_table.specs.declared.step.Step.{Step}
 use Rattle.slot_table.specs.declared.step.Step.TheVariants.{Tell, TryConsume}
 use Rattle.watch_word.specs.Word.{word_of}
 use Rattle.program_order.specs.Standing.{Point, Setting, checks_of}
-use Rattle.executions.proofs.run_lists.Intervals.{IsOpen}
+use Rattle.executions.proofs.execution.Intervals.{IsOpen}
 use Rattle.soundness.specs.Finds.{IsFind, is_telling}
 use Rattle.soundness.specs.Watches.{is_verdict}
 use Rattle.soundness.proofs.Makers as makers
 use Rattle.soundness.proofs.Makers.{FitAt, finds_hit}
 use Rattle.soundness.proofs.Opens.{AllOpen}
 use Rattle.setup_access.proofs.QuietSteps.{IsOfCheck}
-use Rattle.soundness.proofs.Tells as tells
-use Rattle.soundness.proofs.Tells.{MadeFor, silent_check, stays}
+use Rattle.soundness.proofs.PointsTell as tells
+use Rattle.soundness.proofs.PointsTell.{MadeFor, silent_check, stays}
 
 pick : (b : Bool) (Yes No Goal : Type 0) → MatchBool b Yes No → (Yes → Goal) → (No → Goal) → Goal
 pick true Yes No Goal given at_true at_false = at_true given
@@ -80,7 +80,7 @@ module _ (s : checks.Setting) (a : Access) where
   record TakesAt (found : Watchpoint) (records : List Record) (outcome : Outcome) : Type 0 where
     tried : List Record
     takes : MakesFlag s.task (TryConsume found.index found.word) (λ taken later. (taken ≡ true) × (later ≡ tried)) records
-    tells : Tells s a found.index tried outcome []
+    tells : FinderTells s a found.index tried outcome []
 
   takes_at : (found : Watchpoint) (records : List Record) (outcome : Outcome) → IsTrue (is_telling outcome) → Takes s a found records outcome []
       → TakesAt found records outcome
@@ -88,7 +88,7 @@ module _ (s : checks.Setting) (a : Access) where
   takes_at found (first ∷ later) outcome told_so h =
       let got = on_flag first.answer _ h.2 in by_flag got.0 got.1 got.2
     where
-      by_flag : (taken : Bool) → first.answer ≡ answers.Flag taken → MatchBool taken (Tells s a found.index later outcome []) ((outcome ≡ outcomes.Lost) × ([] ≡ later))
+      by_flag : (taken : Bool) → first.answer ≡ answers.Flag taken → MatchBool taken (FinderTells s a found.index later outcome []) ((outcome ≡ outcomes.Lost) × ([] ≡ later))
           → TakesAt found (first ∷ later) outcome
       by_flag true is told = record {
         tried = later;
@@ -125,7 +125,7 @@ module _ (s : checks.Setting) (a : Access) where
 
 module _ (s : Setting) (did : List Happening) (points : List Point) where
   abbrev T : List Record → List Fallen → Type 0
-  T records outs = tells.Tells s records did points outs
+  T records outs = tells.PointsTell s records did points outs
 
   -- a step of a check, which inserts and tries a word for an access in progress
   abbrev Fit : Step → Type 0
@@ -152,7 +152,7 @@ module _ (s : Setting) (did : List Happening) (points : List Point) where
     at_index index = record { names = (tt, tt); consumes = (tt, tt); loads = (tt, tt); cells = λ cell. (tt, tt) }
 
     told_or_lost : (taken : Bool) (found : Watchpoint) (records rest : List Record) (outcome : Outcome)
-        → MatchBool taken (Tells (checks_of s) a found.index records outcome rest) ((outcome ≡ outcomes.Lost) × (rest ≡ records)) → is_verdict outcome ≡ false
+        → MatchBool taken (FinderTells (checks_of s) a found.index records outcome rest) ((outcome ≡ outcomes.Lost) × (rest ≡ records)) → is_verdict outcome ≡ false
     told_or_lost true found records rest outcome h = ap is_verdict (told_is h.1 h.3)
       where
         told_is : (after : List Record) → MakesDone s.text.task (Tell found.index (ticket_number a)) (λ last.

@@ -1,4 +1,4 @@
--- Each verdict that a run list tells is on a watch of an access in progress, and each telling on a find.
+-- Each verdict that an execution tells is on a watch of an access in progress, and each telling on a find.
 use Rattle.std.proofs.Common.{◌≡◌, ◌∙◌, ◌<◌, ◌≤◌, ◌+◌, ◌-◌, ◌==◌, ◌∷◌, ◌++◌, [], inl, inr, ℕ, suc, Bool, All, IsTrue, List, Option, Some, ap, append_assoc}
 use Rattle.std.proofs.Common.{arith, length, map, refl, reverse, slice_get, subst, sym}
 use Rattle.std.specs.List.{filter}
@@ -21,22 +21,22 @@ use Rattle.setup_access.specs.declared.outcome.Outcome.{Outcome}
 use Rattle.slot_table.specs.Records.{records_of}
 use Rattle.slot_table.specs.declared.records.Record.{Record}
 use Rattle.program_order.specs.Standing.{Point, Setting, checks_of, point_by}
-use Rattle.program_order.specs.Told.{did_by, to_come}
+use Rattle.program_order.specs.TaskObserved.{did_by, to_come}
 use Rattle.program_order.specs.WrittenOrder.{StepsOfBlock, at_first, first_point}
 use Rattle.program_order.proofs.MeaningLemmas.{whole_means}
-use Rattle.executions.specs.run_lists.Run.{IsOfProgram, Run, idle, task_of, task_setting}
-use Rattle.executions.specs.run_lists.RunList.{RunList}
-use Rattle.executions.specs.run_lists.Told.{Armed, OutcomeAt, armed_by, came_next, history_by, history_of, made_by, outcome_at, outcomes_by, outcomes_of}
-use Rattle.executions.proofs.run_lists.Histories.{did_of_all, front_of, in_progress}
-use Rattle.executions.proofs.run_lists.Intervals.{Has, IsOpen, has_first}
-use Rattle.executions.proofs.run_lists.OwnLasts.{own_latest}
+use Rattle.executions.specs.execution.Run.{IsOfProgram, Run, idle, task_of, task_setting}
+use Rattle.executions.specs.execution.Execution.{Execution}
+use Rattle.executions.specs.execution.Observed.{Armed, OutcomeAt, armed_by, came_next, history_by, history_of, made_by, outcome_at, outcomes_by, outcomes_of}
+use Rattle.executions.proofs.execution.Histories.{did_of_all, front_of, in_progress}
+use Rattle.executions.proofs.execution.Intervals.{Has, IsOpen, has_first}
+use Rattle.executions.proofs.execution.OwnLasts.{own_latest}
 use Rattle.soundness.specs.Finds.{is_telling}
 use Rattle.soundness.specs.Watches.{IfVerdict, IsOfWatch, IsWatch, is_verdict}
 use Rattle.soundness.proofs.RecordsDoEvents.{told_whole}
 use Rattle.soundness.proofs.AccessesBeginOnce.{there}
 use Rattle.soundness.proofs.Opens.{has_split}
-use Rattle.soundness.proofs.Tells as tells
-use Rattle.soundness.proofs.Tells.{FallsOf, FallsSo, IsPart, IsSomeFind, Tells, goes_on}
+use Rattle.soundness.proofs.PointsTell as tells
+use Rattle.soundness.proofs.PointsTell.{FallsOf, FallsSo, IsPart, IsSomeFind, PointsTell, goes_on}
 
 -- what falls is of such a part among these records, through which the access is in progress
 record FellAt (Is : IsPart) (s : Setting) (last : Point) (records : List Record) (points : List Point) (fallen : Fallen) : Type 0 where
@@ -106,7 +106,7 @@ module _ (flag : Outcome → Bool) (Is : IsPart)
   }
 
   all_fell : (last : Point) (records : List Record) (did : List Happening) (points : List Point) (outs : List Fallen) → last.progress.did ≡ did
-      → Tells s records did points outs → Each (FellSo last records points) outs
+      → PointsTell s records did points outs → Each (FellSo last records points) outs
   all_fell last records did points outs same (tells.over d) = tt
   all_fell last records did points outs same (tells.marks r d more point others o here says are goes) =
       each_map (FellSo point r others) (FellSo last r (point ∷ others)) o (at_point last point r others (omega (arith, here)))
@@ -140,7 +140,7 @@ those_at n at arming P Q (f ∷ outs) falls each = elim (eqb_tells (length f.lat
   | inr apart ↦ rw apart.0 (those_at n at arming P Q outs falls.1 each)
 ]
 
-module _ (run : Run) (records : List Record) (list : RunList run records) where
+module _ (run : Run) (records : List Record) (list : Execution run records) where
   abbrev whole : ℕ → List Record
   whole task = reverse (records_of task records) ++ (list.tasks task).more
 

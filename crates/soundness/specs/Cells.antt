@@ -2,7 +2,7 @@
 use Rattle.std.specs.Prelude.{◌≡◌, ◌<◌, ◌+◌, ℕ, List, length, slice_index}
 use Rattle.access_types.specs.History.{History, Memory, after_moments, byte_of}
 use Rattle.litmus_semantics.specs.Layout.{cells_of, memory_at_first}
-use Rattle.executions.specs.run_lists.Run.{Run}
+use Rattle.executions.specs.execution.Run.{Run}
 
 -- the words of cells that stand at these addresses are what memory holds there, byte by byte
 abbrev pub CellsHold : List ℕ → Memory → List ℕ → Type 0

@@ -6,9 +6,9 @@ use Rattle.access_types.specs.declared.history.Happening.{Happening}
 use Rattle.access_types.specs.declared.history.Happening.TheVariants as happenings
 use Rattle.litmus_semantics.specs.Task.{has_lock}
 use Rattle.access_run.specs.memory_operation.Values.{with_value}
-use Rattle.executions.specs.run_lists.Run.{Run, task_setting}
-use Rattle.executions.specs.run_lists.RunList.{RunList}
-use Rattle.executions.specs.run_lists.Told.{made_by}
+use Rattle.executions.specs.execution.Run.{Run, task_setting}
+use Rattle.executions.specs.execution.Execution.{Execution}
+use Rattle.executions.specs.execution.Observed.{made_by}
 use Rattle.setup_access.specs.Values.{source_of, value_in}
 use Rattle.setup_access.specs.declared.source.Source.{Source}
 use Rattle.slot_table.specs.declared.records.Record.{Record}
@@ -17,7 +17,7 @@ use Rattle.slot_table.specs.declared.step.Answer.TheVariants as answers
 use Rattle.slot_table.specs.declared.step.Step.{Step}
 use Rattle.slot_table.specs.declared.step.Step.TheVariants.{CellExchange, CellLoad, Clock, LockStore, LockTry}
 use Rattle.program_order.specs.Standing.{IsLockAt, Setting, checks_of, lock_number}
-use Rattle.program_order.specs.Told.{did_by, did_next}
+use Rattle.program_order.specs.TaskObserved.{did_by, did_next}
 
 abbrev pub IsMark : Happening → Type 0
 IsMark (happenings.Mark mark) = Unit {0}
@@ -85,7 +85,7 @@ pub record DoesEvent (s : Setting) (before : List Happening) (step : Step) (answ
   pub are_marks : AreMarks marks
 
 -- so is it at each of these records
-abbrev pub EachDoesItsEvent : {run : Run} {all : List Record} → RunList run all → List Record → Type 0
+abbrev pub EachDoesItsEvent : {run : Run} {all : List Record} → Execution run all → List Record → Type 0
 EachDoesItsEvent list [] = Unit {0}
 EachDoesItsEvent {run = run} list (latest ∷ earlier) =
     EachDoesItsEvent list earlier

@@ -2,11 +2,11 @@
 use Rattle.std.specs.Prelude.{◌≡◌, ◌<◌, ◌≤◌, ◌+◌, ◌++◌, ℕ, suc, Bool, true, false, List, [], ◌∷◌, IsNone, IsTrue, Some, length, reverse}
 use Rattle.access_types.specs.Access.{Access}
 use Rattle.access_types.specs.History.{InProgress}
-use Rattle.executions.specs.run_lists.Run.{IsOfProgram, Run, task_setting}
-use Rattle.executions.specs.run_lists.RunList.{RunList}
-use Rattle.executions.specs.run_lists.Told.{OutcomeAt, history_by, history_of, made_by}
+use Rattle.executions.specs.execution.Run.{IsOfProgram, Run, task_setting}
+use Rattle.executions.specs.execution.Execution.{Execution}
+use Rattle.executions.specs.execution.Observed.{OutcomeAt, history_by, history_of, made_by}
 use Rattle.setup_access.specs.Find.{Finds}
-use Rattle.setup_access.specs.Found.{Tells}
+use Rattle.setup_access.specs.Found.{FinderTells}
 use Rattle.setup_access.specs.Records.{MakesFlag}
 use Rattle.setup_access.specs.Setting as checks
 use Rattle.setup_access.specs.declared.outcome.Outcome.{Outcome}
@@ -33,13 +33,13 @@ pub record IsFind (s : checks.Setting) (a : Access) (index word : ℕ) (outcome 
   pub tried : List Record
   pub looks : Finds s a find (Some (record { index = index; word = word })) looked
   pub takes : MakesFlag s.task (TryConsume index word) (λ taken later. (taken ≡ true) × (later ≡ tried)) looked
-  pub tells : Tells s a index tried outcome []
+  pub tells : FinderTells s a index tried outcome []
 
 -- The telling is on a find of the access that was checked, which the access's task made with its last
 -- records by then, and fell at the last of them. The access is one of the program, and it is in progress
 -- from before the find to before its last record. What it took is the arming with this number, under
 -- this word, of another task.
-pub record IsOfFind {run : Run} {records : List Record} (list : RunList run records) (came : OutcomeAt) :
+pub record IsOfFind {run : Run} {records : List Record} (list : Execution run records) (came : OutcomeAt) :
     Type 0 where
   pub later : List Record
   pub by_then : List Record
@@ -63,5 +63,5 @@ pub record IsOfFind {run : Run} {records : List Record} (list : RunList run reco
   pub met : IsMet by_then index number setter came.access.task word
 
 -- so it is if the outcome is a telling
-abbrev pub IfTelling : {run : Run} {records : List Record} → RunList run records → OutcomeAt → Type 0
+abbrev pub IfTelling : {run : Run} {records : List Record} → Execution run records → OutcomeAt → Type 0
 IfTelling list came = IsTrue (is_telling came.outcome) → IsOfFind list came

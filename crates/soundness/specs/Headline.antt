@@ -5,10 +5,10 @@ use Rattle.soundness.specs.Races.{NamesRaceOfBoth}
 use Rattle.soundness.specs.Ended.{HasEndedSince}
 use Rattle.soundness.specs.Reported.{IsTrueReport}
 use Rattle.soundness.specs.Watched.{NamesWatched}
-use Rattle.executions.specs.run_lists.Reports.{reports_of}
-use Rattle.executions.specs.run_lists.Run.{Run, first_words}
-use Rattle.executions.specs.run_lists.RunList.{AllHaveEnded, RunList}
-use Rattle.executions.specs.run_lists.Told.{history_of, outcomes_of}
+use Rattle.executions.specs.execution.Reports.{reports_of}
+use Rattle.executions.specs.execution.Run.{Run, first_words}
+use Rattle.executions.specs.execution.Execution.{AllHaveEnded, Execution}
+use Rattle.executions.specs.execution.Observed.{history_of, outcomes_of}
 use Rattle.soundness.specs.Totals.{Totals}
 use Rattle.soundness.specs.Joined.{IfAnswersBoth}
 use Rattle.soundness.specs.Made.{EachIsMadeFor}
@@ -21,7 +21,7 @@ use Rattle.slot_table.specs.declared.records.Record.{Record}
 
 -- An arming, which has this number at this index, was taken, and two accesses have ended since: one that was in
 -- progress as its task armed, and one that was as its task took. So it is of the two that it was armed and taken for.
-pub record BothHaveEnded {run : Run} {records : List Record} (list : RunList run records)
+pub record BothHaveEnded {run : Run} {records : List Record} (list : Execution run records)
     (index number : ℕ) : Type 0 where
   pub setter : ℕ
   pub word : ℕ
@@ -30,8 +30,8 @@ pub record BothHaveEnded {run : Run} {records : List Record} (list : RunList run
   pub armed : HasEndedSince list (IsArming index number setter word)
   pub taken : HasEndedSince list (IsTaking index number finder taken_word)
 
--- What is true of each run list, of every program, setting and order of steps.
-pub record Headline {run : Run} {records : List Record} (list : RunList run records) : Type 0 where
+-- What is true of each execution, of every program, setting and order of steps.
+pub record Headline {run : Run} {records : List Record} (list : Execution run records) : Type 0 where
   -- the history that it tells is one of a run of the program
   pub history : RunOfProgram run.program run.places (history_of list)
   -- at each index the watch word tells who is its setter and who its finder

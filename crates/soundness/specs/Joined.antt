@@ -3,10 +3,10 @@ use Rattle.std.specs.Prelude.{◌≡◌, ◌<◌, ◌≤◌, ◌+◌, ◌++◌, 
 use Rattle.access_types.specs.Access.{Access}
 use Rattle.access_types.specs.History.{InProgress}
 use Rattle.access_types.specs.Ticket.{ticket_number}
-use Rattle.executions.specs.run_lists.Answers.{AnswersTaking, is_answer}
-use Rattle.executions.specs.run_lists.Run.{Run, task_setting}
-use Rattle.executions.specs.run_lists.RunList.{RunList}
-use Rattle.executions.specs.run_lists.Told.{OutcomeAt, history_by, history_of, made_by, outcomes_of}
+use Rattle.executions.specs.execution.Answers.{AnswersTaking, is_answer}
+use Rattle.executions.specs.execution.Run.{Run, task_setting}
+use Rattle.executions.specs.execution.Execution.{Execution}
+use Rattle.executions.specs.execution.Observed.{OutcomeAt, history_by, history_of, made_by, outcomes_of}
 use Rattle.soundness.specs.Finds.{IsOfFind}
 use Rattle.setup_access.specs.Found.{Hears, finder_half}
 use Rattle.setup_access.specs.Records.{MakesDone, MakesFlag}
@@ -47,7 +47,7 @@ pub record IsHitWatch (s : checks.Setting) (a : Access) (index : ℕ) (values : 
 -- The answer is the verdict on the watch of the arming that was taken, by its own two values and the pair
 -- that it heard. The setter's task made it with its last records by then, and the access that was checked
 -- is in progress from before the watch to before its last record.
-pub record JudgesWatch {run : Run} {records : List Record} {list : RunList run records} {came : OutcomeAt}
+pub record JudgesWatch {run : Run} {records : List Record} {list : Execution run records} {came : OutcomeAt}
     (answer : AnswersTaking list came) : Type 0 where
   pub watch : List Record
   pub before : List Record
@@ -61,7 +61,7 @@ pub record JudgesWatch {run : Run} {records : List Record} {list : RunList run r
 
 -- The finder is the access for which that very arming was taken and told of: the outcome of its check
 -- is this telling, on a find of this arming, and it told this pair before the answer fell.
-pub record NamesFinder {run : Run} {records : List Record} {list : RunList run records} {came : OutcomeAt}
+pub record NamesFinder {run : Run} {records : List Record} {list : Execution run records} {came : OutcomeAt}
     (answer : AnswersTaking list came) : Type 0 where
   pub telling : OutcomeAt
   pub told : Contains (outcomes_of list) telling
@@ -74,7 +74,7 @@ pub record NamesFinder {run : Run} {records : List Record} {list : RunList run r
 
 -- The answer is the verdict on the two accesses of a taking: the one that its arming was made for, in
 -- its watch, and the one that it was made for, in its find. At one moment both are in progress.
-pub record AnswersBoth {run : Run} {records : List Record} (list : RunList run records) (came : OutcomeAt) :
+pub record AnswersBoth {run : Run} {records : List Record} (list : Execution run records) (came : OutcomeAt) :
     Type 0 where
   pub answer : AnswersTaking list came
   pub watch : JudgesWatch answer
@@ -84,5 +84,5 @@ pub record AnswersBoth {run : Run} {records : List Record} (list : RunList run r
   pub finder_goes : InProgress (history_of list) answer.finder moment
 
 -- so it is if the outcome is an answer
-abbrev pub IfAnswersBoth : {run : Run} {records : List Record} → RunList run records → OutcomeAt → Type 0
+abbrev pub IfAnswersBoth : {run : Run} {records : List Record} → Execution run records → OutcomeAt → Type 0
 IfAnswersBoth list came = IsTrue (is_answer came.outcome) → AnswersBoth list came

@@ -1,6 +1,6 @@
 -- How the totals of a list agree.
 use Rattle.std.specs.Prelude.{◌≡◌, ◌≤◌, ◌+◌, ℕ, Bool, true, false, List, Option, Some, count_by}
-use Rattle.executions.specs.run_lists.Told.{OutcomeAt}
+use Rattle.executions.specs.execution.Observed.{OutcomeAt}
 use Rattle.setup_access.specs.declared.outcome.Outcome.{Outcome}
 use Rattle.slot_table.specs.declared.records.Record.{Record}
 use Rattle.slot_table.specs.declared.step.Answer.{Answer}

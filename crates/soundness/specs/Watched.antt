@@ -4,9 +4,9 @@ use Rattle.access_types.specs.History.{content}
 use Rattle.access_types.specs.Race.{ChangedUnderWatch, bytes_of}
 use Rattle.access_types.specs.Ticket.{ticket_number}
 use Rattle.litmus_semantics.specs.Layout.{memory_at_first}
-use Rattle.executions.specs.run_lists.Run.{Run, task_setting}
-use Rattle.executions.specs.run_lists.RunList.{RunList}
-use Rattle.executions.specs.run_lists.Told.{OutcomeAt, history_by, history_of}
+use Rattle.executions.specs.execution.Run.{Run, task_setting}
+use Rattle.executions.specs.execution.Execution.{Execution}
+use Rattle.executions.specs.execution.Observed.{OutcomeAt, history_by, history_of}
 use Rattle.soundness.specs.Watches.{IsOfWatch}
 use Rattle.setup_access.specs.Values.{source_of}
 use Rattle.setup_access.specs.declared.outcome.Outcome.{Outcome}
@@ -22,7 +22,7 @@ use Rattle.program_order.specs.Standing.{checks_of}
 -- named itself and the consume that found its word untouched. In the history that the list tells the
 -- content of its bytes is the old value as the first is made and the new one as the second is, and no
 -- step of its own task stands between the two. So its bytes changed from the one to the other.
-pub record ChangedInWatch {run : Run} {records : List Record} (list : RunList run records) (came : OutcomeAt)
+pub record ChangedInWatch {run : Run} {records : List Record} (list : Execution run records) (came : OutcomeAt)
     (old new : ℕ) : Type 0 where
   pub watched : IsOfWatch list came
   pub index : ℕ
@@ -52,10 +52,10 @@ pub record ChangedInWatch {run : Run} {records : List Record} (list : RunList ru
       came.access old new
 
 -- so it is of what came of a check, if that is a report of unknown origin
-abbrev pub IfUnknownInWatch : {run : Run} {records : List Record} → RunList run records → OutcomeAt → Outcome
+abbrev pub IfUnknownInWatch : {run : Run} {records : List Record} → Execution run records → OutcomeAt → Outcome
     → Type 0
 IfUnknownInWatch list came (outcomes.Unknown old new) = ChangedInWatch list came old new
 IfUnknownInWatch list came outcome = Unit {0}
 
-abbrev pub NamesWatched : {run : Run} {records : List Record} → RunList run records → OutcomeAt → Type 0
+abbrev pub NamesWatched : {run : Run} {records : List Record} → Execution run records → OutcomeAt → Type 0
 NamesWatched list came = IfUnknownInWatch list came came.outcome

@@ -2,9 +2,9 @@
 use Rattle.std.specs.Prelude.{◌≡◌, ◌<◌, ◌≤◌, ◌+◌, ◌++◌, ℕ, suc, Bool, true, false, List, [], ◌∷◌, IsTrue, Some, length, reverse}
 use Rattle.access_types.specs.Access.{Access}
 use Rattle.access_types.specs.History.{InProgress}
-use Rattle.executions.specs.run_lists.Run.{IsOfProgram, Run, task_setting}
-use Rattle.executions.specs.run_lists.RunList.{RunList}
-use Rattle.executions.specs.run_lists.Told.{OutcomeAt, history_by, history_of, made_by}
+use Rattle.executions.specs.execution.Run.{IsOfProgram, Run, task_setting}
+use Rattle.executions.specs.execution.Execution.{Execution}
+use Rattle.executions.specs.execution.Observed.{OutcomeAt, history_by, history_of, made_by}
 use Rattle.setup_access.specs.Setting as checks
 use Rattle.setup_access.specs.Setup.{SetsUp}
 use Rattle.setup_access.specs.declared.outcome.Outcome.{Outcome}
@@ -34,7 +34,7 @@ pub record IsWatch (s : checks.Setting) (a : Access) (outcome : Outcome) (watch 
 -- The verdict is on a watch of the access that was checked, which the access's task made with its last
 -- records by then, and fell at the last of them. The access is one of the program, and it is in progress
 -- from before the watch to before its last record.
-pub record IsOfWatch {run : Run} {records : List Record} (list : RunList run records) (came : OutcomeAt) :
+pub record IsOfWatch {run : Run} {records : List Record} (list : Execution run records) (came : OutcomeAt) :
     Type 0 where
   pub later : List Record
   pub by_then : List Record
@@ -53,5 +53,5 @@ pub record IsOfWatch {run : Run} {records : List Record} (list : RunList run rec
       → InProgress (history_of list) came.access (length (history_by list earlier))
 
 -- so it is if the outcome is a verdict
-abbrev pub IfVerdict : {run : Run} {records : List Record} → RunList run records → OutcomeAt → Type 0
+abbrev pub IfVerdict : {run : Run} {records : List Record} → Execution run records → OutcomeAt → Type 0
 IfVerdict list came = IsTrue (is_verdict came.outcome) → IsOfWatch list came

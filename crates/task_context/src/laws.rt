@@ -11,7 +11,7 @@ ghost use Rattle.task_context.specs.Context as spec;
 ghost use Rattle.task_context.specs.History.{Concerns, IsWithinCalls, LeadsTo};
 
 /// Law: each history leads to one context, whatever is in it.
-pub fn histories_lead_to_one_context()
+pub fn law_histories_lead_to_one_context()
     ensures some { (plain_writes_atomic : Bool) (task : ℕ) (moments : History)
         → (context : spec.Context) × LeadsTo plain_writes_atomic task moments context }
     ensures one { (plain_writes_atomic : Bool) (task : ℕ) (moments : History) (a b : spec.Context)
@@ -20,7 +20,7 @@ pub fn histories_lead_to_one_context()
 {}
 
 /// Law: a moment that is no mark of the task and begins no access of it changes nothing.
-pub fn other_moments_change_nothing()
+pub fn law_other_moments_change_nothing()
     ensures { (plain_writes_atomic : Bool) (task : ℕ) (moments : History)
         (context : spec.Context) (moment : Moment)
         → ¬ Concerns task moment.task moment.happening
@@ -29,14 +29,14 @@ pub fn other_moments_change_nothing()
 {}
 
 /// Law: a count is at most the number of calls that raise it.
-pub fn counts_are_within_calls()
+pub fn law_counts_are_within_calls()
     ensures { (plain_writes_atomic : Bool) (task : ℕ) (moments : History) (context : spec.Context)
         → LeadsTo plain_writes_atomic task moments context → IsWithinCalls task moments context }
 {}
 
 /// Law: in a history in which an access begins once, what came before its begin decides whether it
 /// counts as marked and whether it is silenced.
-pub fn accesses_are_judged_at_their_begin()
+pub fn law_accesses_are_judged_at_their_begin()
     ensures marked { (plain_writes_atomic : Bool) (a : accesses.Access) (before later : History)
         → ¬ Contains (before ++ later) (beginning a)
         → (CountedAsMarked plain_writes_atomic (before ++ beginning a ∷ later) a

@@ -7,6 +7,6 @@ pub mod laws;
 
 pub use context::{Context, ContextError};
 pub use laws::{
-    accesses_are_judged_at_their_begin, counts_are_within_calls, histories_lead_to_one_context,
-    other_moments_change_nothing,
+    law_accesses_are_judged_at_their_begin, law_counts_are_within_calls,
+    law_histories_lead_to_one_context, law_other_moments_change_nothing,
 };

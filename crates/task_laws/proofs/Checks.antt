@@ -7,7 +7,7 @@ use Rattle.access_types.specs.Kind.{write_flag}
 use Rattle.access_types.specs.Ticket.{ticket_number}
 use Rattle.setup_access.specs.Check.{Check, ChecksBegun, ChecksOnce, Close, Ends, Fallen, GoesOn, NoneFound, Pass, Passes, Rechecks, asked_silenced, counts_as_marked, fallen_of, left_to_check, skipped, unencodable, watched}
 use Rattle.setup_access.specs.Find.{LooksUp}
-use Rattle.setup_access.specs.Found.{FoundWatchpoint, Hears, Takes, Tells, TellsTo, finder_half, setter_half}
+use Rattle.setup_access.specs.Found.{FoundWatchpoint, Hears, Takes, FinderTells, TellsTo, finder_half, setter_half}
 use Rattle.setup_access.specs.Hits.{Hits}
 use Rattle.setup_access.specs.OwnAccesses.{AreOwn, IsOwn}
 use Rattle.setup_access.specs.Records.{MakesDone, MakesWord}
@@ -93,8 +93,8 @@ module _ (s : Setting) (a : Access) where
   takes_open : (found : Watchpoint) → IsOpen Outcome (λ records outcome rest. Takes s a found records outcome rest)
   takes_open found =
       flag_then s.task (steps.TryConsume found.index found.word) Outcome
-      (λ taken later outcome rest. MatchBool taken (Tells s a found.index later outcome rest) ((outcome ≡ Lost) × (rest ≡ later))) (λ answer fits. fits) tt
-      (λ taken. bool_open Outcome (λ later outcome rest. Tells s a found.index later outcome rest)
+      (λ taken later outcome rest. MatchBool taken (FinderTells s a found.index later outcome rest) ((outcome ≡ Lost) × (rest ≡ later))) (λ answer fits. fits) tt
+      (λ taken. bool_open Outcome (λ later outcome rest. FinderTells s a found.index later outcome rest)
       (λ later outcome rest. (outcome ≡ Lost) × (rest ≡ later)) taken
       (then_open Halves Outcome (λ records both later. Hears setter_half s.task found.index records both later)
       (λ both later outcome rest. TellsTo s a found.index both.setter later outcome rest)

@@ -19,10 +19,10 @@ use Rattle.task_context.specs.History.IsLeft.{set, unset}
 use Rattle.program_order.specs.Standing.{BeginsNow, EndsNothing, IsDisabled, IsNested, Setting, Standing, checks_of, moments}
 
 -- what is so or isn't is told by a Bool
-abbrev pub Told : Type 0 → Type 0
-Told P = (told : Bool) × (IsTrue told ↔ P)
+abbrev pub HasDecider : Type 0 → Type 0
+HasDecider P = (told : Bool) × (IsTrue told ↔ P)
 
-told : (P : Type 0) → P ⊎ (¬ P) → Told P
+told : (P : Type 0) → P ⊎ (¬ P) → HasDecider P
 told P (inl so) = (true, (λ yes. so, λ p. refl))
 told P (inr not_so) = (false, (λ yes. absurd (let no : false ≡ true = yes in cc), λ p. absurd (not_so p)))
 
@@ -43,14 +43,14 @@ nested_or_not s before =
     let own = some_context s.rules.plain_writes_atomic s.text.task (moments s before) in
     raised_or_not is_nest_open is_nest_close (marks_of s.text.task (moments s before)) own.0.nest_count own.1.nested
 
-pub disabled_told : (s : Setting) (before : Standing) → Told (IsDisabled s before)
+pub disabled_told : (s : Setting) (before : Standing) → HasDecider (IsDisabled s before)
 disabled_told s before = told (IsDisabled s before) (disabled_or_not s before)
 
 other_way : (P : Type 0) → P ⊎ (¬ P) → (¬ P) ⊎ (¬ (¬ P))
 other_way P (inl so) = inr (λ no. no so)
 other_way P (inr not_so) = inl not_so
 
-pub nothing_told : (s : Setting) (before : Standing) (m : Mark) → Told (EndsNothing s before m)
+pub nothing_told : (s : Setting) (before : Standing) (m : Mark) → HasDecider (EndsNothing s before m)
 nothing_told s before Disable = told ⊥ (inr (λ no. no))
 nothing_told s before Enable = told (¬ IsDisabled s before) (other_way (IsDisabled s before) (disabled_or_not s before))
 nothing_told s before NestOpen = told ⊥ (inr (λ no. no))
@@ -118,9 +118,9 @@ pub begins_now : (s : Setting) (before : Standing) (a : Access) → IsOwn (check
 begins_now s before a own some =
     let plain = s.rules.plain_writes_atomic in
     let context = some_context plain a.task (moments s before) in
-    let marked : Told (CountsAfter plain a (moments s before)) =
+    let marked : HasDecider (CountsAfter plain a (moments s before)) =
     told (CountsAfter plain a (moments s before)) (counts_or_not plain a (moments s before) context.0 context.1) in
-    let silenced : Told (IsDisabled s before) = disabled_told s before in (
+    let silenced : HasDecider (IsDisabled s before) = disabled_told s before in (
       record { access = a; marked = marked.0; silenced = silenced.0; has_bytes = some },
       record { own = own; access = refl; marked = marked.1; silenced = silenced.1 },
     )

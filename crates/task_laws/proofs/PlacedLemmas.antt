@@ -6,7 +6,7 @@ use Rattle.std.proofs.lemmas.Iterator.Adapters.{position_from-zero}
 use Rattle.std.specs.List.{list_any, position, position_from}
 use Rattle.access_types.specs.Access.{Access}
 use Rattle.access_types.specs.declared.history.Bytes.{Bytes}
-use Rattle.litmus_semantics.specs.Layout.{Place, block_of, bytes_at, cells_of, initial_value, initial_values, no_bytes, with_cell}
+use Rattle.litmus_semantics.specs.Layout.{VariablePlace, block_of, bytes_at, cells_of, initial_value, initial_values, no_bytes, with_cell}
 use Rattle.litmus_semantics.specs.Task.{bytes_in}
 use Rattle.litmus_semantics.specs.Values.{size_of}
 use Rattle.litmus_syntax.specs.Limits.{IsLock}
@@ -59,7 +59,7 @@ added_one : (cells : List ℕ) (value : Bytes × ℕ) → (value.0.size == 0) �
 added_one cells value some =
     added (block_of value.0.addr) cells (value.0.size == 0) (list_any (λ (other : ℕ). other == block_of value.0.addr) cells) some (λ has. has)
 
-found : (places : List Place) (number : ℕ) (variables : List Variable) (n : ℕ) (variable : Variable) → slice_get variables n ≡ Some variable
+found : (places : List VariablePlace) (number : ℕ) (variables : List Variable) (n : ℕ) (variable : Variable) → slice_get variables n ≡ Some variable
     → (size_of variable.contents == 0) ≡ false → (cells : List ℕ)
     → Has (block_of (bytes_at places (n + number) variable).addr) (fold with_cell cells (initial_values places number variables))
 found places number [] n variable is some cells = cc

@@ -60,8 +60,8 @@ pub part_wider : (X : Type 0) (P : Valued X) (at : Core) (Few Many : X → Core 
     → PartIsOpen X P at Few → PartIsOpen X P at Many
 part_wider X P at Few Many wider part E A follows = part E A (λ value after is. follows value after (wider value after is))
 
--- A part is made of another, which gives its value and ends where it does but for what makes no step: it begins from another
--- place, and where it ends the standing is changed.
+-- A part is made of another, which gives its value and ends where it does but for what makes no step: it begins from
+-- another place, and where it ends the standing is changed.
 module _ (X Y : Type 0) (P : Valued X) (Q : Valued Y) (at from : Core) (value_of : X → Y) (end_of : X → Core → Core)
     (One : X → Core → Type 0) (Two : Y → Core → Type 0) where
   pub part_via :

@@ -56,12 +56,12 @@ module _ (task lock : ℕ) where
   abbrev IsTaken : Answer → Type 0
   IsTaken answer = answer ≡ answers.Flag true
 
-  abbrev IsVain : Answer → Type 0
-  IsVain answer = answer ≡ answers.Flag false
+  abbrev IsFailed : Answer → Type 0
+  IsFailed answer = answer ≡ answers.Flag false
 
   module _ (E : Unit {0} → Lists) where
     tried : (answer : Answer) (later rest : List Record) → OnFlag answer (λ was_free. MatchBool was_free (rest ≡ later) (TakesLock task lock later rest))
-        → E tt rest → ((IsTaken answer × E tt later) ⊎ (IsVain answer × After (Unit {0}) Tries E later))
+        → E tt rest → ((IsTaken answer × E tt later) ⊎ (IsFailed answer × After (Unit {0}) Tries E later))
     tried (answers.Word word) later rest h follows = absurd h
     tried (answers.Flag true) later rest h follows = inl (refl, subst (λ (r : List Record). E tt r) h follows)
     tried (answers.Flag false) later rest h follows = inr (refl, (tt, rest, h, follows))
@@ -70,18 +70,18 @@ module _ (task lock : ℕ) where
 
     lock_splits : (first : Record) (later : List Record) → After (Unit {0}) Tries E (first ∷ later)
         → (first.task ≡ task) × (first.step ≡ LockTry lock task)
-        × ((IsTaken first.answer × E tt later) ⊎ (IsVain first.answer × After (Unit {0}) Tries E later))
+        × ((IsTaken first.answer × E tt later) ⊎ (IsFailed first.answer × After (Unit {0}) Tries E later))
     lock_splits first later h = (h.2.0, h.2.1, tried first.answer later h.1 h.2.2 h.3)
 
     lock_stops : (first : Record) (later : List Record) → first.task ≡ task → first.step ≡ LockTry lock task → IsTaken first.answer → E tt later
         → After (Unit {0}) Tries E (first ∷ later)
     lock_stops first later task_is step_is is follows = (tt, later, (task_is, step_is, rw is refl), follows)
 
-    lock_again : (first : Record) (later : List Record) → first.task ≡ task → first.step ≡ LockTry lock task → IsVain first.answer
+    lock_again : (first : Record) (later : List Record) → first.task ≡ task → first.step ≡ LockTry lock task → IsFailed first.answer
         → After (Unit {0}) Tries E later → After (Unit {0}) Tries E (first ∷ later)
     lock_again first later task_is step_is is more = (tt, more.1, (task_is, step_is, rw is more.2), more.3)
 
-  flag_decides : (answer : Answer) → IsFlag answer → IsTaken answer ⊎ IsVain answer
+  flag_decides : (answer : Answer) → IsFlag answer → IsTaken answer ⊎ IsFailed answer
   flag_decides (answers.Word word) is = absurd is
   flag_decides (answers.Flag true) is = inl refl
   flag_decides (answers.Flag false) is = inr refl
@@ -90,7 +90,7 @@ module _ (task lock : ℕ) where
 
   pub lock_open : IsOpen (Unit {0}) Tries
   lock_open E A follows =
-      wait_open task (LockTry lock task) (After (Unit {0}) Tries E) (After (Unit {0}) Tries A) (λ answer. E tt) (λ answer. A tt) IsTaken IsVain
+      wait_open task (LockTry lock task) (After (Unit {0}) Tries E) (After (Unit {0}) Tries A) (λ answer. E tt) (λ answer. A tt) IsTaken IsFailed
       (lock_splits E) (lock_stops A) (lock_again A) flag_decides (answers.Flag true) refl (λ answer. follows tt)
 
 -- the loads of a pair until a half stands in it

@@ -11,21 +11,21 @@ ghost use Rattle.setup_access.specs.Setting.{Setting};
 ghost use Rattle.setup_access.specs.declared.begun.Begun.{Begun};
 
 /// Law: whatever the steps of a check are answered, some more records complete a check.
-pub fn checks_lead_on()
+pub fn law_checks_lead_on()
     ensures { (s : Setting) (scopes : List Begun) (begun : Begun) (asked : ℕ) → AnswersLeadOn (Check s scopes begun asked) }
 {}
 
 /// Law: so it is for the close of a scoped assertion.
-pub fn closes_lead_on()
+pub fn law_closes_lead_on()
     ensures { (s : Setting) (scope : Begun) (silenced : Bool) (asked : ℕ) → AnswersLeadOn (Close s scope silenced asked) }
 {}
 
 /// Law: so it is for an operation on memory.
-pub fn operations_lead_on()
+pub fn law_operations_lead_on()
     ensures { (s : Setting) (a : access.Access) (operation : Option Operation) → AnswersLeadOn (Operates s a operation) }
 {}
 
 /// Law: so it is for the tries of a lock.
-pub fn tries_lead_on()
+pub fn law_tries_lead_on()
     ensures { (task lock : ℕ) → AnswersLeadOn {X = Unit {0}} (λ records value rest. TakesLock task lock records rest) }
 {}

@@ -19,7 +19,7 @@ ghost use Rattle.program_order.specs.WrittenOrder.{SpellsAll, StepsOfBlock, Writ
 /// Law: of a text within the limits, whose variables are placed: where a record of records in the written order
 /// had another answer, the records up to it are in the written order too. So is what a task made with one step
 /// more, by whatever answer, if all that completes it goes on with this step.
-pub fn an_answer_leads_on()
+pub fn law_an_answer_leads_on()
     ensures another { (s : Setting) (task : Task) (records : List Record) (first other : Record) (later : List Record)
         → ArePlaced s → TaskKeepsLimits s.text.variables task → IsAlike first other
         → SpellsAll s (length task.registers) task.body (records ++ first ∷ later)
@@ -32,7 +32,7 @@ pub fn an_answer_leads_on()
 {}
 
 /// Law: by whatever records a block is spelled, at each site no more accesses begin in it than it has room for.
-pub fn accesses_begin_within_the_text()
+pub fn law_accesses_begin_within_the_text()
     ensures { (s : Setting) (site : ℕ) (body : Block) (before : Standing) (records : List Record) (end : Standing) (rest : List Record)
         → StepsOfBlock s site body before records end rest → (at : ℕ)
         → begun_at at (core_of end) ≤ begun_at at (core_of before) + block_begins site body at }

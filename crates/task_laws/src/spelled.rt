@@ -14,11 +14,11 @@ ghost use Rattle.task_laws.specs.Fits.{ArePlaced, Fits};
 ghost use Rattle.program_order.specs.Standing.{Setting, Standing};
 ghost use Rattle.program_order.specs.WrittenOrder.{SpellsAll, StepsOfBlock, WrittenOrder, at_first};
 
-use prepared_program::program_layout::variables_are_aligned;
+use prepared_program::program_layout::law_variables_are_aligned;
 
 /// Law: a block that fits where a task stands is spelled by some records, whatever follows. The scoped assertions
 /// in force are the same afterwards, and at each site no more accesses began than the block has room for.
-pub fn fitting_blocks_are_spelled()
+pub fn law_fitting_blocks_are_spelled()
     ensures { (s : Setting) (registers site : ℕ) (body : Block) (before : Standing) (rest : List Record)
         → ArePlaced s → Fits s registers site body before
         → (records : List Record) × (end : Standing) × StepsOfBlock s site body before (records ++ rest) end rest
@@ -28,7 +28,7 @@ pub fn fitting_blocks_are_spelled()
 
 /// Law: the text of a task that keeps the limits and the rules of types fits where the task begins, and some records
 /// spell it. So a task that has made no step is in the written order.
-pub fn texts_within_limits_are_spelled()
+pub fn law_texts_within_limits_are_spelled()
     ensures fits { (s : Setting) (task : Task) → ArePlaced s → TaskKeepsLimits s.text.variables task
         → Fits s (length task.registers) 0 task.body (at_first (length task.registers)) }
     ensures spelled { (s : Setting) (task : Task) → ArePlaced s → TaskKeepsLimits s.text.variables task
@@ -39,15 +39,15 @@ pub fn texts_within_limits_are_spelled()
 
 /// Law: where each variable but the locks stands at a multiple of its size, at 2^62 at most, the variables are placed:
 /// each lies in a cell.
-pub fn aligned_variables_are_placed()
+pub fn law_aligned_variables_are_placed()
     ensures { (s : Setting) → s.text.task < 16 → AreAligned s.text.places s.text.variables → ArePlaced s }
 {}
 
 /// Law: of a program within the limits, with places that fit its variables, these are placed for each task.
-pub fn variables_of_programs_are_placed()
+pub fn law_variables_of_programs_are_placed()
     ensures { (program : Program) (places : List Place) → KeepsLimits program → AreFit program.variables places
         → (s : Setting) (number : ℕ) → number < length program.tasks → s.text ≡ setting_of program (places_of places) number
         → ArePlaced s }
 {
-    variables_are_aligned();
+    law_variables_are_aligned();
 }

@@ -8,7 +8,7 @@ use Rattle.std.proofs.lemmas.List.Sums.{sum_by-append}
 use Rattle.std.specs.Prelude.{◌==◌, if◌then◌else◌}
 use Rattle.access_types.specs.Arms.{Arm}
 use Rattle.access_types.specs.Ticket.{site_in}
-use Rattle.task_log.specs.Armings.{CountsBySite, Tells, armings_by}
+use Rattle.task_log.specs.Armings.{CountsBySite, CountsArmings, armings_by}
 use Rattle.task_log.specs.declared.armings.Highest.{Highest}
 
 one_by : (setter : ℕ) (arms : List Arm) (arm : Arm)
@@ -29,7 +29,7 @@ by_same setter arms arm is = grind (arith, nat_tests, one_by setter arms arm)
 
 -- a place tells of other setters as before
 tells_other : (arms : List Arm) (arm : Arm) (setter : ℕ) (highest : Highest) → (arm.setter ≡ setter → ⊥)
-    → Tells arms setter highest → Tells (arms ++ arm ∷ []) setter highest
+    → CountsArmings arms setter highest → CountsArmings (arms ++ arm ∷ []) setter highest
 tells_other arms arm setter highest other tells = record {
   above = λ higher. by_other setter arms arm other ∙ tells.above higher;
   same = λ is. tells.same is ∙ sym (by_other setter arms arm other);
@@ -38,7 +38,7 @@ tells_other arms arm setter highest other tells = record {
 -- a setter that is no lower than the highest of its site is the highest
 tells_new : (arms : List Arm) (arm : Arm) (setter : ℕ) (was now : Highest) → was.setter ≤ arm.setter → now.setter ≡ arm.setter
     → now.number ≡ armings_by arm.setter arms + 1
-    → Tells arms setter was → Tells (arms ++ arm ∷ []) setter now
+    → CountsArmings arms setter was → CountsArmings (arms ++ arm ∷ []) setter now
 tells_new arms arm setter was now under named number tells = record {
   above = λ higher.
       by_other setter arms arm (λ is. omega arith) ∙ tells.above (omega arith);
@@ -54,10 +54,10 @@ placed arms arm sites place was now here inside at under named number counts = r
   places = length-set sites place now ∙ counts.places;
   each = λ setter d.
       elim (cases_eq (site_in setter) place) [
-        | inl same ↦ subst (Tells (arms ++ arm ∷ []) setter) (sym (get_or-set_at sites place (site_in setter) now d same inside))
+        | inl same ↦ subst (CountsArmings (arms ++ arm ∷ []) setter) (sym (get_or-set_at sites place (site_in setter) now d same inside))
             (tells_new arms arm setter was now under named number
-            (subst (Tells arms setter) (ap (λ n. get_or sites n was) same ∙ sym at) (counts.each setter was)))
-        | inr other ↦ subst (Tells (arms ++ arm ∷ []) setter) (sym (get_or-set_other sites place (site_in setter) now d other))
+            (subst (CountsArmings arms setter) (ap (λ n. get_or sites n was) same ∙ sym at) (counts.each setter was)))
+        | inr other ↦ subst (CountsArmings (arms ++ arm ∷ []) setter) (sym (get_or-set_other sites place (site_in setter) now d other))
             (tells_other arms arm setter (get_or sites (site_in setter) d) (λ is. other (ap site_in (sym is) ∙ sym here))
             (counts.each setter d))
       ];

@@ -9,11 +9,11 @@ abbrev pub armings_by : ℕ → List Arm → ℕ
 armings_by setter arms = count_by (λ (arm : Arm). arm.setter == setter) arms
 
 -- how many armings a setter has, by the highest of its site, unless it is a lower one
-pub record Tells (arms : List Arm) (setter : ℕ) (highest : Highest) : Type 0 where
+pub record CountsArmings (arms : List Arm) (setter : ℕ) (highest : Highest) : Type 0 where
   pub above : highest.setter < setter → armings_by setter arms ≡ 0
   pub same : highest.setter ≡ setter → highest.number ≡ armings_by setter arms
 
 -- the table has a place for each of the 256 sites, which tells of the setters there
 pub record CountsBySite (arms : List Arm) (sites : List Highest) : Type 0 where
   pub places : length sites ≡ 256
-  pub each : (setter : ℕ) (d : Highest) → Tells arms setter (slice_index_or sites (site_in setter) d)
+  pub each : (setter : ℕ) (d : Highest) → CountsArmings arms setter (slice_index_or sites (site_in setter) d)

@@ -12,7 +12,7 @@ ghost use Rattle.task_plan.specs.declared.progress.Progress.{Progress};
 ghost use Rattle.program_order.specs.Standing.{Setting, Standing, doing};
 
 /// Law: of standings that are alike the same is kept, and an access that is planned there is the same.
-pub fn alike_is_kept_alike()
+pub fn law_alike_is_kept_alike()
     ensures keeps { (variables : ℕ) (one other : Standing) (progress : Progress) → StandAlike one other
         → Keeps variables one progress → Keeps variables other progress }
     ensures plans { (s : Setting) (one other : Standing) (plan : Plan) (site : ℕ) → StandAlike one other
@@ -20,14 +20,14 @@ pub fn alike_is_kept_alike()
 {}
 
 /// Law: what is kept stays so while the task neither begins an access nor takes a lock or gives one back.
-pub fn other_doings_are_not_kept()
+pub fn law_other_doings_are_not_kept()
     ensures { (variables : ℕ) (before : Standing) (progress : Progress) (later : List Record) (does : List Happening)
         → AreOther does → Keeps variables before progress → Keeps variables (doing before later does) progress }
 {}
 
 /// Law: standings of which the same is kept have the same registers and locks, and an access that is planned there
 /// is the same, as long as its site's count hasn't come to the last number.
-pub fn what_is_kept_is_of_one_standing()
+pub fn law_what_is_kept_is_of_one_standing()
     ensures registers { (variables : ℕ) (one other : Standing) (progress : Progress) → Keeps variables one progress
         → Keeps variables other progress → one.progress.registers ≡ other.progress.registers }
     ensures locks { (variables : ℕ) (one other : Standing) (progress : Progress) → Keeps variables one progress

@@ -58,8 +58,8 @@ impl Progress {
         })
     }
 
-    /// Both have the same registers, as many accesses begun at each site, and the same locks. How many calls had nothing
-    /// to end may differ.
+    /// Both have the same registers, as many accesses begun at each site, and the same locks. How many calls had
+    /// nothing to end may differ.
     pub fn keeps_as(&self, other: &Progress) -> bool
         ensures registers { IsTrue result → self.now.registers.items ≡ other.now.registers.items }
         ensures begun { IsTrue result → self.now.begun.items ≡ other.now.begun.items }

@@ -21,7 +21,7 @@ use Rattle.setup_access.specs.Setting as settings
 use Rattle.setup_access.specs.Shown.{context_of}
 use Rattle.setup_access.specs.declared.begun.Begun.{Begun}
 use Rattle.setup_access.specs.declared.checker.Checker.{Checker}
-use Rattle.setup_access.specs.declared.stage.Stage.TheVariants as check_stages
+use Rattle.setup_access.specs.declared.stage.CheckStage.TheVariants as check_stages
 use Rattle.slot_table.specs.declared.records.Record.{Record}
 use Rattle.task_context.specs.Context.{Context}
 use Rattle.task_context.specs.History.{Concerns, LeadsTo}

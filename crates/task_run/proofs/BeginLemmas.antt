@@ -53,9 +53,9 @@ use Rattle.task_run.specs.Part.{PartLeft, before_access, closes, disabled, locks
 use Rattle.task_run.specs.Plans.{PlanLeft}
 use Rattle.task_run.specs.Stands.{Stands}
 use Rattle.task_run.specs.Stops.{Stops}
-use Rattle.task_run.specs.Told.{nothing}
+use Rattle.task_run.specs.Position.{nothing}
 use Rattle.task_run.specs.declared.machine.Machine.{Machine}
-use Rattle.task_run.specs.declared.stage.Stage.TheVariants as stages
+use Rattle.task_run.specs.declared.stage.TaskStage.TheVariants as stages
 use Rattle.program_order.specs.text_bounds.Scopes.{is_scoped}
 use Rattle.text_walk.specs.Left.{DueLeft}
 use Rattle.text_walk.specs.declared.due.Due.{Due}

@@ -5,9 +5,9 @@ use Rattle.task_run.proofs.ToldLemmas.{computes_both}
 use Rattle.task_run.specs.Agrees.{Begins}
 use Rattle.task_run.specs.Due.{EndsAtOnce}
 use Rattle.task_run.specs.Stands.{SameToEnd, Stands}
-use Rattle.task_run.specs.Told.{ComputesBy}
+use Rattle.task_run.specs.Position.{ComputesBy}
 use Rattle.task_run.specs.declared.machine.Machine.{Machine}
-use Rattle.task_run.specs.declared.stage.Stage.{Stage}
+use Rattle.task_run.specs.declared.stage.TaskStage.{TaskStage}
 use Rattle.text_walk.proofs.StepsLemmas.{through}
 use Rattle.text_walk.specs.Left.{Same, WalkLeft}
 use Rattle.program_order.specs.Standing.{Setting, Standing}
@@ -47,6 +47,6 @@ ends_then s P before Q now machine same computes ends =
     (ends.0, ends.1, to_end_then P Q (WalkLeft s machine.walk) before now ends.0 same ends.2, λ later. computes_both (computes later) (ends.3 later))
 
 pub begins_then : (s : Setting) (P : Steps) (before : List Record → Standing) (Q : Steps) (now : List Record → Standing) (machine : Machine)
-    (stage : Stage) → SameToEnd P before Q now → ComputesBy before now → Begins s Q now machine stage → Begins s P before machine stage
+    (stage : TaskStage) → SameToEnd P before Q now → ComputesBy before now → Begins s Q now machine stage → Begins s P before machine stage
 begins_then s P before Q now machine stage same computes begins =
     (begins.0, begins.1, begins.2, λ later end. through (same later end) (begins.3 later end), λ later. computes_both (computes later) (begins.4 later))

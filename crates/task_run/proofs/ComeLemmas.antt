@@ -8,8 +8,8 @@ use Rattle.access_run.specs.Leads.{AccessLeads, StageLeads}
 use Rattle.access_run.specs.Moved.{FramedChecks, moved}
 use Rattle.access_run.specs.Whole.{IsWhole, NoneWhole}
 use Rattle.access_run.specs.declared.access.AccessRun.{AccessRun}
-use Rattle.access_run.specs.declared.stage.Stage.{Stage}
-use Rattle.access_run.specs.declared.stage.Stage.TheVariants as stages
+use Rattle.access_run.specs.declared.stage.AccessStage.{AccessStage}
+use Rattle.access_run.specs.declared.stage.AccessStage.TheVariants as stages
 use Rattle.access_run.specs.declared.memory_operation.effect.Effect.{Effect}
 use Rattle.access_run.specs.declared.memory_operation.operation.Operation.{Operation}
 use Rattle.setup_access.proofs.FallLemmas.{stage_come}
@@ -117,7 +117,7 @@ module _ (s : Setting) (scopes : List Begun) (begun : Begun) (asked : ℕ) (oper
   abbrev SoFar : Type 0
   SoFar = (fallen : List Fallen) × (outcomes_of checker ≡ outcomes_in fallen) × Comes fallen
 
-  by_stage : (stage : Stage) → StageLeads s scopes begun asked operation mine stage checker → SoFar
+  by_stage : (stage : AccessStage) → StageLeads s scopes begun asked operation mine stage checker → SoFar
   by_stage (stages.Check run) h = (
     h.0.fallen,
     h.0.outcomes,

@@ -29,7 +29,7 @@ use Rattle.task_run.specs.Stands.{Counts, IsOf, RestsAt}
 use Rattle.task_run.specs.Stops.{PassesWith}
 use Rattle.task_run.specs.declared.machine.Machine.{Machine}
 use Rattle.task_run.specs.declared.run.TaskRun.{TaskRun}
-use Rattle.task_run.specs.declared.stage.Stage.{Stage}
+use Rattle.task_run.specs.declared.stage.TaskStage.{TaskStage}
 use Rattle.text_walk.proofs.Copies as walk
 use Rattle.text_walk.specs.Left.{BodyLeft, ClosesNewest, WalkLeft}
 use Rattle.program_order.specs.Access.{Makes}
@@ -101,7 +101,7 @@ module _ (machine copy : Machine) (is : IsCopy machine copy) (s : Setting) where
     checker.copies_rest machine.checker copy.checker is.checker (checks_of s) before.scopes before.asked rests.0 rests.1,
   )
 
-  is_in : (part : Part) (before : Standing) (mine : List Record) (stage : Stage) → IsIn s part before mine machine stage → IsIn s part before mine copy stage
+  is_in : (part : Part) (before : Standing) (mine : List Record) (stage : TaskStage) → IsIn s part before mine machine stage → IsIn s part before mine copy stage
   is_in over before mine stage h = (h.0, h.1, rested before h.2)
   is_in (stops due) before mine stage h = (
     h.0,
@@ -144,7 +144,7 @@ module _ (machine copy : Machine) (is : IsCopy machine copy) (s : Setting) where
   is_in (locks variable) before mine stage h = (h.0, h.1, h.2, h.3, rested before h.4, h.5)
   is_in (unlocks variable) before mine stage h = (h.0, h.1, rested before h.2, h.3)
 
-  pub copies_agree : (part : Part) (before : Standing) (mine : List Record) (stage : Stage)
+  pub copies_agree : (part : Part) (before : Standing) (mine : List Record) (stage : TaskStage)
       → Agrees s part before mine machine stage → Agrees s part before mine copy stage
   copies_agree part before mine stage agrees = record {
     of = is_of agrees.of;
@@ -164,7 +164,7 @@ copies_lead run copy is stage s registers body records leads = record {
   now = leads.now;
   told = leads.told;
   scopes = leads.scopes;
-  agrees = λ later. subst (λ (x : Stage). Agrees s leads.part (leads.now later) leads.mine copy.machine x) (sym stage)
+  agrees = λ later. subst (λ (x : TaskStage). Agrees s leads.part (leads.now later) leads.mine copy.machine x) (sym stage)
       (copies_agree run.machine copy.machine is s leads.part (leads.now later) leads.mine run.stage (leads.agrees later));
   left = λ later end. subst (λ (Left : Steps). StepsOfBlock s 0 body (at_first registers) (records ++ later) end []
       ↔ Left (leads.now (leads.mine ++ later)) (leads.mine ++ later) end [])

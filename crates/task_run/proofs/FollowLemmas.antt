@@ -13,9 +13,9 @@ use Rattle.task_run.proofs.ToldLemmas.{computes_both, does_now, marks_more, mark
 use Rattle.task_run.specs.Due.{EndsAtOnce, PartBegins}
 use Rattle.task_run.specs.Part.{FollowLeft, TakerLeft, enabled}
 use Rattle.task_run.specs.Stands.{Stands, StandsBy}
-use Rattle.task_run.specs.Told.{ComputesBy, nothing}
+use Rattle.task_run.specs.Position.{ComputesBy, nothing}
 use Rattle.task_run.specs.declared.machine.Machine.{Machine}
-use Rattle.task_run.specs.declared.stage.Stage.{Stage}
+use Rattle.task_run.specs.declared.stage.TaskStage.{TaskStage}
 use Rattle.text_walk.proofs.StepsLemmas.{through}
 use Rattle.text_walk.specs.Left.{BodyLeft, Same, WalkLeft}
 use Rattle.text_walk.specs.declared.walk.Walk.{Walk}
@@ -36,7 +36,7 @@ ends_standing s P before now walk machine is same stands computes =
     (now, stands, λ later end. through (same later end) (walk_as s walk machine.walk is (now later) later end []), computes)
 
 -- a part that goes on as another is
-pub begins_as : (s : Setting) (P Q : Steps) (old new : Machine) (stage : Option Stage)
+pub begins_as : (s : Setting) (P Q : Steps) (old new : Machine) (stage : Option TaskStage)
     → ((before : List Record → Standing) → StandsBy s before old → (later : List Record) (end : Standing) → P (before later) later end [] ↔ Q (before later) later end [])
     → PartBegins s Q old new stage → PartBegins s P old new stage
 begins_as s P Q old new None same begins = λ before stands. let goes = begins before stands in

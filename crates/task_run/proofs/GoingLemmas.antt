@@ -1,5 +1,5 @@
--- A machine that is in a part of its text is before a step, and the records go on with no other. So the records spell the
--- whole text only where the machine is over, and the part that they are stuck in waits too long.
+-- A machine that is in a part of its text is before a step, and the records go on with no other. So the records spell
+-- the whole text only where the machine is over, and the part that they are stuck in waits too long.
 use Rattle.std.proofs.Common.{◌≡◌, ◌≢◌, ◌↔◌, ◌++◌, ◌^◌, ◌≤◌, [], ℕ, List, None, Option, Some, ap, count_by, refl, reverse, subst, sym, take}
 use Rattle.std.proofs.lemmas.List.{append-nil}
 use Rattle.access_run.proofs.LeadsLemmas.{check_only, end_only, operate_only, over_done}
@@ -7,8 +7,8 @@ use Rattle.access_run.specs.Leads as accesses
 use Rattle.access_run.specs.Leads.{AccessIsDone, AccessOnlyStep, StageLeads}
 use Rattle.access_run.specs.Whole.{NoneWhole}
 use Rattle.access_run.specs.declared.access.AccessRun.{AccessRun}
-use Rattle.access_run.specs.declared.stage.Stage as access_stages
-use Rattle.access_run.specs.declared.stage.Stage.TheVariants.{Check, End, Operate, Over}
+use Rattle.access_run.specs.declared.stage.AccessStage as access_stages
+use Rattle.access_run.specs.declared.stage.AccessStage.TheVariants.{Check, End, Operate, Over}
 use Rattle.access_types.specs.Sites.{AccessMap, map_of}
 use Rattle.litmus_syntax.specs.Limits.{BlockScopes, block_rises}
 use Rattle.litmus_syntax.specs.Tree.{Block}
@@ -21,8 +21,8 @@ use Rattle.access_run.specs.memory_operation.Values.{new_value, with_value}
 use Rattle.access_run.specs.declared.memory_operation.lock.LockWait.{LockWait}
 use Rattle.access_run.specs.declared.memory_operation.operation.Operation.{Operation}
 use Rattle.access_run.specs.declared.memory_operation.run.OperationRun.{OperationRun}
-use Rattle.access_run.specs.declared.memory_operation.stage.Stage as operating
-use Rattle.access_run.specs.declared.memory_operation.stage.Stage.TheVariants as operating_stages
+use Rattle.access_run.specs.declared.memory_operation.stage.OperationStage as operating
+use Rattle.access_run.specs.declared.memory_operation.stage.OperationStage.TheVariants as operating_stages
 use Rattle.setup_access.proofs.NextLemmas.{complete_at_rest, only_step}
 use Rattle.setup_access.specs.Checker.{Checks, Closes, Doing}
 use Rattle.setup_access.specs.Kept.{setting_with}
@@ -36,8 +36,8 @@ use Rattle.setup_access.specs.declared.pass.Pass.{Pass}
 use Rattle.setup_access.specs.declared.pass.Pass.TheVariants as passes
 use Rattle.setup_access.specs.declared.setting.Setting as kept_settings
 use Rattle.setup_access.specs.declared.setup.Setup.TheVariants as setups
-use Rattle.setup_access.specs.declared.stage.Stage as check_stages
-use Rattle.setup_access.specs.declared.stage.Stage.TheVariants as checking
+use Rattle.setup_access.specs.declared.stage.CheckStage as check_stages
+use Rattle.setup_access.specs.declared.stage.CheckStage.TheVariants as checking
 use Rattle.slot_table.specs.declared.records.Record.{Record}
 use Rattle.slot_table.specs.declared.step.Step.{Step}
 use Rattle.slot_table.specs.declared.step.Step.TheVariants.{CellExchange, CellLoad, Clock, LockStore, LockTry}
@@ -48,8 +48,8 @@ use Rattle.task_run.proofs.StuckLemmas.{lock_going, none_stops, one_next, over_w
 use Rattle.task_run.specs.Leads.{IsStuck, Leads}
 use Rattle.task_run.specs.Says.{IsGoing, IsGoingIn, Says, StageSays}
 use Rattle.task_run.specs.declared.run.TaskRun.{TaskRun}
-use Rattle.task_run.specs.declared.stage.Stage.{Stage}
-use Rattle.task_run.specs.declared.stage.Stage.TheVariants as stages
+use Rattle.task_run.specs.declared.stage.TaskStage.{TaskStage}
+use Rattle.task_run.specs.declared.stage.TaskStage.TheVariants as stages
 use Rattle.program_order.specs.Standing.{Setting, Standing, checks_of, is_lock, lock_number}
 use Rattle.program_order.specs.Waits as waits
 use Rattle.program_order.specs.Waits.{IsTooMuch, OnlyStep}
@@ -70,18 +70,18 @@ same_step kept begun (passes.Clear index) one other = refl
 same_step kept begun (passes.Remove index) one other = refl
 
 -- a checker that doesn't rest is before a step
-stage_says : (checker : Checker) (stage : check_stages.Stage) → checker.stage ≡ stage → stage ≢ checking.Rest → (step : Step) × checks.Says checker step
+stage_says : (checker : Checker) (stage : check_stages.CheckStage) → checker.stage ≡ stage → stage ≢ checking.Rest → (step : Step) × checks.Says checker step
 stage_says checker checking.Rest is going = absurd (going refl)
 stage_says checker (checking.Begin begun) is going =
-    (Clock, λ sites. subst (λ (x : check_stages.Stage). checks.stage_step (setting_with checker.setting sites) x ≡ Some Clock) (sym is) refl)
+    (Clock, λ sites. subst (λ (x : check_stages.CheckStage). checks.stage_step (setting_with checker.setting sites) x ≡ Some Clock) (sym is) refl)
 stage_says checker (checking.Check role begun pass) is going =
     let step : Step = pass_step (setting_with checker.setting (map_of [])) begun pass in (
       step,
-      λ sites. subst (λ (x : check_stages.Stage). checks.stage_step (setting_with checker.setting sites) x ≡ Some step) (sym is)
+      λ sites. subst (λ (x : check_stages.CheckStage). checks.stage_step (setting_with checker.setting sites) x ≡ Some step) (sym is)
           (ap Some (same_step checker.setting begun pass sites (map_of []))),
     )
 stage_says checker checking.End is going =
-    (Clock, λ sites. subst (λ (x : check_stages.Stage). checks.stage_step (setting_with checker.setting sites) x ≡ Some Clock) (sym is) refl)
+    (Clock, λ sites. subst (λ (x : check_stages.CheckStage). checks.stage_step (setting_with checker.setting sites) x ≡ Some Clock) (sym is) refl)
 
 module _ (s : settings.Setting) (scopes : List Begun) (doing : Doing) (asked : ℕ) (records : List Record) (checker : Checker)
     (leads : checks.Leads s scopes doing asked records checker) where
@@ -94,18 +94,18 @@ module _ (s : settings.Setting) (scopes : List Begun) (doing : Doing) (asked : �
       (subst (λ (t : settings.Setting). checks.stage_step t checker.stage ≡ Some step) leads.setting (says s.sites))
 
 -- an operation that isn't over is before a step
-operation_says : (now : OperationRun) (stage : operating.Stage) → now.stage ≡ stage → stage ≢ operating_stages.Over → (step : Step) × operations.Says now step
+operation_says : (now : OperationRun) (stage : operating.OperationStage) → now.stage ≡ stage → stage ≢ operating_stages.Over → (step : Step) × operations.Says now step
 operation_says now operating_stages.Over is going = absurd (going refl)
 operation_says now (operating_stages.Load kind) is going =
     let step : Step = CellLoad now.source.cell in
-    (step, subst (λ (x : operating.Stage). operation_stages.stage_step now.access now.source x ≡ Some step) (sym is) refl)
+    (step, subst (λ (x : operating.OperationStage). operation_stages.stage_step now.access now.source x ≡ Some step) (sym is) refl)
 operation_says now (operating_stages.Exchange change seen tries) is going =
     let step : Step = CellExchange now.source.cell seen (with_value now.access now.source seen (new_value now.access.size change (value_in now.access now.source seen))) in
-    (step, subst (λ (x : operating.Stage). operation_stages.stage_step now.access now.source x ≡ Some step) (sym is) refl)
+    (step, subst (λ (x : operating.OperationStage). operation_stages.stage_step now.access now.source x ≡ Some step) (sym is) refl)
 
 module _ (s : settings.Setting) (scopes : List Begun) (begun : Begun) (asked : ℕ) (operation : Option Operation) (records : List Record) (checker : Checker) where
   -- so is an access
-  access_says : (stage : access_stages.Stage) → StageLeads s scopes begun asked operation records stage checker
+  access_says : (stage : access_stages.AccessStage) → StageLeads s scopes begun asked operation records stage checker
       → ¬ AccessIsDone s scopes begun asked operation records → (step : Step) × accesses.StageSays stage checker step
   access_says (Check run) leads going = checker_says s scopes (Checks begun) asked records checker leads.0
       (λ done. leads.1 records [] done.0 (sym (append-nil records)) done.1)
@@ -118,7 +118,7 @@ module _ (s : settings.Setting) (scopes : List Begun) (begun : Begun) (asked : �
   access_says (End effect) leads going = (Clock, refl)
   access_says (Over effect) leads going = absurd (going (over_done s scopes begun asked operation records checker effect leads))
 
-  access_only : (stage : access_stages.Stage) → StageLeads s scopes begun asked operation records stage checker
+  access_only : (stage : access_stages.AccessStage) → StageLeads s scopes begun asked operation records stage checker
       → (step : Step) → accesses.StageSays stage checker step → AccessOnlyStep s scopes begun asked operation records step
   access_only (Check run) leads step says = check_only s scopes begun asked operation records checker run leads step
       (only_says s scopes (Checks begun) asked records checker leads.0 step says)
@@ -129,7 +129,7 @@ module _ (s : settings.Setting) (scopes : List Begun) (begun : Begun) (asked : �
   access_only (Over effect) leads step says = absurd says
 
 module _ (s : Setting) (registers : ℕ) (body : Block) (records : List Record) (run : TaskRun) (leads : Leads s registers body records run) where
-  abbrev Next : Stage → Type 0
+  abbrev Next : TaskStage → Type 0
   Next stage = (step : Step) × StageSays stage run step × OnlyStep s registers body records step
 
   abbrev here : Standing
@@ -180,7 +180,7 @@ module _ (s : Setting) (registers : ℕ) (body : Block) (records : List Record) 
             (λ lock so_far l. only_try s.text.task lock so_far wait l step (going, refl)),
       )
 
-  next_in : (stage : Stage) → run.stage ≡ stage → IsGoingIn stage → Next stage
+  next_in : (stage : TaskStage) → run.stage ≡ stage → IsGoingIn stage → Next stage
   next_in stages.Over is going = absurd going
   next_in stages.Stopped is going = absurd going
   next_in (stages.Making own kept) is going = making_next own kept is
@@ -199,7 +199,7 @@ module _ (s : Setting) (registers : ℕ) (body : Block) (records : List Record) 
 
   -- whichever stage it is in, it is in a part of the text, or over, or stopped
   module _ (P : Type 0) (going : IsGoing run → P) (over : run.stage ≡ stages.Over → P) (stopped : run.stage ≡ stages.Stopped → P) where
-    by_stage : (stage : Stage) → run.stage ≡ stage → P
+    by_stage : (stage : TaskStage) → run.stage ≡ stage → P
     by_stage stages.Over is = over is
     by_stage stages.Stopped is = stopped is
     by_stage (stages.Making own kept) is = going (subst IsGoingIn (sym is) tt)

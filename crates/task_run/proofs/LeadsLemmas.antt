@@ -10,7 +10,7 @@ use Rattle.task_run.specs.Agrees.{Agrees, Begins}
 use Rattle.task_run.specs.Leads.{Leads}
 use Rattle.task_run.specs.Part.{Part, PartLeft}
 use Rattle.task_run.specs.Stops.{ScopesAreTold}
-use Rattle.task_run.specs.Told.{IsTold}
+use Rattle.task_run.specs.Position.{IsTold}
 use Rattle.task_run.specs.declared.run.TaskRun.{TaskRun}
 use Rattle.text_walk.proofs.StepsLemmas.{through}
 use Rattle.text_walk.specs.Left.{WalkLeft}

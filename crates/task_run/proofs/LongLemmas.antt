@@ -1,4 +1,4 @@
--- A wait that has had so many vain tries goes on with a step that comes after as many, by the records alone.
+-- A wait that has had so many failed tries goes on with a step that comes after as many, by the records alone.
 use Rattle.std.proofs.Common.{◌≡◌, ◌<◌, ◌≤◌, ◌+◌, ◌∙◌, ◌++◌, ◌∷◌, [], ℕ, zero, suc, Bool, true, false, IsSomeAnd, List, MatchBool, None, Option, Some, ap, arith, eq-eqb, le_refl, refl, subst, sym, if◌then◌else◌}
 use Rattle.access_types.specs.Access.{Access}
 use Rattle.access_run.proofs.memory_operation.LeadsLemmas.{over_is_whole}
@@ -16,8 +16,8 @@ use Rattle.access_run.specs.declared.memory_operation.operation.Change.TheVarian
 use Rattle.access_run.specs.declared.memory_operation.operation.Operation.{Operation}
 use Rattle.access_run.specs.declared.memory_operation.operation.Operation.TheVariants as kinds
 use Rattle.access_run.specs.declared.memory_operation.run.OperationRun.{OperationRun}
-use Rattle.access_run.specs.declared.memory_operation.stage.Stage as operating
-use Rattle.access_run.specs.declared.memory_operation.stage.Stage.TheVariants as operating_stages
+use Rattle.access_run.specs.declared.memory_operation.stage.OperationStage as operating
+use Rattle.access_run.specs.declared.memory_operation.stage.OperationStage.TheVariants as operating_stages
 use Rattle.setup_access.proofs.DisciplineLemmas.{on_flag, on_word}
 use Rattle.setup_access.specs.Checker.{Doing}
 use Rattle.setup_access.specs.Leads as checks
@@ -34,8 +34,8 @@ use Rattle.setup_access.specs.declared.pass.Pass.TheVariants as passes
 use Rattle.setup_access.specs.PassLeft.{pass_step}
 use Rattle.setup_access.specs.declared.setup.Setup.TheVariants as setups
 use Rattle.setup_access.specs.declared.source.Source.{Source}
-use Rattle.setup_access.specs.declared.stage.Stage as check_stages
-use Rattle.setup_access.specs.declared.stage.Stage.TheVariants as checking
+use Rattle.setup_access.specs.declared.stage.CheckStage as check_stages
+use Rattle.setup_access.specs.declared.stage.CheckStage.TheVariants as checking
 use Rattle.slot_table.specs.declared.records.Record.{Record}
 use Rattle.slot_table.specs.declared.step.Answer.{Answer}
 use Rattle.slot_table.specs.declared.step.Answer.TheVariants as answers
@@ -43,7 +43,7 @@ use Rattle.slot_table.specs.declared.step.Step.{Step}
 use Rattle.slot_table.specs.declared.step.Step.TheVariants.{CellExchange, CellLoad, Clear, Clock, Consume, Insert, Load, LockStore, LockTry, Name, PairLoad, Remove, Tell, TryConsume}
 use Rattle.task_run.proofs.PairLemmas.{AreOfOne, GoesOnAt, IsOfIndex, StartsAt}
 use Rattle.task_run.proofs.TriesLemmas.{exchange_ends, onto}
-use Rattle.program_order.specs.Waits.{IsTooMuch, vain_tries, is_tried_again}
+use Rattle.program_order.specs.Waits.{IsTooMuch, failed_tries, is_tried_again}
 
 -- the records go on with a load of the pair at this index
 abbrev pub LoadsNext : ℕ → List Record → Type 0
@@ -52,25 +52,25 @@ LoadsNext index (first ∷ later) = first.step ≡ PairLoad index
 
 abbrev LongLoads : Option Wait → List Record → List Record → Type 0
 LongLoads None before rest = Unit {0}
-LongLoads (Some wait) before rest = (index : ℕ) → LoadsNext index rest → wait.tries ≤ vain_tries (PairLoad index) before
+LongLoads (Some wait) before rest = (index : ℕ) → LoadsNext index rest → wait.tries ≤ failed_tries (PairLoad index) before
 
 abbrev LongBefore : Option Wait → Step → List Record → Type 0
 LongBefore None at before = Unit {0}
-LongBefore (Some wait) at before = (index : ℕ) → at ≡ PairLoad index → wait.tries ≤ vain_tries (PairLoad index) before
+LongBefore (Some wait) at before = (index : ℕ) → at ≡ PairLoad index → wait.tries ≤ failed_tries (PairLoad index) before
 
 abbrev LongAfter : Option Wait → Step → Answer → List Record → List Record → Type 0
 LongAfter None at answer before rest = Unit {0}
 LongAfter (Some wait) at answer before rest = (index : ℕ) → LoadsNext index rest
-    → wait.tries ≤ (if is_tried_again at answer (PairLoad index) then suc (vain_tries at before) else 0)
+    → wait.tries ≤ (if is_tried_again at answer (PairLoad index) then suc (failed_tries at before) else 0)
 
 same_index : (at index : ℕ) (rest : List Record) → StartsAt at rest → LoadsNext index rest → index ≡ at
 same_index at index [] starts next = absurd next
 same_index at index (first ∷ later) starts next = subst (λ (x : Step). IsOfIndex at x) next starts
 
-half_long : (heard : ℕ) (wait : Wait) (before rest : List Record) (at : ℕ) (answer : Answer) → StartsAt at rest → wait.tries ≤ vain_tries (PairLoad at) before
+half_long : (heard : ℕ) (wait : Wait) (before rest : List Record) (at : ℕ) (answer : Answer) → StartsAt at rest → wait.tries ≤ failed_tries (PairLoad at) before
     → LongAfter (after_half wait heard) (PairLoad at) answer before rest
 half_long zero wait before rest at answer starts long = λ index next.
-    subst (λ (b : Bool). wait.tries + 1 ≤ (if b then suc (vain_tries (PairLoad at) before) else 0))
+    subst (λ (b : Bool). wait.tries + 1 ≤ (if b then suc (failed_tries (PairLoad at) before) else 0))
     (sym (eq-eqb index at (same_index at index rest starts next))) (omega (arith, long))
 half_long (suc ticket) wait before rest at answer starts long = tt
 
@@ -139,7 +139,7 @@ pass_loads (passes.Clear index) wait is = absurd (let no : None ≡ Some wait = 
 pass_loads (passes.Remove index) wait is = absurd (let no : None ≡ Some wait = is in cc)
 
 -- a check in a wait loads a pair next
-stage_loads : (stage : check_stages.Stage) (wait : Wait) → stage_wait stage ≡ Some wait
+stage_loads : (stage : check_stages.CheckStage) (wait : Wait) → stage_wait stage ≡ Some wait
     → (index : ℕ) × ((s : settings.Setting) → checks.stage_step s stage ≡ Some (PairLoad index))
 stage_loads checking.Rest wait is = absurd (let no : None ≡ Some wait = is in cc)
 stage_loads (checking.Begin begun) wait is = absurd (let no : None ≡ Some wait = is in cc)
@@ -147,7 +147,7 @@ stage_loads (checking.Check role begun pass) wait is =
     let loads = pass_loads pass wait is in (loads.0, λ s. ap (λ (step : Step). Some step) (loads.1 s begun))
 stage_loads checking.End wait is = absurd (let no : None ≡ Some wait = is in cc)
 
--- so many vain tries of a wait stand in the records
+-- so many failed tries of a wait stand in the records
 abbrev pub CheckWaits : Checker → ℕ → List Record → Type 0
 CheckWaits checker turns mine = (index : ℕ) × ((s : settings.Setting) → checks.stage_step s checker.stage ≡ Some (PairLoad index))
     × ((before more : List Record) → AreOfOne (mine ++ more) → LoadsNext index more → IsTooMuch turns (PairLoad index) (onto mine before))
@@ -164,7 +164,7 @@ check_long s scopes doing asked mine checker leads turns stuck = by_wait (wait_a
           loads.1,
           λ before more one next.
               let long : LongLoads (wait_after mine) (onto mine before) more = loads_long mine before more None one tt in
-              let least : wait.tries ≤ vain_tries (PairLoad loads.0) (onto mine before) =
+              let least : wait.tries ≤ failed_tries (PairLoad loads.0) (onto mine before) =
               (subst (λ (w : Option Wait). LongLoads w (onto mine before) more) is long) loads.0 next in
               (tt, omega (arith, many, least)),
         )
@@ -229,10 +229,10 @@ front_at cell [] more so = tt
 front_at cell (first ∷ later) more so = (so.0, front_at cell later more so.1)
 
 abbrev LongExchanges : ℕ → ℕ → List Record → Type 0
-LongExchanges cell n before = (seen new : ℕ) → n ≤ vain_tries (CellExchange cell seen new) before
+LongExchanges cell n before = (seen new : ℕ) → n ≤ failed_tries (CellExchange cell seen new) before
 
 exchange_long : (cell : ℕ) (at : Step) (answer : Answer) (before : List Record) (n seen new : ℕ) → IsAtCell cell at → LongExchanges cell n before
-    → (if waits.is_refusal at answer then n + 1 else 0) ≤ (if is_tried_again at answer (CellExchange cell seen new) then suc (vain_tries at before) else 0)
+    → (if waits.is_refusal at answer then n + 1 else 0) ≤ (if is_tried_again at answer (CellExchange cell seen new) then suc (failed_tries at before) else 0)
 exchange_long cell (Load index) answer before n seen new is long = le_refl 0
 exchange_long cell (Insert index word) answer before n seen new is long = le_refl 0
 exchange_long cell (TryConsume index word) answer before n seen new is long = le_refl 0
@@ -247,15 +247,15 @@ exchange_long cell (LockTry lock task) answer before n seen new is long = absurd
 exchange_long cell (LockStore lock) answer before n seen new is long = le_refl 0
 exchange_long cell Clock answer before n seen new is long = le_refl 0
 exchange_long cell (CellExchange at had put) (answers.Word word) before n seen new is long =
-    let least : n ≤ vain_tries (CellExchange at had put) before =
-    subst (λ (c : ℕ). n ≤ vain_tries (CellExchange c had put) before) (sym is) (long had put) in
-    subst (λ (b : Bool). n + 1 ≤ (if b then suc (vain_tries (CellExchange at had put) before) else 0)) (sym (eq-eqb cell at (sym is))) (omega (arith, least))
+    let least : n ≤ failed_tries (CellExchange at had put) before =
+    subst (λ (c : ℕ). n ≤ failed_tries (CellExchange c had put) before) (sym is) (long had put) in
+    subst (λ (b : Bool). n + 1 ≤ (if b then suc (failed_tries (CellExchange at had put) before) else 0)) (sym (eq-eqb cell at (sym is))) (omega (arith, least))
 exchange_long cell (CellExchange at had put) (answers.Flag flag) before n seen new is long = le_refl 0
 exchange_long cell (CellExchange at had put) (answers.Halves setter finder) before n seen new is long = le_refl 0
 exchange_long cell (CellExchange at had put) answers.Done before n seen new is long = le_refl 0
 
 exchanges_long : (cell : ℕ) (done before : List Record) (n : ℕ) → AreAtCell cell done → LongExchanges cell n before
-    → LongExchanges cell (waits.vain_from n done) (onto done before)
+    → LongExchanges cell (waits.failed_from n done) (onto done before)
 exchanges_long cell [] before n at long = long
 exchanges_long cell (first ∷ later) before n at long =
     exchanges_long cell later (first ∷ before) (if waits.is_refusal first.step first.answer then n + 1 else 0) at.1
@@ -263,23 +263,23 @@ exchanges_long cell (first ∷ later) before n at long =
 
 -- an operation that was refused so often goes on with an exchange that comes after as many
 pub operation_long : (task : ℕ) (a : Access) (source : Source) (operation : Operation) (done : List Record) (run : OperationRun)
-    → operations.Leads task a source operation done run → (turns : ℕ) → 0 < waits.vain_tries done → turns ≤ waits.vain_tries done
+    → operations.Leads task a source operation done run → (turns : ℕ) → 0 < waits.failed_tries done → turns ≤ waits.failed_tries done
     → (¬ operations.IsDone task a source operation done)
     → (step : Step) × operations.Says run step × ((before : List Record) → IsTooMuch turns step (onto done before))
 operation_long task a source operation done run leads turns some many going = by_stage run.stage refl
   where
-    by_stage : (stage : operating.Stage) → run.stage ≡ stage
+    by_stage : (stage : operating.OperationStage) → run.stage ≡ stage
         → (step : Step) × operations.Says run step × ((before : List Record) → IsTooMuch turns step (onto done before))
     by_stage operating_stages.Over is = absurd (going (run.effect, over_is_whole task a source operation done run leads is))
     by_stage (operating_stages.Load now) is =
-        let none : waits.vain_tries done ≡ 0 = subst (λ (x : operating.Stage). operation_stages.Counts x done) is leads.counts in
+        let none : waits.failed_tries done ≡ 0 = subst (λ (x : operating.OperationStage). operation_stages.Counts x done) is leads.counts in
         absurd (let no : 0 < 0 = subst (λ (n : ℕ). 0 < n) none some in omega (arith, no))
     by_stage (operating_stages.Exchange change seen tries) is =
         let new : ℕ = with_value run.access run.source seen (new_value run.access.size change (value_in run.access run.source seen)) in
         let ended = exchange_ends task a source operation done run leads change seen tries is in
         let at : AreAtCell source.cell done = front_at source.cell done _ (operation_at task a source operation _ _ ended) in (
           CellExchange run.source.cell seen new,
-          ap (λ (x : operating.Stage). operation_stages.stage_step run.access run.source x) is,
+          ap (λ (x : operating.OperationStage). operation_stages.stage_step run.access run.source x) is,
           λ before. subst (λ (x : Source). IsTooMuch turns (CellExchange x.cell seen new) (onto done before)) (sym leads.in_source)
               (let least = exchanges_long source.cell done before 0 at (λ had put. omega arith) seen new in
               (omega (arith, some, least), omega (arith, many, least))),
@@ -308,10 +308,10 @@ lock_front lock [] more so = tt
 lock_front lock (first ∷ later) more so = (so.0, lock_front lock later more so.1)
 
 abbrev LongTries : ℕ → ℕ → List Record → Type 0
-LongTries lock n before = (task : ℕ) → n ≤ vain_tries (LockTry lock task) before
+LongTries lock n before = (task : ℕ) → n ≤ failed_tries (LockTry lock task) before
 
 try_long : (lock : ℕ) (at : Step) (answer : Answer) (before : List Record) (n task : ℕ) → IsAtLock lock at → LongTries lock n before
-    → (if waits.is_refusal at answer then n + 1 else 0) ≤ (if is_tried_again at answer (LockTry lock task) then suc (vain_tries at before) else 0)
+    → (if waits.is_refusal at answer then n + 1 else 0) ≤ (if is_tried_again at answer (LockTry lock task) then suc (failed_tries at before) else 0)
 try_long lock (Load index) answer before n task is long = le_refl 0
 try_long lock (Insert index word) answer before n task is long = le_refl 0
 try_long lock (TryConsume index word) answer before n task is long = le_refl 0
@@ -328,12 +328,12 @@ try_long lock Clock answer before n task is long = le_refl 0
 try_long lock (LockTry at holder) (answers.Word word) before n task is long = le_refl 0
 try_long lock (LockTry at holder) (answers.Flag true) before n task is long = le_refl 0
 try_long lock (LockTry at holder) (answers.Flag false) before n task is long =
-    let least : n ≤ vain_tries (LockTry at holder) before = subst (λ (l : ℕ). n ≤ vain_tries (LockTry l holder) before) (sym is) (long holder) in
-    subst (λ (b : Bool). n + 1 ≤ (if b then suc (vain_tries (LockTry at holder) before) else 0)) (sym (eq-eqb lock at (sym is))) (omega (arith, least))
+    let least : n ≤ failed_tries (LockTry at holder) before = subst (λ (l : ℕ). n ≤ failed_tries (LockTry l holder) before) (sym is) (long holder) in
+    subst (λ (b : Bool). n + 1 ≤ (if b then suc (failed_tries (LockTry at holder) before) else 0)) (sym (eq-eqb lock at (sym is))) (omega (arith, least))
 try_long lock (LockTry at holder) (answers.Halves setter finder) before n task is long = le_refl 0
 try_long lock (LockTry at holder) answers.Done before n task is long = le_refl 0
 
-tries_long : (lock : ℕ) (mine before : List Record) (n : ℕ) → AreAtLock lock mine → LongTries lock n before → LongTries lock (waits.vain_from n mine) (onto mine before)
+tries_long : (lock : ℕ) (mine before : List Record) (n : ℕ) → AreAtLock lock mine → LongTries lock n before → LongTries lock (waits.failed_from n mine) (onto mine before)
 tries_long lock [] before n at long = long
 tries_long lock (first ∷ later) before n at long =
     tries_long lock later (first ∷ before) (if waits.is_refusal first.step first.answer then n + 1 else 0) at.1
@@ -341,7 +341,7 @@ tries_long lock (first ∷ later) before n at long =
 
 -- a task that was refused a lock so often goes on with a try that comes after as many
 pub lock_long : (task lock : ℕ) (mine : List Record) (wait : LockWait) → LockLeads task lock mine wait → wait.is_taken ≡ false → (turns : ℕ)
-    → turns ≤ waits.vain_tries mine → (before : List Record) → IsTooMuch turns (LockTry wait.lock wait.task) (onto mine before)
+    → turns ≤ waits.failed_tries mine → (before : List Record) → IsTooMuch turns (LockTry wait.lock wait.task) (onto mine before)
 lock_long task lock mine wait leads going turns many before =
     let free : List Record = made task (LockTry lock task) (answers.Flag true) ∷ [] in
     let left : LockLeft task lock wait.is_taken free = subst (λ (b : Bool). LockLeft task lock b free) (sym going) (refl, refl, refl) in

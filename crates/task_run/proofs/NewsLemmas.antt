@@ -33,7 +33,7 @@ use Rattle.task_run.specs.Leads.{Leads}
 use Rattle.task_run.specs.Part.{Part, closes, makes, opens}
 use Rattle.task_run.specs.declared.machine.Machine.{Machine}
 use Rattle.task_run.specs.declared.run.TaskRun.{TaskRun}
-use Rattle.task_run.specs.declared.stage.Stage.TheVariants as stages
+use Rattle.task_run.specs.declared.stage.TaskStage.TheVariants as stages
 use Rattle.program_order.specs.Standing.{Setting, Standing, checks_of}
 
 -- the next outcome of the checker is the one that falls

@@ -52,13 +52,13 @@ use Rattle.text_walk.specs.Left.{Same, WalkLeft}
 use Rattle.program_order.specs.WrittenOrder.{SpellsAll, StepsOfBlock, at_first}
 use Rattle.task_run.specs.Agrees.{Agrees, Begins, IsIn, in_part}
 use Rattle.task_run.specs.Leads.{IsStuck, Leads, WaitsTooLong}
-use Rattle.program_order.specs.Waits.{IsTooMuch, OnlyStep, WithinTurns, vain_tries}
+use Rattle.program_order.specs.Waits.{IsTooMuch, OnlyStep, WithinTurns, failed_tries}
 use Rattle.task_run.specs.Says.{IsStopped, Says, StageSays}
 use Rattle.setup_access.specs.Waits.{IsStuckBy}
 use Rattle.task_run.specs.Part.{Part, PartLeft, closes, locks, makes, opens, over, stops, unlocks}
 use Rattle.task_run.specs.declared.run.TaskRun.{TaskRun}
-use Rattle.task_run.specs.declared.stage.Stage.{Stage}
-use Rattle.task_run.specs.declared.stage.Stage.TheVariants as stages
+use Rattle.task_run.specs.declared.stage.TaskStage.{TaskStage}
+use Rattle.task_run.specs.declared.stage.TaskStage.TheVariants as stages
 use Rattle.program_order.specs.Standing.{Setting, Standing, checks_of, is_lock, lock_number}
 
 -- an access that begins leaves the registers as they are, and how many calls had nothing to end
@@ -93,7 +93,8 @@ further_on : (task : ℕ) (step : Step) (records more : List Record) → operati
 further_on task step [] more h = absurd h
 further_on task step (first ∷ later) more h = h
 
--- The records of a check are none of it yet, and whatever completes them goes on with a step: so does whatever begins with the check.
+-- The records of a check are none of it yet, and whatever completes them goes on with a step: so does whatever begins
+-- with the check.
 front_goes : (task : ℕ) (step : Step) (Begins : List Record → Passes → List Record → Type 0) → FramedChecks Begins → (mine later : List Record) (passes : Passes)
     (rest : List Record) → NoneWhole Begins mine → ((more : List Record) (all : Passes) → Begins (mine ++ more) all [] → checks.GoOn task step more)
     → Begins (mine ++ later) passes rest → operations.GoesOn task step later
@@ -280,7 +281,7 @@ spelled_none s registers body records (Some step) only all =
     absurd (only [] (subst (λ (r : List Record). SpellsAll s registers body r) (sym (append-nil records)) all))
 
 -- only some parts have a wait
-over_waits : (s : Setting) (before then : Standing) (mine : List Record) (machine : Machine) (stage : Stage) (part : Part) → IsIn s part before mine machine stage
+over_waits : (s : Setting) (before then : Standing) (mine : List Record) (machine : Machine) (stage : TaskStage) (part : Part) → IsIn s part before mine machine stage
     → stage ≡ stages.Over → ¬ WaitsTooLong s part then mine
 over_waits s before then mine machine stage (makes a operation follow) h is = absurd (let no : stages.Making h.0 h.1 ≡ stages.Over = sym h.3 ∙ is in cc)
 over_waits s before then mine machine stage (opens a) h is = absurd (let no : stages.Opening ≡ stages.Over = sym h.1 ∙ is in cc)
@@ -290,7 +291,7 @@ over_waits s before then mine machine stage over h is = λ w. w
 over_waits s before then mine machine stage (stops due) h is = λ w. w
 over_waits s before then mine machine stage (unlocks variable) h is = λ w. w
 
-stopped_waits : (s : Setting) (before then : Standing) (mine : List Record) (machine : Machine) (stage : Stage) (part : Part) → IsIn s part before mine machine stage
+stopped_waits : (s : Setting) (before then : Standing) (mine : List Record) (machine : Machine) (stage : TaskStage) (part : Part) → IsIn s part before mine machine stage
     → stage ≡ stages.Stopped → ¬ WaitsTooLong s part then mine
 stopped_waits s before then mine machine stage (makes a operation follow) h is = absurd (let no : stages.Making h.0 h.1 ≡ stages.Stopped = sym h.3 ∙ is in cc)
 stopped_waits s before then mine machine stage (opens a) h is = absurd (let no : stages.Opening ≡ stages.Stopped = sym h.1 ∙ is in cc)
@@ -300,7 +301,7 @@ stopped_waits s before then mine machine stage over h is = λ w. w
 stopped_waits s before then mine machine stage (stops due) h is = λ w. w
 stopped_waits s before then mine machine stage (unlocks variable) h is = λ w. w
 
-in_over : (s : Setting) (before : Standing) (mine : List Record) (machine : Machine) (stage : Stage) (part : Part) → IsIn s part before mine machine stage
+in_over : (s : Setting) (before : Standing) (mine : List Record) (machine : Machine) (stage : TaskStage) (part : Part) → IsIn s part before mine machine stage
     → stage ≡ stages.Over → part ≡ over
 in_over s before mine machine stage (makes a operation follow) h is = absurd (let no : stages.Making h.0 h.1 ≡ stages.Over = sym h.3 ∙ is in cc)
 in_over s before mine machine stage (opens a) h is = absurd (let no : stages.Opening ≡ stages.Over = sym h.1 ∙ is in cc)
@@ -511,7 +512,7 @@ module _ (s : Setting) (registers : ℕ) (body : Block) (records : List Record) 
           λ stuck. all.1 (inr (locking_is.1 stuck)),
         )
 
-    pub locking_tried : (before : List Record) → ((lock task : ℕ) → vain_tries (LockTry lock task) before ≡ 0) → (step : Step) → LockSays wait step
+    pub locking_tried : (before : List Record) → ((lock task : ℕ) → failed_tries (LockTry lock task) before ≡ 0) → (step : Step) → LockSays wait step
         → IsTooMuch s.rules.turns step (onto leads.mine before) → IsStuck leads
     locking_tried before none step says tried = subst (λ (p : Part). WaitsTooLong s p here leads.mine) (sym locking_part)
         (lock_tried s.rules.turns s.text.task (lock_number s variable) leads.mine before wait none locking_agrees.is_in.5 step says tried)
@@ -526,7 +527,7 @@ module _ (s : Setting) (registers : ℕ) (body : Block) (records : List Record) 
       too_much : IsTooMuch s.rules.turns step (onto leads.mine before)
       too_much = subst (λ (r : List Record). IsTooMuch s.rules.turns step r) (ap (λ (r : List Record). reverse r) leads.spelled ∙ all_onto leads.earlier leads.mine) tried
 
-      by_stage : (stage : Stage) → run.stage ≡ stage → StageSays stage run step → IsStuck leads
+      by_stage : (stage : TaskStage) → run.stage ≡ stage → StageSays stage run step → IsStuck leads
       by_stage stages.Over is h = absurd h
       by_stage stages.Stopped is h = absurd h
       by_stage (stages.Making own kept) is h = making_tried own kept is before step h too_much

@@ -26,9 +26,9 @@ use Rattle.task_run.specs.Due.{ConditionDue, PartBegins, StatementDue}
 use Rattle.task_run.specs.Part.{disabled}
 use Rattle.task_run.specs.Plans.{LoadLeft, PlanLeft}
 use Rattle.task_run.specs.Stands.{Stands}
-use Rattle.task_run.specs.Told as computes
+use Rattle.task_run.specs.Position as computes
 use Rattle.task_run.specs.declared.machine.Machine.{Machine}
-use Rattle.task_run.specs.declared.stage.Stage.{Stage}
+use Rattle.task_run.specs.declared.stage.TaskStage.{TaskStage}
 use Rattle.text_walk.specs.Left.{BodyLeft, WalkLeft}
 use Rattle.text_walk.specs.declared.walk.Walk.{Walk}
 use Rattle.program_order.specs.Standing.{EndsNothing, Setting, Standing, counting, doing}
@@ -145,7 +145,7 @@ decides_left s walk site value before records after rest = (
   λ chosen. (pure_value before.progress.registers value, before, records, (refl, refl, refl), chosen),
 )
 
-module _ (s : Setting) (walk : Walk) (site : ℕ) (plan : Plan) (old new : Machine) (stage : Option Stage) where
+module _ (s : Setting) (walk : Walk) (site : ℕ) (plan : Plan) (old new : Machine) (stage : Option TaskStage) where
   -- it begins by its plan
   begins_plan : (P : Steps)
       → ((before : Standing) (later : List Record) (end : Standing) → Stands s before old → P before later end [] ↔ PlanLeft s walk site plan before later end [])
@@ -182,13 +182,13 @@ module _ (s : Setting) (walk : Walk) (site : ℕ) (plan : Plan) (old new : Machi
       begins
 
 -- what begins for a load begins for the statement that is one, or for the condition that has it
-pub begins_load_only : (s : Setting) (site : ℕ) (load : Load) (old new : Machine) (stage : Option Stage)
+pub begins_load_only : (s : Setting) (site : ℕ) (load : Load) (old new : Machine) (stage : Option TaskStage)
     → PartBegins s (LoadLeft s old.walk site load nobody) old new stage → PartBegins s (StatementDue s (tree.load_only load) site old.walk) old new stage
 begins_load_only s site load old new stage begins =
     begins_as s (StatementDue s (tree.load_only load) site old.walk) (LoadLeft s old.walk site load nobody) old new stage
     (λ before stands later end. load_left s old.walk site load (before later) later end []) begins
 
-pub begins_condition : (s : Setting) (site : ℕ) (value : Loading) (load : Load) (old new : Machine) (stage : Option Stage) → load ≡ load_in value
+pub begins_condition : (s : Setting) (site : ℕ) (value : Loading) (load : Load) (old new : Machine) (stage : Option TaskStage) → load ≡ load_in value
     → PartBegins s (LoadLeft s old.walk site load (condition value)) old new stage → PartBegins s (ConditionDue s (tree.loading value) site old.walk) old new stage
 begins_condition s site value load old new stage is begins =
     begins_as s (ConditionDue s (tree.loading value) site old.walk) (LoadLeft s old.walk site (load_in value) (condition value)) old new stage
@@ -228,7 +228,7 @@ ends_mark s m site old new walk makes = λ before stands.
     (λ later. (makes (before later) (stands later)).2 later)
     (λ later. counts_more later (before later) (makes (before later) (stands later)).0 (happenings.Mark m ∷ []) (refl, tt))
 
-pub begins_register : (s : Setting) (site register : ℕ) (value : Loading) (data_race : Bool) (load : Load) (old new : Machine) (stage : Option Stage) → load ≡ load_in value
+pub begins_register : (s : Setting) (site register : ℕ) (value : Loading) (data_race : Bool) (load : Load) (old new : Machine) (stage : Option TaskStage) → load ≡ load_in value
     → PartBegins s (LoadLeft s old.walk site load (to_register register value data_race)) old new stage
     → PartBegins s (StatementDue s (tree.assign data_race (tree.to_register register (tree.loading value))) site old.walk) old new stage
 begins_register s site register value data_race load old new stage is begins =

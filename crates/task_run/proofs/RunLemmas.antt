@@ -53,7 +53,7 @@ use Rattle.task_run.specs.Part.{FollowLeft, PartLeft, closes, locks, makes, open
 use Rattle.task_run.specs.Stands.{Counts, IsOf, Stands, StandsBy}
 use Rattle.task_run.specs.declared.machine.Machine.{Machine}
 use Rattle.task_run.specs.declared.run.TaskRun.{TaskRun}
-use Rattle.task_run.specs.declared.stage.Stage.TheVariants as stages
+use Rattle.task_run.specs.declared.stage.TaskStage.TheVariants as stages
 use Rattle.text_walk.proofs.StepsLemmas.{through}
 use Rattle.text_walk.specs.Left.{WalkLeft}
 use Rattle.text_walk.specs.declared.walk.Walk.{Walk}

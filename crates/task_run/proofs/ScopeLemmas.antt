@@ -1,4 +1,5 @@
--- As many scoped assertions are in force as what a task did leaves in force: after what it computes, and after each part.
+-- As many scoped assertions are in force as what a task did leaves in force: after what it computes, and after each
+-- part.
 use native.Mathlib.Omega.{arith}
 use Rattle.std.proofs.Common.{◌≡◌, ◌∙◌, ◌++◌, ℕ, Bool, true, false, List, [], ◌∷◌, None, Option, Some, ap, length, refl, subst, sym}
 use Rattle.std.proofs.lemmas.List.{length-append}
@@ -13,7 +14,7 @@ use Rattle.access_run.specs.declared.memory_operation.operation.Operation.TheVar
 use Rattle.setup_access.specs.declared.begun.Begun.{Begun}
 use Rattle.slot_table.specs.declared.records.Record.{Record}
 use Rattle.task_run.specs.Stops.{AreScoped, ScopesAreTold}
-use Rattle.task_run.specs.Told.{Computes, nothing, one_more}
+use Rattle.task_run.specs.Position.{Computes, nothing, one_more}
 use Rattle.program_order.proofs.text_bounds.Scopes as bounds
 use Rattle.program_order.specs.text_bounds.Scopes.{AreOfNoScope, in_force, is_scoped}
 use Rattle.program_order.specs.Access.{operated}

@@ -12,11 +12,11 @@ use Rattle.task_plan.specs.declared.follow.Then.{Then}
 use Rattle.task_run.specs.Agrees.{IsIn, in_part}
 use Rattle.task_run.specs.Part.{Part, closes, locks, makes, opens, over, stops, unlocks}
 use Rattle.task_run.specs.declared.machine.Machine.{Machine}
-use Rattle.task_run.specs.declared.stage.Stage.{Stage}
-use Rattle.task_run.specs.declared.stage.Stage.TheVariants as stages
+use Rattle.task_run.specs.declared.stage.TaskStage.{TaskStage}
+use Rattle.task_run.specs.declared.stage.TaskStage.TheVariants as stages
 use Rattle.program_order.specs.Standing.{Setting, Standing}
 
-module _ (s : Setting) (before : Standing) (mine : List Record) (machine : Machine) (stage : Stage) where
+module _ (s : Setting) (before : Standing) (mine : List Record) (machine : Machine) (stage : TaskStage) where
   pub in_opening : (part : Part) → IsIn s part before mine machine stage → stage ≡ stages.Opening → (a : access.Access) × (part ≡ opens a)
   in_opening over h is = absurd (let no : stages.Over ≡ stages.Opening = sym h.0 ∙ is in cc)
   in_opening (stops due) h is = absurd (let no : stages.Stopped ≡ stages.Opening = sym h.0 ∙ is in cc)

@@ -8,8 +8,8 @@ use Rattle.access_run.specs.Leads.{AccessIsComplete, AccessLeads, IsStuckIn, Run
 use Rattle.access_run.specs.Moved.{FramedChecks}
 use Rattle.access_run.specs.Whole.{NoneWhole}
 use Rattle.access_run.specs.declared.access.AccessRun.{AccessRun}
-use Rattle.access_run.specs.declared.stage.Stage as access_stages
-use Rattle.access_run.specs.declared.stage.Stage.TheVariants as accessing
+use Rattle.access_run.specs.declared.stage.AccessStage as access_stages
+use Rattle.access_run.specs.declared.stage.AccessStage.TheVariants as accessing
 use Rattle.access_types.specs.Access as access
 use Rattle.litmus_syntax.specs.Limits.{BlockScopes, block_rises}
 use Rattle.litmus_syntax.specs.Tree.{Block}
@@ -47,8 +47,8 @@ use Rattle.task_run.specs.Part.{Part, PartLeft, closes, locks, makes, opens, ove
 use Rattle.task_run.specs.Says.{IsStopped, Says}
 use Rattle.task_run.specs.declared.machine.Machine.{Machine}
 use Rattle.task_run.specs.declared.run.TaskRun.{TaskRun}
-use Rattle.task_run.specs.declared.stage.Stage.{Stage}
-use Rattle.task_run.specs.declared.stage.Stage.TheVariants as stages
+use Rattle.task_run.specs.declared.stage.TaskStage.{TaskStage}
+use Rattle.task_run.specs.declared.stage.TaskStage.TheVariants as stages
 use Rattle.program_order.proofs.text_bounds.Passes.{passes_none}
 use Rattle.text_walk.specs.Left.{DueLeft}
 use Rattle.text_walk.specs.declared.due.Due.{Due}
@@ -184,7 +184,7 @@ module _ (s : Setting) (registers : ℕ) (body : Block) (records : List Record) 
         let agrees = making_agrees s registers body records run leads own kept is in
         let begun = agrees.is_in.2 in
         let here_leads : StageLeads (checks_of s) here.scopes begun here.asked part.1 leads.mine (accessing.Check ready) run.machine.checker =
-        subst (λ (x : access_stages.Stage). StageLeads (checks_of s) here.scopes begun here.asked part.1 leads.mine x run.machine.checker) at
+        subst (λ (x : access_stages.AccessStage). StageLeads (checks_of s) here.scopes begun here.asked part.1 leads.mine x run.machine.checker) at
         (making_leads s registers body records run leads own kept is).stage in
         let by : IsStuckBy s.rules.turns leads.mine = (check_stuck (checks_of s) here.scopes begun here.asked part.1 leads.mine run.machine.checker ready here_leads).1
         ((making_is s registers body records run leads own kept is).1 stuck) in
@@ -195,7 +195,7 @@ module _ (s : Setting) (registers : ℕ) (body : Block) (records : List Record) 
         subst (λ (r : AccessRun). AccessLeads (checks_of s) there.scopes is_in.2 there.asked part.1 leads.mine r run.machine.checker)
         (one_run is_in.0 own is_in.1 kept (sym is_in.3 ∙ is)) is_in.7 in
         let there_leads : StageLeads (checks_of s) there.scopes is_in.2 there.asked part.1 leads.mine (accessing.Check ready) run.machine.checker =
-        subst (λ (x : access_stages.Stage). StageLeads (checks_of s) there.scopes is_in.2 there.asked part.1 leads.mine x run.machine.checker) at its.stage in
+        subst (λ (x : access_stages.AccessStage). StageLeads (checks_of s) there.scopes is_in.2 there.asked part.1 leads.mine x run.machine.checker) at its.stage in
         let left = whole (makes part.0 part.1 (follow_of kept)) part.2 in
         let made = left.3 in
         let same = begins_one s there part.0 made.begun is_in.2 made.begins is_in.6 in
@@ -207,7 +207,7 @@ module _ (s : Setting) (registers : ℕ) (body : Block) (records : List Record) 
         told (PairLoad long.0)
         (making_only s registers body records run leads own kept is (PairLoad long.0) (λ scopes of asked operation so_far l.
         let now : StageLeads (checks_of s) scopes of asked operation so_far (accessing.Check ready) run.machine.checker =
-        subst (λ (x : access_stages.Stage). StageLeads (checks_of s) scopes of asked operation so_far x run.machine.checker) at l.stage in
+        subst (λ (x : access_stages.AccessStage). StageLeads (checks_of s) scopes of asked operation so_far x run.machine.checker) at l.stage in
         check_only (checks_of s) scopes of asked operation so_far run.machine.checker ready now (PairLoad long.0)
         (only_step (checks_of s) scopes (Checks of) asked so_far run.machine.checker (PairLoad long.0) now.0 (long.1 (checks_of s)))))
         (long.2 (reverse leads.earlier) next.0 next.1 next.2)
@@ -218,7 +218,7 @@ module _ (s : Setting) (registers : ℕ) (body : Block) (records : List Record) 
         let agrees = making_agrees s registers body records run leads own kept is in
         let begun = agrees.is_in.2 in
         let here_leads : StageLeads (checks_of s) here.scopes begun here.asked part.1 leads.mine (accessing.Operate now) run.machine.checker =
-        subst (λ (x : access_stages.Stage). StageLeads (checks_of s) here.scopes begun here.asked part.1 leads.mine x run.machine.checker) at
+        subst (λ (x : access_stages.AccessStage). StageLeads (checks_of s) here.scopes begun here.asked part.1 leads.mine x run.machine.checker) at
         (making_leads s registers body records run leads own kept is).stage in
         let within = (operate_stuck (checks_of s) here.scopes begun here.asked part.1 leads.mine run.machine.checker now here_leads).1
         ((making_is s registers body records run leads own kept is).1 stuck) in
@@ -226,7 +226,7 @@ module _ (s : Setting) (registers : ℕ) (body : Block) (records : List Record) 
         told long.0
         (making_only s registers body records run leads own kept is long.0 (λ scopes of asked operation so_far l.
         let there_leads : StageLeads (checks_of s) scopes of asked operation so_far (accessing.Operate now) run.machine.checker =
-        subst (λ (x : access_stages.Stage). StageLeads (checks_of s) scopes of asked operation so_far x run.machine.checker) at l.stage in
+        subst (λ (x : access_stages.AccessStage). StageLeads (checks_of s) scopes of asked operation so_far x run.machine.checker) at l.stage in
         operate_only (checks_of s) scopes of asked operation so_far run.machine.checker now there_leads long.0
         (λ source kind done led. operations_lemmas.only_step s.text.task of.access source kind done now led long.0 long.1)))
         (subst (λ (r : List Record). IsTooMuch s.rules.turns long.0 r)
@@ -236,28 +236,28 @@ module _ (s : Setting) (registers : ℕ) (body : Block) (records : List Record) 
     making_waits : IsStuck leads → waits.IsStuck s registers body records
     making_waits stuck = by_stage own.stage refl
       where
-        by_stage : (stage : access_stages.Stage) → own.stage ≡ stage → waits.IsStuck s registers body records
+        by_stage : (stage : access_stages.AccessStage) → own.stage ≡ stage → waits.IsStuck s registers body records
         by_stage (accessing.Check ready) at = check_waits ready at stuck
         by_stage (accessing.Operate now) at = operate_waits now at stuck
         by_stage (accessing.End effect) at =
             let part = making_part s registers body records run leads own kept is in
             let begun = (making_agrees s registers body records run leads own kept is).is_in.2 in
             absurd (end_not_stuck (checks_of s) here.scopes begun here.asked part.1 leads.mine run.machine.checker effect
-            (subst (λ (x : access_stages.Stage). StageLeads (checks_of s) here.scopes begun here.asked part.1 leads.mine x run.machine.checker) at
+            (subst (λ (x : access_stages.AccessStage). StageLeads (checks_of s) here.scopes begun here.asked part.1 leads.mine x run.machine.checker) at
             (making_leads s registers body records run leads own kept is).stage)
             ((making_is s registers body records run leads own kept is).1 stuck))
         by_stage (accessing.Over effect) at =
             let part = making_part s registers body records run leads own kept is in
             let begun = (making_agrees s registers body records run leads own kept is).is_in.2 in
             let complete : AccessIsComplete (checks_of s) here.scopes begun here.asked part.1 leads.mine effect run.machine.checker =
-            subst (λ (x : access_stages.Stage). StageLeads (checks_of s) here.scopes begun here.asked part.1 leads.mine x run.machine.checker) at
+            subst (λ (x : access_stages.AccessStage). StageLeads (checks_of s) here.scopes begun here.asked part.1 leads.mine x run.machine.checker) at
             (making_leads s registers body records run leads own kept is).stage in
             absurd (((making_is s registers body records run leads own kept is).1 stuck).going (_, effect, complete.makes))
 
   pub stuck_waits : IsStuck leads → waits.IsStuck s registers body records
   stuck_waits stuck = by_stage run.stage refl
     where
-      by_stage : (stage : Stage) → run.stage ≡ stage → waits.IsStuck s registers body records
+      by_stage : (stage : TaskStage) → run.stage ≡ stage → waits.IsStuck s registers body records
       by_stage stages.Over is = absurd (over_stuck s registers body records run leads is stuck)
       by_stage stages.Stopped is = absurd (stopped_stuck s registers body records run leads is stuck)
       by_stage (stages.Making own kept) is = making_waits own kept is stuck
@@ -276,7 +276,7 @@ one_next task one other [] h k = absurd h
 one_next task one other (first ∷ later) h k = sym h.1 ∙ k.1
 
 -- only a part that stops has a machine that stopped
-in_stopped : (s : Setting) (before : Standing) (mine : List Record) (machine : Machine) (stage : Stage) (part : Part) → IsIn s part before mine machine stage
+in_stopped : (s : Setting) (before : Standing) (mine : List Record) (machine : Machine) (stage : TaskStage) (part : Part) → IsIn s part before mine machine stage
     → stage ≡ stages.Stopped → (due : Due) × (part ≡ stops due)
 in_stopped s before mine machine stage (makes a operation follow) h is = absurd (let no : stages.Making h.0 h.1 ≡ stages.Stopped = sym h.3 ∙ is in cc)
 in_stopped s before mine machine stage (opens a) h is = absurd (let no : stages.Opening ≡ stages.Stopped = sym h.1 ∙ is in cc)

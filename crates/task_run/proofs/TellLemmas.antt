@@ -13,12 +13,12 @@ use Rattle.task_run.specs.Part.{Part, closes, locks, makes, opens, over, stops, 
 use Rattle.task_run.specs.declared.machine.Machine.{Machine}
 use Rattle.task_run.specs.declared.news.News.{News}
 use Rattle.task_run.specs.declared.run.TaskRun.{TaskRun}
-use Rattle.task_run.specs.declared.stage.Stage.{Stage}
-use Rattle.task_run.specs.declared.stage.Stage.TheVariants as stages
+use Rattle.task_run.specs.declared.stage.TaskStage.{TaskStage}
+use Rattle.task_run.specs.declared.stage.TaskStage.TheVariants as stages
 use Rattle.program_order.specs.Standing.{BeginsNow, Setting, Standing}
 
 -- no access begins in this stage
-abbrev pub IsQuiet : Stage → Type 0
+abbrev pub IsQuiet : TaskStage → Type 0
 IsQuiet (stages.Making run kept) = ⊥
 IsQuiet stages.Opening = ⊥
 IsQuiet stage = Unit {0}
@@ -35,10 +35,10 @@ module _ (s : Setting) (before : Standing) where
   opening_begins a begun [] next begins is = (begun, is, begins)
   opening_begins a begun (first ∷ later) next begins is = is
 
-  pub none_begins : (mine : List Record) (machine : Machine) (stage : Stage) (part : Part) → IsIn s part before mine machine stage → IsQuiet stage
+  pub none_begins : (mine : List Record) (machine : Machine) (stage : TaskStage) (part : Part) → IsIn s part before mine machine stage → IsQuiet stage
       → BeginsNext s part before mine None
-  none_begins mine machine stage (makes a operation follow) h quiet = absurd (subst (λ (x : Stage). IsQuiet x) h.3 quiet)
-  none_begins mine machine stage (opens a) h quiet = absurd (subst (λ (x : Stage). IsQuiet x) h.1 quiet)
+  none_begins mine machine stage (makes a operation follow) h quiet = absurd (subst (λ (x : TaskStage). IsQuiet x) h.3 quiet)
+  none_begins mine machine stage (opens a) h quiet = absurd (subst (λ (x : TaskStage). IsQuiet x) h.1 quiet)
   none_begins mine machine stage over h quiet = refl
   none_begins mine machine stage (stops due) h quiet = refl
   none_begins mine machine stage closes h quiet = refl

@@ -19,7 +19,7 @@ use Rattle.setup_access.specs.declared.begun.Begun.{Begun}
 use Rattle.slot_table.specs.declared.records.Record.{Record}
 use Rattle.task_plan.specs.Follow.{Follow, assigned, condition, goes_on, loaded_by, marks_next, nobody, so_often, to_register}
 use Rattle.task_run.specs.Part.{before_access}
-use Rattle.task_run.specs.Told.{AllFellFrom, AllFrom, Computes, IsTold, last_of, nothing, one_more}
+use Rattle.task_run.specs.Position.{AllFellFrom, AllFrom, Computes, IsTold, last_of, nothing, one_more}
 use Rattle.program_order.specs.text_bounds.Scopes.{AreOfNoScope}
 use Rattle.program_order.specs.Access.{operated}
 use Rattle.program_order.specs.Standing.{Point, Standing, coming, counting, doing, registered}

@@ -5,8 +5,8 @@ use Rattle.std.proofs.lemmas.List.{append-nil, reverse-append}
 use Rattle.access_run.specs.Leads.{AccessIsDone, AccessIsStuck, AccessLeads, Runs, StageLeads, in_check, in_operation}
 use Rattle.access_run.specs.Leads as accesses
 use Rattle.access_run.specs.declared.access.AccessRun.{AccessRun}
-use Rattle.access_run.specs.declared.stage.Stage as access_stages
-use Rattle.access_run.specs.declared.stage.Stage.TheVariants.{Check, End, Operate, Over}
+use Rattle.access_run.specs.declared.stage.AccessStage as access_stages
+use Rattle.access_run.specs.declared.stage.AccessStage.TheVariants.{Check, End, Operate, Over}
 use Rattle.access_types.specs.Access.{Access}
 use Rattle.access_types.specs.Sites.{map_of}
 use Rattle.access_run.specs.memory_operation.LockLeads.{IsStuckAtLock, LockSays}
@@ -23,8 +23,8 @@ use Rattle.access_run.specs.declared.memory_operation.operation.Change.{Change}
 use Rattle.access_run.specs.declared.memory_operation.operation.Operation.{Operation}
 use Rattle.access_run.specs.declared.memory_operation.operation.Operation.TheVariants as kinds
 use Rattle.access_run.specs.declared.memory_operation.run.OperationRun.{OperationRun}
-use Rattle.access_run.specs.declared.memory_operation.stage.Stage as operating
-use Rattle.access_run.specs.declared.memory_operation.stage.Stage.TheVariants as operating_stages
+use Rattle.access_run.specs.declared.memory_operation.stage.OperationStage as operating
+use Rattle.access_run.specs.declared.memory_operation.stage.OperationStage.TheVariants as operating_stages
 use Rattle.setup_access.specs.Checker.{Doing}
 use Rattle.setup_access.specs.Kept.{setting_with}
 use Rattle.setup_access.specs.Leads as checks
@@ -41,15 +41,15 @@ use Rattle.setup_access.specs.declared.pass.Pass.{Pass}
 use Rattle.setup_access.specs.declared.pass.Pass.TheVariants as passes
 use Rattle.setup_access.specs.declared.setup.Setup.TheVariants as setups
 use Rattle.setup_access.specs.declared.source.Source.{Source}
-use Rattle.setup_access.specs.declared.stage.Stage as check_stages
-use Rattle.setup_access.specs.declared.stage.Stage.TheVariants as checking
+use Rattle.setup_access.specs.declared.stage.CheckStage as check_stages
+use Rattle.setup_access.specs.declared.stage.CheckStage.TheVariants as checking
 use Rattle.slot_table.specs.declared.records.Record.{Record}
 use Rattle.slot_table.specs.declared.step.Answer.{Answer}
 use Rattle.slot_table.specs.declared.step.Answer.TheVariants as answers
 use Rattle.slot_table.specs.declared.step.Step.{Step}
 use Rattle.slot_table.specs.declared.step.Step.TheVariants.{CellExchange, CellLoad, Clear, Clock, Consume, Insert, Load, LockStore, LockTry, Name, PairLoad, Remove, Tell, TryConsume}
 use Rattle.task_run.proofs.WaitLemmas.{check_says}
-use Rattle.program_order.specs.Waits.{IsTooMuch, vain_tries, is_tried_again}
+use Rattle.program_order.specs.Waits.{IsTooMuch, failed_tries, is_tried_again}
 
 -- records, the oldest first, before others, which stand with the latest first
 abbrev pub onto : List Record → List Record → List Record
@@ -69,17 +69,17 @@ pub onto_both : (one other before : List Record) → onto (one ++ other) before 
 onto_both [] other before = refl
 onto_both (first ∷ later) other before = onto_both later other (first ∷ before)
 
--- one vain try more, or none
+-- one failed try more, or none
 up_one : (b : Bool) (v n : ℕ) → v ≤ n → (if b then suc v else 0) ≤ n + 1
 up_one true v n most = omega (arith, most)
 up_one false v n most = omega arith
 
--- exchanges of a cell come after no more vain tries than these
+-- exchanges of a cell come after no more failed tries than these
 abbrev FewExchanges : ℕ → List Record → Type 0
-FewExchanges n before = (cell seen new : ℕ) → vain_tries (CellExchange cell seen new) before ≤ n
+FewExchanges n before = (cell seen new : ℕ) → failed_tries (CellExchange cell seen new) before ≤ n
 
 exchange_grows : (at : Step) (answer : Answer) (before : List Record) (n cell seen new : ℕ) → FewExchanges n before
-    → (if is_tried_again at answer (CellExchange cell seen new) then suc (vain_tries at before) else 0) ≤ (if waits.is_refusal at answer then n + 1 else 0)
+    → (if is_tried_again at answer (CellExchange cell seen new) then suc (failed_tries at before) else 0) ≤ (if waits.is_refusal at answer then n + 1 else 0)
 exchange_grows (Load index) answer before n cell seen new few = le_refl 0
 exchange_grows (Insert index word) answer before n cell seen new few = le_refl 0
 exchange_grows (TryConsume index word) answer before n cell seen new few = le_refl 0
@@ -93,7 +93,7 @@ exchange_grows (CellLoad at) answer before n cell seen new few = le_refl 0
 exchange_grows (LockStore at) answer before n cell seen new few = le_refl 0
 exchange_grows Clock answer before n cell seen new few = le_refl 0
 exchange_grows (CellExchange at had put) (answers.Word word) before n cell seen new few =
-    up_one (cell == at) (vain_tries (CellExchange at had put) before) n (few at had put)
+    up_one (cell == at) (failed_tries (CellExchange at had put) before) n (few at had put)
 exchange_grows (CellExchange at had put) (answers.Flag flag) before n cell seen new few = le_refl 0
 exchange_grows (CellExchange at had put) (answers.Halves setter finder) before n cell seen new few = le_refl 0
 exchange_grows (CellExchange at had put) answers.Done before n cell seen new few = le_refl 0
@@ -103,7 +103,7 @@ exchange_grows (LockTry at holder) (answers.Flag false) before n cell seen new f
 exchange_grows (LockTry at holder) (answers.Halves setter finder) before n cell seen new few = le_refl 0
 exchange_grows (LockTry at holder) answers.Done before n cell seen new few = le_refl 0
 
-exchanges_on : (mine before : List Record) (n : ℕ) → FewExchanges n before → FewExchanges (waits.vain_from n mine) (onto mine before)
+exchanges_on : (mine before : List Record) (n : ℕ) → FewExchanges n before → FewExchanges (waits.failed_from n mine) (onto mine before)
 exchanges_on [] before n few = few
 exchanges_on (first ∷ later) before n few =
     exchanges_on later (first ∷ before) (if waits.is_refusal first.step first.answer then n + 1 else 0)
@@ -111,10 +111,10 @@ exchanges_on (first ∷ later) before n few =
 
 -- so do tries of a lock
 abbrev FewTries : ℕ → List Record → Type 0
-FewTries n before = (lock task : ℕ) → vain_tries (LockTry lock task) before ≤ n
+FewTries n before = (lock task : ℕ) → failed_tries (LockTry lock task) before ≤ n
 
 try_grows : (at : Step) (answer : Answer) (before : List Record) (n lock task : ℕ) → FewTries n before
-    → (if is_tried_again at answer (LockTry lock task) then suc (vain_tries at before) else 0) ≤ (if waits.is_refusal at answer then n + 1 else 0)
+    → (if is_tried_again at answer (LockTry lock task) then suc (failed_tries at before) else 0) ≤ (if waits.is_refusal at answer then n + 1 else 0)
 try_grows (Load index) answer before n lock task few = le_refl 0
 try_grows (Insert index word) answer before n lock task few = le_refl 0
 try_grows (TryConsume index word) answer before n lock task few = le_refl 0
@@ -134,26 +134,26 @@ try_grows (CellExchange at had put) answers.Done before n lock task few = le_ref
 try_grows (LockTry at holder) (answers.Word word) before n lock task few = le_refl 0
 try_grows (LockTry at holder) (answers.Flag true) before n lock task few = le_refl 0
 try_grows (LockTry at holder) (answers.Flag false) before n lock task few =
-    up_one (lock == at) (vain_tries (LockTry at holder) before) n (few at holder)
+    up_one (lock == at) (failed_tries (LockTry at holder) before) n (few at holder)
 try_grows (LockTry at holder) (answers.Halves setter finder) before n lock task few = le_refl 0
 try_grows (LockTry at holder) answers.Done before n lock task few = le_refl 0
 
-tries_on : (mine before : List Record) (n : ℕ) → FewTries n before → FewTries (waits.vain_from n mine) (onto mine before)
+tries_on : (mine before : List Record) (n : ℕ) → FewTries n before → FewTries (waits.failed_from n mine) (onto mine before)
 tries_on [] before n few = few
 tries_on (first ∷ later) before n few =
     tries_on later (first ∷ before) (if waits.is_refusal first.step first.answer then n + 1 else 0)
     (λ lock task. try_grows first.step first.answer before n lock task few)
 
--- a load of a pair comes after no more vain ones than the wait has counted
+-- a load of a pair comes after no more failed ones than the wait has counted
 abbrev FewLoads : Option Wait → List Record → Type 0
 FewLoads None before = Unit {0}
-FewLoads (Some wait) before = (index : ℕ) → vain_tries (PairLoad index) before ≤ wait.tries
+FewLoads (Some wait) before = (index : ℕ) → failed_tries (PairLoad index) before ≤ wait.tries
 
 -- the same after one step more and its answer
 abbrev FewAfter : Option Wait → Step → Answer → List Record → Type 0
 FewAfter None at answer before = Unit {0}
 FewAfter (Some wait) at answer before =
-    (index : ℕ) → (if is_tried_again at answer (PairLoad index) then suc (vain_tries at before) else 0) ≤ wait.tries
+    (index : ℕ) → (if is_tried_again at answer (PairLoad index) then suc (failed_tries at before) else 0) ≤ wait.tries
 
 few_with : (wait : Option Wait) (first : Record) (before : List Record) → FewAfter wait first.step first.answer before → FewLoads wait (first ∷ before)
 few_with None first before few = few
@@ -161,7 +161,7 @@ few_with (Some wait) first before few = few
 
 heard_grows : (heard : ℕ) (wait : Wait) (before : List Record) (at : ℕ) (answer : Answer) → FewLoads (Some wait) before
     → FewAfter (after_half wait heard) (PairLoad at) answer before
-heard_grows zero wait before at answer few = λ index. up_one (index == at) (vain_tries (PairLoad at) before) wait.tries (few at)
+heard_grows zero wait before at answer few = λ index. up_one (index == at) (failed_tries (PairLoad at) before) wait.tries (few at)
 heard_grows (suc ticket) wait before at answer few = tt
 
 pair_grows : (wait : Option Wait) (before : List Record) (at : ℕ) (answer : Answer) → FewLoads wait before
@@ -219,7 +219,7 @@ pair_waits s begun (passes.Setup (setups.HearFinder at values tries)) index is =
 pair_waits s begun (passes.Clear at) index is = absurd (let no : Clear at ≡ PairLoad index = is in cc)
 pair_waits s begun (passes.Remove at) index is = absurd (let no : Remove at ≡ PairLoad index = is in cc)
 
-stage_waits : (s : settings.Setting) (stage : check_stages.Stage) (index : ℕ) → checks.stage_step s stage ≡ Some (PairLoad index)
+stage_waits : (s : settings.Setting) (stage : check_stages.CheckStage) (index : ℕ) → checks.stage_step s stage ≡ Some (PairLoad index)
     → (wait : Wait) × (stage_wait stage ≡ Some wait)
 stage_waits s checking.Rest index is = absurd (let no : None ≡ Some (PairLoad index) = is in cc)
 stage_waits s (checking.Begin begun) index is = absurd (let no : Clock ≡ PairLoad index = one_some Clock (PairLoad index) is in cc)
@@ -227,11 +227,11 @@ stage_waits s (checking.Check role begun pass) index is = pair_waits s begun pas
 stage_waits s checking.End index is = absurd (let no : Clock ≡ PairLoad index = one_some Clock (PairLoad index) is in cc)
 
 too_many : (wait : Option Wait) (here : Wait) (turns index : ℕ) (records : List Record) → Some here ≡ capped wait → FewLoads wait records
-    → turns ≤ vain_tries (PairLoad index) records → IsSomeAnd wait (λ w. turns ≤ w.tries)
+    → turns ≤ failed_tries (PairLoad index) records → IsSomeAnd wait (λ w. turns ≤ w.tries)
 too_many None here turns index records is few tried = absurd (let no : Some here ≡ None = is in cc)
 too_many (Some wait) here turns index records is few tried = let most = few index in omega (arith, most, tried)
 
--- a step of a check that is a try too much is a load of a pair, in a wait that had as many vain tries
+-- a step of a check that is a try too much is a load of a pair, in a wait that had as many failed tries
 pub check_tried : (s : settings.Setting) (scopes : List Begun) (doing : Doing) (asked : ℕ) (mine : List Record) (checker : Checker)
     → checks.Leads s scopes doing asked mine checker → (turns : ℕ) (before : List Record) (step : Step) → checks.Says checker step
     → IsTooMuch turns step (onto mine before) → IsSomeAnd (wait_after mine) (λ wait. turns ≤ wait.tries)
@@ -282,35 +282,35 @@ module _ (task : ℕ) (a : Access) (source : Source) (operation : Operation) (do
       → OperatesIn task a source operation (done ++ exchange change seen ∷ []) (and_then run.effect (changed a.size change (value_in a source seen))) []
   exchange_ends change seen tries is =
       let ready : is_wanted a.size change (value_in a source seen) ≡ true =
-      subst (λ (stage : operating.Stage). operation_stages.IsReady a source stage) is leads.ready in
+      subst (λ (stage : operating.OperationStage). operation_stages.IsReady a source stage) is leads.ready in
       let more : Effect = changed a.size change (value_in a source seen) in
       let left : operation_stages.StageLeft task a source run.stage (exchange change seen ∷ []) more =
-      subst (λ (stage : operating.Stage). operation_stages.StageLeft task a source stage (exchange change seen ∷ []) more) (sym is) (accepted change seen ready) in
+      subst (λ (stage : operating.OperationStage). operation_stages.StageLeft task a source stage (exchange change seen ∷ []) more) (sym is) (accepted change seen ready) in
       (leads.left (exchange change seen ∷ []) (and_then run.effect more)).1 (more, left, refl)
 
   ended : (change : Change) (seen tries : ℕ) → run.stage ≡ operating_stages.Exchange change seen tries → LoadsFirst source (done ++ exchange change seen ∷ [])
   ended change seen tries is = operation_loads task a source operation _ _ [] (exchange_ends change seen tries is)
 
   few_exchanges : (last : Record) (cell seen new : ℕ) → last.step ≡ CellExchange cell seen new → LoadsFirst source (done ++ last ∷ []) → (before : List Record)
-      → FewExchanges (waits.vain_tries done) (onto done before)
+      → FewExchanges (waits.failed_tries done) (onto done before)
   few_exchanges last cell seen new is first before = by_first done first
     where
-      by_first : (mine : List Record) → LoadsFirst source (mine ++ last ∷ []) → FewExchanges (waits.vain_tries mine) (onto mine before)
+      by_first : (mine : List Record) → LoadsFirst source (mine ++ last ∷ []) → FewExchanges (waits.failed_tries mine) (onto mine before)
       by_first [] loads = absurd (let no : CellExchange cell seen new ≡ CellLoad source.cell = sym is ∙ loads in cc)
       by_first (one ∷ later) loads =
           let none : waits.is_refusal one.step one.answer ≡ false = ap (λ (step : Step). waits.is_refusal step one.answer) loads in
           let few : FewExchanges 0 (one ∷ before) = λ at had put.
-          subst (λ (step : Step). (if is_tried_again step one.answer (CellExchange at had put) then suc (vain_tries step before) else 0) ≤ 0) (sym loads) (le_refl 0) in
-          let on : FewExchanges (waits.vain_from 0 later) (onto later (one ∷ before)) = exchanges_on later (one ∷ before) 0 few in
-          subst (λ (b : Bool). FewExchanges (waits.vain_from (if b then 0 + 1 else 0) later) (onto later (one ∷ before))) (sym none) on
+          subst (λ (step : Step). (if is_tried_again step one.answer (CellExchange at had put) then suc (failed_tries step before) else 0) ≤ 0) (sym loads) (le_refl 0) in
+          let on : FewExchanges (waits.failed_from 0 later) (onto later (one ∷ before)) = exchanges_on later (one ∷ before) 0 few in
+          subst (λ (b : Bool). FewExchanges (waits.failed_from (if b then 0 + 1 else 0) later) (onto later (one ∷ before))) (sym none) on
 
   -- a step of an operation that is a try too much is an exchange that was refused as often
   pub operation_tried : (turns : ℕ) (before : List Record) (step : Step) → operations.Says run step → IsTooMuch turns step (onto done before)
-      → (0 < waits.vain_tries done) × (turns ≤ waits.vain_tries done)
+      → (0 < waits.failed_tries done) × (turns ≤ waits.failed_tries done)
   operation_tried turns before step says tried = by_stage run.stage refl says
     where
-      by_stage : (stage : operating.Stage) → run.stage ≡ stage → operation_stages.stage_step run.access run.source stage ≡ Some step
-          → (0 < waits.vain_tries done) × (turns ≤ waits.vain_tries done)
+      by_stage : (stage : operating.OperationStage) → run.stage ≡ stage → operation_stages.stage_step run.access run.source stage ≡ Some step
+          → (0 < waits.failed_tries done) × (turns ≤ waits.failed_tries done)
       by_stage operating_stages.Over is h = absurd (let no : None ≡ Some step = h in cc)
       by_stage (operating_stages.Load now) is h =
           let none : IsTooMuch turns (CellLoad run.source.cell) (onto done before) =
@@ -330,7 +330,7 @@ module _ (task : ℕ) (a : Access) (source : Source) (operation : Operation) (do
 module _ (s : settings.Setting) (scopes : List Begun) (begun : Begun) (asked : ℕ) (operation : Option Operation) (mine : List Record) (checker : Checker)
     (going : ¬ AccessIsDone s scopes begun asked operation mine) (before : List Record) (step : Step)
     (tried : IsTooMuch s.rules.turns step (onto mine before)) where
-  in_stage : (stage : access_stages.Stage) → StageLeads s scopes begun asked operation mine stage checker → accesses.StageSays stage checker step
+  in_stage : (stage : access_stages.AccessStage) → StageLeads s scopes begun asked operation mine stage checker → accesses.StageSays stage checker step
       → AccessIsStuck s scopes begun asked operation mine
   in_stage (Check run) leads says = record {
     going = going;
@@ -363,7 +363,7 @@ access_tried s scopes begun asked operation mine run checker leads going before 
     in_stage s scopes begun asked operation mine checker going before step tried run.stage leads.stage says
 
 -- where a task tries a lock too often it is stuck
-pub lock_tried : (turns task lock : ℕ) (mine before : List Record) (wait : LockWait) → ((at holder : ℕ) → vain_tries (LockTry at holder) before ≡ 0)
+pub lock_tried : (turns task lock : ℕ) (mine before : List Record) (wait : LockWait) → ((at holder : ℕ) → failed_tries (LockTry at holder) before ≡ 0)
     → ¬ TakesLock task lock mine [] → (step : Step) → LockSays wait step → IsTooMuch turns step (onto mine before) → IsStuckAtLock turns task lock mine
 lock_tried turns task lock mine before wait none going step says tried =
     let now : IsTooMuch turns (LockTry wait.lock wait.task) (onto mine before) =

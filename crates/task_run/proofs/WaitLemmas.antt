@@ -1,16 +1,16 @@
--- What ends a part of a text is no vain try of a lock.
+-- What ends a part of a text is no failed try of a lock.
 use Rattle.std.proofs.Common.{◌≡◌, ◌&&◌, ◌++◌, ◌∷◌, [], ℕ, suc, Bool, true, false, List, MatchBool, None, Some, ap, refl, reverse, subst, sym, if◌then◌else◌}
 use Rattle.task_run.proofs.SaysLemmas.{one_some}
 use Rattle.std.proofs.lemmas.List.{reverse-append}
 use Rattle.access_run.specs.Leads as accesses
-use Rattle.access_run.specs.declared.stage.Stage as access_stages
-use Rattle.access_run.specs.declared.stage.Stage.TheVariants.{Check, End, Operate, Over}
+use Rattle.access_run.specs.declared.stage.AccessStage as access_stages
+use Rattle.access_run.specs.declared.stage.AccessStage.TheVariants.{Check, End, Operate, Over}
 use Rattle.access_types.specs.Sites.{map_of}
 use Rattle.access_run.specs.memory_operation.Locks.{TakesLock}
 use Rattle.access_run.specs.memory_operation.Stages as operation_stages
 use Rattle.access_run.specs.declared.memory_operation.run.OperationRun.{OperationRun}
-use Rattle.access_run.specs.declared.memory_operation.stage.Stage as operating
-use Rattle.access_run.specs.declared.memory_operation.stage.Stage.TheVariants as operating_stages
+use Rattle.access_run.specs.declared.memory_operation.stage.OperationStage as operating
+use Rattle.access_run.specs.declared.memory_operation.stage.OperationStage.TheVariants as operating_stages
 use Rattle.setup_access.proofs.DisciplineLemmas.{on_flag}
 use Rattle.setup_access.specs.Kept.{setting_with}
 use Rattle.setup_access.specs.Leads as checks
@@ -23,15 +23,15 @@ use Rattle.setup_access.specs.declared.found.Found.TheVariants as founds
 use Rattle.setup_access.specs.declared.pass.Pass.{Pass}
 use Rattle.setup_access.specs.declared.pass.Pass.TheVariants as passes
 use Rattle.setup_access.specs.declared.setup.Setup.TheVariants as setups
-use Rattle.setup_access.specs.declared.stage.Stage as check_stages
-use Rattle.setup_access.specs.declared.stage.Stage.TheVariants as checking
+use Rattle.setup_access.specs.declared.stage.CheckStage as check_stages
+use Rattle.setup_access.specs.declared.stage.CheckStage.TheVariants as checking
 use Rattle.slot_table.specs.declared.records.Record.{Record}
 use Rattle.slot_table.specs.declared.step.Answer.{Answer}
 use Rattle.slot_table.specs.declared.step.Answer.TheVariants as answers
 use Rattle.slot_table.specs.declared.step.Step.{Step}
 use Rattle.slot_table.specs.declared.step.Step.TheVariants.{CellExchange, CellLoad, Clear, Clock, Consume, Insert, Load, LockStore, LockTry, Name, PairLoad, Remove, Tell, TryConsume}
 use Rattle.task_run.specs.Leads.{EndInNoWait}
-use Rattle.program_order.specs.Waits.{is_no, is_refused, tries_lock, vain_tries, is_tried_again}
+use Rattle.program_order.specs.Waits.{is_no, is_refused, tries_lock, failed_tries, is_tried_again}
 
 -- the step tries no lock
 abbrev pub IsNoTry : Step → Type 0
@@ -87,9 +87,9 @@ no_try_no_wait Clock answer ok lock task = refl
 
 pub ends_in_no_wait : (records : List Record) (made : Record) → IsNoWait made → EndInNoWait (records ++ made ∷ [])
 ends_in_no_wait records made none lock task =
-    let last : vain_tries (LockTry lock task) (made ∷ reverse records) ≡ 0 =
-    ap (λ (b : Bool). if b then suc (vain_tries made.step (reverse records)) else 0) (none lock task) in
-    subst (λ (r : List Record). vain_tries (LockTry lock task) r ≡ 0) (sym (reverse-append records (made ∷ []))) last
+    let last : failed_tries (LockTry lock task) (made ∷ reverse records) ≡ 0 =
+    ap (λ (b : Bool). if b then suc (failed_tries made.step (reverse records)) else 0) (none lock task) in
+    subst (λ (r : List Record). failed_tries (LockTry lock task) r ≡ 0) (sym (reverse-append records (made ∷ []))) last
 
 -- the steps of a check are
 pass_of_check : (s : settings.Setting) (begun : Begun) (pass : Pass) → IsOfCheck (pass_step s begun pass)
@@ -106,7 +106,7 @@ pass_of_check s begun (passes.Setup (setups.HearFinder index values tries)) = tt
 pass_of_check s begun (passes.Clear index) = tt
 pass_of_check s begun (passes.Remove index) = tt
 
-stage_of_check : (s : settings.Setting) (stage : check_stages.Stage) (step : Step) → checks.stage_step s stage ≡ Some step → IsOfCheck step
+stage_of_check : (s : settings.Setting) (stage : check_stages.CheckStage) (step : Step) → checks.stage_step s stage ≡ Some step → IsOfCheck step
 stage_of_check s checking.Rest step is = absurd (let no : None ≡ Some step = is in cc)
 stage_of_check s (checking.Begin begun) step is = subst IsOfCheck (one_some Clock step is) tt
 stage_of_check s (checking.Check role begun pass) step is = subst IsOfCheck (one_some (pass_step s begun pass) step is) (pass_of_check s begun pass)
@@ -115,13 +115,13 @@ stage_of_check s checking.End step is = subst IsOfCheck (one_some Clock step is)
 pub check_says : (checker : Checker) (step : Step) → checks.Says checker step → IsOfCheck step
 check_says checker step says = stage_of_check (setting_with checker.setting (map_of [])) checker.stage step (says (map_of []))
 
-operating_no_try : (run : OperationRun) (stage : operating.Stage) (step : Step) → operation_stages.stage_step run.access run.source stage ≡ Some step → IsNoTry step
+operating_no_try : (run : OperationRun) (stage : operating.OperationStage) (step : Step) → operation_stages.stage_step run.access run.source stage ≡ Some step → IsNoTry step
 operating_no_try run operating_stages.Over step is = absurd (let no : None ≡ Some step = is in cc)
 operating_no_try run (operating_stages.Load operation) step is = subst IsNoTry (one_some (CellLoad run.source.cell) step is) tt
 operating_no_try run (operating_stages.Exchange change seen tries) step is = subst IsNoTry (one_some _ step is) tt
 
 -- an access tries no lock
-pub access_no_try : (checker : Checker) (stage : access_stages.Stage) (step : Step) → accesses.StageSays stage checker step → IsNoTry step
+pub access_no_try : (checker : Checker) (stage : access_stages.AccessStage) (step : Step) → accesses.StageSays stage checker step → IsNoTry step
 access_no_try checker (Check run) step says = of_check_tries_none step (check_says checker step says)
 access_no_try checker (Operate run) step says = operating_no_try run run.stage step says
 access_no_try checker (End effect) step says = subst IsNoTry (sym says) tt

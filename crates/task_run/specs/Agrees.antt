@@ -20,12 +20,12 @@ use Rattle.task_plan.specs.Follow.{Follow, loaded_by}
 use Rattle.task_run.specs.Part.{Part, PartLeft, closes, locks, makes, opens, over, stops, unlocks}
 use Rattle.task_run.specs.Stands.{Counts, IsOf, RestsAt, SameToEnd}
 use Rattle.task_run.specs.Stops.{PassesWith}
-use Rattle.task_run.specs.Told.{ComputesBy}
+use Rattle.task_run.specs.Position.{ComputesBy}
 use Rattle.task_plan.specs.Views.{follow_of}
 use Rattle.task_plan.specs.declared.follow.Then.{Then}
 use Rattle.task_run.specs.declared.machine.Machine.{Machine}
-use Rattle.task_run.specs.declared.stage.Stage.{Stage}
-use Rattle.task_run.specs.declared.stage.Stage.TheVariants as stages
+use Rattle.task_run.specs.declared.stage.TaskStage.{TaskStage}
+use Rattle.task_run.specs.declared.stage.TaskStage.TheVariants as stages
 use Rattle.program_order.specs.Standing.{BeginsNow, IsDisabled, IsLockAt, Setting, Standing, checks_of, doing, lock_number}
 use Rattle.program_order.specs.text_bounds.Scopes.{is_scoped}
 use Rattle.text_walk.specs.Left.{DueLeft}
@@ -59,7 +59,7 @@ begins_now begun [] = Some begun
 begins_now begun (first ∷ later) = None
 
 -- these records are of the part, which began where the task stood so, and lead to where the machine is
-abbrev pub IsIn : Setting → Part → Standing → List Record → Machine → Stage → Type 0
+abbrev pub IsIn : Setting → Part → Standing → List Record → Machine → TaskStage → Type 0
 IsIn s over before mine machine stage = (stage ≡ stages.Over) × (mine ≡ []) × RestsAt s before machine
 IsIn s (stops due) before mine machine stage =
     (stage ≡ stages.Stopped) × (mine ≡ []) × RestsAt s before machine
@@ -90,14 +90,14 @@ IsIn s (unlocks variable) before mine machine stage =
 
 -- these records are of the part, which began where the task stood so, and the machine is there
 pub record Agrees (s : Setting) (part : Part) (before : Standing) (mine : List Record) (machine : Machine)
-    (stage : Stage) : Type 0 where
+    (stage : TaskStage) : Type 0 where
   pub of : IsOf s machine
   pub counts : Counts s (in_part part before) machine
   pub is_in : IsIn s part before mine machine stage
 
 -- a part begins, of the same steps to the end as this from these standings on, after what the task
 -- computes before its next step
-abbrev pub Begins : Setting → Steps → (List Record → Standing) → Machine → Stage → Type 0
+abbrev pub Begins : Setting → Steps → (List Record → Standing) → Machine → TaskStage → Type 0
 Begins s Left before machine stage =
     (part : Part) × (now : List Record → Standing)
     × ((later : List Record) → Agrees s part (now later) [] machine stage)

@@ -5,9 +5,9 @@ use Rattle.litmus_syntax.specs.Tree.{Expression, Statement}
 use Rattle.slot_table.specs.declared.records.Record.{Record}
 use Rattle.task_run.specs.Agrees.{Begins}
 use Rattle.task_run.specs.Stands.{SameToEnd, StandsBy}
-use Rattle.task_run.specs.Told.{ComputesBy}
+use Rattle.task_run.specs.Position.{ComputesBy}
 use Rattle.task_run.specs.declared.machine.Machine.{Machine}
-use Rattle.task_run.specs.declared.stage.Stage.{Stage}
+use Rattle.task_run.specs.declared.stage.TaskStage.{TaskStage}
 use Rattle.text_walk.specs.Left.{BodyLeft, Then, WalkLeft}
 use Rattle.text_walk.specs.declared.walk.Walk.{Walk}
 use Rattle.program_order.specs.Standing.{Setting, Standing}
@@ -33,7 +33,7 @@ EndsAtOnce s Left before machine =
 
 -- from wherever the machine stood, what is to be made begins in this stage, or is over where there is
 -- none
-abbrev pub PartBegins : Setting → Steps → Machine → Machine → Option Stage → Type 0
+abbrev pub PartBegins : Setting → Steps → Machine → Machine → Option TaskStage → Type 0
 PartBegins s Left old new stage =
     (before : List Record → Standing) → StandsBy s before old
     → MatchOption stage (EndsAtOnce s Left before new) (Begins s Left before new)

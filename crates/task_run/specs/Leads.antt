@@ -14,15 +14,15 @@ use Rattle.task_run.specs.Agrees.{Agrees}
 use Rattle.task_run.specs.Part.{Part, PartLeft, closes, locks, makes, opens, over, stops, unlocks}
 use Rattle.task_run.specs.Says.{Says}
 use Rattle.task_run.specs.Stops.{ScopesAreTold}
-use Rattle.task_run.specs.Told.{IsTold}
+use Rattle.task_run.specs.Position.{IsTold}
 use Rattle.task_run.specs.declared.run.TaskRun.{TaskRun}
 use Rattle.program_order.specs.Standing.{BeginsNow, Setting, Standing, checks_of, lock_number}
-use Rattle.program_order.specs.Waits.{vain_tries}
+use Rattle.program_order.specs.Waits.{failed_tries}
 use Rattle.program_order.specs.WrittenOrder.{StepsOfBlock, at_first}
 
--- these records, the oldest first, end in no vain try of a lock
+-- these records, the oldest first, end in no failed try of a lock
 abbrev pub EndInNoWait : List Record → Type 0
-EndInNoWait records = (lock task : ℕ) → vain_tries (LockTry lock task) (reverse records) ≡ 0
+EndInNoWait records = (lock task : ℕ) → failed_tries (LockTry lock task) (reverse records) ≡ 0
 
 -- The records so far, of a task with so many registers, lead to the machine: it is in a part of the
 -- text, by the last of the records, and whatever completes the records completes the part and what is
@@ -62,7 +62,7 @@ BeginsNext s (makes a operation follow) before [] next =
 BeginsNext s (opens a) before [] next = (begun : Begun) × (next ≡ Some begun) × BeginsNow s before a begun
 BeginsNext s part before mine next = next ≡ None
 
--- a wait of the part had as many vain tries as the rules allow, by the records of the part so far
+-- a wait of the part had as many failed tries as the rules allow, by the records of the part so far
 abbrev pub WaitsTooLong : Setting → Part → Standing → List Record → Type 0
 WaitsTooLong s (makes a operation follow) before mine =
     (begun : Begun) × BeginsNow s before a begun
@@ -75,7 +75,7 @@ WaitsTooLong s over before mine = ⊥
 WaitsTooLong s (stops due) before mine = ⊥
 WaitsTooLong s (unlocks variable) before mine = ⊥
 
--- the task is in a wait that had as many vain tries as the rules allow
+-- the task is in a wait that had as many failed tries as the rules allow
 abbrev pub IsStuck : {s : Setting} {registers : ℕ} {body : Block} {records : List Record} {run : TaskRun}
     → Leads s registers body records run → Type 0
 IsStuck {s = s} leads = WaitsTooLong s leads.part (leads.now leads.mine) leads.mine

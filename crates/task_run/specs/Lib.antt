@@ -1,7 +1,7 @@
 pub mod Part
 pub mod Plans
 pub mod Stands
-pub mod Told
+pub mod Position
 pub mod Stops
 pub mod Agrees
 pub mod Follows

@@ -6,12 +6,12 @@ use Rattle.setup_access.specs.Leads as checks
 use Rattle.slot_table.specs.declared.step.Step.{Step}
 use Rattle.slot_table.specs.declared.step.Step.TheVariants.{LockStore}
 use Rattle.task_run.specs.declared.run.TaskRun.{TaskRun}
-use Rattle.task_run.specs.declared.stage.Stage.{Stage}
-use Rattle.task_run.specs.declared.stage.Stage.TheVariants as stages
+use Rattle.task_run.specs.declared.stage.TaskStage.{TaskStage}
+use Rattle.task_run.specs.declared.stage.TaskStage.TheVariants as stages
 use Rattle.program_order.specs.Standing.{is_lock}
 
 -- a task in a stage is before this step
-abbrev pub StageSays : Stage → TaskRun → Step → Type 0
+abbrev pub StageSays : TaskStage → TaskRun → Step → Type 0
 StageSays stages.Over run step = ⊥
 StageSays stages.Stopped run step = ⊥
 StageSays (stages.Making access follow) run step = AccessSays access run.machine.checker step
@@ -25,7 +25,7 @@ abbrev pub Says : TaskRun → Step → Type 0
 Says run step = StageSays run.stage run step
 
 -- a task in this stage is in a part of its text
-abbrev pub IsGoingIn : Stage → Type 0
+abbrev pub IsGoingIn : TaskStage → Type 0
 IsGoingIn stages.Over = ⊥
 IsGoingIn stages.Stopped = ⊥
 IsGoingIn stage = Unit {0}

@@ -27,7 +27,7 @@ ghost use Rattle.text_walk.specs.declared.due.Due.TheVariants as dues;
 ghost use Rattle.program_order.specs.Standing.{BeginsNow, Setting, Standing, checks_of};
 
 use crate::machine::{Beyond, Machine};
-use crate::stage::Stage;
+use crate::stage::TaskStage;
 use access_run::AccessRun;
 use access_run::memory_operation::{LockWait, Operation};
 use access_types::{Access, Kind, TASKS};
@@ -42,7 +42,7 @@ use text_walk::Due;
 
 impl<'a> Machine<'a> {
     /// Goes on in the text to the next part that makes a step, or to the end: the stage becomes that of it.
-    pub(crate) fn advance(&mut self, stage: &mut Stage<'a>)
+    pub(crate) fn advance(&mut self, stage: &mut TaskStage<'a>)
         ensures begins { (s : Setting) (before : List Record → Standing) → StandsBy s before self.old
             → Begins s (WalkLeft s self.old.walk) before self.new stage.new }
         ensures room { room_of self.new ≡ room_of self.old }
@@ -58,7 +58,7 @@ impl<'a> Machine<'a> {
     }
 
     /// What is due begins. It is over at once where there is no stage: it makes no step.
-    pub(crate) fn begins(&mut self, due: Due<'a>) -> Option<Stage<'a>>
+    pub(crate) fn begins(&mut self, due: Due<'a>) -> Option<TaskStage<'a>>
         requires form { IsOfForm due }
         ensures begins { (s : Setting) → PartBegins s (DueLeft s due.entry self.old.walk) self.old self.new result }
         ensures ends { due.entry ≡ dues.Ends → result ≢ None }
@@ -67,12 +67,12 @@ impl<'a> Machine<'a> {
     {
         match self.part(due) {
             Ok(stage) => stage,
-            Err(Beyond) => Some(Stage::Stopped),
+            Err(Beyond) => Some(TaskStage::Stopped),
         }
     }
 
     /// The same, but for what needs too much: then nothing changes. Whatever completes it has the task pass a limit.
-    fn part(&mut self, due: Due<'a>) -> Result<Option<Stage<'a>>, Beyond>
+    fn part(&mut self, due: Due<'a>) -> Result<Option<TaskStage<'a>>, Beyond>
         requires form { IsOfForm due }
         ensures begins { IfOk result (λ stage. (s : Setting) → PartBegins s (DueLeft s due.entry self.old.walk) self.old self.new stage) }
         ensures unchanged { OnErr result (self.new ≡ self.old) }
@@ -95,7 +95,7 @@ impl<'a> Machine<'a> {
             }
             Due::Closes => self.closes(),
             Due::Leaves => Ok(None),
-            Due::Ends => Ok(Some(Stage::Over)),
+            Due::Ends => Ok(Some(TaskStage::Over)),
         }
     }
 
@@ -116,7 +116,7 @@ impl<'a> Machine<'a> {
         &mut self,
         statement: &'a Statement,
         site: usize,
-    ) -> Result<Option<Stage<'a>>, Beyond>
+    ) -> Result<Option<TaskStage<'a>>, Beyond>
         requires simple { HasNoBlock (statement_of statement.now) }
         ensures begins { IfOk result (λ stage. (s : Setting)
             → PartBegins s (StatementDue s (statement_of statement.now) site self.old.walk) self.old self.new stage) }
@@ -142,7 +142,7 @@ impl<'a> Machine<'a> {
         load: &Load,
         taker: Taker<'a>,
         site: usize,
-    ) -> Result<Option<Stage<'a>>, Beyond>
+    ) -> Result<Option<TaskStage<'a>>, Beyond>
         ensures begins { IfOk result (λ stage. (s : Setting)
             → PartBegins s (LoadLeft s self.old.walk site (load_of load.now) (taker_of taker.entry)) self.old self.new stage) }
         ensures unchanged { OnErr result (self.new ≡ self.old) }
@@ -160,7 +160,7 @@ impl<'a> Machine<'a> {
         &mut self,
         condition: &'a Expression,
         site: usize,
-    ) -> Result<Option<Stage<'a>>, Beyond>
+    ) -> Result<Option<TaskStage<'a>>, Beyond>
         ensures begins { IfOk result (λ stage. (s : Setting)
             → PartBegins s (ConditionDue s (expression_of condition.now) site self.old.walk) self.old self.new stage) }
         ensures unchanged { OnErr result (self.new ≡ self.old) }
@@ -197,7 +197,7 @@ impl<'a> Machine<'a> {
         assignment: &'a Assignment,
         data_race: bool,
         site: usize,
-    ) -> Result<Option<Stage<'a>>, Beyond>
+    ) -> Result<Option<TaskStage<'a>>, Beyond>
         ensures begins { IfOk result (λ stage. (s : Setting)
             → PartBegins s
             (StatementDue s (tree.assign data_race (assignment_of assignment.now)) site self.old.walk) self.old self.new stage) }
@@ -225,7 +225,7 @@ impl<'a> Machine<'a> {
         value: &'a Expression,
         data_race: bool,
         site: usize,
-    ) -> Result<Option<Stage<'a>>, Beyond>
+    ) -> Result<Option<TaskStage<'a>>, Beyond>
         ensures begins { IfOk result (λ stage. (s : Setting)
             → PartBegins s
             (StatementDue s (tree.assign data_race (tree.to_register register (expression_of value.now))) site self.old.walk)
@@ -280,7 +280,7 @@ impl<'a> Machine<'a> {
     }
 
     /// A call begins.
-    fn calls(&mut self, call: Call, site: usize) -> Result<Option<Stage<'a>>, Beyond>
+    fn calls(&mut self, call: Call, site: usize) -> Result<Option<TaskStage<'a>>, Beyond>
         ensures begins { IfOk result (λ stage. (s : Setting)
             → PartBegins s (StatementDue s (tree.call call) site self.old.walk) self.old self.new stage) }
         ensures unchanged { OnErr result (self.new ≡ self.old) }
@@ -304,7 +304,7 @@ impl<'a> Machine<'a> {
     }
 
     /// The access of a check or an assertion begins. A check of no byte has none, and is over at once.
-    fn plans(&mut self, call: Call, site: usize) -> Result<Option<Stage<'a>>, Beyond>
+    fn plans(&mut self, call: Call, site: usize) -> Result<Option<TaskStage<'a>>, Beyond>
         requires planned { (text : meaning.Setting) → call_plan text call ≡ None → ChecksNoByte call }
         ensures begins { IfOk result (λ stage. (s : Setting)
             → PartBegins s (StatementDue s (tree.call call) site self.old.walk) self.old self.new stage) }
@@ -320,7 +320,7 @@ impl<'a> Machine<'a> {
     }
 
     /// A lock is tried.
-    fn locks(&mut self, variable: usize) -> Result<Option<Stage<'a>>, Beyond>
+    fn locks(&mut self, variable: usize) -> Result<Option<TaskStage<'a>>, Beyond>
         ensures begins { IfOk result (λ stage. (s : Setting) (site : ℕ)
             → PartBegins s (StatementDue s (tree.call (Lock variable)) site self.old.walk) self.old self.new stage) }
         ensures unchanged { self.new ≡ self.old }
@@ -332,11 +332,11 @@ impl<'a> Machine<'a> {
             return Err(Beyond);
         }
         let wait = LockWait::new(self.task, self.lock_number(variable));
-        Ok(Some(Stage::Locking(wait, variable)))
+        Ok(Some(TaskStage::Locking(wait, variable)))
     }
 
     /// A lock is given back; where the task hasn't it, no step is made and the call is counted.
-    fn unlocks(&mut self, variable: usize) -> Option<Stage<'a>>
+    fn unlocks(&mut self, variable: usize) -> Option<TaskStage<'a>>
         ensures begins { (s : Setting) (site : ℕ)
             → PartBegins s (StatementDue s (tree.call (Unlock variable)) site self.old.walk) self.old self.new result }
         ensures cost { self.new.walk ≡ self.old.walk }
@@ -344,7 +344,7 @@ impl<'a> Machine<'a> {
     {
         // To give back what another task holds would let two tasks in at once.
         if self.progress.has_lock(variable) {
-            return Some(Stage::Unlocking(variable));
+            return Some(TaskStage::Unlocking(variable));
         }
         self.progress.counts_unbalanced();
         None
@@ -409,7 +409,7 @@ impl<'a> Machine<'a> {
     }
 
     /// The access that is planned begins.
-    fn makes(&mut self, plan: Plan<'a>, site: usize) -> Result<Option<Stage<'a>>, Beyond>
+    fn makes(&mut self, plan: Plan<'a>, site: usize) -> Result<Option<TaskStage<'a>>, Beyond>
         ensures begins { IfOk result (λ stage. (s : Setting) → IsFit (plan_of plan.entry).follow (plan_of plan.entry).operation
             → PartBegins s (PlanLeft s self.old.walk site (plan_of plan.entry)) self.old self.new stage) }
         ensures unchanged { OnErr result (self.new ≡ self.old) }
@@ -427,7 +427,7 @@ impl<'a> Machine<'a> {
         self.progress.begins_at(site);
         let run = AccessRun::begin(&mut self.checker, &access, plan.operation);
         self.begins = Some(begun);
-        Ok(Some(Stage::Making(run, plan.after)))
+        Ok(Some(TaskStage::Making(run, plan.after)))
     }
 
     /// A scoped assertion begins.
@@ -436,7 +436,7 @@ impl<'a> Machine<'a> {
         kind: Kind,
         variable: usize,
         site: usize,
-    ) -> Result<Option<Stage<'a>>, Beyond>
+    ) -> Result<Option<TaskStage<'a>>, Beyond>
         requires scoped { is_scoped kind ≡ true }
         ensures begins { IfOk result (λ stage. (s : Setting)
             → PartBegins s (DueLeft s (dues.Opens kind variable site) self.old.walk) self.old self.new stage) }
@@ -460,11 +460,11 @@ impl<'a> Machine<'a> {
         self.progress.begins_at(site);
         self.checker.begin(&access);
         self.begins = Some(begun);
-        Ok(Some(Stage::Opening))
+        Ok(Some(TaskStage::Opening))
     }
 
     /// The newest scoped assertion in force closes.
-    fn closes(&mut self) -> Result<Option<Stage<'a>>, Beyond>
+    fn closes(&mut self) -> Result<Option<TaskStage<'a>>, Beyond>
         ensures begins { IfOk result (λ stage. (s : Setting) → PartBegins s (DueLeft s dues.Closes self.old.walk) self.old self.new stage) }
         ensures unchanged { OnErr result (self.new ≡ self.old) }
         ensures stops { OnErr result ((s : Setting) → Stops s (DueLeft s dues.Closes self.old.walk) self.old) }
@@ -475,6 +475,6 @@ impl<'a> Machine<'a> {
             return Err(Beyond);
         }
         self.checker.close_scoped();
-        Ok(Some(Stage::Closing))
+        Ok(Some(TaskStage::Closing))
     }
 }

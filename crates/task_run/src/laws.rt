@@ -13,20 +13,20 @@ ghost use Rattle.program_order.specs.Waits as waits;
 ghost use Rattle.program_order.specs.WrittenOrder.{WrittenOrder};
 
 /// Law: a machine is before one step at most.
-pub fn one_step_is_next()
+pub fn law_one_step_is_next()
     ensures { (run : TaskRun) (one other : Step) → Says run one → Says run other → one ≡ other }
 {}
 
 /// Law: where a part of the text waits too long, the task is stuck by its records in the written order: the only step
 /// that they go on with is a try too much.
-pub fn too_long_a_wait_is_told_by_the_records()
+pub fn law_too_long_a_wait_is_told_by_the_records()
     ensures { (s : Setting) (registers : ℕ) (body : Block) (records : List Record) (run : TaskRun)
         → (leads : Leads s registers body records run)
         → WrittenOrder s registers body records → IsStuck leads → waits.IsStuck s registers body records }
 {}
 
 /// Law: a task of a text that keeps the limits never stops for want of room.
-pub fn no_task_stops()
+pub fn law_no_task_stops()
     ensures { (s : Setting) (registers : ℕ) (body : Block) (records : List Record) (run : TaskRun) → Leads s registers body records run
         → WrittenOrder s registers body records → BlockScopes 0 body → block_rises body ≤ 2 ^ 32 → ¬ IsStopped run }
 {}

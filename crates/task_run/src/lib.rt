@@ -13,6 +13,8 @@ mod news;
 pub mod run;
 mod stage;
 
-pub use laws::{no_task_stops, one_step_is_next, too_long_a_wait_is_told_by_the_records};
+pub use laws::{
+    law_no_task_stops, law_one_step_is_next, law_too_long_a_wait_is_told_by_the_records,
+};
 pub use run::TaskRun;
 pub use task_plan::task_points::{After, Before};

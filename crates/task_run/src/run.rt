@@ -6,7 +6,7 @@ ghost use Rattle.access_types.specs.Sites.{AccessMap};
 
 use crate::machine::Machine;
 use crate::news::News;
-use crate::stage::Stage;
+use crate::stage::TaskStage;
 use access_run::AccessRun;
 use access_run::memory_operation::LockWait;
 use litmus_syntax::Program;
@@ -25,7 +25,7 @@ use text_walk::Walk;
 pub struct TaskRun<'a> {
     pub(crate) machine: Machine<'a>,
     /// What it is doing.
-    pub(crate) stage: Stage<'a>,
+    pub(crate) stage: TaskStage<'a>,
     pub(crate) news: News,
 }
 
@@ -59,7 +59,7 @@ impl<'a> TaskRun<'a> {
     ghost use Rattle.prepared_program.specs.declared.program_sites.error.RunError.TheVariants.{BadPlace, BadSlots};
     ghost use Rattle.access_run.specs.declared.access.AccessRun as accesses;
     ghost use Rattle.access_run.specs.declared.memory_operation.lock.LockWait as locks;
-    ghost use Rattle.task_run.specs.declared.stage.Stage.TheVariants.{Closing, Locking, Making, Opening, Unlocking};
+    ghost use Rattle.task_run.specs.declared.stage.TaskStage.TheVariants.{Closing, Locking, Making, Opening, Unlocking};
     ghost use Rattle.program_order.specs.Standing.{Setting};
     ghost use Rattle.program_order.specs.Waits as waits;
     ghost use Rattle.program_order.specs.WrittenOrder.{SpellsAll, WrittenOrder};
@@ -128,7 +128,7 @@ impl<'a> TaskRun<'a> {
             checker,
             begins: None,
         };
-        let mut stage = Stage::Over;
+        let mut stage = TaskStage::Over;
         machine.advance(&mut stage);
         Ok(TaskRun {
             machine,
@@ -163,19 +163,19 @@ impl<'a> TaskRun<'a> {
             → WithinTurns s.rules.turns (reverse (records ++ made s.text.task step answer ∷ []))) }
     {
         match &self.stage {
-            Stage::Over => None,
-            Stage::Stopped => None,
-            Stage::Making(run, _) => run.next(&self.machine.checker),
-            Stage::Opening => self.machine.checker.next(),
-            Stage::Closing => self.machine.checker.next(),
-            Stage::Locking(wait, _) => wait.next(self.machine.rules.turns),
-            Stage::Unlocking(variable) => {
+            TaskStage::Over => None,
+            TaskStage::Stopped => None,
+            TaskStage::Making(run, _) => run.next(&self.machine.checker),
+            TaskStage::Opening => self.machine.checker.next(),
+            TaskStage::Closing => self.machine.checker.next(),
+            TaskStage::Locking(wait, _) => wait.next(self.machine.rules.turns),
+            TaskStage::Unlocking(variable) => {
                 Some(Step::LockStore(self.machine.lock_number(*variable)))
             }
         }
     }
 
-    /// A wait of the task had as many vain tries as the rules allow. Its own count tells, so no step is worked out.
+    /// A wait of the task had as many failed tries as the rules allow. Its own count tells, so no step is worked out.
     pub fn stuck(&self) -> bool
         ensures stage { (s : Setting) (registers : ℕ) (body : Block) (records : List Record)
             → (leads : Leads s registers body records self.now)
@@ -185,13 +185,13 @@ impl<'a> TaskRun<'a> {
             → (IsTrue result ↔ waits.IsStuck s registers body records) }
     {
         match &self.stage {
-            Stage::Over => false,
-            Stage::Stopped => false,
-            Stage::Making(run, _) => run.stuck(&self.machine.checker),
-            Stage::Opening => self.machine.checker.stuck(),
-            Stage::Closing => self.machine.checker.stuck(),
-            Stage::Locking(wait, _) => wait.stuck(self.machine.rules.turns),
-            Stage::Unlocking(_) => false,
+            TaskStage::Over => false,
+            TaskStage::Stopped => false,
+            TaskStage::Making(run, _) => run.stuck(&self.machine.checker),
+            TaskStage::Opening => self.machine.checker.stuck(),
+            TaskStage::Closing => self.machine.checker.stuck(),
+            TaskStage::Locking(wait, _) => wait.stuck(self.machine.rules.turns),
+            TaskStage::Unlocking(_) => false,
         }
     }
 
@@ -200,7 +200,7 @@ impl<'a> TaskRun<'a> {
         ensures { (s : Setting) (registers : ℕ) (body : Block) (records : List Record) → Leads s registers body records self.now
             → BlockScopes 0 body → block_rises body ≤ 2 ^ 32 → (IsTrue result ↔ SpellsAll s registers body records) }
     {
-        matches!(self.stage, Stage::Over)
+        matches!(self.stage, TaskStage::Over)
     }
 
     /// The access that begins with the next step, if one does, with what is decided of it.
@@ -209,13 +209,13 @@ impl<'a> TaskRun<'a> {
             → (later : List Record) → BeginsNext s leads.part (stands_at leads later) leads.mine result }
     {
         match &self.stage {
-            Stage::Making(_, _) => self.machine.begins,
-            Stage::Opening => self.machine.begins,
-            Stage::Closing => None,
-            Stage::Locking(_, _) => None,
-            Stage::Unlocking(_) => None,
-            Stage::Over => None,
-            Stage::Stopped => None,
+            TaskStage::Making(_, _) => self.machine.begins,
+            TaskStage::Opening => self.machine.begins,
+            TaskStage::Closing => None,
+            TaskStage::Locking(_, _) => None,
+            TaskStage::Unlocking(_) => None,
+            TaskStage::Over => None,
+            TaskStage::Stopped => None,
         }
     }
 
@@ -234,17 +234,17 @@ impl<'a> TaskRun<'a> {
     {
         let latest = self.latest(step);
         match self.stage {
-            Stage::Over | Stage::Stopped => unreachable!(),
-            Stage::Making(_, _after) => self.answers_access(answer, latest),
-            Stage::Opening | Stage::Closing => {
+            TaskStage::Over | TaskStage::Stopped => unreachable!(),
+            TaskStage::Making(_, _after) => self.answers_access(answer, latest),
+            TaskStage::Opening | TaskStage::Closing => {
                 let fell = self.answers_check(answer);
                 self.news.tell(fell, latest);
             }
-            Stage::Locking(_, _) => {
+            TaskStage::Locking(_, _) => {
                 self.answers_lock(answer);
                 self.news.tell(None, latest);
             }
-            Stage::Unlocking(variable) => {
+            TaskStage::Unlocking(variable) => {
                 self.answers_unlock(variable);
                 self.news.tell(None, latest);
             }
@@ -285,8 +285,8 @@ impl<'a> TaskRun<'a> {
         self.news.latest.and(step, self.begins().is_some())
     }
 
-    /// An access takes the answer where it stands, and what fell is told, with what is to be kept of the last steps. Once
-    /// the access is over, what follows on it is done.
+    /// An access takes the answer where it stands, and what fell is told, with what is to be kept of the last steps.
+    /// Once the access is over, what follows on it is done.
     fn answers_access(&mut self, answer: Answer, latest: Latest)
         requires making { (run : accesses.AccessRun) × (after : Then) × (self.old.stage ≡ Making run after) }
         requires says { (step : Step) × Says self.old step × Answers step answer }
@@ -295,7 +295,7 @@ impl<'a> TaskRun<'a> {
         ensures latest { self.new.news.latest ≡ latest }
         ensures room { room_of self.new.machine ≡ room_of self.old.machine }
     {
-        let Stage::Making(run, _) = &mut self.stage else {
+        let TaskStage::Making(run, _) = &mut self.stage else {
             unreachable!()
         };
         let came = self.machine.came();
@@ -305,7 +305,7 @@ impl<'a> TaskRun<'a> {
         if run.is_over() {
             // Before the next part begins: a mark, or the end of a silence, is for the very next access.
             let effect = run.effect();
-            let Stage::Making(_, after) = self.stage else {
+            let TaskStage::Making(_, after) = self.stage else {
                 unreachable!()
             };
             self.machine.follows(after, effect);
@@ -325,7 +325,7 @@ impl<'a> TaskRun<'a> {
         let came = self.machine.answers_check(answer);
         if came.over {
             match self.stage {
-                Stage::Opening => self.machine.opened(),
+                TaskStage::Opening => self.machine.opened(),
                 _ => self.machine.closed(),
             }
             self.machine.advance(&mut self.stage);
@@ -341,7 +341,7 @@ impl<'a> TaskRun<'a> {
         ensures news { self.new.news ≡ self.old.news }
         ensures room { room_of self.new.machine ≡ room_of self.old.machine }
     {
-        let Stage::Locking(wait, variable) = &mut self.stage else {
+        let TaskStage::Locking(wait, variable) = &mut self.stage else {
             unreachable!()
         };
         wait.answer(answer);

@@ -8,7 +8,7 @@ use task_plan::Then;
 
 /// What a task is doing: a part of its text with at least one step, or nothing more.
 #[derive(Clone, Copy)]
-pub(crate) enum Stage<'a> {
+pub(crate) enum TaskStage<'a> {
     /// Nothing: the text is over.
     Over,
     /// Nothing: what is due needs more than the machine has room for, as more accesses at one site than
@@ -26,19 +26,19 @@ pub(crate) enum Stage<'a> {
     Unlocking(usize),
 }
 
-impl<'a> Stage<'a> {
+impl<'a> TaskStage<'a> {
     /// The same once more.
-    pub(crate) fn copy(&self) -> Stage<'a>
+    pub(crate) fn copy(&self) -> TaskStage<'a>
         ensures { result ≡ self.now }
     {
         match self {
-            Stage::Over => Stage::Over,
-            Stage::Stopped => Stage::Stopped,
-            Stage::Making(run, after) => Stage::Making(*run, *after),
-            Stage::Opening => Stage::Opening,
-            Stage::Closing => Stage::Closing,
-            Stage::Locking(wait, variable) => Stage::Locking(*wait, *variable),
-            Stage::Unlocking(variable) => Stage::Unlocking(*variable),
+            TaskStage::Over => TaskStage::Over,
+            TaskStage::Stopped => TaskStage::Stopped,
+            TaskStage::Making(run, after) => TaskStage::Making(*run, *after),
+            TaskStage::Opening => TaskStage::Opening,
+            TaskStage::Closing => TaskStage::Closing,
+            TaskStage::Locking(wait, variable) => TaskStage::Locking(*wait, *variable),
+            TaskStage::Unlocking(variable) => TaskStage::Unlocking(*variable),
         }
     }
 }

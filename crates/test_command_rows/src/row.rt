@@ -96,8 +96,8 @@ impl<'t> Row<'t> {
             && is_accepted(rt, alloc, table.trace())
     }
 
-    /// The same, and with room for so many bytes a write, whichever write is the first that fails. With no room the first
-    /// answers 0.
+    /// The same, and with room for so many bytes a write, whichever write is the first that fails. With no room the
+    /// first answers 0.
     pub fn fails_as_said<R: Threads + Wait + Sync>(
         &self,
         rt: &R,

@@ -45,7 +45,7 @@ pub enum Came {
     Outcome(Option<Outcome>),
     /// The check is over, with so many outcomes, and its records read as the whole of it, with the same outcomes.
     Over(usize),
-    /// The wait had as many vain tries as the rules allow.
+    /// The wait had as many failed tries as the rules allow.
     Stuck,
     /// The check goes on with this step.
     GoesOn(Step),

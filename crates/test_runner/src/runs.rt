@@ -316,7 +316,7 @@ fn the_smallest_stuck_task_is_named(rt: HostRuntime) -> Result<(), Fail> {
 
 /// A task of this program gets stuck where the lock isn't free at its first try. In these runs it is.
 #[test]
-fn no_task_is_stuck_without_a_vain_try(rt: HostRuntime) -> Result<(), Fail> {
+fn no_task_is_stuck_without_a_failed_try(rt: HostRuntime) -> Result<(), Fail> {
     let alloc = rt.alloc();
     let program = parsed(alloc, LOCKED)?;
     let settings = settings(alloc, false, 1);

@@ -1,4 +1,4 @@
-//! Reads rows from standard input, each a litmus text and its searched lists, and prints those of which other lists
+//! Reads rows from standard input, each a litmus text and its bounded executions, and prints those of which other lists
 //! come, by the slow plain program that lists them by their definition.
 #![tactic(auto)]
 

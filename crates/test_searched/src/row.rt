@@ -8,7 +8,7 @@ use std::alloc::{AllocError, Global};
 use thiserror::Error;
 use watch_word::Layout;
 
-/// Of which text the searched lists are asked, under which settings, and with how many switches at most.
+/// Of which text the bounded executions are asked, under which settings, and with how many preemptions at most.
 #[derive(Drop)]
 struct Asked<'a> {
     text: &'a str,
@@ -25,7 +25,7 @@ pub struct Tried {
     pub comes: String,
 }
 
-/// Why a text has no searched lists.
+/// Why a text has no bounded executions.
 #[derive(Clone, Copy, Debug, Error)]
 enum Refused {
     #[error("out of memory")]
@@ -101,7 +101,7 @@ fn read<'a>(alloc: Global, texts: &'a Texts, line: &str) -> Result<Option<Asked<
     }
 }
 
-/// How many switches there may be: a number, or `all` for any.
+/// How many preemptions there may be: a number, or `all` for any.
 fn bound(word: &str) -> Option<Option<u64>> {
     if word == "all" {
         return Some(None);
@@ -109,7 +109,7 @@ fn bound(word: &str) -> Option<Option<u64>> {
     Some(Some(word.parse().ok()?))
 }
 
-/// The settings of a word for the rules: `usual`, `strict`, or `turns=N`, where a wait is stuck after so many vain
+/// The settings of a word for the rules: `usual`, `strict`, or `turns=N`, where a wait is stuck after so many failed
 /// tries.
 fn settings_of(alloc: Global, word: &str) -> Option<Settings> {
     let (strict, turns) = match word {
@@ -130,7 +130,7 @@ fn settings_of(alloc: Global, word: &str) -> Option<Settings> {
     })
 }
 
-/// The searched lists that are asked for, or how many there are, in words.
+/// The bounded executions that are asked for, or how many there are, in words.
 fn answer(alloc: Global, asked: &Asked<'_>) -> Result<String, Refused> {
     let program = parse(alloc, asked.text.as_bytes())?;
     if asked.settings.turns == 0 {

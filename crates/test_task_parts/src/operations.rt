@@ -12,7 +12,7 @@ use std::alloc::Global;
 /// The address of the cell.
 const CELL: u64 = 0x10000;
 
-/// More tries in vain than any of these operations makes.
+/// More failed tries than any of these operations makes.
 const TURNS: u64 = 10;
 
 fn board_of(alloc: Global, cell: u64) -> Result<PlainBoard, Fault> {

@@ -109,7 +109,7 @@ fn with_course(alloc: Global, text: String, course: &str) -> Result<Option<Scene
 
 /// The settings of a word for the rules, with these places: `watched`, where each access is watched that may be;
 /// `unwatched`, where none is, unless it is the thousandth that is asked for; or `turns=N`, where also a wait is stuck
-/// after so many vain tries.
+/// after so many failed tries.
 fn settings_of(word: &str, places: Vec<Place>) -> Option<Settings> {
     let (skip, turns) = match word {
         "watched" => (0, 1000),

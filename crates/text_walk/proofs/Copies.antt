@@ -8,7 +8,7 @@ use Rattle.slot_table.specs.declared.records.Record.{Record}
 use Rattle.text_walk.specs.Capacity.{room_of}
 use Rattle.text_walk.specs.Copies.{IsCopy}
 use Rattle.text_walk.specs.Cost.{blocks_cost, choice_cost, walk_cost}
-use Rattle.text_walk.specs.Left.{BlocksLeft, BodyLeft, ClosesNewest, DueLeft, IsOver, NothingLeft, OpenLeft, OutsideLeft, Same, Then, WalkLeft}
+use Rattle.text_walk.specs.Left.{BlocksLeft, BodyLeft, ClosesNewest, DueLeft, IsWalkOver, NothingLeft, OpenLeft, OutsideLeft, Same, Then, WalkLeft}
 use Rattle.text_walk.specs.declared.block.Choice.{Choice}
 use Rattle.text_walk.specs.declared.block.OpenBlock.{OpenBlock}
 use Rattle.text_walk.specs.declared.due.Due.{Due}
@@ -61,5 +61,5 @@ module _ (walk copy : Walk) (is : IsCopy walk copy) where
   same_due s dues.Leaves = same_left s
   same_due s dues.Ends = refl
 
-  pub same_over : IsOver walk → IsOver copy
+  pub same_over : IsWalkOver walk → IsWalkOver copy
   same_over over s = subst (λ (Left : Steps). Same Left NothingLeft) (same_left s) (over s)

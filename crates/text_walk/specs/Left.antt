@@ -83,8 +83,8 @@ WalkLeft s walk before records after rest =
     (λ choice. OpenLeft s choice.otherwise (OutsideLeft s walk) before records after rest)
 
 -- nothing is left of the text, whatever a task goes by
-abbrev pub IsOver : Walk → Type 0
-IsOver walk = (s : Setting) → Same (WalkLeft s walk) NothingLeft
+abbrev pub IsWalkOver : Walk → Type 0
+IsWalkOver walk = (s : Setting) → Same (WalkLeft s walk) NothingLeft
 
 -- what is left where a condition holds that it has come to
 abbrev pub BodyLeft : Setting → Walk → Steps

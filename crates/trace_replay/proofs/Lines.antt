@@ -23,7 +23,7 @@ use Rattle.report_text.proofs.TrueLines.{accesses-append, arms-append, reports-a
 use Rattle.trace_replay.proofs.trace_lines.TrueBegins.{arms_within}
 use Rattle.trace_replay.specs.Accesses.{AreKept}
 use Rattle.trace_replay.specs.Armings.{AreArmings}
-use Rattle.trace_replay.specs.Story.{CountsLines, Knows, Tells}
+use Rattle.trace_replay.specs.Story.{CountsLines, Knows, IsStoryOf}
 use Rattle.trace_replay.specs.Told.{HaveRoom, WereTold}
 use Rattle.trace_replay.specs.declared.story.Story.{Story}
 
@@ -258,7 +258,7 @@ knows_at all story place h = record {
 }
 
 pub tells_push : (head : Head) (all : List Line) (line other : Line) (story : Story) → Stands head all line → story.place ≡ kind_place line → line ≡ other
-    → Knows (all ++ other ∷ []) story → Tells (all ++ line ∷ []) story
+    → Knows (all ++ other ∷ []) story → IsStoryOf (all ++ line ∷ []) story
 tells_push head all line other story stands e same knows = record {
   places = λ place. subst (λ n. All (λ earlier. kind_place earlier ≤ place) (all ++ line ∷ []) ↔ (n ≤ place)) (sym e)
       (places_push all line stands.in_order place);

@@ -5,7 +5,7 @@ use Rattle.report_text.specs.Standing.{Stands, accesses_of, arms_of, reports_of,
 use Rattle.report_text.specs.TraceText.{Head, first, second}
 use Rattle.report_text.specs.Truth.{IsTrueLine}
 use Rattle.report_text.specs.declared.line.Line.{Line}
-use Rattle.trace_replay.specs.Story.{Tells}
+use Rattle.trace_replay.specs.Story.{IsStoryOf}
 use Rattle.trace_replay.specs.declared.accepted.Accepted.{Accepted}
 use Rattle.trace_replay.specs.declared.accepted.Accepted.TheVariants as accepted
 use Rattle.trace_replay.specs.declared.accepted.TraceError.{TraceError}
@@ -49,7 +49,7 @@ IsRefusedLine head all next number (FalseReport line) =
 pub record GoesOn (head : Head) (all : List Line) (next : Line) (story : Story) : Type 0 where
   pub stands : Stands head all next
   pub is_true : IsTrueLine head all next
-  pub tells : Tells (all ++ next ∷ []) story
+  pub tells : IsStoryOf (all ++ next ∷ []) story
 
 -- what is answered of a line behind these lines
 abbrev pub IsTakenIn : Head → List Line → Line → ℕ → Result (Unit {0}) TraceError → Story → Type 0

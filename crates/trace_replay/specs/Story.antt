@@ -24,6 +24,6 @@ pub record Knows (all : List Line) (story : Story) : Type 0 where
   pub lines : CountsLines all story
 
 -- the story is of these lines: it has what they say, and the last place among the kinds of lines that they reached
-pub record Tells (all : List Line) (story : Story) : Type 0 where
+pub record IsStoryOf (all : List Line) (story : Story) : Type 0 where
   pub places : (place : ℕ) → All (λ earlier. kind_place earlier ≤ place) all ↔ (story.place ≤ place)
   pub knows : Knows all story

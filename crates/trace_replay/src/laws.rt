@@ -6,6 +6,6 @@ ghost use Rattle.trace_replay.specs.declared.accepted.Accepted.{Accepted};
 ghost use Rattle.trace_replay.specs.declared.accepted.TraceError.{TraceError};
 
 /// Law: bytes have one answer at most. So no bytes are a true trace and fail, nor have they two first lines that fail.
-pub fn bytes_have_one_answer()
+pub fn law_bytes_have_one_answer()
     ensures { (bytes : List ℕ) (one other : Result Accepted TraceError) → IsAnswerTo bytes one → IsAnswerTo bytes other → one ≡ other }
 {}

@@ -7,13 +7,13 @@ ghost use Rattle.report_text.specs.declared.line.Line.{Line};
 ghost use Rattle.trace_replay.specs.trace_lines.HeadReading.{head_of};
 ghost use Rattle.trace_replay.specs.trace_lines.Reading.{IsPlain};
 ghost use Rattle.trace_replay.specs.Answer.{IsAccepted, IsAnswerTo, IsRefused, IsTakenIn};
-ghost use Rattle.trace_replay.specs.Story.{Tells};
+ghost use Rattle.trace_replay.specs.Story.{IsStoryOf};
 ghost use Rattle.trace_replay.specs.declared.accepted.TraceError.TheVariants.{OutOfMemory};
 
 use crate::accepted::{Accepted, TraceError};
-use crate::laws::bytes_have_one_answer;
+use crate::laws::law_bytes_have_one_answer;
 use crate::story::Story;
-use crate::trace_lines::laws::plain_lines_stand;
+use crate::trace_lines::laws::law_plain_lines_stand;
 use crate::trace_lines::{Head, read_end, read_head, read_line};
 use report_text::Line;
 use std::alloc::Global;
@@ -28,7 +28,7 @@ pub fn replay(alloc: Global, bytes: &[u8]) -> Result<Accepted, TraceError>
     ensures refused { IfErr result (IsRefused bytes.now) }
     ensures exact { result ≢ Err OutOfMemory → (answer : Result Accepted TraceError) → IsAnswerTo bytes.now answer ↔ (answer ≡ result) }
 {
-    bytes_have_one_answer();
+    law_bytes_have_one_answer();
     read_whole(alloc, bytes)
 }
 
@@ -60,13 +60,13 @@ fn replay_lines(alloc: Global, head: Head, bytes: &[u8]) -> Result<Accepted, Tra
 /// Reads the lines behind a head, to the end, into a story of no line. The story is lent: a loop is cheaper to prove
 /// where it owns nothing that each way out of it would have to let go.
 fn read_lines(story: &mut Story, head: Head, bytes: &[u8]) -> Result<Accepted, TraceError>
-    requires empty { Tells [] story.old }
+    requires empty { IsStoryOf [] story.old }
     requires stands { HeadStands (head_of head) }
     requires within { length (head_text (head_of head) ++ bytes.now) ≤ size_limit }
     ensures accepted { IfOk result (IsAccepted (head_text (head_of head) ++ bytes.now)) }
     ensures refused { IfErr result (IsRefused (head_text (head_of head) ++ bytes.now)) }
 {
-    plain_lines_stand();
+    law_plain_lines_stand();
     let mut rest = bytes;
     let mut number = first_number(head);
     while let Some((next, more)) = read_line(rest) {
@@ -93,8 +93,8 @@ fn first_number(head: Head) -> u64
 fn take_in(story: &mut Story, head: Head, next: &Line, number: u64) -> Result<(), TraceError>
     requires stands { HeadStands (head_of head) }
     requires plain { IsPlain next.now }
-    requires story { (all : List Line) × Tells all story.old × (length all < 2 ^ 62) }
-    ensures { (all : List Line) → Tells all story.old → IsTakenIn (head_of head) all next.now number result story.new }
+    requires story { (all : List Line) × IsStoryOf all story.old × (length all < 2 ^ 62) }
+    ensures { (all : List Line) → IsStoryOf all story.old → IsTakenIn (head_of head) all next.now number result story.new }
 {
     if !story.may_follow(head, next) {
         return Err(TraceError::BadTrace { line: number });
@@ -109,9 +109,9 @@ fn take_in(story: &mut Story, head: Head, next: &Line, number: u64) -> Result<()
 /// Reads the last line, of this number, where no other line stands.
 fn end(story: &Story, head: Head, rest: &[u8], number: u64) -> Result<Accepted, TraceError>
     requires { number < 2 ^ 63 }
-    ensures accepted { (bytes : List ℕ) (all : List Line) → BeginsTruly bytes (head_of head) all rest.now → Tells all story.now
+    ensures accepted { (bytes : List ℕ) (all : List Line) → BeginsTruly bytes (head_of head) all rest.now → IsStoryOf all story.now
         → number ≡ next_line (head_of head) all → IfOk result (IsAccepted bytes) }
-    ensures refused { (bytes : List ℕ) (all : List Line) → BeginsTruly bytes (head_of head) all rest.now → Tells all story.now
+    ensures refused { (bytes : List ℕ) (all : List Line) → BeginsTruly bytes (head_of head) all rest.now → IsStoryOf all story.now
         → number ≡ next_line (head_of head) all → ¬ BeginsWithLine (head_of head) all rest.now → IfErr result (IsRefused bytes) }
 {
     let Some(behind) = read_end(rest) else {

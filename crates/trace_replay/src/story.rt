@@ -13,7 +13,7 @@ ghost use Rattle.trace_replay.specs.trace_lines.HeadReading.{head_of};
 ghost use Rattle.trace_replay.specs.trace_lines.Reading.{AccessIsPlain, ArmIsPlain, IsPlain, ReportIsPlain};
 ghost use Rattle.watch_word.specs.Word.{WordOf};
 ghost use Rattle.trace_replay.specs.Answer.{accepted_of};
-ghost use Rattle.trace_replay.specs.Story.{Knows, Tells};
+ghost use Rattle.trace_replay.specs.Story.{Knows, IsStoryOf};
 
 use crate::accepted::Accepted;
 use crate::accesses::Accesses;
@@ -24,7 +24,7 @@ use access_types::{Arm, ArmOutcome, Report, Stamped, Take};
 use report_text::Line;
 use report_text::truth::{letters_agree, may_hit, may_see, may_watch, race_by_stamps};
 use std::alloc::{AllocError, Global};
-use watch_word::{decode_in, words_read_back};
+use watch_word::{decode_in, law_words_read_back};
 
 /// What is kept of the lines of a trace that were read.
 #[derive(Drop)]
@@ -58,7 +58,7 @@ fn place_of(line: &Line) -> u32
 impl Story {
     /// No line was read. What is kept takes its memory from this allocator. The trace has so many bytes.
     pub fn new(alloc: Global, len: u64) -> Story
-        ensures { Tells [] result }
+        ensures { IsStoryOf [] result }
     {
         Story {
             place: 0,
@@ -83,7 +83,7 @@ impl Story {
     pub fn may_follow(&self, head: Head, line: &Line) -> bool
         requires plain { IsPlain line.now }
         requires head { HeadStands (head_of head) }
-        ensures { (all : List Line) → Tells all self.now → IsTrue result ↔ Stands (head_of head) all line.now }
+        ensures { (all : List Line) → IsStoryOf all self.now → IsTrue result ↔ Stands (head_of head) all line.now }
     {
         self.place <= place_of(line) && self.content_stands(head, line)
     }
@@ -210,7 +210,7 @@ impl Story {
         let Some(finder) = self.accesses.named(finder) else {
             return false;
         };
-        words_read_back();
+        law_words_read_back();
         let Some(watch) = decode_in(shape.layout, arm.watch_word()) else {
             return false;
         };
@@ -255,9 +255,9 @@ impl Story {
 
     /// Keeps the line, which may stand behind those that were read. The only error is want of memory.
     pub fn keep(&mut self, line: &Line) -> Result<(), AllocError>
-        requires { (head : trace.Head) × (all : List Line) × Tells all self.old × Stands head all line.now × (length all < 2 ^ 62) }
-        ensures { (head : trace.Head) (all : List Line) → Tells all self.old → Stands head all line.now
-            → OnOk result (Tells (all ++ line.now ∷ []) self.new) }
+        requires { (head : trace.Head) × (all : List Line) × IsStoryOf all self.old × Stands head all line.now × (length all < 2 ^ 62) }
+        ensures { (head : trace.Head) (all : List Line) → IsStoryOf all self.old → Stands head all line.now
+            → OnOk result (IsStoryOf (all ++ line.now ∷ []) self.new) }
     {
         self.place = place_of(line);
         match line {

@@ -4,5 +4,5 @@
 pub mod values;
 pub mod verdict;
 
-pub use values::{change, seen_change, seen_changes_differ};
-pub use verdict::{Change, Reason, Verdict, judge, verdicts_are_unique};
+pub use values::{change, law_seen_changes_differ, seen_change};
+pub use verdict::{Change, Reason, Verdict, judge, law_verdicts_are_unique};

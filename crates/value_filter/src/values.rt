@@ -50,6 +50,6 @@ fn differ(mask: Option<u64>, old: u64, new: u64) -> bool
 /// Law: two ways of saying that two values differ are one: at a bit position that counts, and in a
 /// bit of the mask (in any where there is none), as `ChangedUnderWatch` says it. Of a history it
 /// says nothing.
-pub fn seen_changes_differ()
+pub fn law_seen_changes_differ()
     ensures { (mask : Option ℕ) (old new : ℕ) → BitDiffers mask old new ↔ Differ mask old new }
 {}

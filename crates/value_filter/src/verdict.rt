@@ -66,7 +66,7 @@ pub fn judge(change: Change, setter: &Access, taken: bool, value_change_only: bo
 }
 
 /// Law: there is one verdict on each watch.
-pub fn verdicts_are_unique()
+pub fn law_verdicts_are_unique()
     ensures { (setter : spec.Access) (taken : Bool) (change : Change) (value_change_only : Bool)
         (first second : Verdict) →
         VerdictOf setter taken change value_change_only first

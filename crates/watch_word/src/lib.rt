@@ -10,6 +10,6 @@ pub mod watch;
 
 pub use layout::Layout;
 pub use watch::{
-    MAX_ENCODABLE_SIZE, PAGE_SIZE, Watch, decode, decode_in, encode, encode_in, matches,
-    matches_in, watches_are_of_accesses, words_are_above_one, words_read_back,
+    MAX_ENCODABLE_SIZE, PAGE_SIZE, Watch, decode, decode_in, encode, encode_in,
+    law_watches_are_of_accesses, law_words_are_above_one, law_words_read_back, matches, matches_in,
 };

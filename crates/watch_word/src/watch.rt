@@ -123,20 +123,20 @@ pub fn matches(watch: &Watch, addr: u64, size: u64) -> bool
 
 /// Law: the word of an access says its write flag, its size and its masked address.
 #[tactic(auto, unfolding(crate::specs::Word::word_of, crate::specs::Word::watch_in, crate::specs::Layout::masked))]
-pub fn words_read_back()
+pub fn law_words_read_back()
     ensures { (layout : Layout) (a : spec.Access) (word : ℕ) →
         WordOf layout a word → Watches layout word (watch_of layout a) }
 {}
 
 /// Law: each word that says something is the word of an access, and says it of that.
-pub fn watches_are_of_accesses()
+pub fn law_watches_are_of_accesses()
     ensures { (layout : Layout) (word : ℕ) → IsWatchWord layout word → IsOfAccess layout word }
 {}
 
 /// Law: the word of an access is above the empty and the consumed word, and has no bit above the
 /// layout's.
 #[tactic(auto, unfolding(crate::specs::Word::word_of, crate::specs::Layout::masked))]
-pub fn words_are_above_one()
+pub fn law_words_are_above_one()
     ensures { (layout : Layout) (a : spec.Access) (word : ℕ) →
         WordOf layout a word → (1 < word) × (word < word_span layout) }
 {}

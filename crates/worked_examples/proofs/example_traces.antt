@@ -1,4 +1,4 @@
 pub mod Worked
 pub mod Traces
-pub mod Told
+pub mod VersionTwo
 pub mod Turns

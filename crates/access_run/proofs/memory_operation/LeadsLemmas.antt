@@ -3,18 +3,18 @@ use Rattle.std.proofs.Common.{◌≡◌, ◌↔◌, ◌∙◌, ◌⊎◌, ◌-�
 use Rattle.std.proofs.lemmas.List.{append-nil}
 use Rattle.access_types.specs.Access.{Access}
 use Rattle.access_run.specs.memory_operation.Effects.{and_then, did, nothing}
-use Rattle.access_run.specs.memory_operation.Leads.{GoesOn, IsComplete, IsDone, IsOver, IsStuck, Leads, OnlyStep, Says}
+use Rattle.access_run.specs.memory_operation.Leads.{GoesOn, IsComplete, IsDone, IsOperationOver, IsStuck, Leads, OnlyStep, Says}
 use Rattle.access_run.specs.memory_operation.Operations.{Exchanges, OnExchange, OperatesIn}
 use Rattle.access_run.specs.memory_operation.Stages.{Counts, Follow, IsReady, StageLeft, Turns, stage_did, stage_step}
 use Rattle.access_run.specs.memory_operation.Values.{is_wanted, new_value, with_value}
-use Rattle.access_run.specs.memory_operation.Waits.{vain_tries}
+use Rattle.access_run.specs.memory_operation.Waits.{failed_tries}
 use Rattle.access_run.specs.declared.memory_operation.effect.Effect.{Effect}
 use Rattle.access_run.specs.declared.memory_operation.operation.Change.{Change}
 use Rattle.access_run.specs.declared.memory_operation.operation.Operation.{Operation}
 use Rattle.access_run.specs.declared.memory_operation.operation.Operation.TheVariants as operations
 use Rattle.access_run.specs.declared.memory_operation.run.OperationRun.{OperationRun}
-use Rattle.access_run.specs.declared.memory_operation.stage.Stage.{Stage}
-use Rattle.access_run.specs.declared.memory_operation.stage.Stage.TheVariants as stages
+use Rattle.access_run.specs.declared.memory_operation.stage.OperationStage.{OperationStage}
+use Rattle.access_run.specs.declared.memory_operation.stage.OperationStage.TheVariants as stages
 use Rattle.access_run.specs.declared.memory_operation.stage.Transition.{Transition}
 use Rattle.setup_access.specs.Records.{MakesWord, OnWord}
 use Rattle.setup_access.specs.Values.{value_in}
@@ -32,7 +32,7 @@ use Rattle.access_run.proofs.memory_operation.TurnLemmas.{none_end}
 some_are : (first second : Step) → Some first ≡ Some second → first ≡ second
 some_are first second is = cc
 
-none_is_over : (a : Access) (source : Source) (stage : Stage) → IsNone (stage_step a source stage) → stage ≡ stages.Over
+none_is_over : (a : Access) (source : Source) (stage : OperationStage) → IsNone (stage_step a source stage) → stage ≡ stages.Over
 none_is_over a source stages.Over h = refl
 none_is_over a source (stages.Load operation) h = absurd (cc)
 none_is_over a source (stages.Exchange change seen tries) h = absurd (cc)
@@ -77,7 +77,7 @@ module _ (task : ℕ) (a : Access) (source : Source) where
       let tried = rw ready at h in
       (tried.0.0, tried.0.1, exchange_answer first.answer _ _ tried.1)
 
-  stage_goes : (stage : Stage) (later : List Record) (effect : Effect) (step : Step) → IsReady a source stage
+  stage_goes : (stage : OperationStage) (later : List Record) (effect : Effect) (step : Step) → IsReady a source stage
       → StageLeft task a source stage later effect → stage_step a source stage ≡ Some step → GoesOn task step later
   stage_goes stages.Over later effect step ready h says = absurd (let never : None ≡ Some step = says in cc)
   stage_goes (stages.Load operation) later effect step ready h says =
@@ -86,7 +86,7 @@ module _ (task : ℕ) (a : Access) (source : Source) where
       subst (λ s. GoesOn task s later) (some_are _ step says) (exchange_goes change seen later effect ready h)
 
   -- only what is over has nothing left
-  has_more : (stage : Stage) (effect : Effect) → IsReady a source stage → StageLeft task a source stage [] effect
+  has_more : (stage : OperationStage) (effect : Effect) → IsReady a source stage → StageLeft task a source stage [] effect
       → stage ≡ stages.Over
   has_more stages.Over effect ready h = refl
   has_more (stages.Load operation) effect ready h = absurd (load_has_more operation effect h)
@@ -141,9 +141,9 @@ module _ (task : ℕ) (a : Access) (source : Source) (operation : Operation) (re
   pub stuck_at : (change : Change) (seen tries turns : ℕ) → run.stage ≡ stages.Exchange change seen tries → turns < 2 ^ 64
       → (((0 < tries) × (turns ≤ tries)) ↔ IsStuck turns task a source operation records)
   stuck_at change seen tries turns stage_is below =
-      let counted : tries ≡ min (vain_tries records) (2 ^ 64 - 1) = subst (λ s. Counts s records) stage_is leads.counts in (
+      let counted : tries ≡ min (failed_tries records) (2 ^ 64 - 1) = subst (λ s. Counts s records) stage_is leads.counts in (
         λ h. (λ done. let over : stages.Exchange change seen tries ≡ stages.Over = sym stage_is ∙ done_is_over done in cc, omega arith, omega arith),
-        λ h. let some : 0 < vain_tries records = h.1 in let enough : turns ≤ vain_tries records = h.2 in (omega arith, omega arith),
+        λ h. let some : 0 < failed_tries records = h.1 in let enough : turns ≤ failed_tries records = h.2 in (omega arith, omega arith),
       )
 
   pub not_stuck_over : (turns : ℕ) → run.stage ≡ stages.Over → IsStuck turns task a source operation records → ⊥
@@ -151,13 +151,13 @@ module _ (task : ℕ) (a : Access) (source : Source) (operation : Operation) (re
 
   pub not_stuck_loading : (turns : ℕ) (of : Operation) → run.stage ≡ stages.Load of → IsStuck turns task a source operation records → ⊥
   not_stuck_loading turns of stage_is stuck =
-      let none : vain_tries records ≡ 0 = subst (λ s. Counts s records) stage_is leads.counts in
-      let some : 0 < vain_tries records = stuck.1 in omega arith
+      let none : failed_tries records ≡ 0 = subst (λ s. Counts s records) stage_is leads.counts in
+      let some : 0 < failed_tries records = stuck.1 in omega arith
 
   -- no step is said exactly where the operation is over
   pub none_said : (turns : ℕ) (result : Option Step) → result ≡ stage_step run.access run.source run.stage
       → ¬ IsStuck turns task a source operation records
-      → (IsNone result ↔ IsOver turns task a source operation records)
+      → (IsNone result ↔ IsOperationOver turns task a source operation records)
   none_said turns result result_is going = (
     λ h. inl (run.effect, over_is_whole (none_is_over run.access run.source run.stage (subst (λ o. IsNone o) result_is h))),
     λ h. elim h [

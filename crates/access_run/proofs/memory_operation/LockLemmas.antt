@@ -4,7 +4,7 @@ use Rattle.std.proofs.lemmas.List.{append-nil}
 use Rattle.access_run.specs.memory_operation.Leads.{GoesOn}
 use Rattle.access_run.specs.memory_operation.LockLeads.{IsStuckAtLock, LockCounts, LockIsTaken, LockLeads, LockLeft, LockSays, OnlyLockStep}
 use Rattle.access_run.specs.memory_operation.Locks.{TakesLock}
-use Rattle.access_run.specs.memory_operation.Waits.{vain_tries}
+use Rattle.access_run.specs.memory_operation.Waits.{failed_tries}
 use Rattle.access_run.specs.declared.memory_operation.lock.LockWait.{LockWait}
 use Rattle.setup_access.specs.Parts.{made}
 use Rattle.setup_access.specs.Records.{OnFlag}
@@ -14,7 +14,7 @@ use Rattle.slot_table.specs.declared.step.Answer.{Answer}
 use Rattle.slot_table.specs.declared.step.Answer.TheVariants as answers
 use Rattle.slot_table.specs.declared.step.Step.{Step}
 use Rattle.slot_table.specs.declared.step.Step.TheVariants.{LockTry}
-use Rattle.access_run.proofs.memory_operation.EffectLemmas.{vain_refused}
+use Rattle.access_run.proofs.memory_operation.EffectLemmas.{failed_refused}
 
 -- one of two
 true_or : (b : Bool) → (b ≡ false → ⊥) → b ≡ true
@@ -57,10 +57,10 @@ module _ (task lock : ℕ) (records : List Record) (wait : LockWait) (leads : Lo
   pub stuck_at_lock : (turns : ℕ) → wait.is_taken ≡ false → turns < 2 ^ 64
       → ((turns ≤ wait.tries) ↔ IsStuckAtLock turns task lock records)
   stuck_at_lock turns is below =
-      let counted : wait.tries ≡ min (vain_tries records) (2 ^ 64 - 1) =
+      let counted : wait.tries ≡ min (failed_tries records) (2 ^ 64 - 1) =
       subst (λ b. LockCounts b wait.tries records) is leads.counts in (
         λ h. (not_taken is, omega arith),
-        λ h. let enough : turns ≤ vain_tries records = h.1 in omega arith,
+        λ h. let enough : turns ≤ failed_tries records = h.1 in omega arith,
       )
 
   pub not_stuck_taken : (turns : ℕ) → wait.is_taken ≡ true → IsStuckAtLock turns task lock records → ⊥
@@ -97,7 +97,7 @@ pub lock_on : (task lock : ℕ) (records : List Record) (old new : LockWait) (st
 lock_on task lock records old new step answer accepted leads says answer_is task_is lock_is taken_is counted =
     let step_is : step ≡ LockTry lock task =
     says.1 ∙ (ap (λ n. LockTry n old.task) leads.of_lock ∙ ap (λ n. LockTry lock n) leads.of_task) in
-    let before : old.tries ≡ min (vain_tries records) (2 ^ 64 - 1) =
+    let before : old.tries ≡ min (failed_tries records) (2 ^ 64 - 1) =
     subst (λ b. LockCounts b old.tries records) says.0 leads.counts in
     rw (step_is, answer_is) (record {
       of_task = task_is ∙ leads.of_task;
@@ -113,9 +113,9 @@ lock_on task lock records old new step answer accepted leads says answer_is task
     })
   where
     counts_on : (was_free : Bool) (tries : ℕ) → (was_free ≡ false → tries ≡ min (old.tries + 1) (2 ^ 64 - 1))
-        → old.tries ≡ min (vain_tries records) (2 ^ 64 - 1)
+        → old.tries ≡ min (failed_tries records) (2 ^ 64 - 1)
         → LockCounts was_free tries (records ++ made task (LockTry lock task) (answers.Flag was_free) ∷ [])
     counts_on true tries h before = tt
     counts_on false tries h before =
         let now : tries ≡ min (old.tries + 1) (2 ^ 64 - 1) = h refl in
-        rw (vain_refused records (made task (LockTry lock task) (answers.Flag false)) refl) (omega arith)
+        rw (failed_refused records (made task (LockTry lock task) (answers.Flag false)) refl) (omega arith)

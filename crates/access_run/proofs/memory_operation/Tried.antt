@@ -7,7 +7,7 @@ use Rattle.access_types.specs.declared.kind.Operation.TheVariants as accesses
 use Rattle.access_run.specs.memory_operation.Effects.{did}
 use Rattle.access_run.specs.memory_operation.Locks.{TakesLock}
 use Rattle.access_run.specs.memory_operation.Operations.{OperatesIn}
-use Rattle.access_run.specs.memory_operation.Waits.{vain_tries}
+use Rattle.access_run.specs.memory_operation.Waits.{failed_tries}
 use Rattle.access_run.specs.declared.memory_operation.effect.Effect.{Effect}
 use Rattle.access_run.specs.declared.memory_operation.operation.Change.TheVariants as changes
 use Rattle.access_run.specs.declared.memory_operation.operation.Operation.{Operation}
@@ -122,9 +122,9 @@ takes_a_lock : TakesLock 1 4
 takes_a_lock = (refl, refl, (refl, refl, (refl, refl, refl)))
 
 -- only the refusals at the end count, since what is not refused ends the wait
-two_vain_tries : vain_tries (made 1 (LockTry 4 1) (Flag false) ∷ made 1 (LockTry 4 1) (Flag true)
+two_failed_tries : failed_tries (made 1 (LockTry 4 1) (Flag false) ∷ made 1 (LockTry 4 1) (Flag true)
     ∷ load 3 ∷ refused 3 2 5 ∷ refused 5 2 3 ∷ []) ≡ 2
-two_vain_tries = refl
+two_failed_tries = refl
 
-no_vain_try : vain_tries (load 3 ∷ refused 3 2 5 ∷ accepted 5 2 ∷ []) ≡ 0
-no_vain_try = refl
+no_failed_try : failed_tries (load 3 ∷ refused 3 2 5 ∷ accepted 5 2 ∷ []) ≡ 0
+no_failed_try = refl

@@ -5,13 +5,13 @@ use Rattle.access_run.specs.memory_operation.Effects.{and_then, change_did, chan
 use Rattle.access_run.specs.memory_operation.Operations.{Exchanges}
 use Rattle.access_run.specs.memory_operation.Stages.{Counts, Follow, IsReady, StageLeft, Turns, loaded_turn, shown_turn, stage_did, stage_step}
 use Rattle.access_run.specs.memory_operation.Values.{is_wanted, new_value, with_value}
-use Rattle.access_run.specs.memory_operation.Waits.{vain_tries}
+use Rattle.access_run.specs.memory_operation.Waits.{failed_tries}
 use Rattle.access_run.specs.declared.memory_operation.effect.Effect.{Effect}
 use Rattle.access_run.specs.declared.memory_operation.operation.Change.{Change}
 use Rattle.access_run.specs.declared.memory_operation.operation.Operation.{Operation}
 use Rattle.access_run.specs.declared.memory_operation.operation.Operation.TheVariants as operations
-use Rattle.access_run.specs.declared.memory_operation.stage.Stage.{Stage}
-use Rattle.access_run.specs.declared.memory_operation.stage.Stage.TheVariants as stages
+use Rattle.access_run.specs.declared.memory_operation.stage.OperationStage.{OperationStage}
+use Rattle.access_run.specs.declared.memory_operation.stage.OperationStage.TheVariants as stages
 use Rattle.access_run.specs.declared.memory_operation.stage.Transition.{Transition}
 use Rattle.setup_access.specs.Parts.{made}
 use Rattle.setup_access.specs.Values.{value_in}
@@ -22,7 +22,7 @@ use Rattle.slot_table.specs.declared.step.Answer.{Answer}
 use Rattle.slot_table.specs.declared.step.Answer.TheVariants.{Flag, Word}
 use Rattle.slot_table.specs.declared.step.Step.{Step}
 use Rattle.slot_table.specs.declared.step.Step.TheVariants.{CellExchange, CellLoad}
-use Rattle.access_run.proofs.memory_operation.EffectLemmas.{then_nothing, vain_none, vain_refused}
+use Rattle.access_run.proofs.memory_operation.EffectLemmas.{then_nothing, failed_none, failed_refused}
 
 -- a choice by a test
 pick : (b : Bool) (first other : Transition) (P : Transition → Type 0) → (b ≡ true → P first) → (b ≡ false → P other)
@@ -38,7 +38,7 @@ record Shows (task : ℕ) (a : Access) (source : Source) (change : Change) (word
   did : Follow turn.stage (λ later. and_then (shown a source change word) (change_did a source change later)
       ≡ and_then turn.effect (stage_did a source turn.stage later))
   ready : IsReady a source turn.stage
-  counts : (records : List Record) → tries ≡ min (vain_tries records) (2 ^ 64 - 1) → Counts turn.stage records
+  counts : (records : List Record) → tries ≡ min (failed_tries records) (2 ^ 64 - 1) → Counts turn.stage records
 
 module _ (task : ℕ) (a : Access) (source : Source) (change : Change) where
   -- a value that isn't wanted ends the change
@@ -104,7 +104,7 @@ module _ (task : ℕ) (a : Access) (source : Source) where
     left = λ later effect. (λ h. h.2, λ h. (refl, refl, h));
     did = λ later. refl;
     ready = tt;
-    counts = λ records is. vain_none records (made task (CellLoad source.cell) (Word word)) refl;
+    counts = λ records is. failed_none records (made task (CellLoad source.cell) (Word word)) refl;
   }
   load_turns (operations.Change change) word =
       let to = shows task a source change word 0 in
@@ -116,7 +116,7 @@ module _ (task : ℕ) (a : Access) (source : Source) where
         did = to.did;
         ready = to.ready;
         counts = λ records is. to.counts (records ++ made task (CellLoad source.cell) (Word word) ∷ [])
-            (rw (vain_none records (made task (CellLoad source.cell) (Word word)) refl) refl);
+            (rw (failed_none records (made task (CellLoad source.cell) (Word word)) refl) refl);
       }
 
   -- the step of an exchange
@@ -160,15 +160,15 @@ module _ (task : ℕ) (a : Access) (source : Source) where
         did = to.did;
         ready = to.ready;
         counts = λ records is. to.counts (records ++ made task (exchange change seen) (Word word) ∷ [])
-            (rw (vain_refused records (made task (exchange change seen) (Word word)) refl)
-            (let tries_are : tries ≡ min (vain_tries records) (2 ^ 64 - 1) = is in omega arith));
+            (rw (failed_refused records (made task (exchange change seen) (Word word)) refl)
+            (let tries_are : tries ≡ min (failed_tries records) (2 ^ 64 - 1) = is in omega arith));
       }
 
 -- a step that is there is the one
 some_is : (first second : Step) → Some second ≡ Some first → first ≡ second
 some_is first second is = cc
 
-module _ (task : ℕ) (a : Access) (source : Source) (stage : Stage) (step : Step) (answer : Answer) (result : Transition) where
+module _ (task : ℕ) (a : Access) (source : Source) (stage : OperationStage) (step : Step) (answer : Answer) (result : Transition) where
   pub load_on : (operation : Operation) (word : ℕ) → stage ≡ stages.Load operation → answer ≡ Word word
       → result ≡ loaded_turn a source operation word → stage_step a source stage ≡ Some step
       → Turns task a source stage (made task step answer) result

@@ -4,7 +4,7 @@ use Rattle.access_types.specs.Access.{Access}
 use Rattle.access_run.specs.memory_operation.Effects.{and_then, did}
 use Rattle.access_run.specs.memory_operation.Operations.{OperatesIn}
 use Rattle.access_run.specs.memory_operation.Stages.{Counts, Follow, IsReady, StageLeft, stage_did, stage_step}
-use Rattle.access_run.specs.memory_operation.Waits.{vain_tries}
+use Rattle.access_run.specs.memory_operation.Waits.{failed_tries}
 use Rattle.access_run.specs.declared.memory_operation.effect.Effect.{Effect}
 use Rattle.access_run.specs.declared.memory_operation.operation.Operation.{Operation}
 use Rattle.access_run.specs.declared.memory_operation.run.OperationRun.{OperationRun}
@@ -19,7 +19,7 @@ Says run step = stage_step run.access run.source run.stage ≡ Some step
 
 -- An operation of a task on an access's bytes leads, by these records so far, to where it is:
 -- whatever completes the records completes what is left, what the records did is what came of it so
--- far, and the tries in vain are counted.
+-- far, and the failed tries are counted.
 pub record Leads (task : ℕ) (a : Access) (source : Source) (operation : Operation)
     (records : List Record) (run : OperationRun) : Type 0 where
   pub of_access : run.access ≡ a
@@ -49,16 +49,16 @@ abbrev pub IsDone : ℕ → Access → Source → Operation → List Record → 
 IsDone task a source operation records =
     (effect : Effect) × OperatesIn task a source operation records effect []
 
--- The operation isn't done, and its exchange was refused so often as tries in vain are allowed. It
+-- The operation isn't done, and its exchange was refused so often as failed tries are allowed. It
 -- waits only once an exchange was refused.
 abbrev pub IsStuck : ℕ → ℕ → Access → Source → Operation → List Record → Type 0
 IsStuck turns task a source operation records =
-    (¬ IsDone task a source operation records) × (0 < vain_tries records)
-    × (turns ≤ vain_tries records)
+    (¬ IsDone task a source operation records) × (0 < failed_tries records)
+    × (turns ≤ failed_tries records)
 
 -- no step follows on the records: they are all of the operation, or stuck
-abbrev pub IsOver : ℕ → ℕ → Access → Source → Operation → List Record → Type 0
-IsOver turns task a source operation records =
+abbrev pub IsOperationOver : ℕ → ℕ → Access → Source → Operation → List Record → Type 0
+IsOperationOver turns task a source operation records =
     IsDone task a source operation records ⊎ IsStuck turns task a source operation records
 
 -- the records are all of the operation, this and nothing else comes of it, and nothing goes on with

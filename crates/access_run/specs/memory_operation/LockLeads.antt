@@ -2,7 +2,7 @@
 use Rattle.std.specs.Prelude.{◌≡◌, ◌↔◌, ◌-◌, ◌^◌, ◌++◌, ◌≤◌, ◌⊎◌, ℕ, Bool, true, false, List, [], min}
 use Rattle.access_run.specs.memory_operation.Leads.{GoesOn}
 use Rattle.access_run.specs.memory_operation.Locks.{TakesLock}
-use Rattle.access_run.specs.memory_operation.Waits.{vain_tries}
+use Rattle.access_run.specs.memory_operation.Waits.{failed_tries}
 use Rattle.access_run.specs.declared.memory_operation.lock.LockWait.{LockWait}
 use Rattle.slot_table.specs.declared.records.Record.{Record}
 use Rattle.slot_table.specs.declared.step.Step.{Step}
@@ -13,17 +13,17 @@ abbrev pub LockLeft : ℕ → ℕ → Bool → List Record → Type 0
 LockLeft task lock true records = [] ≡ records
 LockLeft task lock false records = TakesLock task lock records []
 
--- the tries in vain at the end of these records are counted, up to the last count that there is
+-- the failed tries at the end of these records are counted, up to the last count that there is
 abbrev pub LockCounts : Bool → ℕ → List Record → Type 0
 LockCounts true tries records = Unit {0}
-LockCounts false tries records = tries ≡ min (vain_tries records) (2 ^ 64 - 1)
+LockCounts false tries records = tries ≡ min (failed_tries records) (2 ^ 64 - 1)
 
 -- the wait is before this step
 abbrev pub LockSays : LockWait → Step → Type 0
 LockSays wait step = (wait.is_taken ≡ false) × (step ≡ LockTry wait.lock wait.task)
 
 -- the tries of a lock lead, by these records so far, to where they are: whatever completes the
--- records completes what is left, and the tries in vain are counted
+-- records completes what is left, and the failed tries are counted
 pub record LockLeads (task lock : ℕ) (records : List Record) (wait : LockWait) : Type 0 where
   pub of_task : wait.task ≡ task
   pub of_lock : wait.lock ≡ lock
@@ -36,10 +36,10 @@ abbrev pub OnlyLockStep : ℕ → ℕ → List Record → Step → Type 0
 OnlyLockStep task lock records step =
     (later : List Record) → TakesLock task lock (records ++ later) [] → GoesOn task step later
 
--- the task hasn't the lock, and was refused it so often as tries in vain are allowed
+-- the task hasn't the lock, and was refused it so often as failed tries are allowed
 abbrev pub IsStuckAtLock : ℕ → ℕ → ℕ → List Record → Type 0
 IsStuckAtLock turns task lock records =
-    (¬ TakesLock task lock records []) × (turns ≤ vain_tries records)
+    (¬ TakesLock task lock records []) × (turns ≤ failed_tries records)
 
 -- no step follows on the records: the task has the lock, or is stuck
 abbrev pub LockIsOver : ℕ → ℕ → ℕ → List Record → Type 0

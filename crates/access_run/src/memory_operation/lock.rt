@@ -42,7 +42,7 @@ impl LockWait {
         self.is_taken
     }
 
-    /// The lock was refused so often as tries in vain are allowed.
+    /// The lock was refused so often as failed tries are allowed.
     pub fn stuck(&self, turns: u64) -> bool
         ensures { (task lock : ℕ) (records : List Record) → LockLeads task lock records self.now
             → (IsTrue result ↔ IsStuckAtLock turns task lock records) }

@@ -4,7 +4,7 @@ ghost use Rattle.std.specs.Prelude.{◌+◌, ◌<◌, ◌≤◌};
 
 use crate::memory_operation::effect::Effect;
 use crate::memory_operation::operation::Operation;
-use crate::memory_operation::stage::Stage;
+use crate::memory_operation::stage::OperationStage;
 use access_types::Access;
 use setup_access::source::Source;
 use slot_table::{Answer, Step};
@@ -15,7 +15,7 @@ pub struct OperationRun {
     access: Access,
     source: Source,
     effect: Effect,
-    stage: Stage,
+    stage: OperationStage,
     ghost has_bytes: { 0 < access.size },
     ghost in_cell: { source.first + access.size ≤ 8 },
 }
@@ -24,7 +24,7 @@ impl OperationRun {
     ghost use Rattle.std.specs.Prelude.{◌≡◌, ◌↔◌, ◌++◌, ◌∷◌, [], ℕ, List, IfSome, IsNone, IsTrue};
     ghost use Rattle.access_types.specs.Access as accesses;
     ghost use Rattle.access_run.specs.memory_operation.Effects.{did};
-    ghost use Rattle.access_run.specs.memory_operation.Leads.{IsComplete, IsDone, IsOver, IsStuck, Leads, OnlyStep, Says};
+    ghost use Rattle.access_run.specs.memory_operation.Leads.{IsComplete, IsDone, IsOperationOver, IsStuck, Leads, OnlyStep, Says};
     ghost use Rattle.access_run.specs.declared.memory_operation.operation.Operation.{Operation};
     ghost use Rattle.setup_access.specs.Parts.{made};
     ghost use Rattle.setup_access.specs.declared.source.Source.{Source};
@@ -42,19 +42,19 @@ impl OperationRun {
             access: *access,
             source,
             effect: Effect::nothing(),
-            stage: Stage::Load(operation),
+            stage: OperationStage::Load(operation),
         }
     }
 
-    /// An exchange was refused, and so were all after it, so often as tries in vain are allowed.
+    /// An exchange was refused, and so were all after it, so often as failed tries are allowed.
     pub fn stuck(&self, turns: u64) -> bool
         ensures { (task : ℕ) (a : accesses.Access) (source : Source) (operation : Operation) (records : List Record)
             → Leads task a source operation records self.now
             → (IsTrue result ↔ IsStuck turns task a source operation records) }
     {
         match self.stage {
-            // The first exchange is always made: only one that was refused is a try in vain.
-            Stage::Exchange { tries, .. } => tries > 0 && tries >= turns,
+            // The first exchange is always made: only one that was refused is a failed try.
+            OperationStage::Exchange { tries, .. } => tries > 0 && tries >= turns,
             _ => false,
         }
     }
@@ -65,7 +65,7 @@ impl OperationRun {
             → Leads task a source operation records self.now
             → (IsTrue result ↔ IsDone task a source operation records) }
     {
-        matches!(self.stage, Stage::Over)
+        matches!(self.stage, OperationStage::Over)
     }
 
     /// The step that the task makes next; none where the operation is over or stuck.
@@ -76,7 +76,7 @@ impl OperationRun {
             → IfSome result (OnlyStep task a source operation records) }
         ensures none { (task : ℕ) (a : accesses.Access) (source : Source) (operation : Operation) (records : List Record)
             → Leads task a source operation records self.now
-            → (IsNone result ↔ IsOver turns task a source operation records) }
+            → (IsNone result ↔ IsOperationOver turns task a source operation records) }
     {
         if self.stuck(turns) {
             return None;

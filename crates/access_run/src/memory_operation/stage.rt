@@ -16,12 +16,12 @@ use slot_table::{Answer, Step};
 
 /// What an operation does next.
 #[derive(Clone, Copy, PartialEq, Eq)]
-pub enum Stage {
+pub enum OperationStage {
     /// Nothing: it is over.
     Over,
     /// Load the cell, for this.
     Load(Operation),
-    /// Exchange the word that was seen, after so many tries in vain.
+    /// Exchange the word that was seen, after so many failed tries.
     Exchange {
         change: Change,
         seen: u64,
@@ -32,23 +32,23 @@ pub enum Stage {
 /// Where an answer leads, and what the step did.
 #[derive(Clone, Copy, PartialEq, Eq)]
 pub struct Transition {
-    pub stage: Stage,
+    pub stage: OperationStage,
     pub effect: Effect,
 }
 
 impl Transition {
     /// The step was the last one.
     fn over(effect: Effect) -> Transition
-        ensures { result ≡ record { stage = Stage.Over; effect = effect } }
+        ensures { result ≡ record { stage = OperationStage.Over; effect = effect } }
     {
         Transition {
-            stage: Stage::Over,
+            stage: OperationStage::Over,
             effect,
         }
     }
 }
 
-impl Stage {
+impl OperationStage {
     /// The step that it makes next.
     pub(crate) fn step(self, access: &Access, source: Source) -> Option<Step>
         requires has_bytes { 0 < access.now.size }
@@ -56,9 +56,9 @@ impl Stage {
         ensures { result ≡ stage_step access.now source self }
     {
         match self {
-            Stage::Over => None,
-            Stage::Load(_) => Some(Step::CellLoad(source.cell)),
-            Stage::Exchange { change, seen, .. } => {
+            OperationStage::Over => None,
+            OperationStage::Load(_) => Some(Step::CellLoad(source.cell)),
+            OperationStage::Exchange { change, seen, .. } => {
                 let old = value_in(access, source, seen);
                 let value = new_value(access.size(), change, old);
                 let new = with_value(access, source, seen, value);
@@ -75,14 +75,14 @@ impl Stage {
             → Turns task access.now source self (made task step answer) result }
     {
         match (self, answer) {
-            (Stage::Load(operation), Answer::Word(word)) => {
+            (OperationStage::Load(operation), Answer::Word(word)) => {
                 loaded(access, source, operation, word)
             }
-            (Stage::Exchange { change, seen, .. }, Answer::Flag(_)) => {
+            (OperationStage::Exchange { change, seen, .. }, Answer::Flag(_)) => {
                 let old = value_in(access, source, seen);
                 Transition::over(Effect::changed(access.size(), change, old))
             }
-            (Stage::Exchange { change, tries, .. }, Answer::Word(word)) => {
+            (OperationStage::Exchange { change, tries, .. }, Answer::Word(word)) => {
                 shown(access, source, change, word, tries.saturating_add(1))
             }
             _ => unreachable!(),
@@ -101,7 +101,7 @@ fn loaded(access: &Access, source: Source, operation: Operation, word: u64) -> T
         Operation::Add(amount) => {
             let sum = sum_of(access.size(), old, amount);
             Transition {
-                stage: Stage::Load(Operation::Change(Change::Write(sum))),
+                stage: OperationStage::Load(Operation::Change(Change::Write(sum))),
                 effect: Effect::only_read(old),
             }
         }
@@ -109,7 +109,7 @@ fn loaded(access: &Access, source: Source, operation: Operation, word: u64) -> T
     }
 }
 
-/// A change was shown a word, after so many tries in vain. It goes on from this word, so that it
+/// A change was shown a word, after so many failed tries. It goes on from this word, so that it
 /// takes nothing back that others have written since; a `cmpxchg` that sees another value than the
 /// expected one has only read.
 fn shown(access: &Access, source: Source, change: Change, word: u64, tries: u64) -> Transition
@@ -120,7 +120,7 @@ fn shown(access: &Access, source: Source, change: Change, word: u64, tries: u64)
         return Transition::over(Effect::only_read(old));
     }
     Transition {
-        stage: Stage::Exchange {
+        stage: OperationStage::Exchange {
             change,
             seen: word,
             tries,

@@ -54,7 +54,8 @@ note_of (reasons.Limit excess) token = []
 note_of (reasons.Syntax fault expected) token = []
 note_of (reasons.Unsupported unread expected) token = why unread token
 
--- what is said of a text that is refused at a place where this token stands, in a file of this name: nothing where memory is refused
+-- what is said of a text that is refused at a place where this token stands, in a file of this name: nothing where
+-- memory is refused
 unfoldable pub refusal_text : (name text : List ℕ) → (at : ℕ) → Reason → (token : List ℕ) → List ℕ
 refusal_text name text at reasons.OutOfMemory token = []
 refusal_text name text at reason token = concat

@@ -26,8 +26,9 @@ use Rattle.diagnostics.specs.refusal_text.Message.{IsRefusalText}
 use Rattle.diagnostics.specs.declared.text_check.checked.Check.{Check}
 use Rattle.diagnostics.specs.declared.text_check.checked.Check.TheVariants.{Misplaced, Reads, Refused}
 
--- These are the tables of a program as it is made ready under the settings: the accesses of its sites, with their watch words, its variables,
--- and what is limited. Where they stand in the text isn't said here: a site has the line and the column of its place among these, if any.
+-- These are the tables of a program as it is made ready under the settings: the accesses of its sites, with their watch
+-- words, its variables, and what is limited. Where they stand in the text isn't said here: a site has the line and the
+-- column of its place among these, if any.
 pub record AreTablesOf (text : List ℕ) (settings : Settings) (program : Program) (tables : List ℕ) : Type 0 where
   pub prepared : Prepared
   pub ready : IsPrepared program settings prepared
@@ -35,15 +36,17 @@ pub record AreTablesOf (text : List ℕ) (settings : Settings) (program : Progra
   pub places : List (List ℕ)
   pub is : tables ≡ program_table text places words.of program settings prepared
 
--- what is told of a program that a text spells: its tables and its printed form, or which place doesn't suit its variables
+-- what is told of a program that a text spells: its tables and its printed form, or which place doesn't suit its
+-- variables
 abbrev pub IsToldOf : (text : List ℕ) → Settings → Program → Check → Type 0
 IsToldOf text settings program (Reads tables printed) =
     AreTablesOf text settings program tables.items × (string_bytes printed ≡ form.printed (program_of program))
 IsToldOf text settings program (Misplaced why) = IsMisfit program.variables settings.places.items why.items
 IsToldOf text settings program (Refused error why) = ⊥
 
--- What is said of a text that is refused with an error: where and for which reason, and the error is that of this place and this reason. A text
--- that is too large is refused behind its last byte that there may be, and one with other bytes than a text has at the first of these.
+-- What is said of a text that is refused with an error: where and for which reason, and the error is that of this place
+-- and this reason. A text that is too large is refused behind its last byte that there may be, and one with other bytes
+-- than a text has at the first of these.
 pub record IsSaidOf (name text : List ℕ) (error : ParseError) (why : List ℕ) : Type 0 where
   pub at : ℕ
   pub reason : Reason
@@ -66,7 +69,8 @@ IsRefusalOf name text error (Misplaced why) = ⊥
 abbrev pub SpellsNothing : List ℕ → Type 0
 SpellsNothing text = (program : tree.Program) → SpellsProgram text program → ⊥
 
--- what comes of the check of a text, in a file of this name: what is told of the program that it is read as, or why it is refused
+-- what comes of the check of a text, in a file of this name: what is told of the program that it is read as, or why it
+-- is refused
 abbrev pub IsCheckOf : (name text : List ℕ) → Settings → Check → Type 0
 IsCheckOf name text settings (Reads tables printed) =
     (program : Program) × IsReadAs text program × IsToldOf text settings program (Reads tables printed)

@@ -18,7 +18,7 @@ use Rattle.setup_access.specs.Check as cases
 use Rattle.setup_access.specs.Check.{Check, ChecksAll, ChecksBegun, ChecksOnce, Close, Ends, Fallen, GoesOn, NoneFound, Pass, Passes, Rechecks, fallen_of}
 use Rattle.setup_access.specs.Check.{left_to_check}
 use Rattle.setup_access.specs.Find.{LooksUp}
-use Rattle.setup_access.specs.Found.{Hears, Takes, Tells, setter_half, finder_half}
+use Rattle.setup_access.specs.Found.{Hears, Takes, FinderTells, setter_half, finder_half}
 use Rattle.setup_access.specs.Records.{MakesDone, MakesFlag, MakesWord}
 use Rattle.setup_access.specs.Setting.{Setting, look_order, slot_of, try_order}
 use Rattle.setup_access.specs.Setup.{Judged, Judges, TriesInsert, Watches, WatchesAt}
@@ -144,7 +144,7 @@ module _ (s : Setting) (words : Words) where
             | inr missed ↦ looks indices later found rest fits.1 missed.1 on
           ])
 
-      tells : (index : ℕ) (records : List Record) (outcome : Outcome) (rest : List Record) → InRange index → Tells s a index records outcome rest → P rest
+      tells : (index : ℕ) (records : List Record) (outcome : Outcome) (rest : List Record) → InRange index → FinderTells s a index records outcome rest → P rest
           → P records
       tells index records outcome rest fits h p =
           hears setter_half s.task index records h.0 h.1 fits h.2

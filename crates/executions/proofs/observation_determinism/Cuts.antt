@@ -7,7 +7,7 @@ use Rattle.litmus_semantics.specs.Task as meaning
 use Rattle.setup_access.specs.Check.{Fallen}
 use Rattle.slot_table.specs.declared.records.Record.{Record}
 use Rattle.program_order.specs.Standing.{Point, Standing, coming, counting}
-use Rattle.program_order.specs.Told.{Came, came_of}
+use Rattle.program_order.specs.TaskObserved.{Came, came_of}
 
 abbrev pub cut_way : ℕ → List Point → List Point
 cut_way n [] = []

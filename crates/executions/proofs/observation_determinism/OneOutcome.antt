@@ -15,7 +15,7 @@ use Rattle.setup_access.proofs.FallLemmas.{once_comes}
 use Rattle.slot_table.specs.declared.records.Record.{Record}
 use Rattle.slot_table.specs.declared.step.Step.TheVariants.{LockStore}
 use Rattle.program_order.specs.Standing.{Setting, Standing, checks_of, counting, lock_number}
-use Rattle.program_order.specs.Told.{fell_next, to_come}
+use Rattle.program_order.specs.TaskObserved.{fell_next, to_come}
 use Rattle.program_order.specs.WrittenOrder.{WrittenOrder, at_first}
 use Rattle.program_order.proofs.Induction.{Kept, by_block}
 use Rattle.executions.proofs.observation_determinism.SureChecks.{gives_back, in_two}

@@ -6,8 +6,8 @@ use Rattle.slot_table.specs.declared.step.Answer.{Answer}
 use Rattle.slot_table.specs.declared.step.Answer.TheVariants as answers
 use Rattle.slot_table.specs.declared.step.Step.{Step}
 
--- Of two lists the one ends with X and the other with Y, after one beginning. Of the beginning so much is left to both, and this
--- holds; or both have come into their own ends, and that holds.
+-- Of two lists the one ends with X and the other with Y, after one beginning. Of the beginning so much is left to both,
+-- and this holds; or both have come into their own ends, and that holds.
 abbrev pub Goes : List Record → List Record → Type 0 → Type 0 → List Record → List Record → Type 0
 Goes X Y Same Alike q r =
     ((S : List Record) × (q ≡ S ++ X) × (r ≡ S ++ Y) × Same)

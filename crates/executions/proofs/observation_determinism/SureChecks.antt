@@ -11,7 +11,7 @@ use Rattle.watch_word.specs.Word.{Encodable, word_of}
 use Rattle.setup_access.specs.Check as cases
 use Rattle.setup_access.specs.Check.{ChecksOnce, Ends, GoesOn, NoneFound, Pass}
 use Rattle.setup_access.specs.Find.{Finds, LooksUp}
-use Rattle.setup_access.specs.Found.{FoundWatchpoint, Hears, Takes, Tells, TellsTo, finder_half, setter_half}
+use Rattle.setup_access.specs.Found.{FoundWatchpoint, Hears, Takes, FinderTells, TellsTo, finder_half, setter_half}
 use Rattle.setup_access.specs.Hits.{Hits}
 use Rattle.setup_access.specs.Records.{MakesDone, OnHalves}
 use Rattle.setup_access.specs.Setting.{IsWatched, Setting, look_order, slot_of, try_order}
@@ -97,14 +97,14 @@ module _ (s : Setting) (a : Access) where
       let told : Outcome = Told (record { setter = setter; finder = ticket_number a }) in
       sure_done s.task (Tell index (ticket_number a)) (λ after outcome rest. (outcome ≡ told) × (rest ≡ after)) (sure_gives told)
 
-  tells : (index : ℕ) → Sure (λ records outcome rest. Tells s a index records outcome rest)
+  tells : (index : ℕ) → Sure (λ records outcome rest. FinderTells s a index records outcome rest)
   tells index = sure_then (λ records both rest. Hears setter_half s.task index records both rest)
       (λ both later outcome rest. TellsTo s a index both.setter later outcome rest) (hears setter_half s.task index) (λ both. tells_to index both.setter)
 
   takes : (found : Watchpoint) → Sure (λ records outcome rest. Takes s a found records outcome rest)
   takes found = sure_flag s.task (TryConsume found.index found.word)
-      (λ taken later outcome rest. MatchBool taken (Tells s a found.index later outcome rest) ((outcome ≡ Lost) × (rest ≡ later)))
-      (λ taken. sure_bool taken (λ later outcome rest. Tells s a found.index later outcome rest) (λ later outcome rest. (outcome ≡ Lost) × (rest ≡ later))
+      (λ taken later outcome rest. MatchBool taken (FinderTells s a found.index later outcome rest) ((outcome ≡ Lost) × (rest ≡ later)))
+      (λ taken. sure_bool taken (λ later outcome rest. FinderTells s a found.index later outcome rest) (λ later outcome rest. (outcome ≡ Lost) × (rest ≡ later))
       (tells found.index) (sure_gives Lost))
 
   unless_masked : (mask : Option ℕ) (found : Watchpoint)

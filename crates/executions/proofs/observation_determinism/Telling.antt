@@ -11,7 +11,7 @@ use Rattle.litmus_syntax.specs.Tree.{Block}
 use Rattle.setup_access.specs.Check.{Fallen}
 use Rattle.slot_table.specs.declared.records.Record.{Record}
 use Rattle.program_order.specs.Standing.{Point, Setting, Standing, point_by}
-use Rattle.program_order.specs.Told.{Came, came_of, did_by, fell_next, stands_by, to_come}
+use Rattle.program_order.specs.TaskObserved.{Came, came_of, did_by, fell_next, stands_by, to_come}
 use Rattle.program_order.specs.WrittenOrder.{SpellsAll, StepsOfBlock, WrittenOrder, at_first, first_point, stands_after}
 use Rattle.executions.specs.observation_determinism.TellAlike.{StandsAlike, TellAlike}
 use Rattle.executions.proofs.observation_determinism.AccessGoes.{Meets}

@@ -1,4 +1,4 @@
--- How many steps of a check, and of an operation on memory, are no tries in vain.
+-- How many steps of a check, and of an operation on memory, are no failed tries.
 use Rattle.std.proofs.Common.{◌≡◌, ◌≤◌, ◌∙◌, ◌+◌, ◌*◌, ◌||◌, ◌∷◌, [], ℕ, Bool, true, false, List, MatchBool, MatchOption, None, Option, Some, ap, arith, eq-eqb, inl, inr, length, refl}
 use Rattle.access_types.specs.Access.{Access}
 use Rattle.access_run.specs.memory_operation.Locks.{TakesLock}
@@ -28,10 +28,10 @@ use Rattle.slot_table.specs.declared.step.Answer.{Answer}
 use Rattle.slot_table.specs.declared.step.Answer.TheVariants as answers
 use Rattle.slot_table.specs.declared.step.Step.{Step}
 use Rattle.slot_table.specs.declared.step.Step.TheVariants.{CellExchange, LockTry, PairLoad}
-use Rattle.executions.proofs.step_bounds.Firm.{firm, none_firm, one_firm, vain_before}
+use Rattle.executions.proofs.step_bounds.Firm.{firm, none_firm, one_firm, failed_before}
 use Rattle.program_order.specs.Waits.{is_tried_again}
 
--- up to the rest, no more than so many of the records are no tries in vain
+-- up to the rest, no more than so many of the records are no failed tries
 abbrev pub Few : ℕ → List Record → List Record → Type 0
 Few n records rest = firm records ≤ firm rest + n
 
@@ -92,7 +92,7 @@ inserts_few task word (index ∷ indices) records place rest h =
 -- loads of a pair that were heard no half go on with one more
 loads_again : (half : Halves → ℕ) (task index : ℕ) (first : Record) (later : List Record) (both : Halves) (rest : List Record)
     → first.step ≡ PairLoad index
-    → Hears half task index later both rest → vain_before first later ≡ true
+    → Hears half task index later both rest → failed_before first later ≡ true
 loads_again half task index first [] both rest is h = absurd h
 loads_again half task index first (next ∷ later) both rest is h =
     ap (λ (x : Step). is_tried_again x first.answer next.step) is ∙ (ap (λ (x : Step). is_tried_again (PairLoad index) first.answer x) h.1
@@ -115,7 +115,7 @@ hears_few half task index (first ∷ later) both rest h =
 -- tries of a lock that isn't free go on with one more
 tries_again : (task lock : ℕ) (first : Record) (later rest : List Record) → first.step ≡ LockTry lock task
     → first.answer ≡ answers.Flag false
-    → TakesLock task lock later rest → vain_before first later ≡ true
+    → TakesLock task lock later rest → failed_before first later ≡ true
 tries_again task lock first [] rest is refused h = absurd h
 tries_again task lock first (next ∷ later) rest is refused h =
     ap (λ (x : Step). is_tried_again x first.answer next.step) is
@@ -129,7 +129,7 @@ lock_few task lock (first ∷ later) rest h =
     by_flag got.0 (λ refused on. tries_again task lock first later rest h.1 (got.1 ∙ ap (λ (b : Bool). answers.Flag b) refused) on)
     (λ on. lock_few task lock later rest on) got.2
   where
-    by_flag : (was_free : Bool) → (was_free ≡ false → TakesLock task lock later rest → vain_before first later ≡ true)
+    by_flag : (was_free : Bool) → (was_free ≡ false → TakesLock task lock later rest → failed_before first later ≡ true)
         → (TakesLock task lock later rest → Few 1 later rest) → MatchBool was_free (rest ≡ later) (TakesLock task lock later rest)
         → Few 1 (first ∷ later) rest
     by_flag true again goes over = few_after 0 first later rest (none_few later rest over)
@@ -158,12 +158,12 @@ module _ (task : ℕ) (a : Access) (source : Source) (change : Change) where
   exchanges_again old new word first (next ∷ later) effect rest is refused h more =
       by_bool (is_wanted a.size change (value_in a source word)) _ _ (Few 1 (first ∷ (next ∷ later)) rest) h
       (λ again.
-      let vain : vain_before first (next ∷ later) ≡ true =
+      let failed : failed_before first (next ∷ later) ≡ true =
       ap (λ (x : Step). is_tried_again x first.answer next.step) is
       ∙ (ap (λ (x : Answer). is_tried_again (CellExchange source.cell old new) x next.step) refused
       ∙ (ap (λ (x : Step). is_tried_again (CellExchange source.cell old new) (answers.Word word) x) again.0.1
       ∙ eq-eqb source.cell source.cell refl)) in
-      let same = none_firm first (next ∷ later) vain in omega (arith, more, same))
+      let same = none_firm first (next ∷ later) failed in omega (arith, more, same))
       (λ over. few_after 0 first (next ∷ later) rest (none_few (next ∷ later) rest over.1))
 
   exchanges_few : (seen : ℕ) (records : List Record) (effect : Effect) (rest : List Record)

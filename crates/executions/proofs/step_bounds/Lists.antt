@@ -7,8 +7,8 @@ use Rattle.std.proofs.lemmas.List.{length-append, length-reverse, reverse-revers
 use Rattle.std.proofs.lemmas.List.Elements.{All-get_or}
 use Rattle.litmus_syntax.specs.Limits.{KeepsLimits, TaskKeepsLimits}
 use Rattle.litmus_syntax.specs.Tree.{Task}
-use Rattle.executions.specs.run_lists.Run.{Run, idle, task_of, task_setting}
-use Rattle.executions.specs.run_lists.RunList.{RunList}
+use Rattle.executions.specs.execution.Run.{Run, idle, task_of, task_setting}
+use Rattle.executions.specs.execution.Execution.{Execution}
 use Rattle.slot_table.specs.Records.{records_of}
 use Rattle.slot_table.specs.declared.records.Record.{Record}
 use Rattle.executions.proofs.step_bounds.Tasks.{few_of_task}
@@ -88,7 +88,7 @@ few_below most (suc task) records few =
     let own = few task (omega arith) in
     omega (arith, rest, own)
 
-module _ (run : Run) (records : List Record) (keeps : KeepsLimits run.program) (list : RunList run records) where
+module _ (run : Run) (records : List Record) (keeps : KeepsLimits run.program) (list : Execution run records) where
   -- a task that the program hasn't makes no step
   none_beyond : NoneBeyond (length run.program.tasks) records
   none_beyond task beyond =

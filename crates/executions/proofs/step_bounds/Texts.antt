@@ -1,4 +1,4 @@
--- How many steps of a text are no tries in vain.
+-- How many steps of a text are no failed tries.
 use Rattle.std.proofs.Common.{◌≡◌, ◌≤◌, ◌∙◌, ◌+◌, ◌*◌, ◌==◌, ◌∷◌, [], ℕ, zero, suc, Bool, true, false, List, MatchBool, None, Option, Some, ap, arith, drop, inl, inr, length, subst, sym}
 use Rattle.std.proofs.lemmas.List.{length-append}
 use Rattle.access_types.specs.Access as access
@@ -30,7 +30,7 @@ use Rattle.program_order.specs.Standing.{Setting, Standing, checks_of, coming, c
 use Rattle.program_order.specs.WrittenOrder.{ChecksAt, ClosesScope, Only, OpensScope, Steps, StepsInBlock, StepsInDataRace, StepsOf, StepsOfAssignment, StepsOfBlock, StepsOfCall, StepsOfExpression, StepsOfLoad, StepsOfTurns}
 
 abbrev mutual
-  -- how many steps a statement makes that are no tries in vain, at most
+  -- how many steps a statement makes that are no failed tries, at most
   pub statement_steps : Statement → ℕ
   statement_steps (tree.load_only l) = 256
   statement_steps (tree.assign data_race a) = 256

@@ -11,7 +11,7 @@ use Rattle.slot_table.specs.declared.step.Step.TheVariants.{Clock}
 use Rattle.litmus_syntax.specs.Tree.{Block}
 use Rattle.setup_access.specs.Check.{Fallen}
 use Rattle.program_order.specs.Standing.{Setting}
-use Rattle.program_order.specs.Told.{Came, came_of}
+use Rattle.program_order.specs.TaskObserved.{Came, came_of}
 use Rattle.program_order.specs.WrittenOrder.{SpellsAll, at_first}
 use Rattle.executions.proofs.timestamp_irrelevance.Checks.{fallen_there}
 use Rattle.executions.proofs.timestamp_irrelevance.Restamped.{AsksClock, GivesStamps, restamped, same_length}

@@ -3,7 +3,7 @@ use Rattle.std.specs.Prelude.{◌≡◌, ◌<◌, ◌≤◌, ℕ, List, map}
 use Rattle.litmus_syntax.specs.Tree.{Block}
 use Rattle.slot_table.specs.declared.records.Record.{Record}
 use Rattle.program_order.specs.Standing.{Point, Setting}
-use Rattle.program_order.specs.Told.{came_of, did_next, fell_next, stands_by}
+use Rattle.program_order.specs.TaskObserved.{came_of, did_next, fell_next, stands_by}
 use Rattle.program_order.specs.WrittenOrder.{WrittenOrder}
 
 -- a task stands at both points alike: it has done the same, with the same registers, and as many of its

@@ -9,7 +9,7 @@ ghost use Rattle.executions.specs.timestamp_irrelevance.Stamps.{EndsSo, IsButSta
 
 /// Law: stamps tell nothing. With another stamp in one of its records a task's text is spelled as before: the task ends
 /// with the same registers, having done the same, and the same outcomes of its checks fall at the same records.
-pub fn stamps_tell_nothing()
+pub fn law_stamps_tell_nothing()
     ensures { (s : Setting) (registers : ℕ) (body : Block) (front : List Record) (one other : Record) (later : List Record)
         → IsButStamp one other → (whole : SpellsAll s registers body (front ++ one ∷ later))
         → EndsSo whole (front ++ other ∷ later) }

@@ -19,7 +19,7 @@ use Rattle.litmus_expression.specs.Expressions.{Expression}
 use Rattle.litmus_expression.specs.ExpressionReader.{expression_at}
 use Rattle.litmus_expression.specs.Followed.{Differ, accesses, name_of}
 use Rattle.litmus_expression.specs.Names.{IsInteger, Names, Parameter}
-use Rattle.litmus_expression.specs.Places.{Place, deeper}
+use Rattle.litmus_expression.specs.Places.{NestingPlace, deeper}
 use Rattle.litmus_expression.specs.States.{State, after, with_left}
 use Rattle.litmus_expression.proofs.Complete.{expression_read, follows_close, placed}
 use Rattle.litmus_expression.proofs.Taken.{bind_some, is_sign_is}
@@ -70,7 +70,7 @@ no_brace s t o none opens = if_so (is_sign t (first s.symbols)) refl
         absurd (not_given o never)
     if_so false is = refl
 
-begun : (p : Place) (s : State) (x : Option tree.Statement × State) → statement_at p s ≡ Some x → (o : Opening) × (opening_at s ≡ Some o)
+begun : (p : NestingPlace) (s : State) (x : Option tree.Statement × State) → statement_at p s ≡ Some x → (o : Opening) × (opening_at s ≡ Some o)
 begun p s x e =
     let b = bind_some (opening_at s) (λ o. statement_with readers p s o) x (sym (statement_unrolls p s) ∙ e) in
     (b.0, b.1)
@@ -139,11 +139,11 @@ module _ (P : List Parameter) (apart : Differ (map name_of P)) where
 
   -- ---- from what a statement begins with
 
-  opened : (p : Place) (s : State) (o : Opening) (x : Option (Option tree.Statement × State)) → opening_at s ≡ Some o → statement_with readers p s o ≡ x
+  opened : (p : NestingPlace) (s : State) (o : Opening) (x : Option (Option tree.Statement × State)) → opening_at s ≡ Some o → statement_with readers p s o ≡ x
       → statement_at p s ≡ x
   opened p s o x opens e = statement_unrolls p s ∙ ap (λ (m : Option Opening). m >>= λ o. statement_with readers p s o) opens ∙ e
 
-  counted : (p : Place) (c : Counted) (symbols : List Symbol) (names : Names) (st n : ℕ) (y : tree.Statement) (u : State)
+  counted : (p : NestingPlace) (c : Counted) (symbols : List Symbol) (names : Names) (st n : ℕ) (y : tree.Statement) (u : State)
       → opening_at (placed P st symbols names n) ≡ Some (openings.Counted c) → st + 1 ≤ 256
       → counted_at p c (placed P (st + 1) symbols names n) ≡ Some (y, u)
       → statement_at p (placed P st symbols names n) ≡ Some (Some y, u)
@@ -152,7 +152,7 @@ module _ (P : List Parameter) (apart : Differ (map name_of P)) where
       (ap (λ (o : Option State). o >>= λ s. counted_at p c s >>= λ x. Some (Some x.0, x.1)) (count_there P st symbols names n le)
       ∙ ap (λ (o : Option (tree.Statement × State)). o >>= λ x. Some (Some x.0, x.1)) e)
 
-  simple_there : (p : Place) (symbols rest : List Symbol) (names later : Names) (st n m : ℕ) (x : Enclosable)
+  simple_there : (p : NestingPlace) (symbols rest : List Symbol) (names later : Names) (st n m : ℕ) (x : Enclosable)
       → simple_at p (placed P st symbols names n) ≡ Some (x, placed P st (sign Semicolon ∷ rest) later m)
       → counted_at p counteds.Simple (placed P st symbols names n) ≡ Some (alone x, placed P st rest later m)
   unfolding take_sign
@@ -160,7 +160,7 @@ module _ (P : List Parameter) (apart : Differ (map name_of P)) where
       counted_unrolls p counteds.Simple (placed P st symbols names n)
       ∙ ap (λ (o : Option (Enclosable × State)). o >>= λ z. take_sign Semicolon z.1.symbols >>= λ l. Some (alone z.0, with_left z.1 l)) inside
 
-  race_there : (p : Place) (symbols rest : List Symbol) (names later : Names) (st n m : ℕ) (x : Enclosable)
+  race_there : (p : NestingPlace) (symbols rest : List Symbol) (names later : Names) (st n m : ℕ) (x : Enclosable)
       → simple_at p (placed P st symbols names n) ≡ Some (x, placed P st (sign CloseParen ∷ sign Semicolon ∷ rest) later m)
       → counted_at p counteds.DataRace (placed P st (word words.DataRace ∷ sign OpenParen ∷ symbols) names n) ≡ Some (raced x, placed P st rest later m)
   unfolding data_race_at take_sign
@@ -195,14 +195,14 @@ module _ (P : List Parameter) (apart : Differ (map name_of P)) where
       behind_body readers p c.0 b.0 b.1) tested
       ∙ ap (λ (o : Option (tree.Block × State)). o >>= λ b. behind_body readers p condition b.0 b.1) inside
 
-  alone_there : (p : Place) (condition : tree.Expression) (body : tree.Block) (rest : List Symbol) (names : Names) (st n : ℕ) → IsNoElse rest
+  alone_there : (p : NestingPlace) (condition : tree.Expression) (body : tree.Block) (rest : List Symbol) (names : Names) (st n : ℕ) → IsNoElse rest
       → behind_body readers p condition body (placed P st rest names n) ≡ Some (tree.if_block condition body, placed P st rest names n)
   alone_there p condition body rest names st n none =
       let s = placed P st rest names n in
       ap (λ (b : Bool). cond b (body_at p (after s) >>= λ x. Some (tree.if_else condition body x.0, x.1)) (Some (tree.if_block condition body, s)))
       (else_none rest none)
 
-  otherwise_there : (p : Place) (condition : tree.Expression) (body otherwise : tree.Block) (symbols : List Symbol) (names : Names) (st n : ℕ) (u : State)
+  otherwise_there : (p : NestingPlace) (condition : tree.Expression) (body otherwise : tree.Block) (symbols : List Symbol) (names : Names) (st n : ℕ) (u : State)
       → body_at p (placed P st symbols names n) ≡ Some (otherwise, u)
       → behind_body readers p condition body (placed P st (word words.Else ∷ symbols) names n) ≡ Some (tree.if_else condition body otherwise, u)
   otherwise_there p condition body otherwise symbols names st n u inside =
@@ -264,7 +264,7 @@ module _ (P : List Parameter) (apart : Differ (map name_of P)) where
       → block_at (place d k t f) (placed P st (sign OpenBrace ∷ symbols) names n) ≡ x
   block_there d k t f symbols names st n x lt inside =
       block_unrolls (place d k t f) (placed P st (sign OpenBrace ∷ symbols) names n)
-      ∙ ap (λ (o : Option Place). o >>= λ q. more_at q tree.empty (placed P st symbols names n)) (inside_there d k t f lt)
+      ∙ ap (λ (o : Option NestingPlace). o >>= λ q. more_at q tree.empty (placed P st symbols names n)) (inside_there d k t f lt)
       ∙ inside
 
   one_there : (d k t : ℕ) (f : List Bool) (s u : State) (x : Option tree.Statement) → d < 16 → statement_at (place (suc d) k t f) s ≡ Some (x, u)
@@ -276,10 +276,10 @@ module _ (P : List Parameter) (apart : Differ (map name_of P)) where
       ∙ ap (λ (b : Bool). cond b (block_at p s) (opening_at s >>= λ o. deeper p >>= λ q. statement_at q s >>= λ z. Some (kept z.0 tree.empty, z.1)))
       (no_brace s OpenBrace o.0 (λ u. refl) o.1)
       ∙ ap (λ (m : Option Opening). m >>= λ o. deeper p >>= λ q. statement_at q s >>= λ z. Some (kept z.0 tree.empty, z.1)) o.1
-      ∙ ap (λ (m : Option Place). m >>= λ q. statement_at q s >>= λ z. Some (kept z.0 tree.empty, z.1)) (inside_there d k t f lt)
+      ∙ ap (λ (m : Option NestingPlace). m >>= λ q. statement_at q s >>= λ z. Some (kept z.0 tree.empty, z.1)) (inside_there d k t f lt)
       ∙ ap (λ (m : Option (Option tree.Statement × State)). m >>= λ z. Some (kept z.0 tree.empty, z.1)) inside
 
-  next_there : (p q : Place) (before : tree.Block) (s u : State) (x : Option tree.Statement) → statement_at p s ≡ Some (x, u) → behind p x ≡ Some q
+  next_there : (p q : NestingPlace) (before : tree.Block) (s u : State) (x : Option tree.Statement) → statement_at p s ≡ Some (x, u) → behind p x ≡ Some q
       → more_at p before s ≡ more_at q (added before x) u
   next_there p q before s u x one later =
       let o = begun p s (x, u) one in
@@ -287,7 +287,7 @@ module _ (P : List Parameter) (apart : Differ (map name_of P)) where
       ∙ ap (λ (b : Bool). cond b (Some (before, after s)) (statement_at p s >>= λ z. behind p z.0 >>= λ q. more_at q (added before z.0) z.1))
       (no_brace s CloseBrace o.0 (λ u. refl) o.1)
       ∙ ap (λ (m : Option (Option tree.Statement × State)). m >>= λ z. behind p z.0 >>= λ q. more_at q (added before z.0) z.1) one
-      ∙ ap (λ (m : Option Place). m >>= λ q. more_at q (added before x) u) later
+      ∙ ap (λ (m : Option NestingPlace). m >>= λ q. more_at q (added before x) u) later
 
   -- ---- each rule
 

@@ -6,12 +6,12 @@ use Rattle.litmus_syntax.specs.Tree as tree
 use Rattle.litmus_syntax.specs.declared.statement.Call.{Call}
 use Rattle.litmus_syntax.specs.declared.statement.Call.TheVariants as calls
 use Rattle.litmus_expression.specs.Followed.{accesses}
-use Rattle.litmus_expression.specs.Places.{Place, asserting}
+use Rattle.litmus_expression.specs.Places.{NestingPlace, asserting}
 use Rattle.litmus_body.specs.StatementReader.{behind}
 use Rattle.litmus_body.specs.Statements.{Enclosable, alone, assignment, kept, load, raced}
 
 -- a place by its parts
-abbrev pub place : (depth scopes turns : ℕ) → List Bool → Place
+abbrev pub place : (depth scopes turns : ℕ) → List Bool → NestingPlace
 place d k t f = record { depth = d; scopes = k; turns = t; counters = f }
 
 -- what is kept of a statement, if anything: how many statements, how often their accesses are made, how deep the

@@ -14,7 +14,7 @@ use Rattle.litmus_expression.specs.ExpressionReader.{expression_at}
 use Rattle.litmus_expression.specs.NameReader.{index_of, numbered, register_at, register_name, register_named}
 use Rattle.litmus_expression.specs.Names.{IsChanged, Names, Parameter}
 use Rattle.litmus_expression.specs.PlaceReader.{count_statement, take_changed}
-use Rattle.litmus_expression.specs.Places.{Place, repeats_of}
+use Rattle.litmus_expression.specs.Places.{NestingPlace, repeats_of}
 use Rattle.litmus_expression.specs.States.{State, after, with_left}
 use Rattle.litmus_expression.proofs.Fewer.{at_last, behind_it, either_way, unless_it}
 use Rattle.litmus_expression.proofs.Sound.{register_reads}
@@ -105,7 +105,7 @@ more_reads flags counters s (a ∷ b ∷ symbols) u rest are within e ends =
 
 -- ---- a declaration
 
-pub declaration_reads : (p : Place) (counters : List ℕ) (s : State) (x : Option tree.Statement × State) → Stands p counters s → Declares (first s.symbols)
+pub declaration_reads : (p : NestingPlace) (counters : List ℕ) (s : State) (x : Option tree.Statement × State) → Stands p counters s → Declares (first s.symbols)
     → declaration_at p s ≡ Some x → ReadsStatement p counters s x
 unfolding declaration_at
 declaration_reads p counters s x stands d e =
@@ -263,7 +263,7 @@ record ReadsBound (register : ℕ) (s : State) (x : LoopHeader × State) : Type 
   parameters : x.1.parameters ≡ s.parameters
   names : x.1.names ≡ s.names
 
-bound_reads : (p : Place) (register : ℕ) (s : State) (x : LoopHeader × State) → length s.names ≤ 32 → bound_at p register s ≡ Some x → ReadsBound register s x
+bound_reads : (p : NestingPlace) (register : ℕ) (s : State) (x : LoopHeader × State) → length s.names ≤ 32 → bound_at p register s ≡ Some x → ReadsBound register s x
 unfolding bound_at
 bound_reads p register s x within e =
     behind_it (take_again register s) (λ u. take_sign signs.Less u.symbols >>= λ l. take_number l >>= λ n. repeats_of p n.0 >>= λ r.
@@ -334,7 +334,7 @@ pub record ReadsHeader (counters : List ℕ) (s : State) (x : LoopHeader × Stat
 same_names : (names later : Names) (register : ℕ) (a b : List ℕ) → names ≡ later → slice_get names register ≡ Some a → slice_get later register ≡ Some b → b ≡ a
 same_names names later register a b same one two = same_given b a (sym two ∙ ap (λ (n : Names). slice_get n register) (sym same) ∙ one)
 
-pub header_reads : (p : Place) (counters : List ℕ) (s : State) (x : LoopHeader × State) → AreCounters p.counters counters → length s.names ≤ 32
+pub header_reads : (p : NestingPlace) (counters : List ℕ) (s : State) (x : LoopHeader × State) → AreCounters p.counters counters → length s.names ≤ 32
     → header_at p s ≡ Some x
     → ReadsHeader counters s x
 unfolding header_at

@@ -23,7 +23,7 @@ use Rattle.litmus_expression.specs.ExpressionReader.{expression_at, load_at, tak
 use Rattle.litmus_expression.specs.NameReader.{count_access, register_at, register_name, take_variable}
 use Rattle.litmus_expression.specs.Names.{Parameter}
 use Rattle.litmus_expression.specs.PlaceReader.{count_statement, take_changed}
-use Rattle.litmus_expression.specs.Places.{Place, asserting, deeper, in_loop, is_counter, outermost, repeats_of}
+use Rattle.litmus_expression.specs.Places.{NestingPlace, asserting, deeper, in_loop, is_counter, outermost, repeats_of}
 use Rattle.litmus_expression.specs.States.{State, after, entering, with_left}
 use Rattle.litmus_expression.proofs.Fewer.{at_last, behind_it, either_way, unless_it}
 use Rattle.litmus_expression.proofs.Whole.{changed_reads, expression_reads}
@@ -167,7 +167,7 @@ all_counted n t own m le few is = omega arith
 abbrev Counted_first : ℕ → State → Type 0
 Counted_first t s = s.repeats + t ≤ 1024
 
-store_first : (p : Place) (s : State) (w : StoreWord) (y : tree.Assignment × State) → store_at p.turns p.depth w s ≡ Some y → Counted_first p.turns s
+store_first : (p : NestingPlace) (s : State) (w : StoreWord) (y : tree.Assignment × State) → store_at p.turns p.depth w s ≡ Some y → Counted_first p.turns s
 unfolding store_at
 store_first p s w y e =
     behind_it (count_access p.turns s) (λ c. take_sign OpenParen (others c.symbols) >>= λ l. stored p.turns p.depth w (with_left c l) >>= λ z.
@@ -182,7 +182,7 @@ changed_same f s x e =
     at_last (r.0, after r.1) (λ (y : ℕ × State). Same s y.1) x e
     (let k = register_same s r is in record { statements = k.statements; repeats = k.repeats })))
 
-register_low : (p : Place) (s : State) (x : tree.Assignment × State) → Low s → register_assignment p s ≡ Some x → Low x.1
+register_low : (p : NestingPlace) (s : State) (x : tree.Assignment × State) → Low s → register_assignment p s ≡ Some x → Low x.1
 unfolding register_assignment
 register_low p s x low e =
     unless_it (begins_call s.symbols) (take_changed p.counters s >>= λ r. take_sign Assign r.1.symbols >>= λ l.
@@ -199,7 +199,7 @@ register_low p s x low e =
 abbrev LowSimple : Enclosable × State → Type 0
 LowSimple y = Low y.1
 
-module _ (p : Place) (counters : List ℕ) (s : State) (x : Enclosable × State) (r : ReadsSimple p counters s x) where
+module _ (p : NestingPlace) (counters : List ℕ) (s : State) (x : Enclosable × State) (r : ReadsSimple p counters s x) where
   first_is : Counted_first p.turns s → Low x.1
   first_is le = all_counted s.repeats p.turns (own_repeats p.turns (alone x.0)) x.1.repeats le (own_at_most p.turns (alone x.0)) r.repeats
 
@@ -224,7 +224,7 @@ module _ (p : Place) (counters : List ℕ) (s : State) (x : Enclosable × State)
       at_last (assignment z.0, z.1) LowSimple x e (register_low p s z low is))
   simple_from nothing low e = absurd cc
 
-simple_low : (p : Place) (counters : List ℕ) (s : State) (x : Enclosable × State) → ReadsSimple p counters s x → Low s → simple_at p s ≡ Some x → Low x.1
+simple_low : (p : NestingPlace) (counters : List ℕ) (s : State) (x : Enclosable × State) → ReadsSimple p counters s x → Low s → simple_at p s ≡ Some x → Low x.1
 unfolding simple_at
 simple_low p counters s x r low e = simple_from p counters s x r (start_of (first s.symbols)) low e
 
@@ -282,25 +282,25 @@ counter_same f s x e =
     (let k = changed_same f (with_left s o) r is in record { statements = k.statements; repeats = k.repeats }))))))
 
 -- the header of a loop, whose turns keep the limit
-record CountsHeader (p : Place) (s : State) (x : LoopHeader × State) : Type 0 where
+record CountsHeader (p : NestingPlace) (s : State) (x : LoopHeader × State) : Type 0 where
   same : Same s x.1
   few : x.0.turns ≤ 256
   inside : p.turns * x.0.turns ≤ 256
   repeats : x.0.repeats ≡ p.turns * x.0.turns
 
-record Repeats (p : Place) (turns n : ℕ) : Type 0 where
+record Repeats (p : NestingPlace) (turns n : ℕ) : Type 0 where
   few : turns ≤ 256
   inside : p.turns * turns ≤ 256
   is : n ≡ p.turns * turns
 
-repeats_are : (p : Place) (turns n : ℕ) → repeats_of p turns ≡ Some n → Repeats p turns n
+repeats_are : (p : NestingPlace) (turns n : ℕ) → repeats_of p turns ≡ Some n → Repeats p turns n
 repeats_are p turns n e =
     unless_it (nat_lt 256 turns) (cond (nat_lt 256 (p.turns * turns)) None (Some (p.turns * turns))) (Repeats p turns) n e (λ few e.
     unless_it (nat_lt 256 (p.turns * turns)) (Some (p.turns * turns)) (Repeats p turns) n e (λ inside e.
     at_last (p.turns * turns) (Repeats p turns) n e
     (record { few = ltb-false 256 turns few; inside = ltb-false 256 (p.turns * turns) inside; is = refl })))
 
-bound_counts : (p : Place) (register : ℕ) (s : State) (x : LoopHeader × State) → bound_at p register s ≡ Some x → CountsHeader p s x
+bound_counts : (p : NestingPlace) (register : ℕ) (s : State) (x : LoopHeader × State) → bound_at p register s ≡ Some x → CountsHeader p s x
 unfolding bound_at
 bound_counts p register s x e =
     behind_it (take_again register s) (λ u. take_sign signs.Less u.symbols >>= λ b. take_number b >>= λ n. repeats_of p n.0 >>= λ m.
@@ -326,7 +326,7 @@ step_same register s u e =
     at_last (with_left v l) (Same s) u e
     (let k = again_same register s v again in record { statements = k.statements; repeats = k.repeats }))))
 
-header_counts : (p : Place) (s : State) (x : LoopHeader × State) → header_at p s ≡ Some x → CountsHeader p s x
+header_counts : (p : NestingPlace) (s : State) (x : LoopHeader × State) → header_at p s ≡ Some x → CountsHeader p s x
 unfolding header_at
 header_counts p s x e =
     behind_it (counter_at p.counters s) (λ r. bound_at p r.0 r.1 >>= λ h. step_at r.0 h.1 >>= λ u. Some (h.0, u)) (CountsHeader p s) x e (λ r counter e.
@@ -344,7 +344,7 @@ header_counts p s x e =
 -- ---- statements
 
 -- a statement, or nothing, with what is counted
-pub record Counts (p : Place) (s : State) (x : Option tree.Statement × State) : Type 0 where
+pub record Counts (p : NestingPlace) (s : State) (x : Option tree.Statement × State) : Type 0 where
   pub statements : x.1.statements ≡ s.statements + count_of x.0
   pub repeats : x.1.repeats ≡ s.repeats + spent p.turns x.0
   pub limited : Limited x.1
@@ -352,26 +352,26 @@ pub record Counts (p : Place) (s : State) (x : Option tree.Statement × State) :
   pub scopes : Scopes p.scopes x.0
 
 -- a statement that is counted already
-pub record Inside (p : Place) (s : State) (x : tree.Statement × State) : Type 0 where
+pub record Inside (p : NestingPlace) (s : State) (x : tree.Statement × State) : Type 0 where
   pub statements : x.1.statements + 1 ≡ s.statements + statement_count x.0
   pub repeats : x.1.repeats ≡ s.repeats + statement_repeats p.turns x.0
   pub limited : Limited x.1
   pub turns : StatementTurns p.turns x.0
   pub scopes : StatementScopes p.scopes x.0
 
-pub record CountsBlock (p : Place) (s : State) (x : tree.Block × State) : Type 0 where
+pub record CountsBlock (p : NestingPlace) (s : State) (x : tree.Block × State) : Type 0 where
   pub statements : x.1.statements ≡ s.statements + block_count x.0
   pub repeats : x.1.repeats ≡ s.repeats + block_repeats p.turns x.0
   pub limited : Limited x.1
   pub turns : BlockTurns p.turns x.0
   pub scopes : BlockScopes p.scopes x.0
 
-pub record CountsMore (p : Place) (before : tree.Block) (s : State) (x : tree.Block × State) : Type 0 where
+pub record CountsMore (p : NestingPlace) (before : tree.Block) (s : State) (x : tree.Block × State) : Type 0 where
   pub block : tree.Block
   pub made : x.0 ≡ joined before block
   pub counts : CountsBlock p s (block, x.1)
 
-declaration_counts : (p : Place) (counters : List ℕ) (s : State) (x : Option tree.Statement × State) → Stands p counters s → Limited s
+declaration_counts : (p : NestingPlace) (counters : List ℕ) (s : State) (x : Option tree.Statement × State) → Stands p counters s → Limited s
     → declaration_at p s ≡ Some x → Counts p s x
 unfolding declaration_at
 declaration_counts p counters s x stands limited e =
@@ -420,19 +420,19 @@ declaration_counts p counters s x stands limited e =
     })))))
 
 pub record Counting (R : Readers) : Type 0 where
-  pub statement : (p : Place) (counters : List ℕ) (s : State) (x : Option tree.Statement × State) → Stands p counters s → Limited s
+  pub statement : (p : NestingPlace) (counters : List ℕ) (s : State) (x : Option tree.Statement × State) → Stands p counters s → Limited s
       → R.statement p s ≡ Some x → Counts p s x
-  pub counted : (p : Place) (c : Counted) (counters : List ℕ) (s : State) (x : tree.Statement × State) → Stands p counters s → Limited s
+  pub counted : (p : NestingPlace) (c : Counted) (counters : List ℕ) (s : State) (x : tree.Statement × State) → Stands p counters s → Limited s
       → Begins c (first s.symbols) → R.counted p c s ≡ Some x → Inside p s x
-  pub branch : (p : Place) (counters : List ℕ) (s : State) (x : tree.Statement × State) → Stands p counters s → Limited s
+  pub branch : (p : NestingPlace) (counters : List ℕ) (s : State) (x : tree.Statement × State) → Stands p counters s → Limited s
       → R.branch p s ≡ Some x → Inside p s x
-  pub repetition : (p : Place) (counters : List ℕ) (s : State) (x : tree.Statement × State) → Stands p counters s → Limited s
+  pub repetition : (p : NestingPlace) (counters : List ℕ) (s : State) (x : tree.Statement × State) → Stands p counters s → Limited s
       → R.repetition p s ≡ Some x → Inside p s x
-  pub body : (p : Place) (counters : List ℕ) (s : State) (x : tree.Block × State) → Stands p counters s → Limited s
+  pub body : (p : NestingPlace) (counters : List ℕ) (s : State) (x : tree.Block × State) → Stands p counters s → Limited s
       → R.body p s ≡ Some x → CountsBlock p s x
-  pub block : (p : Place) (counters : List ℕ) (s : State) (x : tree.Block × State) → Stands p counters s → Limited s
+  pub block : (p : NestingPlace) (counters : List ℕ) (s : State) (x : tree.Block × State) → Stands p counters s → Limited s
       → R.block p s ≡ Some x → CountsBlock p s x
-  pub more : (p : Place) (before : tree.Block) (counters : List ℕ) (s : State) (x : tree.Block × State) → Stands p counters s → Limited s
+  pub more : (p : NestingPlace) (before : tree.Block) (counters : List ℕ) (s : State) (x : tree.Block × State) → Stands p counters s → Limited s
       → R.more p before s ≡ Some x → CountsMore p before s x
 
 alone_turns : (t : ℕ) (x : Enclosable) → StatementTurns t (alone x)
@@ -453,19 +453,19 @@ raced_scopes k (assignment a) = tt
 
 -- ---- scopes behind a statement
 
-record Behind (p q : Place) (x : Option tree.Statement) : Type 0 where
+record Behind (p q : NestingPlace) (x : Option tree.Statement) : Type 0 where
   turns : q.turns ≡ p.turns
   scopes : q.scopes ≡ scopes_behind p.scopes x
 
-scoped_behind : (p q : Place) (scoped : Bool) (n : ℕ) → n ≡ cond scoped 1 0 → cond scoped (asserting p) (Some p) ≡ Some q
+scoped_behind : (p q : NestingPlace) (scoped : Bool) (n : ℕ) → n ≡ cond scoped 1 0 → cond scoped (asserting p) (Some p) ≡ Some q
     → (q.turns ≡ p.turns) × (q.scopes ≡ p.scopes + n)
 scoped_behind p q true n is e =
-    unless_it (p.scopes == 8) (Some (record p { scopes = p.scopes + 1 })) (λ (r : Place). (r.turns ≡ p.turns) × (r.scopes ≡ p.scopes + n)) q e (λ no e.
-    at_last (record p { scopes = p.scopes + 1 }) (λ (r : Place). (r.turns ≡ p.turns) × (r.scopes ≡ p.scopes + n)) q e (refl, omega (arith, is)))
+    unless_it (p.scopes == 8) (Some (record p { scopes = p.scopes + 1 })) (λ (r : NestingPlace). (r.turns ≡ p.turns) × (r.scopes ≡ p.scopes + n)) q e (λ no e.
+    at_last (record p { scopes = p.scopes + 1 }) (λ (r : NestingPlace). (r.turns ≡ p.turns) × (r.scopes ≡ p.scopes + n)) q e (refl, omega (arith, is)))
 scoped_behind p q false n is e =
-    at_last p (λ (r : Place). (r.turns ≡ p.turns) × (r.scopes ≡ p.scopes + n)) q e (refl, omega (arith, is))
+    at_last p (λ (r : NestingPlace). (r.turns ≡ p.turns) × (r.scopes ≡ p.scopes + n)) q e (refl, omega (arith, is))
 
-call_behind : (p q : Place) (c : Call) → behind p (Some (tree.call c)) ≡ Some q → (q.turns ≡ p.turns) × (q.scopes ≡ p.scopes + call_scopes c)
+call_behind : (p q : NestingPlace) (c : Call) → behind p (Some (tree.call c)) ≡ Some q → (q.turns ≡ p.turns) × (q.scopes ≡ p.scopes + call_scopes c)
 call_behind p q (calls.Barrier b) e = scoped_behind p q false 0 refl e
 call_behind p q (calls.Lock x) e = scoped_behind p q false 0 refl e
 call_behind p q (calls.Unlock x) e = scoped_behind p q false 0 refl e
@@ -475,8 +475,8 @@ call_behind p q (calls.AssertBits x mask) e = scoped_behind p q false 0 refl e
 call_behind p q (calls.Mark m) e = scoped_behind p q false 0 refl e
 call_behind p q (calls.Check write x size) e = scoped_behind p q false 0 refl e
 
-behind_so : (p q : Place) (x : Option tree.Statement) → behind p x ≡ Some q → (q.turns ≡ p.turns) × (q.scopes ≡ scopes_behind p.scopes x)
-behind_so p q None e = at_last p (λ (r : Place). (r.turns ≡ p.turns) × (r.scopes ≡ p.scopes)) q e (refl, refl)
+behind_so : (p q : NestingPlace) (x : Option tree.Statement) → behind p x ≡ Some q → (q.turns ≡ p.turns) × (q.scopes ≡ scopes_behind p.scopes x)
+behind_so p q None e = at_last p (λ (r : NestingPlace). (r.turns ≡ p.turns) × (r.scopes ≡ p.scopes)) q e (refl, refl)
 behind_so p q (Some (tree.load_only l)) e = scoped_behind p q false 0 refl e
 behind_so p q (Some (tree.assign race a)) e = scoped_behind p q false 0 refl e
 behind_so p q (Some (tree.call c)) e = call_behind p q c e
@@ -495,7 +495,7 @@ kept_scopes k None b one two = two
 kept_scopes k (Some s) b one two = (one, two)
 
 -- what is counted of a block stays so where its place has the same turns and scopes
-same_place : (p q : Place) (s : State) (x : tree.Block × State) → q.turns ≡ p.turns → q.scopes ≡ p.scopes → CountsBlock q s x → CountsBlock p s x
+same_place : (p q : NestingPlace) (s : State) (x : tree.Block × State) → q.turns ≡ p.turns → q.scopes ≡ p.scopes → CountsBlock q s x → CountsBlock p s x
 same_place p q s x turns scopes c = record {
   statements = c.statements;
   repeats = subst (λ (t : ℕ). x.1.repeats ≡ s.repeats + block_repeats t x.0) turns c.repeats;
@@ -505,7 +505,7 @@ same_place p q s x turns scopes c = record {
 }
 
 module _ (R : Readers) (h : Sound R) (n : Counting R) where
-  statement_counting : (p : Place) (counters : List ℕ) (s : State) (o : Opening) (x : Option tree.Statement × State) → Stands p counters s → Limited s
+  statement_counting : (p : NestingPlace) (counters : List ℕ) (s : State) (o : Opening) (x : Option tree.Statement × State) → Stands p counters s → Limited s
       → opening_at s ≡ Some o → statement_with R p s o ≡ Some x → Counts p s x
   statement_counting p counters s openings.Empty x stands limited opens e =
       at_last (None, after s) (Counts p s) x e (record {
@@ -533,7 +533,7 @@ module _ (R : Readers) (h : Sound R) (n : Counting R) where
         scopes = i.scopes;
       })))
 
-  counted_counting : (p : Place) (c : Counted) (counters : List ℕ) (s : State) (x : tree.Statement × State) → Stands p counters s → Limited s
+  counted_counting : (p : NestingPlace) (c : Counted) (counters : List ℕ) (s : State) (x : tree.Statement × State) → Stands p counters s → Limited s
       → Begins c (first s.symbols) → (by R).counted p c s ≡ Some x → Inside p s x
   unfolding data_race_at
   counted_counting p counteds.If counters s x stands limited begins e = n.branch p counters s x stands limited e
@@ -588,7 +588,7 @@ module _ (R : Readers) (h : Sound R) (n : Counting R) where
         scopes = alone_scopes p.scopes z.0;
       })))
 
-  branch_counting : (p : Place) (counters : List ℕ) (s : State) (x : tree.Statement × State) → Stands p counters s → Limited s
+  branch_counting : (p : NestingPlace) (counters : List ℕ) (s : State) (x : tree.Statement × State) → Stands p counters s → Limited s
       → (by R).branch p s ≡ Some x → Inside p s x
   branch_counting p counters s x stands limited e =
       behind_it (take_sign OpenParen (others s.symbols)) (λ l. expression_at p.turns p.depth (with_left s l) >>= λ c. take_sign CloseParen c.1.symbols
@@ -626,7 +626,7 @@ module _ (R : Readers) (h : Sound R) (n : Counting R) where
         scopes = one.scopes;
       }))))))
 
-  repetition_counting : (p : Place) (counters : List ℕ) (s : State) (x : tree.Statement × State) → Stands p counters s → Limited s
+  repetition_counting : (p : NestingPlace) (counters : List ℕ) (s : State) (x : tree.Statement × State) → Stands p counters s → Limited s
       → (by R).repetition p s ≡ Some x → Inside p s x
   repetition_counting p counters s x stands limited e =
       behind_it (header_at p (after s)) (λ m. R.body (in_loop p m.0.register m.0.repeats) m.1
@@ -653,7 +653,7 @@ module _ (R : Readers) (h : Sound R) (n : Counting R) where
         scopes = one.scopes;
       })))
 
-  body_counting : (p : Place) (counters : List ℕ) (s : State) (x : tree.Block × State) → Stands p counters s → Limited s
+  body_counting : (p : NestingPlace) (counters : List ℕ) (s : State) (x : tree.Block × State) → Stands p counters s → Limited s
       → (by R).body p s ≡ Some x → CountsBlock p s x
   body_counting p counters s x stands limited e =
       either_way (is_sign OpenBrace (first s.symbols)) (R.block p s)
@@ -674,7 +674,7 @@ module _ (R : Readers) (h : Sound R) (n : Counting R) where
         scopes = kept_scopes q.scopes z.0 tree.empty one.scopes tt;
       }))))))
 
-  block_counting : (p : Place) (counters : List ℕ) (s : State) (x : tree.Block × State) → Stands p counters s → Limited s
+  block_counting : (p : NestingPlace) (counters : List ℕ) (s : State) (x : tree.Block × State) → Stands p counters s → Limited s
       → (by R).block p s ≡ Some x → CountsBlock p s x
   block_counting p counters s x stands limited e =
       either_way (is_sign OpenBrace (first s.symbols)) (deeper p >>= λ q. R.more q tree.empty (after s)) None (CountsBlock p s) x e
@@ -693,7 +693,7 @@ module _ (R : Readers) (h : Sound R) (n : Counting R) where
       subst (λ (b : tree.Block). CountsBlock p s (b, x.1)) (sym m.made) there))
       (λ none e. absurd cc)
 
-  more_counting : (p : Place) (before : tree.Block) (counters : List ℕ) (s : State) (x : tree.Block × State) → Stands p counters s → Limited s
+  more_counting : (p : NestingPlace) (before : tree.Block) (counters : List ℕ) (s : State) (x : tree.Block × State) → Stands p counters s → Limited s
       → (by R).more p before s ≡ Some x → CountsMore p before s x
   more_counting p before counters s x stands limited e =
       either_way (is_sign CloseBrace (first s.symbols)) (Some (before, after s))
@@ -736,7 +736,7 @@ module _ (R : Readers) (h : Sound R) (n : Counting R) where
         };
       })))
 
-  statement_from : (p : Place) (counters : List ℕ) (s : State) (x : Option tree.Statement × State) → Stands p counters s → Limited s
+  statement_from : (p : NestingPlace) (counters : List ℕ) (s : State) (x : Option tree.Statement × State) → Stands p counters s → Limited s
       → (by R).statement p s ≡ Some x → Counts p s x
   statement_from p counters s x stands limited e =
       behind_it (opening_at s) (λ o. statement_with R p s o) (Counts p s) x e (λ o opens e.

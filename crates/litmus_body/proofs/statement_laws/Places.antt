@@ -7,7 +7,7 @@ use Rattle.std.specs.Prelude.{Contains, replicate, set, slice_get}
 use Rattle.litmus_syntax.specs.Tree as tree
 use Rattle.litmus_expression.specs.Counters.{AreCounters}
 use Rattle.litmus_expression.specs.Names.{Names, Numbered, known, new}
-use Rattle.litmus_expression.specs.Places.{Place, asserting, deeper, is_counter}
+use Rattle.litmus_expression.specs.Places.{NestingPlace, asserting, deeper, is_counter}
 use Rattle.litmus_expression.proofs.Fewer.{at_last, either_way, unless_it}
 use Rattle.litmus_expression.proofs.Named.{among, in_front, in_none, in_rest}
 use Rattle.litmus_body.specs.StatementReader.{begins_scope, behind}
@@ -72,7 +72,7 @@ counters_none = record {
 
 -- ---- places inside others, and behind others
 
-pub record Deeper (p q : Place) : Type 0 where
+pub record Deeper (p q : NestingPlace) : Type 0 where
   pub below : p.depth < 16
   pub depth : q.depth ≡ suc p.depth
   pub counters : q.counters ≡ p.counters
@@ -82,13 +82,13 @@ pub record Deeper (p q : Place) : Type 0 where
 not_all : (n : ℕ) → (n == 16) ≡ false → n ≤ 16 → n < 16
 not_all n e le = grind (arith, eq-eqb n 16)
 
-pub deeper_is : (p q : Place) → p.depth ≤ 16 → deeper p ≡ Some q → Deeper p q
+pub deeper_is : (p q : NestingPlace) → p.depth ≤ 16 → deeper p ≡ Some q → Deeper p q
 deeper_is p q le e =
     unless_it (p.depth == 16) (Some (record p { depth = p.depth + 1 })) (Deeper p) q e (λ no e.
     at_last (record p { depth = p.depth + 1 }) (Deeper p) q e
     (record { below = not_all p.depth no le; depth = omega arith; counters = refl; scopes = refl; turns = refl }))
 
-pub record Later (p q : Place) : Type 0 where
+pub record Later (p q : NestingPlace) : Type 0 where
   pub depth : q.depth ≡ p.depth
   pub counters : q.counters ≡ p.counters
   pub scopes : q.scopes ≤ 8
@@ -97,16 +97,16 @@ pub record Later (p q : Place) : Type 0 where
 not_all_scopes : (n : ℕ) → (n == 8) ≡ false → n ≤ 8 → n + 1 ≤ 8
 not_all_scopes n e le = grind (arith, eq-eqb n 8)
 
-asserting_is : (p q : Place) → p.scopes ≤ 8 → asserting p ≡ Some q → Later p q
+asserting_is : (p q : NestingPlace) → p.scopes ≤ 8 → asserting p ≡ Some q → Later p q
 asserting_is p q le e =
     unless_it (p.scopes == 8) (Some (record p { scopes = p.scopes + 1 })) (Later p) q e (λ no e.
     at_last (record p { scopes = p.scopes + 1 }) (Later p) q e
     (record { depth = refl; counters = refl; scopes = not_all_scopes p.scopes no le; turns = refl }))
 
-same_place : (p q : Place) → p.scopes ≤ 8 → Some p ≡ Some q → Later p q
+same_place : (p q : NestingPlace) → p.scopes ≤ 8 → Some p ≡ Some q → Later p q
 same_place p q le e = at_last p (Later p) q e (record { depth = refl; counters = refl; scopes = le; turns = refl })
 
-pub behind_is : (p q : Place) (x : Option tree.Statement) → p.scopes ≤ 8 → behind p x ≡ Some q → Later p q
+pub behind_is : (p q : NestingPlace) (x : Option tree.Statement) → p.scopes ≤ 8 → behind p x ≡ Some q → Later p q
 behind_is p q None le e = same_place p q le e
 behind_is p q (Some s) le e =
     either_way (begins_scope s) (asserting p) (Some p) (Later p) q e

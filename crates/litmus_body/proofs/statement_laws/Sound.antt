@@ -10,7 +10,7 @@ use Rattle.litmus_expression.specs.Expressions.{Expression}
 use Rattle.litmus_expression.specs.ExpressionReader.{expression_at}
 use Rattle.litmus_expression.specs.Names.{Names, Parameter}
 use Rattle.litmus_expression.specs.PlaceReader.{count_statement}
-use Rattle.litmus_expression.specs.Places.{Place, deeper, in_loop, outermost}
+use Rattle.litmus_expression.specs.Places.{NestingPlace, deeper, in_loop, outermost}
 use Rattle.litmus_expression.specs.States.{State, after, with_left}
 use Rattle.litmus_expression.proofs.Fewer.{at_last, behind_it, either_way}
 use Rattle.litmus_expression.proofs.Taken.{front, is_sign_is, sign_taken}
@@ -33,7 +33,7 @@ use Rattle.litmus_body.proofs.statement_laws.Openings.{Begins, no_data_race, ope
 use Rattle.litmus_body.proofs.statement_laws.Places.{Deeper, behind_is, counters_more, counters_none, deeper_is, not_both}
 
 -- a block from its `{` on
-pub record ReadsBlock (p : Place) (counters : List ℕ) (s : State) (x : tree.Block × State) : Type 0 where
+pub record ReadsBlock (p : NestingPlace) (counters : List ℕ) (s : State) (x : tree.Block × State) : Type 0 where
   pub opens : s.symbols ≡ sign OpenBrace ∷ others s.symbols
   pub below : p.depth < 16
   pub spelled : Statements s.parameters (suc p.depth) counters s.names (others s.symbols) x.0 x.1.symbols x.1.names
@@ -41,7 +41,7 @@ pub record ReadsBlock (p : Place) (counters : List ℕ) (s : State) (x : tree.Bl
   pub parameters : x.1.parameters ≡ s.parameters
 
 -- what is left of a block, behind what was read of it before
-pub record ReadsMore (p : Place) (counters : List ℕ) (before : tree.Block) (s : State) (x : tree.Block × State) : Type 0 where
+pub record ReadsMore (p : NestingPlace) (counters : List ℕ) (before : tree.Block) (s : State) (x : tree.Block × State) : Type 0 where
   pub block : tree.Block
   pub made : x.0 ≡ joined before block
   pub spelled : Statements s.parameters p.depth counters s.names s.symbols block x.1.symbols x.1.names
@@ -49,24 +49,24 @@ pub record ReadsMore (p : Place) (counters : List ℕ) (before : tree.Block) (s 
   pub parameters : x.1.parameters ≡ s.parameters
 
 pub record Sound (R : Readers) : Type 0 where
-  pub statement : (p : Place) (counters : List ℕ) (s : State) (x : Option tree.Statement × State) → Stands p counters s → R.statement p s ≡ Some x
+  pub statement : (p : NestingPlace) (counters : List ℕ) (s : State) (x : Option tree.Statement × State) → Stands p counters s → R.statement p s ≡ Some x
       → ReadsStatement p counters s x
-  pub counted : (p : Place) (c : Counted) (counters : List ℕ) (s : State) (x : tree.Statement × State) → Stands p counters s → Begins c (first s.symbols)
+  pub counted : (p : NestingPlace) (c : Counted) (counters : List ℕ) (s : State) (x : tree.Statement × State) → Stands p counters s → Begins c (first s.symbols)
       → R.counted p c s ≡ Some x → ReadsStatement p counters s (Some x.0, x.1)
-  pub branch : (p : Place) (counters : List ℕ) (s : State) (x : tree.Statement × State) → Stands p counters s → first s.symbols ≡ word words.If
+  pub branch : (p : NestingPlace) (counters : List ℕ) (s : State) (x : tree.Statement × State) → Stands p counters s → first s.symbols ≡ word words.If
       → R.branch p s ≡ Some x → ReadsStatement p counters s (Some x.0, x.1)
-  pub repetition : (p : Place) (counters : List ℕ) (s : State) (x : tree.Statement × State) → Stands p counters s → first s.symbols ≡ word words.For
+  pub repetition : (p : NestingPlace) (counters : List ℕ) (s : State) (x : tree.Statement × State) → Stands p counters s → first s.symbols ≡ word words.For
       → R.repetition p s ≡ Some x → ReadsStatement p counters s (Some x.0, x.1)
-  pub body : (p : Place) (counters : List ℕ) (s : State) (x : tree.Block × State) → Stands p counters s → R.body p s ≡ Some x → ReadsBody p counters s x
-  pub block : (p : Place) (counters : List ℕ) (s : State) (x : tree.Block × State) → Stands p counters s → R.block p s ≡ Some x → ReadsBlock p counters s x
-  pub more : (p : Place) (before : tree.Block) (counters : List ℕ) (s : State) (x : tree.Block × State) → Stands p counters s → R.more p before s ≡ Some x
+  pub body : (p : NestingPlace) (counters : List ℕ) (s : State) (x : tree.Block × State) → Stands p counters s → R.body p s ≡ Some x → ReadsBody p counters s x
+  pub block : (p : NestingPlace) (counters : List ℕ) (s : State) (x : tree.Block × State) → Stands p counters s → R.block p s ≡ Some x → ReadsBlock p counters s x
+  pub more : (p : NestingPlace) (before : tree.Block) (counters : List ℕ) (s : State) (x : tree.Block × State) → Stands p counters s → R.more p before s ≡ Some x
       → ReadsMore p counters before s x
 
-pub stands_with : (p : Place) (counters : List ℕ) (s u : State) → Stands p counters s → length u.names ≤ 32 → Stands p counters u
+pub stands_with : (p : NestingPlace) (counters : List ℕ) (s u : State) → Stands p counters s → length u.names ≤ 32 → Stands p counters u
 stands_with p counters s u stands few_names =
     record { are = stands.are; depth = stands.depth; scopes = stands.scopes; registers = few_names }
 
-pub stands_deeper : (p q : Place) (counters : List ℕ) (s : State) → Stands p counters s → Deeper p q → Stands q counters s
+pub stands_deeper : (p q : NestingPlace) (counters : List ℕ) (s : State) → Stands p counters s → Deeper p q → Stands q counters s
 stands_deeper p q counters s stands d = record {
   are = subst (λ (f : List Bool). AreCounters f counters) (sym d.counters) stands.are;
   depth = omega (arith, d.depth, d.below);
@@ -74,7 +74,7 @@ stands_deeper p q counters s stands d = record {
   registers = stands.registers;
 }
 
-reads_same : (p : Place) (counters : List ℕ) (s u : State) (x : Option tree.Statement × State) → SameSpot s u → ReadsStatement p counters u x
+reads_same : (p : NestingPlace) (counters : List ℕ) (s u : State) (x : Option tree.Statement × State) → SameSpot s u → ReadsStatement p counters u x
     → ReadsStatement p counters s x
 reads_same p counters s u x same r = record {
   spelled = subst (λ (l : List Symbol). Statement s.parameters p.depth counters s.names l x.0 x.1.symbols x.1.names) same.symbols
@@ -95,7 +95,7 @@ later_block before block None = refl
 later_block before block (Some s) = joined_twice before (tree.first s tree.empty) block
 
 module _ (R : Readers) (h : Sound R) where
-  statement_sound : (p : Place) (counters : List ℕ) (s : State) (o : Opening) (x : Option tree.Statement × State) → Stands p counters s
+  statement_sound : (p : NestingPlace) (counters : List ℕ) (s : State) (o : Opening) (x : Option tree.Statement × State) → Stands p counters s
       → opening_at s ≡ Some o → statement_with R p s o ≡ Some x → ReadsStatement p counters s x
   statement_sound p counters s openings.Empty x stands opens e =
       at_last (None, after s) (ReadsStatement p counters s) x e (record {
@@ -114,7 +114,7 @@ module _ (R : Readers) (h : Sound R) where
       reads_same p counters s u (Some z.0, z.1) same
       (h.counted p c counters u z (stands_with p counters s u stands (few same.names stands.registers)) begins is))))
 
-  counted_sound : (p : Place) (c : Counted) (counters : List ℕ) (s : State) (x : tree.Statement × State) → Stands p counters s → Begins c (first s.symbols)
+  counted_sound : (p : NestingPlace) (c : Counted) (counters : List ℕ) (s : State) (x : tree.Statement × State) → Stands p counters s → Begins c (first s.symbols)
       → (by R).counted p c s ≡ Some x → ReadsStatement p counters s (Some x.0, x.1)
   unfolding data_race_at
   counted_sound p counteds.If counters s x stands begins e = h.branch p counters s x stands begins e
@@ -171,7 +171,7 @@ module _ (R : Readers) (h : Sound R) where
         parameters = r.parameters;
       })))
 
-  branch_sound : (p : Place) (counters : List ℕ) (s : State) (x : tree.Statement × State) → Stands p counters s → first s.symbols ≡ word words.If
+  branch_sound : (p : NestingPlace) (counters : List ℕ) (s : State) (x : tree.Statement × State) → Stands p counters s → first s.symbols ≡ word words.If
       → (by R).branch p s ≡ Some x → ReadsStatement p counters s (Some x.0, x.1)
   branch_sound p counters s x stands begins e =
       behind_it (take_sign OpenParen (others s.symbols)) (λ l. expression_at p.turns p.depth (with_left s l) >>= λ c. take_sign CloseParen c.1.symbols
@@ -216,7 +216,7 @@ module _ (R : Readers) (h : Sound R) where
         parameters = parameters;
       }))))))
 
-  repetition_sound : (p : Place) (counters : List ℕ) (s : State) (x : tree.Statement × State) → Stands p counters s → first s.symbols ≡ word words.For
+  repetition_sound : (p : NestingPlace) (counters : List ℕ) (s : State) (x : tree.Statement × State) → Stands p counters s → first s.symbols ≡ word words.For
       → (by R).repetition p s ≡ Some x → ReadsStatement p counters s (Some x.0, x.1)
   repetition_sound p counters s x stands begins e =
       behind_it (header_at p (after s)) (λ n. R.body (in_loop p n.0.register n.0.repeats) n.1
@@ -244,7 +244,7 @@ module _ (R : Readers) (h : Sound R) where
         parameters = r.parameters ∙ k.parameters;
       })))
 
-  body_sound : (p : Place) (counters : List ℕ) (s : State) (x : tree.Block × State) → Stands p counters s → (by R).body p s ≡ Some x
+  body_sound : (p : NestingPlace) (counters : List ℕ) (s : State) (x : tree.Block × State) → Stands p counters s → (by R).body p s ≡ Some x
       → ReadsBody p counters s x
   body_sound p counters s x stands e =
       either_way (is_sign OpenBrace (first s.symbols)) (R.block p s)
@@ -271,7 +271,7 @@ module _ (R : Readers) (h : Sound R) where
         parameters = r.parameters;
       })))))
 
-  block_sound : (p : Place) (counters : List ℕ) (s : State) (x : tree.Block × State) → Stands p counters s → (by R).block p s ≡ Some x
+  block_sound : (p : NestingPlace) (counters : List ℕ) (s : State) (x : tree.Block × State) → Stands p counters s → (by R).block p s ≡ Some x
       → ReadsBlock p counters s x
   block_sound p counters s x stands e =
       either_way (is_sign OpenBrace (first s.symbols)) (deeper p >>= λ q. R.more q tree.empty (after s)) None (ReadsBlock p counters s) x e
@@ -291,7 +291,7 @@ module _ (R : Readers) (h : Sound R) where
       }))
       (λ none e. absurd cc)
 
-  more_sound : (p : Place) (before : tree.Block) (counters : List ℕ) (s : State) (x : tree.Block × State) → Stands p counters s
+  more_sound : (p : NestingPlace) (before : tree.Block) (counters : List ℕ) (s : State) (x : tree.Block × State) → Stands p counters s
       → (by R).more p before s ≡ Some x → ReadsMore p counters before s x
   more_sound p before counters s x stands e =
       either_way (is_sign CloseBrace (first s.symbols)) (Some (before, after s))
@@ -325,7 +325,7 @@ module _ (R : Readers) (h : Sound R) where
         parameters = two.parameters ∙ one.parameters;
       })))
 
-  statement_whole : (p : Place) (counters : List ℕ) (s : State) (x : Option tree.Statement × State) → Stands p counters s → (by R).statement p s ≡ Some x
+  statement_whole : (p : NestingPlace) (counters : List ℕ) (s : State) (x : Option tree.Statement × State) → Stands p counters s → (by R).statement p s ≡ Some x
       → ReadsStatement p counters s x
   statement_whole p counters s x stands e =
       behind_it (opening_at s) (λ o. statement_with R p s o) (ReadsStatement p counters s) x e (λ o opens e.
@@ -360,16 +360,16 @@ deep_sound (suc fuel) = by_sound (deep fuel) (deep_sound fuel)
 
 -- ---- the readers
 
-pub statement_reads : (p : Place) (counters : List ℕ) (s : State) (x : Option tree.Statement × State) → Stands p counters s → statement_at p s ≡ Some x
+pub statement_reads : (p : NestingPlace) (counters : List ℕ) (s : State) (x : Option tree.Statement × State) → Stands p counters s → statement_at p s ≡ Some x
     → ReadsStatement p counters s x
 unfolding statement_at
 statement_reads p counters s x stands e = (deep_sound (10 * length s.symbols + 10)).statement p counters s x stands e
 
-pub body_reads : (p : Place) (counters : List ℕ) (s : State) (x : tree.Block × State) → Stands p counters s → body_at p s ≡ Some x → ReadsBody p counters s x
+pub body_reads : (p : NestingPlace) (counters : List ℕ) (s : State) (x : tree.Block × State) → Stands p counters s → body_at p s ≡ Some x → ReadsBody p counters s x
 unfolding body_at
 body_reads p counters s x stands e = (deep_sound (10 * length s.symbols + 10)).body p counters s x stands e
 
-pub block_reads : (p : Place) (counters : List ℕ) (s : State) (x : tree.Block × State) → Stands p counters s → block_at p s ≡ Some x → ReadsBlock p counters s x
+pub block_reads : (p : NestingPlace) (counters : List ℕ) (s : State) (x : tree.Block × State) → Stands p counters s → block_at p s ≡ Some x → ReadsBlock p counters s x
 unfolding block_at
 block_reads p counters s x stands e = (deep_sound (10 * length s.symbols + 10)).block p counters s x stands e
 

@@ -6,25 +6,25 @@ use Rattle.litmus_syntax.specs.Limits.{nesting_limit, registers_limit, scoped_li
 use Rattle.litmus_syntax.specs.Tree as tree
 use Rattle.litmus_cursor.specs.Words.{Symbol, sign}
 use Rattle.litmus_expression.specs.Counters.{AreCounters}
-use Rattle.litmus_expression.specs.Places.{Place}
+use Rattle.litmus_expression.specs.Places.{NestingPlace}
 use Rattle.litmus_expression.specs.States.{State}
 use Rattle.litmus_body.specs.Statements.{Body, Statement, Statements}
 
 -- a state at a place: these registers count the loops round it, and no limit is passed
-pub record Stands (p : Place) (counters : List ℕ) (s : State) : Type 0 where
+pub record Stands (p : NestingPlace) (counters : List ℕ) (s : State) : Type 0 where
   pub are : AreCounters p.counters counters
   pub depth : p.depth ≤ nesting_limit
   pub scopes : p.scopes ≤ scoped_limit
   pub registers : length s.names ≤ registers_limit
 
 -- one statement, and what is kept of it
-pub record ReadsStatement (p : Place) (counters : List ℕ) (s : State) (x : Option tree.Statement × State) : Type 0 where
+pub record ReadsStatement (p : NestingPlace) (counters : List ℕ) (s : State) (x : Option tree.Statement × State) : Type 0 where
   pub spelled : Statement s.parameters p.depth counters s.names s.symbols x.0 x.1.symbols x.1.names
   pub within : length x.1.names ≤ registers_limit
   pub parameters : x.1.parameters ≡ s.parameters
 
 -- a block, or one statement that is a block of its own
-pub record ReadsBody (p : Place) (counters : List ℕ) (s : State) (x : tree.Block × State) : Type 0 where
+pub record ReadsBody (p : NestingPlace) (counters : List ℕ) (s : State) (x : tree.Block × State) : Type 0 where
   pub spelled : Body s.parameters p.depth counters s.names s.symbols x.0 x.1.symbols x.1.names
   pub within : length x.1.names ≤ registers_limit
   pub parameters : x.1.parameters ≡ s.parameters

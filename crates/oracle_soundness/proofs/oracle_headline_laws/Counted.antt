@@ -7,10 +7,10 @@ use Rattle.access_types.specs.Access.{Access}
 use Rattle.oracle_soundness.specs.oracle_headline_laws.Accounts.{account_of, armed_as, came_as}
 use Rattle.oracle_soundness.specs.oracle_headline.Tried as given
 use Rattle.soundness.specs.Totals as totals
-use Rattle.executions.specs.run_lists.Answers as answers
-use Rattle.executions.specs.run_lists.Run.{Run}
-use Rattle.executions.specs.run_lists.RunList.{RunList}
-use Rattle.executions.specs.run_lists.Told.{Armed, OutcomeAt, outcomes_of}
+use Rattle.executions.specs.execution.Answers as answers
+use Rattle.executions.specs.execution.Run.{Run}
+use Rattle.executions.specs.execution.Execution.{Execution}
+use Rattle.executions.specs.execution.Observed.{Armed, OutcomeAt, outcomes_of}
 use Rattle.soundness.specs.Takings as takings
 use Rattle.soundness.specs.Takings.{HasOneAnswer}
 use Rattle.setup_access.specs.declared.outcome.Outcome.{Outcome}
@@ -60,7 +60,7 @@ answer_same index number came = rw (is_same_answer came.outcome, armed_same came
     armed_same None = refl
     armed_same (Some arming) = refl
 
-module _ {run : Run} {records : List Record} (list : RunList run records) (accesses : List Access) (over : Bool) where
+module _ {run : Run} {records : List Record} (list : Execution run records) (accesses : List Access) (over : Bool) where
   -- the answers that are counted are those of the list
   answers_same : (index number : ℕ)
       → count_by (given.answers index number) (map came_as (outcomes_of list)) ≡ length (takings.answers_to list index number)

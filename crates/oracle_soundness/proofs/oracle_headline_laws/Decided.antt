@@ -1,4 +1,4 @@
--- The headline of a run list, and that of what it tells.
+-- The headline of an execution, and that of what it tells.
 use Rattle.std.proofs.Common.{◌∷◌, ◌++◌, ◌∙◌, [], ℕ, Bool, All, Contains, IsTrue, List, Option, ap, map, slice_index_or, subst, sym}
 use Rattle.std.specs.Option.{option_map}
 use Rattle.std.proofs.lemmas.List.Elements.{All-map}
@@ -12,9 +12,9 @@ use Rattle.soundness.specs.Headline.{Headline}
 use Rattle.soundness.specs.Origins.{IfUnknown}
 use Rattle.soundness.specs.Races.{IfTwoSided, NamesTheRace}
 use Rattle.soundness.specs.Watched.{IfUnknownInWatch}
-use Rattle.executions.specs.run_lists.Run.{Run}
-use Rattle.executions.specs.run_lists.RunList.{AllHaveEnded, RunList}
-use Rattle.executions.specs.run_lists.Told.{Armed, OutcomeAt, outcomes_of}
+use Rattle.executions.specs.execution.Run.{Run}
+use Rattle.executions.specs.execution.Execution.{AllHaveEnded, Execution}
+use Rattle.executions.specs.execution.Observed.{Armed, OutcomeAt, outcomes_of}
 use Rattle.setup_access.specs.declared.outcome.Outcome.{Outcome}
 use Rattle.setup_access.specs.declared.outcome.Outcome.TheVariants as outcomes
 use Rattle.slot.specs.Pair.{Halves}
@@ -34,7 +34,7 @@ told_later (latest ∷ later) earlier met there =
 abbrev met_by : ℕ → ℕ → Halves → Meeting
 met_by index number pair = record { index = index; number = number; setter = pair.setter; finder = pair.finder }
 
-module _ {run : Run} {records : List Record} (list : RunList run records) (accesses : List Access) (over : Bool) where
+module _ {run : Run} {records : List Record} (list : Execution run records) (accesses : List Access) (over : Bool) where
   abbrev told : Account
   told = account_of list accesses over
 

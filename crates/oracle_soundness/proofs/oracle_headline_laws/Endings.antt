@@ -8,9 +8,9 @@ use Rattle.oracle_soundness.specs.oracle_headline_laws.Accounts.{account_of, fir
 use Rattle.oracle_soundness.specs.oracle_headline.Tried as given
 use Rattle.oracle_soundness.specs.oracle_headline.Tried.{Account, HasEnded}
 use Rattle.soundness.specs.Ended.{HasEndedSince}
-use Rattle.executions.specs.run_lists.Run.{Run}
-use Rattle.executions.specs.run_lists.RunList.{RunList}
-use Rattle.executions.specs.run_lists.Told.{history_by, history_of}
+use Rattle.executions.specs.execution.Run.{Run}
+use Rattle.executions.specs.execution.Execution.{Execution}
+use Rattle.executions.specs.execution.Observed.{history_by, history_of}
 use Rattle.slot_table.specs.Hearings.{SomeRecord}
 use Rattle.slot_table.specs.declared.records.Record.{Record}
 
@@ -61,7 +61,7 @@ it_stands P (latest ∷ later) made earlier is = inr (it_stands P later made ear
 abbrev AndEnded : Account → (Record → List Record → Type 0) → Record → List Record → Type 0
 AndEnded told P made earlier = P made earlier × HasEnded told.history made.task (told.moments (length earlier))
 
-module _ {run : Run} {records : List Record} (list : RunList run records) (accesses : List Access) (over : Bool) where
+module _ {run : Run} {records : List Record} (list : Execution run records) (accesses : List Access) (over : Bool) where
   abbrev told : Account
   told = account_of list accesses over
 

@@ -11,7 +11,7 @@ use crate::oracle_headline::changes::changed;
 use crate::oracle_headline::endings::takings_answered;
 use crate::oracle_headline::meetings::{Meeting, setters_heard, was_told};
 use crate::oracle_headline::told::{Came, Told};
-use crate::oracle_headline::totals::totals_agree;
+use crate::oracle_headline::totals::law_totals_agree;
 use access_types::{Access, ValueChange, ticket};
 use setup_access::Outcome;
 use slot::Pair;
@@ -91,7 +91,7 @@ fn all_true(alloc: Global, told: &Told) -> Answer
 fn ends_agreed(told: &Told) -> bool
     ensures { IsTrue result → IsTrue told.now.ended → Totals told.now.records.items told.now.outcomes.items }
 {
-    !told.ended || totals_agree(told)
+    !told.ended || law_totals_agree(told)
 }
 
 /// Whether the headline holds of what is told. Then each meeting of which a setter has heard has one answer as well.

@@ -173,7 +173,7 @@ fn answered(outcomes: &[Came]) -> u128
 }
 
 /// The totals agree.
-pub fn totals_agree(told: &Told) -> bool
+pub fn law_totals_agree(told: &Told) -> bool
     ensures { IsTrue result → spec.Totals told.now.records.items told.now.outcomes.items }
 {
     let (records, outcomes) = (told.records.as_slice(), told.outcomes.as_slice());

@@ -6,7 +6,7 @@ use Rattle.std.proofs.lemmas.List.{append-nil, take-append-drop}
 use Rattle.slot_table.specs.declared.records.Record.{Record}
 use Rattle.slot_table.specs.declared.step.Step.{Step}
 use Rattle.setup_access.specs.Checker.{Does, Doing}
-use Rattle.setup_access.specs.Leads.{IsComplete, IsDone, IsOver, Leads, OnlyStep}
+use Rattle.setup_access.specs.Leads.{IsComplete, IsDone, IsCheckOver, Leads, OnlyStep}
 use Rattle.setup_access.specs.Parts.{made}
 use Rattle.setup_access.specs.Setting.{Setting}
 use Rattle.setup_access.specs.Waits.{IsStuckBy}
@@ -30,7 +30,7 @@ module _ (s : Setting) (scopes : List Begun) (doing : Doing) (asked : ℕ) (reco
 
     -- a step after the end
     pub step_too_many : (checker : Checker) → (IsDone s scopes doing asked (take n records) → IsComplete s scopes doing asked (take n records) checker)
-        → IsOver s scopes doing asked (take n records) → ¬ IsStuckBy s.rules.turns (take n records) → ¬ IsDone s scopes doing asked records
+        → IsCheckOver s scopes doing asked (take n records) → ¬ IsStuckBy s.rules.turns (take n records) → ¬ IsDone s scopes doing asked records
     step_too_many checker complete (inr stuck) going = λ done. going stuck
     step_too_many checker complete (inl whole) going = λ done.
         let none : get_or records n default ∷ drop (suc n) records ≡ [] =
@@ -56,7 +56,7 @@ step_missing s scopes doing asked records (Some step) only some = λ done.
     only [] done.0 (subst (λ (r : List Record). Does s scopes doing asked r done.0) (sym (append-nil records)) done.1)
 
 -- nothing is missing
-pub nothing_missing : (s : Setting) (scopes : List Begun) (doing : Doing) (asked : ℕ) (records : List Record) (checker : Checker) → IsOver s scopes doing asked records
+pub nothing_missing : (s : Setting) (scopes : List Begun) (doing : Doing) (asked : ℕ) (records : List Record) (checker : Checker) → IsCheckOver s scopes doing asked records
     → ¬ IsStuckBy s.rules.turns records → (IsDone s scopes doing asked records → IsComplete s scopes doing asked records checker) → IsComplete s scopes doing asked records checker
 nothing_missing s scopes doing asked records checker (inl done) going complete = complete done
 nothing_missing s scopes doing asked records checker (inr stuck) going complete = absurd (going stuck)

@@ -14,8 +14,8 @@ use Rattle.program_order.specs.WrittenOrder.{SpellsAll, WrittenOrder}
 abbrev pub IsMade : Record → ℕ → Step → Type 0
 IsMade made task step = (made.task ≡ task) × (made.step ≡ step) × Answers step made.answer
 
--- the records spell the whole text; or they are in the written order and don't; or they aren't in it; or the task is stuck by
--- a beginning of them
+-- the records spell the whole text; or they are in the written order and don't; or they aren't in it; or the task is
+-- stuck by a beginning of them
 abbrev pub IsReading : Setting → ℕ → Block → List Record → Reading → Type 0
 IsReading s registers body records Whole = SpellsAll s registers body records
 IsReading s registers body records Begun =

@@ -27,7 +27,7 @@ pub enum Reading {
     Whole,
     /// Not all of it, or something else.
     Other,
-    /// They are, or begin with, a beginning of it whose last wait had as many vain tries as the
+    /// They are, or begin with, a beginning of it whose last wait had as many failed tries as the
     /// rules allow.
     Stuck,
 }

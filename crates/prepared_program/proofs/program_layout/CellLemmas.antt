@@ -6,7 +6,7 @@ use Rattle.std.specs.List.{list_any}
 use Rattle.std.specs.Int.{from_le_bytes, w64}
 use Rattle.access_types.specs.History.{Memory, value_from}
 use Rattle.access_types.specs.declared.history.Bytes.{Bytes}
-use Rattle.litmus_semantics.specs.Layout.{Place, block_of, initial_value, initial_values, with_cell, bytes_at}
+use Rattle.litmus_semantics.specs.Layout.{VariablePlace, block_of, initial_value, initial_values, with_cell, bytes_at}
 use Rattle.litmus_semantics.specs.Values.{size_of}
 use Rattle.litmus_syntax.specs.declared.program.Contents.TheVariants.{Atomic, Char, Int, Lock, Long, Short}
 use Rattle.litmus_syntax.specs.declared.program.Contents.{Contents}
@@ -82,7 +82,7 @@ no_bytes_is_lock (Atomic n) = refl
 no_bytes_is_lock Lock = refl
 
 -- locks are the variables without bytes
-pub locks_counted : (places : List Place) (number : ℕ) (variables : List Variable)
+pub locks_counted : (places : List VariablePlace) (number : ℕ) (variables : List Variable)
     → count_by (λ (laid : Bytes × ℕ). laid.0.size == 0) (initial_values places number variables) ≡ count_by is_lock variables
 locks_counted places number [] = refl
 locks_counted places number (variable ∷ later) =

@@ -2,12 +2,12 @@
 use native.Mathlib.Omega.{arith}
 use Rattle.std.proofs.Common.{◌≡◌, ◌+◌, ℕ, zero, suc, List, [], ◌∷◌, Option, Some, Result, Ok, Err, IfOk, map, option_map, refl, slice_get, ap, unwrap_or, ◌∙◌}
 use Rattle.access_types.specs.declared.history.Bytes.{Bytes}
-use Rattle.litmus_semantics.specs.Layout.{Place, bytes_at, bytes_of_variable, initial_values, no_bytes}
+use Rattle.litmus_semantics.specs.Layout.{VariablePlace, bytes_at, bytes_of_variable, initial_values, no_bytes}
 use Rattle.litmus_semantics.specs.TextSites.{bytes_among}
 use Rattle.litmus_syntax.specs.declared.program.Variable.{Variable}
 
 -- the bytes of a number, counted on from a number
-pub got : (places : List Place) (number : ℕ) (variables : List Variable) (n : ℕ)
+pub got : (places : List VariablePlace) (number : ℕ) (variables : List Variable) (n : ℕ)
     → option_map (λ (laid : Bytes × ℕ). laid.0) (slice_get (initial_values places number variables) n)
     ≡ option_map (bytes_at places (n + number)) (slice_get variables n)
 got places number [] n = refl
@@ -20,7 +20,7 @@ got places number (variable ∷ later) (suc n) =
       same n number = omega arith
 
 -- the bytes of a variable
-pub bytes_got : (places : List Place) (variables : List Variable) (laid : List (Bytes × ℕ)) (n : ℕ) → laid ≡ initial_values places 0 variables
+pub bytes_got : (places : List VariablePlace) (variables : List Variable) (laid : List (Bytes × ℕ)) (n : ℕ) → laid ≡ initial_values places 0 variables
     → unwrap_or (option_map (λ (l : Bytes × ℕ). l.0) (slice_get laid n)) no_bytes ≡ bytes_of_variable places variables n
 bytes_got places variables laid n is =
     ap (λ (bs : List (Bytes × ℕ)). unwrap_or (option_map (λ (l : Bytes × ℕ). l.0) (slice_get bs n)) no_bytes) is
@@ -30,7 +30,7 @@ bytes_got places variables laid n is =
       none n = omega arith
 
 -- the bytes of all variables
-pub all_got : (places : List Place) (variables : List Variable) (laid : List (Bytes × ℕ)) (n : ℕ) → laid ≡ initial_values places 0 variables
+pub all_got : (places : List VariablePlace) (variables : List Variable) (laid : List (Bytes × ℕ)) (n : ℕ) → laid ≡ initial_values places 0 variables
     → bytes_among (map (λ (l : Bytes × ℕ). l.0) laid) n ≡ bytes_of_variable places variables n
 all_got places variables laid n is =
     ap (λ (b : Option Bytes). unwrap_or b no_bytes) (mapped laid n) ∙ bytes_got places variables laid n is where

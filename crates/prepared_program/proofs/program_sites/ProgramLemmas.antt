@@ -9,7 +9,7 @@ use Rattle.litmus_syntax.specs.Limits.{IsVariable, KeepsLimits, TaskKeepsLimits}
 use Rattle.litmus_syntax.specs.Tree.{Program, Task}
 use Rattle.litmus_syntax.specs.declared.program.Variable.{Variable}
 use Rattle.litmus_semantics.proofs.LimitLemmas.{tickets_fit}
-use Rattle.litmus_semantics.specs.Layout.{Place, bytes_of_variable}
+use Rattle.litmus_semantics.specs.Layout.{VariablePlace, bytes_of_variable}
 use Rattle.litmus_semantics.specs.RunOfProgram.{setting_of}
 use Rattle.litmus_semantics.specs.Task.{Setting, bytes_in}
 use Rattle.litmus_semantics.specs.TextSites.{FitsTickets, IsOfText, access_at, block_by, block_sites, bytes_among}
@@ -44,7 +44,7 @@ have_accesses variables places bytes task fit few are keeps =
     subst (λ (b : ℕ → Bytes). HaveAccesses (block_by b task.body)) same
     (record { tickets = tickets_fit s task.body keeps.body; proper = proper_sites (IsVariable variables) (length task.registers) (bytes_in s) low task.body keeps.typed })
 
-module _ (program : Program) (places : List Place) where
+module _ (program : Program) (places : List VariablePlace) where
   -- an access at a site of a task's text is one of the program
   pub to_program : (bytes : List Bytes) → ((x : ℕ) → bytes_among bytes x ≡ bytes_of_variable places program.variables x)
       → (number : ℕ) (task : Task) → slice_get program.tasks number ≡ Some task → (a : Access) → IsAt number (block_by (bytes_among bytes) task.body) a

@@ -17,8 +17,9 @@ use Rattle.prepared_program.specs.declared.program_sites.settings.Settings.{Sett
 abbrev pub sites_in : Prepared → AccessMap
 sites_in prepared = arc_value prepared.sites
 
--- The settings suit the program: there are page slots, waits have an end, and places are fit for its variables. Its variables stand there, in
--- these cells, which hold at first what they do; these are its locks, and the accesses that it can make, so many of each task; and checks go by these rules.
+-- The settings suit the program: there are page slots, waits have an end, and places are fit for its variables. Its
+-- variables stand there, in these cells, which hold at first what they do; these are its locks, and the accesses that
+-- it can make, so many of each task; and checks go by these rules.
 pub record IsPrepared (program : Program) (settings : Settings) (prepared : Prepared) : Type 0 where
   pub some_slots : 3 ≤ settings.slots
   pub few_slots : settings.slots ≤ 1024

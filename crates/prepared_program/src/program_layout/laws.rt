@@ -12,7 +12,7 @@ ghost use Rattle.prepared_program.specs.declared.program_layout.place.Place.{Pla
 
 /// Law: where the places fit, and no two variables have one name, the bytes of each variable that has any lie in one
 /// cell of memory.
-pub fn variables_lie_in_one_cell()
+pub fn law_variables_lie_in_one_cell()
     ensures { (variables : List Variable) (places : List Place) → AreFit variables places → HaveOwnNames variables
         → (number : ℕ) (variable : Variable) → slice_get variables number ≡ Some variable → size_of variable.contents ≢ 0
         → LieInOneCell (cells_of (places_of places) variables) (bytes_at (places_of places) number variable) }
@@ -20,7 +20,7 @@ pub fn variables_lie_in_one_cell()
 
 /// Law: where the places fit, and no two of up to 32 variables have one name, each variable but the locks stands at a
 /// multiple of its size, at 2^62 at most.
-pub fn variables_are_aligned()
+pub fn law_variables_are_aligned()
     ensures { (variables : List Variable) (places : List Place) → AreFit variables places → HaveOwnNames variables
         → length variables ≤ 32 → AreAligned (places_of places) variables }
 {}

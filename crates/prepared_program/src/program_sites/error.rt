@@ -18,7 +18,7 @@ pub enum RunError {
     BadPlace,
     #[error("out of memory")]
     OutOfMemory,
-    /// A wait of the task had as many vain tries as are allowed. Of several such tasks on threads it is the smallest.
+    /// A wait of the task had as many failed tries as are allowed. Of several such tasks on threads it is the smallest.
     #[error("task {task} is stuck")]
     Stuck { task: usize },
     /// The schedule names a task that isn't there.

@@ -10,7 +10,7 @@ ghost use Rattle.prepared_program.specs.program_sites.Sites.{IsOfProgram};
 
 /// Law: an access of a program that keeps the limits, at places that fit, is within the limits of accesses, and a mask
 /// of it has a bit.
-pub fn accesses_are_in_limits()
+pub fn law_accesses_are_in_limits()
     ensures { (program : Program) (places : List Place) → KeepsLimits program → AreFit program.variables places
         → (a : Access) → IsOfProgram program (places_of places) a → IsInLimits a × (a.mask ≢ Some 0) }
 {}

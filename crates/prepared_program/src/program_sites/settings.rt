@@ -23,13 +23,13 @@ pub struct Settings {
     pub plain_writes_atomic: bool,
     /// How many bits a watch word has.
     pub layout: Layout,
-    /// At so many vain tries of one wait a task is stuck.
+    /// At so many failed tries of one wait a task is stuck.
     pub turns: u64,
     /// Where some of the variables stand.
     pub places: Vec<Place>,
 }
 
-/// So many tries in vain, a number of 64 bits.
+/// So many failed tries, a number of 64 bits.
 fn counted(turns: u64) -> u64
     ensures is { result ≡ turns }
     ensures small { turns < 2 ^ 64 }

@@ -1,4 +1,5 @@
--- Bodies whose numbers are those of tokens have names and numbers that a text can have, where their variables and registers do.
+-- Bodies whose numbers are those of tokens have names and numbers that a text can have, where their variables and
+-- registers do.
 use Rattle.std.proofs.Common.{◌<◌, ℕ, List, length}
 use Rattle.access_types.specs.declared.history.Mark.{Mark}
 use Rattle.access_types.specs.declared.history.Mark.TheVariants as marks

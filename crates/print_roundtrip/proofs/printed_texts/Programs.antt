@@ -1,4 +1,5 @@
--- The symbols of a program's printed form spell the program, where some symbols do and the form keeps the limit of nesting.
+-- The symbols of a program's printed form spell the program, where some symbols do and the form keeps the limit of
+-- nesting.
 use Rattle.std.proofs.Common.{◌≡◌, ◌∙◌, ◌+◌, ◌<◌, ◌≤◌, ℕ, zero, suc, List, [], ◌∷◌, Some, length, map, refl, sym, subst, arith}
 use Rattle.std.specs.Prelude.{Contains, set, slice_get}
 use Rattle.std.proofs.lemmas.List.{length-append, length-set}

@@ -14,8 +14,8 @@ pub record IsOf (variables : List Variable) (names : Names) (p : Parameter) : Ty
   pub typed : type_of variable.contents ≡ p.type
   pub numbered : slice_get names p.variable ≡ Some p.name
 
--- parameters are of these variables, and their names differ; names of registers differ, are no parameters' and no more than
--- there may be
+-- parameters are of these variables, and their names differ; names of registers differ, are no parameters' and no more
+-- than there may be
 pub record AreNames (variables : List Variable) (names : Names) (parameters : List Parameter) (registers : Names) : Type 0 where
   pub parameters_are : (p : Parameter) → Contains parameters p → IsOf variables names p
   pub parameters_differ : Differ (map name_of parameters)

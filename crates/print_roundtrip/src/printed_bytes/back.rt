@@ -8,7 +8,7 @@ ghost use Rattle.litmus_syntax.specs.Views.{program_of};
 ghost use Rattle.litmus_parse.specs.Grammar.{SpellsProgram};
 ghost use Rattle.print_roundtrip.specs.printed_texts.PrintedProgram.{Nests};
 
-use crate::printed_bytes::laws::printed_programs_spell_themselves;
+use crate::printed_bytes::laws::law_printed_programs_spell_themselves;
 use litmus_parse::{ParseError, Program, parse, print};
 use std::alloc::Global;
 
@@ -26,7 +26,7 @@ pub fn read_back(alloc: Global, program: &Program) -> Result<Program, ParseError
         → IfOk result (λ again. program_of again ≡ program_of program.now)
         × IfErr result (λ error. error ≡ ParseError.OutOfMemory) }
 {
-    printed_programs_spell_themselves();
+    law_printed_programs_spell_themselves();
     let text = print(alloc, program)?;
     parse(alloc, text.as_bytes())
 }

@@ -14,20 +14,20 @@ ghost use Rattle.print_roundtrip.specs.printed_bytes.Programs.{IsSpelled};
 /// Law: the bytes of the printed form of a program, whose names and numbers are those that a text can have, are a text
 /// with the program's name, and its tokens have just the symbols of the printed form. A text may have each of the
 /// bytes.
-pub fn printed_programs_are_read()
+pub fn law_printed_programs_are_read()
     ensures { (program : Program) → IsSpelled program
         → (tokens : List Placed) × IsText (printed program) program.name tokens × (map symbol_at tokens ≡ program_symbols program)
         × All IsTextByte (printed program) }
 {}
 
 /// Law: a program that a text spells has names and numbers that a text can have.
-pub fn texts_spell_programs_with_their_names()
+pub fn law_texts_spell_programs_with_their_names()
     ensures { (text : List ℕ) (program : Program) → SpellsProgram text program → IsSpelled program }
 {}
 
 /// Law: a program that a text spells is spelled by its printed form too, where this keeps the limit of nesting and is
 /// no longer than a text may be.
-pub fn printed_programs_spell_themselves()
+pub fn law_printed_programs_spell_themselves()
     ensures { (text : List ℕ) (program : Program) → SpellsProgram text program → Nests program
         → length (printed program) ≤ file_bytes → SpellsProgram (printed program) program }
 {}

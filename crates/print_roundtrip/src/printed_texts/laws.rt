@@ -26,7 +26,7 @@ ghost use Rattle.print_roundtrip.specs.printed_texts.PrintedSymbols.{block_symbo
 
 /// Law: where some symbols spell an expression, those of its printed form spell it too, among registers that have the
 /// names and numbers that they had there, if the printed form keeps the limit of nesting.
-pub fn printed_expressions_are_spelled()
+pub fn law_printed_expressions_are_spelled()
     ensures { (parameters : List Parameter) (variables : List Variable) (registers before after : Names) (depth there : ℕ)
         (symbols behind rest : List Symbol) (e : tree.Expression)
         → ((name : List ℕ) (number : ℕ) (type : VariableType)
@@ -38,7 +38,7 @@ pub fn printed_expressions_are_spelled()
 
 /// Law: where some symbols spell the statements of a block, those of their printed form spell them too, among registers
 /// that have the names and numbers that they had there, if the printed form keeps the limit of nesting.
-pub fn printed_bodies_are_spelled()
+pub fn law_printed_bodies_are_spelled()
     ensures { (parameters : List Parameter) (variables : List Variable) (registers before after : Names) (depth there : ℕ)
         (counters : List ℕ) (symbols behind rest : List Symbol) (body : tree.Block)
         → ((name : List ℕ) (number : ℕ) (type : VariableType)
@@ -51,7 +51,7 @@ pub fn printed_bodies_are_spelled()
 
 /// Law: where some symbols spell a proposition, those of its printed form spell it too, over processes that have all
 /// the registers that are named in the end, if the printed form keeps the limit of nesting.
-pub fn printed_propositions_are_spelled()
+pub fn law_printed_propositions_are_spelled()
     ensures { (mentions said : List Mention) (names : Names) (variables : List Variable) (before later last : List Process)
         (depth there : ℕ) (symbols behind rest : List Symbol) (proposition : tree.Proposition)
         → ((name : List ℕ) (number : ℕ) → IsKnown mentions names name number
@@ -64,7 +64,7 @@ pub fn printed_propositions_are_spelled()
 /// Law: where some symbols spell the body of a process, which keeps its limits, the symbols of the process's printed
 /// form spell the process with these registers, if they have the names and numbers that they had there, and the printed
 /// form keeps the limit of nesting.
-pub fn printed_processes_are_spelled()
+pub fn law_printed_processes_are_spelled()
     ensures { (variables : List Variable) (names before : Names) (task : ℕ) (symbols behind rest : List Symbol) (process : Process)
         → AreNames variables names process.parameters process.registers
         → Statements process.parameters 1 [] [] symbols process.body behind before → BodyKeepsLimits process.body
@@ -74,7 +74,7 @@ pub fn printed_processes_are_spelled()
 {}
 
 /// Law: the symbols of the printed initialization block spell items that give the variables the numbers that they have.
-pub fn printed_items_are_spelled()
+pub fn law_printed_items_are_spelled()
     ensures { (all : List Mention) (names : Names) (variables : List Variable) (rest : List Symbol) → AreDeclared all names variables
         → Differ names → length names ≤ variables_limit
         → Items (items_symbols variables (sign CloseBrace ∷ rest)) (map mention_of variables) rest
@@ -83,7 +83,7 @@ pub fn printed_items_are_spelled()
 
 /// Law: the printed initialization block declares the variables with the types and the values that they have, beside
 /// parameters of their types.
-pub fn printed_items_declare_their_variables()
+pub fn law_printed_items_declare_their_variables()
     ensures { (all : List Mention) (names : Names) (variables : List Variable) (processes : List Process)
         → AreDeclared all names variables → Differ (map (λ (v : Variable). v.name) variables)
         → ((q : Process) → Contains processes q → (p : Parameter) → Contains q.parameters p → IsOf variables names p)
@@ -91,7 +91,7 @@ pub fn printed_items_declare_their_variables()
 {}
 
 /// Law: where some symbols spell a program, those of its printed form spell it too, if this keeps the limit of nesting.
-pub fn printed_programs_are_spelled()
+pub fn law_printed_programs_are_spelled()
     ensures { (symbols : List Symbol) (program : tree.Program) → Grammar symbols program → Nests program
         → Grammar (program_symbols program) program }
 {}

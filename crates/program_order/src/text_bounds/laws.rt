@@ -14,7 +14,7 @@ ghost use Rattle.program_order.specs.Standing.{Setting, Standing, moments};
 ghost use Rattle.program_order.specs.WrittenOrder.{SpellsAll, StepsOfBlock};
 
 /// Law: in a block, reports are turned off, and nestable atomic regions begin, no more often than its counts rise.
-pub fn counts_rise_within_the_text()
+pub fn law_counts_rise_within_the_text()
     ensures disables { (s : Setting) (site : ℕ) (body : Block) (before : Standing) (records : List Record) (end : Standing) (rest : List Record)
         → StepsOfBlock s site body before records end rest
         → count_by is_disable (marks_of s.text.task (moments s end)) ≤ count_by is_disable (marks_of s.text.task (moments s before)) + block_rises body }
@@ -25,7 +25,7 @@ pub fn counts_rise_within_the_text()
 
 /// Law: at no moment of a text that keeps the limit of scoped assertions are more in force than the limit. So where
 /// one begins, fewer are. After the text none is.
-pub fn few_scopes_are_in_force()
+pub fn law_few_scopes_are_in_force()
     ensures few { (s : Setting) (registers : ℕ) (body : Block) (records : List Record) → BlockScopes 0 body
         → (spells : SpellsAll s registers body records) → (front back : List Happening) → spells.end.progress.did ≡ front ++ back
         → in_force front ≤ scoped_limit }
@@ -37,14 +37,14 @@ pub fn few_scopes_are_in_force()
 {}
 
 /// Law: the begin of a scoped assertion puts one more in force, its end one less, and all else leaves as many.
-pub fn scopes_are_counted()
+pub fn law_scopes_are_counted()
     ensures opens { (did : List Happening) (a : access.Access) → is_scoped a.kind ≡ true → in_force (did ++ Begin a ∷ []) ≡ in_force did + 1 }
     ensures closes { (did : List Happening) (a : access.Access) → is_scoped a.kind ≡ true → in_force (did ++ End a ∷ []) ≡ in_force did - 1 }
     ensures others { (did does : List Happening) → AreOfNoScope does → in_force (did ++ does) ≡ in_force did }
 {}
 
 /// Law: no run of a text that keeps its limits passes one of them.
-pub fn no_text_passes_its_limits()
+pub fn law_no_text_passes_its_limits()
     ensures { (s : Setting) (registers : ℕ) (body : Block) (records : List Record) → BlockScopes 0 body → block_rises body ≤ 2 ^ 32
         → (spells : SpellsAll s registers body records) → ¬ PassesALimit s spells.end }
 {}

@@ -17,8 +17,8 @@ use Rattle.timeline.specs.declared.picture.draw.Picture.{Picture}
 use Rattle.timeline.specs.declared.picture.error.PictureError.{PictureError}
 use Rattle.timeline.specs.declared.picture.error.PictureError.TheVariants.{Trace, TooLong}
 
--- The picture shows these: each access and each report in its rows, once, in rising order of stamps; each arm and each take, once, in their
--- order; and when accesses of each task are in progress.
+-- The picture shows these: each access and each report in its rows, once, in rising order of stamps; each arm and each
+-- take, once, in their order; and when accesses of each task are in progress.
 pub record Shows (accesses : List Stamped) (arms : List Arm) (takes : List Take) (reports : List Report) (picture : Picture) : Type 0 where
   pub rows : AreRows accesses reports picture.rows.items
   pub watches : AllZip (IsWatchOf accesses) arms picture.watches.items

@@ -19,8 +19,8 @@ pub record IsInProgress (s : Stamped) (stamp : ℕ) : Type 0 where
 abbrev pub rows_of : Stamped → List Row
 rows_of s = record { stamp = s.begin; mark = Begin s } ∷ record { stamp = s.end; mark = End s } ∷ []
 
--- The row is that of the report: it has the accesses that the report names, and stands where the later of them begins, at a stamp at
--- which they are in progress.
+-- The row is that of the report: it has the accesses that the report names, and stands where the later of them begins,
+-- at a stamp at which they are in progress.
 abbrev pub IsRowOf : List Stamped → Report → Row → Type 0
 IsRowOf accesses (Two setter finder seen) row = (s : Stamped) × (f : Stamped)
     × IsNamed accesses setter s × IsNamed accesses finder f
@@ -39,7 +39,8 @@ rank (Origin s old new) = 1
 abbrev pub place : Row → ℕ
 place row = 2 * row.stamp + rank row.mark
 
--- The rows are those of the accesses and of the reports, each once, in rising order of their stamps, and at one stamp of their ranks.
+-- The rows are those of the accesses and of the reports, each once, in rising order of their stamps, and at one stamp
+-- of their ranks.
 pub record AreRows (accesses : List Stamped) (reports : List Report) (rows : List Row) : Type 0 where
   pub of_reports : List Row
   pub each_report : AllZip (IsRowOf accesses) reports of_reports

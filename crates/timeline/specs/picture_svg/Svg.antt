@@ -8,7 +8,8 @@ use Rattle.timeline.specs.picture_svg.Bars.{lane}
 use Rattle.timeline.specs.picture_svg.Marks.{rows_marks}
 use Rattle.timeline.specs.picture_svg.Watches.{taking_text, watch_text}
 
--- how wide the lanes are, up to the last task that has accesses, whose words need 38 em at most with what is before them
+-- how wide the lanes are, up to the last task that has accesses, whose words need 38 em at most with what is before
+-- them
 abbrev pub wider : ℕ → Column → ℕ
 wider width column = if length column.begins.items == 0 then width else lane column.task + 39
 

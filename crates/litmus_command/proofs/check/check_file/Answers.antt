@@ -1,9 +1,9 @@
 -- what was found of the file
 use Rattle.std.proofs.Common.{◌≡◌, ◌∙◌, ℕ, List, Err, Option, ap, inl, inr, refl, subst, sym}
-use Rattle.diagnostics.specs.check_output.Found.{Gave, Lost}
+use Rattle.diagnostics.specs.check_output.Diagnosis.{Gave, Lost}
 use Rattle.litmus_command.proofs.CheckLemmas.{lost_and_told, on_err, read_and_told, same_but_reads}
 use Rattle.litmus_command.specs.Check.{IsLeftOver, IsToldOf, IsToldOfLost, Whole, once_told, whole_of}
-use Rattle.litmus_command.specs.Told.{heard}
+use Rattle.litmus_command.specs.StandardError.{heard}
 use Rattle.report_text.specs.Sink.{CountsFailure}
 use Rattle.litmus_command.specs.Files as events
 use Rattle.litmus_command.specs.declared.complaint.Complaint.{Complaint}

@@ -2,7 +2,7 @@
 use Rattle.std.proofs.Common.{◌≡◌, ◌∙◌, ◌<◌, ◌+◌, ◌++◌, ◌∷◌, [], ℕ, Bor, List, Vec, ap, append-nil, count_by, get_or, inl, inr, length, map, max, nat_lt, rules}
 use Rattle.std.proofs.Common.{subst, sym}
 use Rattle.std.specs.Global.{Global}
-use Rattle.diagnostics.specs.check_output.Found.{has_tables, name_of, output_of, status_of_one, text_of}
+use Rattle.diagnostics.specs.check_output.Diagnosis.{has_tables, name_of, output_of, status_of_one, text_of}
 use Rattle.diagnostics.specs.declared.check_output.file.Files.{Files}
 use Rattle.litmus_command.proofs.CheckLemmas.{SoFar, counts_none, counts_one, goes_so_far, left_so_far, max_with_none, next_name, nothing_left}
 use Rattle.litmus_command.proofs.CheckLemmas.{on_err, one_more, output_of_one, output_of_several, plus_none, read_and_left, status_of_read, text_of_none}

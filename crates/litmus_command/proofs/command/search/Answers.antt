@@ -84,7 +84,7 @@ returns g c =
     (λ part. (stopped, record { text = text; raced = written.raced; output = output; trace = trace; left = left; given = part }))
     c.emit.result c.emit.ensures.status c.emit.ensures.given c.emit.ensures.failed c.emit.ensures.part
 
--- there is a vain try at least
+-- there is a failed try at least
 pub search_for-requires : goal.search_for-requires
 search_for-requires g c =
     let asks = c.in_ok-settings.ensures.asks in

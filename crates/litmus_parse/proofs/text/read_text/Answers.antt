@@ -5,7 +5,7 @@ use Rattle.litmus_parse.proofs.text.read_text.Goals as goal
 pub returns-in-Ok-clause-complete : goal.returns-in-Ok-clause-complete
 returns-in-Ok-clause-complete c =
     λ program spells. (
-      c.a_text_spells_one_program.ensures c.args.text.now (program_of c.in-Ok.reading.program) program
+      c.law_a_text_spells_one_program.ensures c.args.text.now (program_of c.in-Ok.reading.program) program
           (c.in-Ok.ensures.spelled spells.size spells.bytes) spells,
       tt,
     )

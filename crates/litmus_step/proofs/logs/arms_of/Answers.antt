@@ -9,7 +9,7 @@ pub loop-log-preserved : goal.loop-log-preserved
 loop-log-preserved c = λ run records list limits logs.
     let all = c.args.logs.now in
     let stands = slice_get_read all (length all) c.loop-log.log-index c.log-item.result refl c.loop-log-test.true c.log-item.is in
-    let own = c.logs_give_what_the_list_has.ensures.arms run records list c.loop-log.log-index c.log-item.result _ limits
+    let own = c.law_logs_give_what_the_list_has.ensures.arms run records list c.loop-log.log-index c.log-item.result _ limits
     (logs.each c.loop-log.log-index c.log-item.result stands) c.arms.ensures in
     by_one_more (AreArmsOf list) c.loop-log.log-index c.loop-log.all.items _ c.extend_from_slice.new.self.items
     (c.loop-log.invariant run records list limits logs) own c.in_ok-extend_from_slice.ensures.items

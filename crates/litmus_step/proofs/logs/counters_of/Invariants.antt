@@ -2,11 +2,11 @@
 use Rattle.std.proofs.Common.{List}
 use Rattle.litmus_step.proofs.logs.counters_of.Given as goal
 use Rattle.litmus_step.specs.Kept.{AreLogs}
-use Rattle.executions.specs.run_lists.Run.{Run}
-use Rattle.executions.specs.run_lists.RunList.{RunList}
+use Rattle.executions.specs.execution.Run.{Run}
+use Rattle.executions.specs.execution.Execution.{Execution}
 use Rattle.log_correctness.specs.Totals.{CountsTasks}
 use Rattle.slot_table.specs.declared.records.Record.{Record}
 
 abbrev pub invariant-loop-log : goal.invariant-loop-log
-invariant-loop-log l = (run : Run) (records : List Record) → (list : RunList run records) → AreLogs list l.logs
+invariant-loop-log l = (run : Run) (records : List Record) → (list : Execution run records) → AreLogs list l.logs
     → CountsTasks list l.log-index l.counters

@@ -3,11 +3,11 @@ use Rattle.std.proofs.Common.{List}
 use Rattle.litmus_step.proofs.logs.takes_of.Given as goal
 use Rattle.litmus_step.specs.Kept.{AreLogs}
 use Rattle.litmus_syntax.specs.Limits.{KeepsLimits}
-use Rattle.executions.specs.run_lists.Run.{Run}
-use Rattle.executions.specs.run_lists.RunList.{RunList}
+use Rattle.executions.specs.execution.Run.{Run}
+use Rattle.executions.specs.execution.Execution.{Execution}
 use Rattle.log_correctness.specs.Lists.{AreTakesOf, ByTask}
 use Rattle.slot_table.specs.declared.records.Record.{Record}
 
 abbrev pub invariant-loop-log : goal.invariant-loop-log
-invariant-loop-log l = (run : Run) (records : List Record) → (list : RunList run records) → KeepsLimits run.program
+invariant-loop-log l = (run : Run) (records : List Record) → (list : Execution run records) → KeepsLimits run.program
     → AreLogs list l.logs → ByTask (AreTakesOf list) l.log-index l.all.items

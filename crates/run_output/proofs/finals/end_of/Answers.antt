@@ -4,7 +4,7 @@ use Rattle.litmus_semantics.specs.final_condition.Holds.{Holds}
 use Rattle.litmus_step.specs.Runs.{run_of}
 use Rattle.litmus_syntax.specs.Views.{proposition_of}
 use Rattle.prepared_program.specs.program_layout.Places.{places_of}
-use Rattle.executions.specs.run_lists.Told.{history_of}
+use Rattle.executions.specs.execution.Observed.{history_of}
 use Rattle.run_output.proofs.FinalLemmas.{all_registers_same, holds_alike, holds_back, registers_same}
 use Rattle.run_output.proofs.finals.end_of.Goals as goal
 use Rattle.run_output.specs.Finals.{AreAllRegisters, register_value, variable_value}

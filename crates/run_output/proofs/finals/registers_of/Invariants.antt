@@ -1,6 +1,6 @@
 -- The registers of the tasks so far.
 use Rattle.std.proofs.Common.{◌≡◌, List, length, map}
-use Rattle.executions.specs.run_lists.Run.{Run}
+use Rattle.executions.specs.execution.Run.{Run}
 use Rattle.run_output.proofs.finals.registers_of.Given as goal
 use Rattle.run_output.specs.Finals.{AreRegistersFrom}
 use Rattle.slot_table.specs.declared.records.Record.{Record}

@@ -17,7 +17,7 @@ returns-in-Ok-clause-accepted g c = λ run records comes ended same_slots same_l
     let spelled : c.into_bytes.result.items ≡ written_trace settings.slots settings.layout accesses arms takes reports = search rules in
     let masks : All HasLowMask accesses = search rules in
     let can = g.R.Ran.can c.args.ran.now run records comes in
-    let true_one = c.traces_in_either_order_are_true.ensures.accepted run records (g.R.Ran.list_of c.args.ran.now run records comes)
+    let true_one = c.law_traces_in_either_order_are_true.ensures.accepted run records (g.R.Ran.list_of c.args.ran.now run records comes)
     can.limits can.slots (subst (λ (n : ℕ). n ≤ 1024) (sym same_slots) few) ended accesses arms takes
     (record {
       accesses_are = c.in_ok-accesses.ensures run records comes;

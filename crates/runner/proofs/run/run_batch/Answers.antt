@@ -16,16 +16,16 @@ use Rattle.runner.specs.Columns.{AreColumns}
 use Rattle.runner.specs.Starts.{AreAllOutcomes, AreAllStarts}
 use Rattle.runner.specs.Terms.{AreGivenEach}
 use Rattle.runner.specs.declared.first.TaskStart.{TaskStart}
-use Rattle.runner.specs.declared.seated.Found.{Found}
+use Rattle.runner.specs.declared.seated.TaskResult.{TaskResult}
 use Rattle.shared_table.specs.Seats.{Opened}
 
 pub columns_of-requires : goal.columns_of-requires
 columns_of-requires g c =
     let ready = c.requires.ready in
     let run = run_of c.args.program.now c.args.settings.now (sites_in c.args.prepared.now) in
-    let can = c.runs_begin.ensures.can run c.args.settings.now.places.items c.requires.limits refl ready.fit ready.some_slots ready.turns in
+    let can = c.law_runs_begin.ensures.can run c.args.settings.now.places.items c.requires.limits refl ready.fit ready.some_slots ready.turns in
     let given : AreGivenEach c.args.program.now c.args.settings.now c.args.prepared.now c.in_ok-tables.tables.items =
-    c.in_ok-tables.ensures.given c.args.settings.now ready can (c.runs_begin.ensures.list run can ready.sites) in
+    c.in_ok-tables.ensures.given c.args.settings.now ready can (c.law_runs_begin.ensures.list run can ready.sites) in
     let starts = c.in_ok-tables.ensures.starts in
     let count : tasks_of run ≡ length c.args.program.now.tasks = length-map c.args.program.now.tasks task_of in
     at_each (λ (row : Vec TaskStart Global). row.items) (λ (row : List TaskStart). length row ≡ length c.as_slice.result.now) c.in_ok-tables.rows.items
@@ -40,9 +40,9 @@ pub on_threads_from-requires-clause-given : goal.on_threads_from-requires-clause
 on_threads_from-requires-clause-given g c κs within =
     let ready = c.requires.ready in
     let run = run_of c.args.program.now c.args.settings.now (sites_in c.args.prepared.now) in
-    let can = c.runs_begin.ensures.can run c.args.settings.now.places.items c.requires.limits refl ready.fit ready.some_slots ready.turns in
+    let can = c.law_runs_begin.ensures.can run c.args.settings.now.places.items c.requires.limits refl ready.fit ready.some_slots ready.turns in
     let given : AreGivenEach c.args.program.now c.args.settings.now c.args.prepared.now c.in_ok-tables.tables.items =
-    c.in_ok-tables.ensures.given c.args.settings.now ready can (c.runs_begin.ensures.list run can ready.sites) in
+    c.in_ok-tables.ensures.given c.args.settings.now ready can (c.law_runs_begin.ensures.list run can ready.sites) in
     subst (AreGivenEach c.args.program.now c.args.settings.now c.args.prepared.now) (sym c.as_slice-2.ensures.value) given
 
 pub on_threads_from-requires-clause-starts : goal.on_threads_from-requires-clause-starts
@@ -59,7 +59,7 @@ on_threads_from-requires-clause-starts g c κs within =
 pub columns_of-requires-2 : goal.columns_of-requires-2
 columns_of-requires-2 g c =
     let outcomes = c.in_ok-outcomes.ensures.outcomes in
-    at_each (λ (came : Came). came.items) (λ (column : List (Result Found RunError)). length column ≡ length c.args.turns.now) c.in_ok-outcomes.outcomes.items
+    at_each (λ (came : Came). came.items) (λ (column : List (Result TaskResult RunError)). length column ≡ length c.args.turns.now) c.in_ok-outcomes.outcomes.items
     (λ at column is. (outcomes.each at column is).all
     ∙ (ap (λ (tables : List Opened). length tables) c.as_slice-2.ensures.value ∙ c.in_ok-tables.ensures.many))
 
@@ -67,9 +67,9 @@ pub results_of-requires-clause-given : goal.results_of-requires-clause-given
 results_of-requires-clause-given g c =
     let ready = c.requires.ready in
     let run = run_of c.args.program.now c.args.settings.now (sites_in c.args.prepared.now) in
-    let can = c.runs_begin.ensures.can run c.args.settings.now.places.items c.requires.limits refl ready.fit ready.some_slots ready.turns in
+    let can = c.law_runs_begin.ensures.can run c.args.settings.now.places.items c.requires.limits refl ready.fit ready.some_slots ready.turns in
     let given : AreGivenEach c.args.program.now c.args.settings.now c.args.prepared.now c.in_ok-tables.tables.items =
-    c.in_ok-tables.ensures.given c.args.settings.now ready can (c.runs_begin.ensures.list run can ready.sites) in
+    c.in_ok-tables.ensures.given c.args.settings.now ready can (c.law_runs_begin.ensures.list run can ready.sites) in
     given
 
 pub results_of-requires-clause-outcomes : goal.results_of-requires-clause-outcomes

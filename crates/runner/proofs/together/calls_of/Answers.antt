@@ -2,7 +2,7 @@
 use Rattle.std.proofs.Common.{◌≡◌, ◌+◌, ◌∙◌, ℕ, suc, ap, arith, length, refl, slice_get, subst}
 use Rattle.std.proofs.lemmas.Option.{slice_get_read}
 use Rattle.runner.proofs.together.calls_of.Goals as goal
-use Rattle.runner.specs.Found.{calls_below, calls_of}
+use Rattle.runner.specs.TaskResult.{calls_below, calls_of}
 use Rattle.task_log.specs.Counters.{together}
 
 pub loop-one-preserved : goal.loop-one-preserved

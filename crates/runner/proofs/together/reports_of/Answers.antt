@@ -4,9 +4,9 @@ use Rattle.std.proofs.lemmas.Option.{slice_get_read}
 use Rattle.runner.proofs.PartLemmas.{take_all, take_more}
 use Rattle.access_types.specs.declared.report.Report.{Report}
 use Rattle.runner.proofs.together.reports_of.Goals as goal
-use Rattle.runner.specs.declared.seated.Found.{Found}
+use Rattle.runner.specs.declared.seated.TaskResult.{TaskResult}
 
-abbrev own : Found → List Report
+abbrev own : TaskResult → List Report
 own one = one.reports.items
 
 pub loop-one-preserved : goal.loop-one-preserved

@@ -6,7 +6,7 @@ use Rattle.runner.proofs.together.results_of.Given as goal
 use Rattle.runner.specs.Result.{IsResultOf}
 use Rattle.runner.specs.declared.result.RunResult.{RunResult}
 use Rattle.runner.specs.declared.run.RunIndex.{RunIndex}
-use Rattle.runner.specs.declared.seated.Found.{Found}
+use Rattle.runner.specs.declared.seated.TaskResult.{TaskResult}
 use Rattle.shared_table.specs.Seats.{Opened}
 
 abbrev pub invariant-loop-table : goal.invariant-loop-table
@@ -16,7 +16,7 @@ invariant-loop-table l = record {
   room : into_iter_len l.initial.table-iterator ≤ vec_capacity l.results;
   rest : (at : ℕ) (table : Opened) → slice_get (into_iter_items l.table-iterator) at ≡ Some table
       → slice_get (into_iter_items l.initial.table-iterator) (vec_len l.results + at) ≡ Some table;
-  rest_rows : (at : ℕ) (row : List (Result Found RunError)) → slice_get (map (λ row. row.items) (into_iter_items l.rows)) at ≡ Some row
+  rest_rows : (at : ℕ) (row : List (Result TaskResult RunError)) → slice_get (map (λ row. row.items) (into_iter_items l.rows)) at ≡ Some row
       → slice_get (map (λ row. row.items) (into_iter_items l.initial.rows)) (vec_len l.results + at) ≡ Some row;
   each : (at : ℕ) (result : Result RunResult RunError) → slice_get l.results.items at ≡ Some result
       → (turn : RunIndex) → slice_get l.turns at ≡ Some turn → IsResultOf l.program l.settings turn result;

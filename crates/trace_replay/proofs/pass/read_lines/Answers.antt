@@ -22,7 +22,7 @@ take_in-requires-clause-story c =
 pub returns-in-Err-clause-refused : goal.returns-in-Err-clause-refused
 returns-in-Err-clause-refused c =
     let inv = c.loop-next.invariant in
-    refused c.plain_lines_stand.ensures (head_text (head_of c.args.head) ++ c.args.bytes.now) (head_of c.args.head) inv.0 c.loop-next.rest.now
+    refused c.law_plain_lines_stand.ensures (head_text (head_of c.args.head) ++ c.args.bytes.now) (head_of c.args.head) inv.0 c.loop-next.rest.now
     c.in-Some.next c.in-Some.more.now c.loop-next.number c.in-Err.error inv.1 c.in-Some.ensures inv.3 (c.in-Err.ensures inv.0 inv.2)
 
 pub overflow_add-number : goal.overflow_add-number
@@ -60,5 +60,5 @@ pub returns-clause-refused : goal.returns-clause-refused
 returns-clause-refused c =
     let inv = c.loop-next.invariant in
     c.end.ensures.refused (head_text (head_of c.args.head) ++ c.args.bytes.now) inv.0 inv.1 inv.2 inv.3
-    (none_begins c.plain_lines_stand.ensures (head_text (head_of c.args.head) ++ c.args.bytes.now) (head_of c.args.head) inv.0 c.loop-next.rest.now inv.1
+    (none_begins c.law_plain_lines_stand.ensures (head_text (head_of c.args.head) ++ c.args.bytes.now) (head_of c.args.head) inv.0 c.loop-next.rest.now inv.1
     c.in_default.ensures)

@@ -5,7 +5,7 @@ use Rattle.litmus_step.proofs.TurnLemmas.{machine_at}
 use Rattle.litmus_step.proofs.world.World.after.Goals as goal
 use Rattle.litmus_step.specs.Leads.{steps_noted}
 use Rattle.litmus_step.specs.Readers.{steps_told}
-use Rattle.executions.specs.run_lists.Run.{task_of, task_setting}
+use Rattle.executions.specs.execution.Run.{task_of, task_setting}
 use Rattle.slot_table.specs.Records.{records_of}
 use Rattle.task_run.specs.Points.{Stepped, last_was}
 

@@ -22,7 +22,7 @@ returns-in-Some c = λ run records leads.
     let tells = subst (λ (m : TaskRun). TellsBefore m c.in-Some.step c.before-in-Some.result) same c.before-in-Some.ensures in
     inr (
       (λ over. let none = (c.in-Some.ensures.over _ _ _ _ reach.leads reach.written reach.scopes reach.rises).1 over in cc),
-      next_told c.a_machine_says_what_begins.ensures run records leads.list c.args.task machine c.in-Some.step c.before-in-Some.result
+      next_told c.law_a_machine_says_what_begins.ensures run records leads.list c.args.task machine c.in-Some.step c.before-in-Some.result
           reach.leads c.in-Some.ensures.says (c.in-Some.ensures.only _ _ _ _ reach.leads)
           (leads.points c.args.task machine stands) tells,
     )

@@ -22,7 +22,7 @@ use Rattle.task_run.specs.declared.run.TaskRun.{TaskRun}
 pub step-answer-requires : goal.step-answer-requires
 step-answer-requires c =
     ∥∥₁_elim c.args.self.now.led (names_prop c.args.self.now.board c.args.step)
-    (λ is. c.steps_lead_on.ensures.names is.run is.records c.args.self.now.board c.args.self.now.tasks.items c.args.self.now.steps
+    (λ is. c.law_steps_lead_on.ensures.names is.run is.records c.args.self.now.board c.args.self.now.tasks.items c.args.self.now.steps
     c.args.self.now.logs.items c.args.self.now.reports.items (vec_capacity c.args.self.now.reports)
     c.args.task c.args.step is.leads c.requires.next)
 
@@ -59,19 +59,19 @@ invariant_of-self c =
       led = ∥∥₁_map c.args.self.now.led (λ is. record {
         run = is.run;
         records = made c.args.task c.args.step c.step-answer.result ∷ is.records;
-        leads = (world_leads c.steps_lead_on.ensures.leads c.args.self.now c.args.task c.args.step c.step-answer.result
+        leads = (world_leads c.law_steps_lead_on.ensures.leads c.args.self.now c.args.task c.args.step c.step-answer.result
             c.index_mut.result.now
             c.answer.new.self c.step-answer.new.self c.saturating_add-self.result c.note_in.new.logs.items c.note_in.new.reports.items
             (vec_capacity c.note_in.new.reports) c.requires.next c.requires.there c.index_mut.ensures.value
             c.step-answer.ensures.kind c.step-answer.ensures.answer c.step-answer.ensures.after c.saturating_add-self.ensures
             c.answer.ensures.leads is.run is.records is.leads
-            (noted_more c.steps_are_kept.ensures.more c.args.self.now c.args.task c.args.step c.step-answer.result
+            (noted_more c.law_steps_are_kept.ensures.more c.args.self.now c.args.task c.args.step c.step-answer.result
             c.requires.next.machine c.begins-begins.result
             c.fell-outcome.result c.note_in.new.logs.items c.note_in.new.reports.items
             (vec_capacity c.note_in.new.reports) c.requires.there c.requires.next.stands
             c.requires.next.makes.says begun fallen
             c.note_in.ensures.noted c.note_in.ensures.room is.run is.records is.leads)
-            (world_points c.steps_are_kept.ensures.points c.args.self.now c.args.task c.args.step c.step-answer.result
+            (world_points c.law_steps_are_kept.ensures.points c.args.self.now c.args.task c.args.step c.step-answer.result
             c.requires.next.machine c.index_mut.result.now c.answer.new.self c.begins-begins.result c.fell-outcome.result
             c.requires.next.stands same_mut c.requires.next.makes.says begun fallen c.answer.ensures.points
             is.run is.records is.leads));
@@ -91,18 +91,18 @@ returns-clause-moves c =
     c.index-2.result.now c.fell-outcome.result c.step-answer.result there same_mut c.index-2.ensures c.fell-outcome.ensures
     c.answer.ensures.fell in
     λ run records leads.
-    (world_leads c.steps_lead_on.ensures.leads c.args.self.now c.args.task c.args.step c.step-answer.result c.index_mut.result.now
+    (world_leads c.law_steps_lead_on.ensures.leads c.args.self.now c.args.task c.args.step c.step-answer.result c.index_mut.result.now
     c.answer.new.self c.step-answer.new.self c.saturating_add-self.result c.note_in.new.logs.items c.note_in.new.reports.items
     (vec_capacity c.note_in.new.reports) c.requires.next c.requires.there c.index_mut.ensures.value
     c.step-answer.ensures.kind c.step-answer.ensures.answer c.step-answer.ensures.after c.saturating_add-self.ensures
     c.answer.ensures.leads run records leads
-    (noted_more c.steps_are_kept.ensures.more c.args.self.now c.args.task c.args.step c.step-answer.result c.requires.next.machine
+    (noted_more c.law_steps_are_kept.ensures.more c.args.self.now c.args.task c.args.step c.step-answer.result c.requires.next.machine
     c.begins-begins.result
     c.fell-outcome.result c.note_in.new.logs.items c.note_in.new.reports.items
     (vec_capacity c.note_in.new.reports) c.requires.there c.requires.next.stands
     c.requires.next.makes.says begun fallen
     c.note_in.ensures.noted c.note_in.ensures.room run records leads)
-    (world_points c.steps_are_kept.ensures.points c.args.self.now c.args.task c.args.step c.step-answer.result
+    (world_points c.law_steps_are_kept.ensures.points c.args.self.now c.args.task c.args.step c.step-answer.result
     c.requires.next.machine c.index_mut.result.now c.answer.new.self c.begins-begins.result c.fell-outcome.result
     c.requires.next.stands same_mut c.requires.next.makes.says begun fallen c.answer.ensures.points
     run records leads))

@@ -17,7 +17,7 @@ returns-clause-goes c = λ run records leads.
     makes_next c.args.self.now c.args.task c.index.result.now c.next.result
     (machine_at c.args.self.now c.args.task c.index.result.now c.requires c.index.ensures) c.next.ensures.says c.next.ensures.only
     c.next.ensures.within in
-    goes_on (λ run records world task step leads next. c.steps_lead_on.ensures.goes run records world.board world.tasks.items world.steps
+    goes_on (λ run records world task step leads next. c.law_steps_lead_on.ensures.goes run records world.board world.tasks.items world.steps
     world.logs.items world.reports.items (vec_capacity world.reports) task step leads next)
     run records c.args.self.now c.args.task c.next.result leads makes
 

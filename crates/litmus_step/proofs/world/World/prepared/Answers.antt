@@ -28,8 +28,8 @@ all_accesses-requires-clause-each c =
 pub returns-clause-leads : goal.returns-clause-leads
 returns-clause-leads c = λ settings prepared.
     let run = run_of c.args.program.now settings (sites_in c.args.prepared.now) in
-    let can = c.runs_begin.ensures.can run settings.places.items c.requires.limits refl prepared.fit prepared.some_slots prepared.turns in
-    let list = c.runs_begin.ensures.list run can prepared.sites in
+    let can = c.law_runs_begin.ensures.can run settings.places.items c.requires.limits refl prepared.fit prepared.some_slots prepared.turns in
+    let list = c.law_runs_begin.ensures.list run can prepared.sites in
     let are = c.as_slice-accesses.ensures.value ∙ prepared.accesses in
     let space = room_for run c.as_slice-accesses.result.now are c.all_accesses.result (vec_capacity c.in_ok-reports.reports)
     c.all_accesses.ensures.is c.in_ok-reports.ensures.room in
@@ -38,19 +38,19 @@ returns-clause-leads c = λ settings prepared.
     (first_world run c.in_ok-board.board c.in_ok-tasks.tasks.items c.in_ok-logs.logs.items c.in_ok-reports.reports.items
     (vec_capacity c.in_ok-reports.reports)
     can list (c.in_ok-board.ensures settings (sites_in c.args.prepared.now) prepared) (c.in_ok-tasks.ensures.led settings prepared)
-    (first_kept c.steps_are_kept.ensures.none run list c.in_ok-logs.logs.items c.in_ok-reports.reports.items
+    (first_kept c.law_steps_are_kept.ensures.none run list c.in_ok-logs.logs.items c.in_ok-reports.reports.items
     (vec_capacity c.in_ok-reports.reports)
     (c.in_ok-logs.ensures.all ∙ all_begun run c.as_slice-accesses.result.now are)
     (each_kept run c.as_slice-accesses.result.now are c.in_ok-logs.logs.items c.in_ok-logs.ensures.each) c.in_ok-reports.ensures.empty space)
-    (first_points c.steps_are_kept.ensures.none run list c.in_ok-tasks.tasks.items c.in_ok-tasks.ensures.points))
+    (first_points c.law_steps_are_kept.ensures.none run list c.in_ok-tasks.tasks.items c.in_ok-tasks.ensures.points))
 
 pub invariant_of-result : goal.invariant_of-result
 invariant_of-result c =
     let settings = c.requires.ready.0 in
     let prepared = c.requires.ready.1 in
     let run = run_of c.args.program.now settings (sites_in c.args.prepared.now) in
-    let can = c.runs_begin.ensures.can run settings.places.items c.requires.limits refl prepared.fit prepared.some_slots prepared.turns in
-    let list = c.runs_begin.ensures.list run can prepared.sites in
+    let can = c.law_runs_begin.ensures.can run settings.places.items c.requires.limits refl prepared.fit prepared.some_slots prepared.turns in
+    let list = c.law_runs_begin.ensures.list run can prepared.sites in
     let are = c.as_slice-accesses.ensures.value ∙ prepared.accesses in
     let space = room_for run c.as_slice-accesses.result.now are c.all_accesses.result (vec_capacity c.in_ok-reports.reports)
     c.all_accesses.ensures.is c.in_ok-reports.ensures.room in
@@ -61,10 +61,10 @@ invariant_of-result c =
         leads = first_world run c.in_ok-board.board c.in_ok-tasks.tasks.items c.in_ok-logs.logs.items c.in_ok-reports.reports.items
             (vec_capacity c.in_ok-reports.reports)
             can list (c.in_ok-board.ensures settings (sites_in c.args.prepared.now) prepared) (c.in_ok-tasks.ensures.led settings prepared)
-            (first_kept c.steps_are_kept.ensures.none run list c.in_ok-logs.logs.items c.in_ok-reports.reports.items
+            (first_kept c.law_steps_are_kept.ensures.none run list c.in_ok-logs.logs.items c.in_ok-reports.reports.items
             (vec_capacity c.in_ok-reports.reports)
             (c.in_ok-logs.ensures.all ∙ all_begun run c.as_slice-accesses.result.now are)
             (each_kept run c.as_slice-accesses.result.now are c.in_ok-logs.logs.items c.in_ok-logs.ensures.each) c.in_ok-reports.ensures.empty space)
-            (first_points c.steps_are_kept.ensures.none run list c.in_ok-tasks.tasks.items c.in_ok-tasks.ensures.points);
+            (first_points c.law_steps_are_kept.ensures.none run list c.in_ok-tasks.tasks.items c.in_ok-tasks.ensures.points);
       });
     }

@@ -2,7 +2,7 @@
 use Rattle.std.proofs.Common.{◌≡◌, ◌<◌, ℕ, false, true}
 use Rattle.std.specs.List.{range_with_len}
 use Rattle.litmus_step.proofs.world.World.round.Given as goal
-use Rattle.litmus_step.specs.Steps.{IsMachine, IsOver, room_in, tasks_in}
+use Rattle.litmus_step.specs.Steps.{IsMachine, IsTaskOver, room_in, tasks_in}
 use Rattle.litmus_step.specs.Turns.{Asked, LeadsFurther, NobodyIsStuck}
 use Rattle.task_run.specs.declared.run.TaskRun.{TaskRun}
 
@@ -10,7 +10,7 @@ abbrev pub invariant-loop-task : goal.invariant-loop-task
 invariant-loop-task l = record {
   asked : Asked l.fn.self (range_with_len 0 l.task) l.self;
   nobody : NobodyIsStuck l.self;
-  ended : l.goes_on ≡ false → (task : ℕ) (machine : TaskRun) → task < l.task → IsMachine l.self task machine → IsOver machine;
+  ended : l.goes_on ≡ false → (task : ℕ) (machine : TaskRun) → task < l.task → IsMachine l.self task machine → IsTaskOver machine;
   further : l.goes_on ≡ true → LeadsFurther 1 l.fn.self l.self;
   no_less : LeadsFurther 0 l.fn.self l.self;
   tasks : tasks_in l.self ≡ tasks_in l.fn.self;

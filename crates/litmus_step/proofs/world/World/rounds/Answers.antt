@@ -70,7 +70,7 @@ pub returns-clause-over : goal.returns-clause-over
 returns-clause-over c =
     let none : 1 ≤ 0 = ∥∥₁_elim c.args.self.now.led (hlevel props) (λ is.
     let far = c.loop-round.invariant.further is.run is.records is.leads in
-    let few = c.few_steps_are_made.ensures.all is.run far.0 far.1.can.limits far.1.can.turns far.1.list in
+    let few = c.law_few_steps_are_made.ensures.all is.run far.0 far.1.can.limits far.1.can.turns far.1.list in
     let many = far.2 in
     omega (arith, few, many, c.loop-round-test.false, c.loop-round.auto._round-end)) in
     absurd (omega (arith, none))

@@ -1,8 +1,8 @@
--- The task is asked once more, or ends and is asked in vain.
+-- The task is asked once more, or ends and is asked without success.
 use Rattle.std.proofs.Common.{◌≡◌, ◌∙◌, ◌+◌, ◌-◌, ap, arith, refl, replicate}
 use Rattle.litmus_step.proofs.OrderLemmas.{one_more}
 use Rattle.litmus_step.proofs.RoundLemmas.{asked_along, nobody_after, times_spelled}
-use Rattle.litmus_step.proofs.TurnLemmas.{asked_in_vain, asked_more, asked_nothing}
+use Rattle.litmus_step.proofs.TurnLemmas.{asked_failed_wait, asked_more, asked_nothing}
 use Rattle.litmus_step.proofs.world.World.steps_of.Goals as goal
 use Rattle.litmus_step.specs.declared.world.Stepped.TheVariants.{Ended, Moved, Stuck}
 
@@ -18,7 +18,7 @@ returns-in-Ended-clause-asked c =
     c.loop-made.invariant.asked c.loop-made.invariant.nobody c.step.ensures.steps in (
       asked_along c.args.self.now c.step.new.self _ (replicate c.args.count c.args.task)
           (times_spelled c.args.task c.loop-made._made c.args.count c.loop-made-test.true)
-          (asked_in_vain c.args.self.now c.step.new.self _ c.args.task (c.args.count - (c.loop-made._made + 1)) asked nobody
+          (asked_failed_wait c.args.self.now c.step.new.self _ c.args.task (c.args.count - (c.loop-made._made + 1)) asked nobody
           (λ run records leads. (c.in-Ended.ensures.ended run records leads).0 refl)),
       nobody,
     )

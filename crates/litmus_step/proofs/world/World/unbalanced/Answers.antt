@@ -13,7 +13,7 @@ loop-run-preserved c = λ run records leads.
     let stands = subst (λ (all : List TaskRun). slice_get all at ≡ Some c.run-item.result) c.deref-run-items.ensures.value
     (slice_get_read machines (length machines) at c.run-item.result refl c.loop-run-test.true c.run-item.is) in
     let led = leads.tasks.each at c.run-item.result stands in
-    let same = c.machines_stand_where_the_list_does.ensures.unbalanced run records leads.list at c.run-item.result leads.can.limits led in
+    let same = c.law_machines_stand_where_the_list_does.ensures.unbalanced run records leads.list at c.run-item.result leads.can.limits led in
     unbalanced_more run records leads.list at c.loop-run.unbalanced c.unbalanced.result c.saturating_add-unbalanced.result
     (c.loop-run.invariant run records leads) (rw (sym same) (c.unbalanced.ensures _ _ _ _ led (leads.list.tasks at).more))
     c.saturating_add-unbalanced.ensures

@@ -2,7 +2,7 @@
 use Rattle.std.proofs.Common.{◌≡◌, List}
 use Rattle.litmus_step.proofs.world.World.unbalanced.Given as goal
 use Rattle.litmus_step.specs.Steps.{LeadsTo}
-use Rattle.executions.specs.run_lists.Run.{Run}
+use Rattle.executions.specs.execution.Run.{Run}
 use Rattle.log_correctness.specs.Totals.{unbalanced_below}
 use Rattle.slot_table.specs.declared.records.Record.{Record}
 

@@ -15,7 +15,7 @@ pub returns-in_default : goal.returns-in_default
 returns-in_default c = λ s text own placed limits leads.
     let here = c.loop-latest.invariant s text own placed limits leads in
     step_too_many s (length text.registers) text.body c.args.records.now c.loop-latest.latest-index
-    (record { task = 0; step = Clock; answer = Done }) c.loop-latest-test.true c.one_telling.ensures.whole
+    (record { task = 0; step = Clock; answer = Done }) c.loop-latest-test.true c.law_one_telling.ensures.whole
     (over_whole s (length text.registers) text.body _ c.stuck.result
     (c.stuck.ensures.records s (length text.registers) text.body _ here.0 here.1 limits.body.scopes limits.rises) c.if-stuck.false
     ((c.next.ensures.over s (length text.registers) text.body _ here.0 here.1 limits.body.scopes limits.rises).0 (rw c.in_default.is refl)))
@@ -31,7 +31,7 @@ loop-latest-preserved c = λ s text own placed limits leads.
     let here = c.loop-latest.invariant s text own placed limits leads in
     let only = c.in-Some.ensures.only s (length text.registers) text.body _ here.0 in
     one_more s text c.args.records.now c.loop-latest.latest-index _ c.loop-latest-test.true c.args.task c.in-Some.step c.is_made.result own c.is_made.ensures
-    c.if-not-is_made.false c.an_answer_leads_on.ensures.next placed limits only here.1 c.answer.new.self
+    c.if-not-is_made.false c.law_an_answer_leads_on.ensures.next placed limits only here.1 c.answer.new.self
     (c.answer.ensures.leads s (length text.registers) text.body _ c.in-Some.step here.0 c.in-Some.ensures.says)
 
 pub returns-then-stuck-2 : goal.returns-then-stuck-2

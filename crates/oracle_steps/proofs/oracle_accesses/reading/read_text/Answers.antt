@@ -15,7 +15,7 @@ returns c =
       ready.sites,
       λ task is. let s = setting_of program c.args.settings.now (sites_in prepared) c.args.number in
           c.read_on.ensures s (task_of task) refl
-          (c.variables_of_programs_are_placed.ensures (program_of program) c.args.settings.now.places.items c.requires.limits ready.fit
+          (c.law_variables_of_programs_are_placed.ensures (program_of program) c.args.settings.now.places.items c.requires.limits ready.fit
           s c.args.number (is_below program c.args.number task is) refl)
           (keeps_limits program c.args.number task c.requires.limits is)
           (c.in_ok-run.ensures.leads c.args.settings.now task ready is),

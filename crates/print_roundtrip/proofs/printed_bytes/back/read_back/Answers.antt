@@ -1,4 +1,5 @@
--- What is read is what the bytes of the printed form spell, and the printed form of a program that a text spells spells it.
+-- What is read is what the bytes of the printed form spell, and the printed form of a program that a text spells spells
+-- it.
 use Rattle.std.proofs.Common.{◌≡◌, ◌∙◌, ℕ, List, sym, subst}
 use Rattle.std.specs.Prelude.{IfOk}
 use Rattle.litmus_syntax.specs.PrintedForm.{printed}
@@ -17,5 +18,5 @@ returns c =
           c.parse.ensures.spelled;
       complete = complete;
       back = λ text spells nests few. complete (program_of c.args.program.now)
-          (c.printed_programs_spell_themselves.ensures text (program_of c.args.program.now) spells nests few);
+          (c.law_printed_programs_spell_themselves.ensures text (program_of c.args.program.now) spells nests few);
     }

@@ -21,7 +21,7 @@ returns c = λ settings runs tallies prepared once.
     let one : OneRun program settings = record {
       result = ended;
       once = once;
-      headline = c.the_headline_holds.ensures (run_of program settings once.sites) once.records once.list;
+      headline = c.law_the_headline_holds.ensures (run_of program settings once.sites) once.records once.list;
       found = c.in_ok-found.found;
       found_of = c.in_ok-found.ensures settings once.sites once.records (once.list, once.is_of) prepared;
     } in

@@ -10,7 +10,7 @@ use Rattle.runner.proofs.first.TaskStarts.found.Goals as goal
 use Rattle.runner.specs.Starts.{IsOutcome, IsStart}
 use Rattle.runner.specs.Terms.{AreGiven, run_of_batch}
 use Rattle.runner.specs.declared.first.TaskStart.{TaskStart}
-use Rattle.runner.specs.declared.seated.Found.{Found}
+use Rattle.runner.specs.declared.seated.TaskResult.{TaskResult}
 use Rattle.shared_table.specs.Seats.{Opened}
 
 pub loop-start-init : goal.loop-start-init
@@ -24,7 +24,7 @@ loop-start-init g c =
       rest = λ at one is. subst (λ (n : ℕ). slice_get (into_iter_items c.into_iter-start-iterator.result) n ≡ Some one)
           (omega (arith, none, c.args.self.outcomes.ok.0)) is;
       each = λ at outcome is opened is_opened. absurd (let no : slice_get [] at ≡ Some outcome =
-          ap (λ (xs : List (Result Found RunError)). slice_get xs at) (sym start.none) ∙ is in cc);
+          ap (λ (xs : List (Result TaskResult RunError)). slice_get xs at) (sym start.none) ∙ is in cc);
     }
 
 -- the table of the next run is there, and its start is the one that comes next
@@ -96,7 +96,7 @@ loop-start-preserved g c =
       room = omega (arith, was.room, pushed.capacity);
       rest = λ k start is. subst (λ (n : ℕ). slice_get all n ≡ Some start) (omega (arith, pushed.len))
           (was.rest (suc k) start (ap (λ (xs : List TaskStart). slice_get xs (suc k)) steps.0 ∙ is));
-      each = subst (λ (done : List (Result Found RunError)). (k : ℕ) (one : Result Found RunError) → slice_get done k ≡ Some one
+      each = subst (λ (done : List (Result TaskResult RunError)). (k : ℕ) (one : Result TaskResult RunError) → slice_get done k ≡ Some one
           → (opened : Opened) → slice_get tables k ≡ Some opened → IsOutcome run opened c.args.self.number one) (sym pushed.items)
           (each_push (λ k one. (opened : Opened) → slice_get tables k ≡ Some opened → IsOutcome run opened c.args.self.number one)
           c.loop-start.outcomes.items c.found.result was.each

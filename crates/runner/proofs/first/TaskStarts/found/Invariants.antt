@@ -6,7 +6,7 @@ use Rattle.runner.proofs.first.TaskStarts.found.Given as goal
 use Rattle.runner.specs.Starts.{IsOutcome}
 use Rattle.runner.specs.Terms.{run_of_batch}
 use Rattle.runner.specs.declared.first.TaskStart.{TaskStart}
-use Rattle.runner.specs.declared.seated.Found.{Found}
+use Rattle.runner.specs.declared.seated.TaskResult.{TaskResult}
 use Rattle.shared_table.specs.Seats.{Opened}
 
 abbrev pub invariant-loop-start : goal.invariant-loop-start
@@ -15,6 +15,6 @@ invariant-loop-start g l = record {
   room : into_iter_len l.initial.start-iterator ≤ vec_capacity l.outcomes;
   rest : (at : ℕ) (start : TaskStart) → slice_get (into_iter_items l.start-iterator) at ≡ Some start
       → slice_get (into_iter_items l.initial.start-iterator) (vec_len l.outcomes + at) ≡ Some start;
-  each : (at : ℕ) (outcome : Result Found RunError) → slice_get l.outcomes.items at ≡ Some outcome
+  each : (at : ℕ) (outcome : Result TaskResult RunError) → slice_get l.outcomes.items at ≡ Some outcome
       → (opened : Opened) → slice_get l.batch.tables.now at ≡ Some opened → IsOutcome (run_of_batch l.batch) opened l.fn.self.number outcome;
 }

@@ -16,5 +16,5 @@ pub returns-clause-races : goal.returns-clause-races
 returns-clause-races c = λ run records list is.
     map_ok c.accesses_of.result
     (λ all are. all_reported list (ReportFits all.items) (tasks_of run) c.args.self.now.reports.items is.reports
-    (c.reports_are_of_ended_accesses.ensures run records list is.can.limits is.ended all.items are))
+    (c.law_reports_are_of_ended_accesses.ensures run records list is.can.limits is.ended all.items are))
     (c.accesses_of.ensures run records list is.can.limits (rw c.as_slice.ensures.value is.logs))

@@ -1,13 +1,13 @@
 -- By the records at the seat, which reach the machine.
 use Rattle.std.proofs.Common.{◌≡◌, ◌∙◌, false, inl, inr, length, reverse, sym, true, vec_capacity}
-use Rattle.executions.specs.run_lists.Run.{task_of, task_setting}
+use Rattle.executions.specs.execution.Run.{task_of, task_setting}
 use Rattle.runner.proofs.SeatedLemmas.{HasRegisters, is_found, seat_reaches}
 use Rattle.runner.proofs.seated.SeatedTask.found.Goals as goal
 use Rattle.runner.specs.Terms.{run_by}
 use Rattle.program_order.specs.WrittenOrder.{SpellsAll}
 
 pub returns-then-stuck-clause-stuck : goal.returns-then-stuck-clause-stuck
-returns-then-stuck-clause-stuck c = λ terms are seated vain.
+returns-then-stuck-clause-stuck c = λ terms are seated failed.
     let it = c.args.self in
     let reach = seat_reaches (run_by terms) it.number it.seat.records it.run it.log it.reports.items (vec_capacity it.reports) are.can
     seated.there seated.led in
@@ -29,8 +29,8 @@ returns-clause-found c = λ terms are seated.
     ] in
     let values : HasRegisters it.run c.in_ok-registers.registers.items = λ s registers body records leads later.
     c.in_ok-registers.ensures.items_if_clones_equal (λ x y same. same) ∙ c.registers.ensures s registers body records leads later in
-    is_found c.no_task_stops.ensures c.few_watches_are_over.ensures.reports c.machines_stand_where_the_records_tell.ensures.registers
-    c.machines_stand_where_the_records_tell.ensures.unbalanced run terms.table.now it.number
+    is_found c.law_no_task_stops.ensures c.law_few_watches_are_over.ensures.reports c.law_machines_stand_where_the_records_tell.ensures.registers
+    c.law_machines_stand_where_the_records_tell.ensures.unbalanced run terms.table.now it.number
     (record {
       seat = it.seat;
       log = it.log;

@@ -23,7 +23,7 @@ pub step-answer-requires : goal.step-answer-requires
 step-answer-requires g c =
     let next : MakesNext c.loop.run c.in-Some-next.step =
     record { says = c.in-Some-next.ensures.says; only = c.in-Some-next.ensures.only; within = c.in-Some-next.ensures.within } in
-    may_make c.seats_lead_on.ensures.names c.seats_lead_on.ensures.allows c.args.terms c.args.self.number c.loop.board c.loop.run c.loop.log
+    may_make c.law_seats_lead_on.ensures.names c.law_seats_lead_on.ensures.allows c.args.terms c.args.self.number c.loop.board c.loop.run c.loop.log
     c.loop.reports.items (vec_capacity c.loop.reports) c.in-Some-next.step c.requires.terms c.requires.seated.there c.loop.invariant.table
     c.loop.invariant.own c.loop.invariant.led next
 
@@ -36,7 +36,7 @@ loop-preserved g c =
           c.step-answer.ensures.made c.loop.invariant.table;
       own = task_stays c.loop.board c.step-answer.new.self c.in-Some-next.step c.step-answer.result c.args.self.number
           c.step-answer.ensures.made c.loop.invariant.own;
-      led = seat_leads_on c.seats_lead_on.ensures.leads (run_by c.args.terms) c.args.self.number c.loop.board c.step-answer.new.self c.loop.run
+      led = seat_leads_on c.law_seats_lead_on.ensures.leads (run_by c.args.terms) c.args.self.number c.loop.board c.step-answer.new.self c.loop.run
           c.answer.new.self c.loop.log c.note.new.log c.loop.reports.items c.note.new.reports.items (vec_capacity c.loop.reports)
           (vec_capacity c.note.new.reports) c.in-Some-next.step c.step-answer.result c.begins-begins.result c.fell.result
           c.requires.terms.can c.requires.seated.there c.loop.invariant.own c.loop.invariant.led next c.step-answer.ensures.kind

@@ -2,13 +2,13 @@
 use Rattle.std.proofs.Common.{arith, refl}
 use Rattle.setup_access.specs.Kept.{setting_with}
 use Rattle.setup_access.proofs.FallLemmas.{consumed_falls, hit_falls, inserted_falls}
-use Rattle.setup_access.proofs.SetupLemmas.{consumed_left, hit_left, inserted_left, named_left, new_left, old_left, vain_left}
+use Rattle.setup_access.proofs.SetupLemmas.{consumed_left, hit_left, inserted_left, named_left, new_left, old_left, failed_left}
 use Rattle.setup_access.specs.Found.{finder_half}
 use Rattle.slot_table.specs.index_order.Indices.{try_index}
 use Rattle.setup_access.specs.Setting.{slot_of}
 use Rattle.setup_access.specs.Values.{source_of}
 use Rattle.setup_access.specs.Verdicts.{UntouchedOutcome}
-use Rattle.setup_access.proofs.WaitLemmas.{consumed_counts, heard_counts, inserted_counts, named_counts, vain_counts}
+use Rattle.setup_access.proofs.WaitLemmas.{consumed_counts, heard_counts, inserted_counts, named_counts, failed_counts}
 use Rattle.setup_access.proofs.setup.Setup.answer.Goals as goal
 
 pub returns-in-Insert-Flag-clause-left : goal.returns-in-Insert-Flag-clause-left
@@ -41,7 +41,7 @@ returns-in-Consume-Flag-clause-left c = λ judged later rest.
 pub returns-then-finder-eq0-clause-left : goal.returns-then-finder-eq0-clause-left
 returns-then-finder-eq0-clause-left c = λ judged later rest.
     rw (c.in-HearFinder-Halves.is-0, c.in-HearFinder-Halves.is-1)
-    (vain_left (setting_with c.args.setting.now c.args.sites.now) c.args.access.now c.in-HearFinder-Halves.index later rest
+    (failed_left (setting_with c.args.setting.now c.args.sites.now) c.args.access.now c.in-HearFinder-Halves.index later rest
     c.in-HearFinder-Halves.values c.in-HearFinder-Halves.setter c.in-HearFinder-Halves.finder judged c.if-finder-eq0.true)
 
 pub returns-else-finder-eq0-clause-left : goal.returns-else-finder-eq0-clause-left
@@ -71,7 +71,7 @@ returns-in-Consume-Flag-clause-waits c = λ wait before.
 pub returns-then-finder-eq0-clause-waits : goal.returns-then-finder-eq0-clause-waits
 returns-then-finder-eq0-clause-waits c = λ wait before.
     rw (c.in-HearFinder-Halves.is-0, c.in-HearFinder-Halves.is-1, c.saturating_add.ensures)
-    (vain_counts finder_half c.in-HearFinder-Halves.tries c.in-HearFinder-Halves.setter c.in-HearFinder-Halves.finder wait
+    (failed_counts finder_half c.in-HearFinder-Halves.tries c.in-HearFinder-Halves.setter c.in-HearFinder-Halves.finder wait
     (rw c.in-HearFinder-Halves.is-0 at before) c.if-finder-eq0.true)
 
 pub returns-else-finder-eq0-clause-waits : goal.returns-else-finder-eq0-clause-waits

@@ -4,7 +4,7 @@ use Rattle.setup_access.specs.Shown as checker
 use Rattle.task_plan.specs.Room as progress
 use Rattle.task_run.proofs.BeginsLemmas.{begins_then, ends_then, to_end, walked}
 use Rattle.task_run.proofs.machine.Machine.advance.Goals as goal
-use Rattle.task_run.specs.Told.{nothing}
+use Rattle.task_run.specs.Position.{nothing}
 use Rattle.text_walk.specs.Left.{DueLeft, WalkLeft}
 
 pub loop-next-init : goal.loop-next-init

@@ -5,7 +5,7 @@ use Rattle.litmus_syntax.specs.Views.{pure_of}
 use Rattle.task_run.proofs.BeginsLemmas.{walked}
 use Rattle.task_run.proofs.FollowLemmas.{chosen_fails, chosen_holds}
 use Rattle.task_run.proofs.PlanLemmas.{decides_left}
-use Rattle.task_run.specs.Told.{nothing}
+use Rattle.task_run.specs.Position.{nothing}
 use Rattle.task_run.proofs.machine.Machine.decides.Goals as goal
 use Rattle.text_walk.proofs.StepsLemmas.{through}
 

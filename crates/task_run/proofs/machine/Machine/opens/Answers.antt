@@ -11,7 +11,7 @@ use Rattle.task_run.specs.Due.{PartBegins}
 use Rattle.task_run.specs.Stands.{Stands}
 use Rattle.task_run.specs.Stops.{CanBegin}
 use Rattle.task_run.specs.declared.machine.Machine.{Machine}
-use Rattle.task_run.specs.declared.stage.Stage.TheVariants as stages
+use Rattle.task_run.specs.declared.stage.TaskStage.TheVariants as stages
 use Rattle.text_walk.specs.Left.{DueLeft}
 use Rattle.text_walk.specs.declared.due.Due.TheVariants as dues
 use Rattle.program_order.specs.Standing.{Standing, checks_of}

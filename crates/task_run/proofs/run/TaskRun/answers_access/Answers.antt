@@ -9,7 +9,7 @@ use Rattle.task_run.proofs.TellLemmas.{keeping}
 use Rattle.task_run.proofs.WaitLemmas.{access_no_try, no_try_no_wait}
 use Rattle.task_plan.specs.declared.follow.Then.{Then}
 use Rattle.task_run.specs.Says.{StageSays}
-use Rattle.task_run.specs.declared.stage.Stage.TheVariants as stages
+use Rattle.task_run.specs.declared.stage.TaskStage.TheVariants as stages
 use Rattle.task_run.proofs.run.TaskRun.answers_access.Goals as goal
 use Rattle.program_order.specs.Standing.{checks_of}
 

@@ -13,16 +13,16 @@ use Rattle.task_run.specs.Leads.{Leads}
 use Rattle.task_run.specs.Stands.{StandsBy}
 use Rattle.task_run.specs.declared.machine.Machine.{Machine}
 use Rattle.task_run.specs.declared.run.TaskRun.{TaskRun}
-use Rattle.task_run.specs.declared.stage.Stage.{Stage}
-use Rattle.task_run.specs.declared.stage.Stage.TheVariants as stages
+use Rattle.task_run.specs.declared.stage.TaskStage.{TaskStage}
+use Rattle.task_run.specs.declared.stage.TaskStage.TheVariants as stages
 use Rattle.text_walk.specs.Left.{WalkLeft}
 use Rattle.program_order.specs.Standing.{Setting, Standing, checks_of}
 
-closes_else : (stage : Stage) → (stage ≡ stages.Opening) ⊎ (stage ≡ stages.Closing) → ¬ (stage ≡ stages.Opening) → stage ≡ stages.Closing
+closes_else : (stage : TaskStage) → (stage ≡ stages.Opening) ⊎ (stage ≡ stages.Closing) → ¬ (stage ≡ stages.Opening) → stage ≡ stages.Closing
 closes_else stage (inl is) not = absurd (not is)
 closes_else stage (inr is) not = is
 
-goes_from : (s : Setting) (one other new : Machine) (stage : Stage) → one ≡ other
+goes_from : (s : Setting) (one other new : Machine) (stage : TaskStage) → one ≡ other
     → ((before : List Record → Standing) → StandsBy s before one → Begins s (WalkLeft s one.walk) before new stage)
     → (before : List Record → Standing) → StandsBy s before other → Begins s (WalkLeft s other.walk) before new stage
 goes_from s one other new stage is goes =

@@ -7,7 +7,7 @@ use Rattle.task_run.proofs.TellLemmas.{IsQuiet, making_begins, none_begins, open
 use Rattle.task_run.proofs.run.TaskRun.begins.Goals as goal
 use Rattle.task_run.specs.Leads.{BeginsNext}
 use Rattle.task_run.specs.Part.{Part, makes, opens}
-use Rattle.task_run.specs.declared.stage.Stage.{Stage}
+use Rattle.task_run.specs.declared.stage.TaskStage.{TaskStage}
 
 pub returns-in-Making : goal.returns-in-Making
 returns-in-Making c = λ s registers body records leads later.
@@ -32,28 +32,28 @@ pub returns-in-Closing : goal.returns-in-Closing
 returns-in-Closing c = λ s registers body records leads later.
     none_begins s (leads.now (leads.mine ++ later)) leads.mine c.args.self.now.machine c.args.self.now.stage leads.part (leads.agrees
     (leads.mine ++ later)).is_in
-    (subst (λ (x : Stage). IsQuiet x) (sym c.in-Closing.is) tt)
+    (subst (λ (x : TaskStage). IsQuiet x) (sym c.in-Closing.is) tt)
 
 pub returns-in-Locking : goal.returns-in-Locking
 returns-in-Locking c = λ s registers body records leads later.
     none_begins s (leads.now (leads.mine ++ later)) leads.mine c.args.self.now.machine c.args.self.now.stage leads.part (leads.agrees
     (leads.mine ++ later)).is_in
-    (subst (λ (x : Stage). IsQuiet x) (sym c.in-Locking.is) tt)
+    (subst (λ (x : TaskStage). IsQuiet x) (sym c.in-Locking.is) tt)
 
 pub returns-in-Unlocking : goal.returns-in-Unlocking
 returns-in-Unlocking c = λ s registers body records leads later.
     none_begins s (leads.now (leads.mine ++ later)) leads.mine c.args.self.now.machine c.args.self.now.stage leads.part (leads.agrees
     (leads.mine ++ later)).is_in
-    (subst (λ (x : Stage). IsQuiet x) (sym c.in-Unlocking.is) tt)
+    (subst (λ (x : TaskStage). IsQuiet x) (sym c.in-Unlocking.is) tt)
 
 pub returns-in-Over : goal.returns-in-Over
 returns-in-Over c = λ s registers body records leads later.
     none_begins s (leads.now (leads.mine ++ later)) leads.mine c.args.self.now.machine c.args.self.now.stage leads.part (leads.agrees
     (leads.mine ++ later)).is_in
-    (subst (λ (x : Stage). IsQuiet x) (sym c.in-Over.is) tt)
+    (subst (λ (x : TaskStage). IsQuiet x) (sym c.in-Over.is) tt)
 
 pub returns-in-Stopped : goal.returns-in-Stopped
 returns-in-Stopped c = λ s registers body records leads later.
     none_begins s (leads.now (leads.mine ++ later)) leads.mine c.args.self.now.machine c.args.self.now.stage leads.part (leads.agrees
     (leads.mine ++ later)).is_in
-    (subst (λ (x : Stage). IsQuiet x) (sym c.in-Stopped.is) tt)
+    (subst (λ (x : TaskStage). IsQuiet x) (sym c.in-Stopped.is) tt)

@@ -6,7 +6,7 @@ use Rattle.setup_access.specs.Leads as checks
 use Rattle.slot_table.specs.declared.step.Step.TheVariants.{LockStore}
 use Rattle.program_order.specs.Waits.{OnlyStep}
 use Rattle.task_run.specs.Says.{IsGoingIn, StageSays}
-use Rattle.task_run.specs.declared.stage.Stage.TheVariants as stages
+use Rattle.task_run.specs.declared.stage.TaskStage.TheVariants as stages
 use Rattle.program_order.specs.Standing.{checks_of}
 use Rattle.task_run.proofs.NextLemmas.{closing_none, closing_only, locking_none, locking_only, making_none, making_only, none_left, opening_none, opening_only, over_spelled, some_says, step_only, unlocking_only, unlocking_stuck, within_on}
 use Rattle.task_run.proofs.StuckLemmas.{over_by_records}

@@ -1,4 +1,4 @@
--- A wait is stuck by its own count of vain tries, and the records tell the same.
+-- A wait is stuck by its own count of failed tries, and the records tell the same.
 use Rattle.std.proofs.Common.{◌≡◌, ◌↔◌, ◌^◌, ◌≤◌, ℕ, IsTrue, List, false, true}
 use Rattle.litmus_syntax.specs.Limits.{BlockScopes, block_rises}
 use Rattle.litmus_syntax.specs.Tree.{Block}

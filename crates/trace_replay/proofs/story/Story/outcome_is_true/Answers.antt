@@ -14,7 +14,7 @@ returns-in_default-named c = λ all knows. (
 
 pub returns-in_default-decode_in : goal.returns-in_default-decode_in
 returns-in_default-decode_in c =
-    let watches = c.words_read_back.ensures c.args.shape.layout c.args.setter.now.access c.args.arm.now.watch_word c.requires.word in
+    let watches = c.law_words_read_back.ensures c.args.shape.layout c.args.setter.now.access c.args.arm.now.watch_word c.requires.word in
     absurd (true≢false (sym (c.in_default-decode_in.ensures.watch_word.1
     (subst (IsWatchWord c.args.shape.layout) (sym c.watch_word.ensures) watches.is_watch_word))))
 

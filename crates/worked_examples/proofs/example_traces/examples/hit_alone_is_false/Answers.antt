@@ -1,4 +1,4 @@
-use Rattle.worked_examples.proofs.example_traces.Told.{hit_alone_false}
+use Rattle.worked_examples.proofs.example_traces.VersionTwo.{hit_alone_false}
 use Rattle.worked_examples.proofs.example_traces.examples.hit_alone_is_false.Goals as goal
 
 pub returns : goal.returns

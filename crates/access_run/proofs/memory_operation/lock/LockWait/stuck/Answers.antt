@@ -1,4 +1,4 @@
--- Without the lock, each try so far was in vain.
+-- Without the lock, each try so far failed.
 use Rattle.std.proofs.Common.{arith}
 use Rattle.std.proofs.lemmas.Bool.{le-leb, leb-true}
 use Rattle.access_run.proofs.memory_operation.LockLemmas.{not_stuck_taken, stuck_at_lock}

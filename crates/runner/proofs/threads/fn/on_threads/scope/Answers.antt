@@ -23,7 +23,7 @@ use denote.Param.Send.{AllSend, IsSend, arg_send, param_send, recorded_send, shr
 use denote.Struct.Struct.{Struct}
 use Rattle.litmus_step.proofs.FirstLemmas.{each_push}
 use Rattle.litmus_step.specs.Runs.{run_of, tasks_of}
-use Rattle.executions.specs.run_lists.Run.{Run}
+use Rattle.executions.specs.execution.Run.{Run}
 use Rattle.prepared_program.proofs.program_sites.prepared.Prepared.TheSendSync as prepared
 use Rattle.prepared_program.specs.program_sites.Prepared.{sites_in}
 use Rattle.prepared_program.proofs.program_sites.settings.Settings.TheSendSync as settings

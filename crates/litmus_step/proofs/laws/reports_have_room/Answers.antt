@@ -1,5 +1,0 @@
--- By the law on what is reported.
-use Rattle.litmus_step.proofs.laws.reports_have_room.Goals as goal
-
-pub returns : goal.returns
-returns c = c.few_are_reported.ensures.text

@@ -1,7 +1,0 @@
--- nothing of a text is left, and all that begins in it ends
-use Rattle.log_correctness.proofs.Told.{has_ended}
-use Rattle.log_correctness.proofs.watched.accesses_of_ended_tasks_have_ended.Goals as goal
-
-pub returns : goal.returns
-returns c = λ run records list ended a. has_ended run records list c.one_telling.ensures.whole
-    (c.run_lists_tell_runs_of_the_program.ensures run records list).tasks ended a

@@ -1,9 +1,0 @@
--- By then the setter has its arming in hand and has heard the pair, and who told of it is the finder.
-use Rattle.soundness.proofs.Joined.{all_both}
-use Rattle.soundness.proofs.verdicts.answers_are_on_a_watch_and_a_find.Goals as goal
-
-pub returns : goal.returns
-returns c = λ run records list.
-    all_both run records list (c.run_lists_keep_the_discipline.ensures.keeps run records list) (c.answers_are_to_takings.ensures run records list)
-    (c.verdicts_are_on_watches.ensures run records list) (c.outcomes_fall_where_they_are_settled.ensures run records list)
-    (c.tellings_are_on_finds.ensures run records list)

@@ -1,6 +1,0 @@
--- A telling falls with the last record of its find, before which its task has in hand what it took.
-use Rattle.soundness.proofs.Finds.{all_on_finds}
-use Rattle.soundness.proofs.verdicts.tellings_are_on_finds.Goals as goal
-
-pub returns : goal.returns
-returns c = λ run records list. all_on_finds run records list (c.roles_of_run_lists.ensures.heard run records list)

@@ -1,5 +1,0 @@
-use Rattle.task_plan.proofs.KeepsLemmas.{same_access}
-use Rattle.task_plan.proofs.laws.what_is_kept_is_of_one_standing.Goals as goal
-
-pub returns-clause-accesses : goal.returns-clause-accesses
-returns-clause-accesses c = same_access
