@@ -1,4 +1,4 @@
-//! Rows: texts with settings, place lists and schedules, and what is said of them.
+//! Rows of checks: texts with settings, place lists and schedules, and what is said of them.
 
 use diagnostics::option_diagnostics::{place_fault, schedule_fault};
 use diagnostics::text_check::{Check, calls, check_text};

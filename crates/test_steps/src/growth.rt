@@ -1,12 +1,11 @@
-//! Makes a task of a program, and says by its status where memory was refused. With each growth of memory refused in
+//! Makes a task of a program, and says by the status where memory was refused. With each growth of memory refused in
 //! turn it shows that the task, whose room is taken as it is made, answers each by want of memory.
-#![tactic(auto)]
 
-ghost use Rattle.std.specs.Prelude.{IfOk};
 ghost use Rattle.litmus_syntax.specs.Limits.{KeepsLimits};
 ghost use Rattle.litmus_syntax.specs.Views.{program_of};
 
-use litmus_parse::{ParseError, Program, parse};
+use crate::play::parsed;
+use litmus_parse::{ParseError, Program};
 use prepared_program::program_sites::{RunError, Settings};
 use std::alloc::Global;
 use std::process::ExitCode;
@@ -17,7 +16,7 @@ use watch_word::Layout;
 const OUT_OF_MEMORY: u8 = 71;
 
 /// The status where memory is refused before.
-const BEFORE: u8 = 75;
+pub const BEFORE: u8 = 75;
 
 /// The status of all else.
 const OTHERWISE: u8 = 1;
@@ -44,13 +43,6 @@ impl From<RunError> for End {
     fn from(error: RunError) -> End {
         End::Task(error)
     }
-}
-
-/// The program that the text spells.
-fn parsed(alloc: Global) -> Result<Program, ParseError>
-    ensures { IfOk result (λ program. KeepsLimits (program_of program)) }
-{
-    parse(alloc, TEXT.as_bytes())
 }
 
 /// Each access is watched that may be.
@@ -81,12 +73,13 @@ fn has_step(alloc: Global, program: &Program) -> Result<bool, RunError>
 
 /// Reads the text, and makes its task.
 fn made(alloc: Global) -> Result<bool, End> {
-    let program = parsed(alloc)?;
+    let program = parsed(alloc, TEXT)?;
     Ok(has_step(alloc, &program)?)
 }
 
-fn main(rt: HostRuntime) -> ExitCode {
-    match made(rt.alloc()) {
+/// The status of the task that is made.
+pub fn status_of_growth(alloc: Global) -> ExitCode {
+    match made(alloc) {
         Ok(true) => ExitCode::SUCCESS,
         Err(End::Task(RunError::OutOfMemory)) => ExitCode::from(OUT_OF_MEMORY),
         Err(End::Before) => ExitCode::from(BEFORE),

@@ -70,7 +70,7 @@ pub fn played(alloc: Global, scene: &Scene) -> Result<String, PlayError> {
 }
 
 /// The program that a text spells.
-fn parsed(alloc: Global, text: &str) -> Result<Program, ParseError>
+pub fn parsed(alloc: Global, text: &str) -> Result<Program, ParseError>
     ensures { IfOk result (λ program. KeepsLimits (program_of program)) }
 {
     parse(alloc, text.as_bytes())

@@ -1,4 +1,4 @@
-//! Rows: texts, and what comes of them.
+//! Rows of texts: what comes of them.
 
 use crate::frame::{Kind, kind_of};
 use diagnostics::refusal_text::refusal_text;

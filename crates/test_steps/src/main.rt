@@ -1,16 +1,19 @@
 //! Reads rows from standard input, each a litmus text whose tasks make their steps on plain words, with the steps,
-//! their answers and what is left in the end, and prints those of which something else comes.
+//! their answers and what is left in the end, and prints those of which something else comes. With the word `growth` it
+//! reads none: it makes one task, and says by its status where memory was refused (`tests/refuse_task`).
 #![tactic(auto)]
 
+mod growth;
 mod notation;
 mod play;
 mod row;
 mod texts;
 
+use growth::{BEFORE, status_of_growth};
 use row::{Tried, try_row};
 use std::alloc::{AllocError, Global};
-use std::io;
 use std::process::ExitCode;
+use std::{env, io};
 use texts::Texts;
 
 /// The status where something else comes of a row, or a line is no row.
@@ -23,7 +26,22 @@ const OUT_OF_MEMORY: u8 = 71;
 const FAILED: u8 = 74;
 
 fn main(rt: HostRuntime) -> ExitCode {
-    let status = match try_rows(&rt) {
+    match is_asked_to_grow(&rt) {
+        Ok(true) => status_of_growth(rt.alloc()),
+        Ok(false) => status_of_rows(&rt),
+        Err(_) => ExitCode::from(BEFORE),
+    }
+}
+
+/// Whether the program was started with the word `growth`.
+fn is_asked_to_grow(rt: &HostRuntime) -> io::Result<bool> {
+    let words: Vec<String> = env::args(rt)?.collect(rt.alloc())?;
+    Ok(words.iter().any(|word| word.as_str() == "growth"))
+}
+
+/// The status of the rows.
+fn status_of_rows(rt: &HostRuntime) -> ExitCode {
+    let status = match try_rows(rt) {
         Ok(0) => return ExitCode::SUCCESS,
         Ok(_) => OTHERWISE,
         Err(error) => match error.kind() {
