@@ -1,7 +1,7 @@
 //! Steps, each one operation on one word, and their answers.
 
 /// One operation on one word. Indices, cells and locks are numbered from 0.
-#[derive(Clone, Copy, Debug, PartialEq, Eq)]
+#[derive(Clone, Copy, Debug, PartialEq, Eq, Hash)]
 pub enum Step {
     /// Reads the watch word at an index.
     Load(usize),
@@ -34,7 +34,7 @@ pub enum Step {
 }
 
 /// What a step answers: a word, whether it was accepted, both halves of a pair, or nothing.
-#[derive(Clone, Copy, Debug, PartialEq, Eq)]
+#[derive(Clone, Copy, Debug, PartialEq, Eq, Hash)]
 pub enum Answer {
     Word(u64),
     Flag(bool),
