@@ -208,14 +208,14 @@ module _ (s : Setting) (scopes : List Begun) (begun : Begun) (asked : ℕ) (oper
       (λ stuck. record { going = checking records leads.1; waits = in_check leads.1 stuck }, λ stuck. check_waits records leads.1 stuck.waits)
 
   pub check_over : (records : List Record) (checker : Checker) (run : Option OperationRun) → StageLeads s scopes begun asked operation records (stages.Check run) checker
-      → checks.IsOperationOver s scopes (Checks begun) asked records ↔ AccessIsOver s scopes begun asked operation records
+      → checks.IsCheckOver s scopes (Checks begun) asked records ↔ AccessIsOver s scopes begun asked operation records
   check_over records checker run leads = (to, from)
     where
-      to : checks.IsOperationOver s scopes (Checks begun) asked records → AccessIsOver s scopes begun asked operation records
+      to : checks.IsCheckOver s scopes (Checks begun) asked records → AccessIsOver s scopes begun asked operation records
       to (inl done) = absurd (leads.1 records [] done.0 (sym (append-nil records)) done.1)
       to (inr stuck) = inr ((check_stuck records checker run leads).0 stuck)
 
-      from : AccessIsOver s scopes begun asked operation records → checks.IsOperationOver s scopes (Checks begun) asked records
+      from : AccessIsOver s scopes begun asked operation records → checks.IsCheckOver s scopes (Checks begun) asked records
       from (inl done) = absurd (checking records leads.1 done)
       from (inr stuck) = inr ((check_stuck records checker run leads).1 stuck)
 

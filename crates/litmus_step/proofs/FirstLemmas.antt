@@ -52,7 +52,7 @@ pub first_can : ArePlacedInTasks → (run : Run) (places : List Place) → Keeps
 first_can placed run places limits are fit slots turns = record {
   limits = limits;
   placed = λ task below. placed run.program places limits fit (task_setting run task) task below
-      (ap (λ (p : List layout.Place). setting_of run.program p task) are);
+      (ap (λ (p : List layout.VariablePlace). setting_of run.program p task) are);
   slots = slots;
   turns = turns;
 }
@@ -137,7 +137,7 @@ first_list spelled run can are = record {
 }
 
 -- two maps that have exactly the accesses of a program are one
-pub same_sites : (program : Program) (places : List layout.Place) (one other : AccessMap) → AreSitesOf program places one
+pub same_sites : (program : Program) (places : List layout.VariablePlace) (one other : AccessMap) → AreSitesOf program places one
     → AreSitesOf program places other → one ≡ other
 same_sites program places one other is_one is_other =
     finite.same_map nat_cmp_total finite.nat_cmp-IsAntisymmetric one other

@@ -33,7 +33,7 @@ use Rattle.soundness.specs.Takings.{HasOneAnswer, answers_to}
 use Rattle.soundness.proofs.Counts.{Answered, elsewhere_alone, fell_cases, hand_with, its, none_its, once_at_most, one_its, stands_once, times, times_more, told_covers}
 use Rattle.soundness.proofs.Falls.{outcomes_in}
 use Rattle.soundness.proofs.Lists.{SettledAt, settled_at}
-use Rattle.soundness.proofs.Waiting.{Hears, IsWaiting, Told, Unheard, heard_so, one_setter, told_of, told_so, waits_by, waits_now}
+use Rattle.soundness.proofs.Waiting.{Hears, IsWaiting, FinderHasTold, Unheard, heard_so, one_setter, told_of, told_so, waits_by, waits_now}
 
 loaded_at : Step → ℕ
 loaded_at (PairLoad index) = index
@@ -107,7 +107,7 @@ module _ (run : Run) (records : List Record) (list : Execution run records) (rul
   hit_part : (task : ℕ) (earlier : List Record) → Waits task earlier → part_of task index earlier ≡ Some parts.Hit
   hit_part task earlier waits = here_part index (in_hand (records_of task earlier)) parts.Hit waits.has
 
-  told_by_view : (task : ℕ) (earlier : List Record) → Rules earlier → Waits task earlier → Told index (view_at earlier) task
+  told_by_view : (task : ℕ) (earlier : List Record) → Rules earlier → Waits task earlier → FinderHasTold index (view_at earlier) task
   told_by_view task earlier kept waits =
       told_of index (view_at earlier) task waits.hears.0 (fits earlier kept) (hit_part task earlier waits) waits.hears.1 waits.hears.2
 

@@ -422,7 +422,7 @@ module _ (s : Setting) (registers : ℕ) (body : Block) (records : List Record) 
         (λ h. opening_is.0 (all.0 h), λ stuck. all.1 (opening_is.1 stuck))
 
     pub opening_none : (Says : Type 0) → ((scopes : List Begun) (doing : Doing) (asked : ℕ) (so_far : List Record)
-        → checks.Leads (checks_of s) scopes doing asked so_far run.machine.checker → Says ↔ checks.IsOver (checks_of s) scopes doing asked so_far)
+        → checks.Leads (checks_of s) scopes doing asked so_far run.machine.checker → Says ↔ checks.IsCheckOver (checks_of s) scopes doing asked so_far)
         → Says ↔ IsStuck leads
     opening_none Says says =
         let all = says here.scopes (Checks opening_agrees.is_in.0) here.asked leads.mine opening_agrees.is_in.4 in (
@@ -458,7 +458,7 @@ module _ (s : Setting) (registers : ℕ) (body : Block) (records : List Record) 
         (λ h. closing_is.0 (all.0 h), λ stuck. all.1 (closing_is.1 stuck))
 
     pub closing_none : (Says : Type 0) → ((scopes : List Begun) (doing : Doing) (asked : ℕ) (so_far : List Record)
-        → checks.Leads (checks_of s) scopes doing asked so_far run.machine.checker → Says ↔ checks.IsOver (checks_of s) scopes doing asked so_far)
+        → checks.Leads (checks_of s) scopes doing asked so_far run.machine.checker → Says ↔ checks.IsCheckOver (checks_of s) scopes doing asked so_far)
         → Says ↔ IsStuck leads
     closing_none Says says =
         let all = says closing_agrees.is_in.0 (Closes closing_agrees.is_in.1 closing_agrees.is_in.2) here.asked leads.mine closing_agrees.is_in.6 in (

@@ -19,7 +19,7 @@ ghost use Rattle.slot_table.specs.declared.records.Record.{Record};
 
 use program_order::law_the_written_order_keeps_the_discipline;
 use slot_table::laws::{
-    law_armings_are_met_once, law_each_hears_the_other, law_heard_is_told, roles,
+    law_armings_are_met_once, law_each_hears_the_other, law_heard_is_told, law_roles,
 };
 use watch_word::law_words_read_back;
 

@@ -11,7 +11,7 @@ use Rattle.litmus_syntax.specs.declared.program.Variable.{Variable}
 use Rattle.prepared_program.specs.program_layout.Places.{AreFit, Suits, is_for, named, places_of}
 use Rattle.prepared_program.specs.declared.program_layout.place.Place.{Place}
 
-abbrev addr_of : Option layout.Place → Option ℕ
+abbrev addr_of : Option layout.VariablePlace → Option ℕ
 addr_of place = option_map (λ p. p.addr) place
 
 abbrev given_addr : Option Place → Option ℕ

@@ -6,7 +6,7 @@ use Rattle.litmus_syntax.specs.declared.program.Variable.{Variable}
 use Rattle.prepared_program.specs.declared.program_layout.place.Place.{Place}
 
 -- places as the layout sees them
-abbrev pub places_of : List Place → List layout.Place
+abbrev pub places_of : List Place → List layout.VariablePlace
 places_of places = map (λ place. record { name = place.name; addr = place.addr }) places
 
 -- the place is for the variable of a name

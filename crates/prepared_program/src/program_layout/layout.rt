@@ -146,7 +146,7 @@ impl Layout {
 
     /// The bytes of the variable of a number; where there is none, none at 0.
     pub fn bytes_in(&self, variable: usize) -> Bytes
-        ensures { (places : List spec.Place) (variables : List Variable) → Lays places variables self.now
+        ensures { (places : List spec.VariablePlace) (variables : List Variable) → Lays places variables self.now
             → result ≡ spec.bytes_of_variable places variables variable }
     {
         self.bytes_of(variable)
@@ -165,7 +165,7 @@ impl Layout {
 
     /// The bytes of all variables, in their order.
     pub fn all_bytes(&self, alloc: Global) -> Result<Vec<Bytes>, AllocError>
-        ensures { (places : List spec.Place) (variables : List Variable) → Lays places variables self.now
+        ensures { (places : List spec.VariablePlace) (variables : List Variable) → Lays places variables self.now
             → IfOk result (λ bytes.
             (variable : ℕ) → bytes_among bytes.items variable ≡ spec.bytes_of_variable places variables variable) }
     {
@@ -184,7 +184,7 @@ impl Layout {
 
     /// The addresses of the cells of memory, in the order of the variables that lie in them.
     pub fn cells(&self, alloc: Global) -> Result<Vec<u64>, AllocError>
-        ensures { (places : List spec.Place) (variables : List Variable) → Lays places variables self.now
+        ensures { (places : List spec.VariablePlace) (variables : List Variable) → Lays places variables self.now
             → IfOk result (λ cells. cells.items ≡ spec.cells_of places variables) }
     {
         self.cells_laid(alloc)
@@ -203,7 +203,7 @@ impl Layout {
 
     /// What the cells hold at first, in the order of `cells`.
     pub fn cells_at_first(&self, alloc: Global) -> Result<Vec<u64>, AllocError>
-        ensures { (places : List spec.Place) (variables : List Variable) → Lays places variables self.now
+        ensures { (places : List spec.VariablePlace) (variables : List Variable) → Lays places variables self.now
             → IfOk result (λ words. words.items ≡ spec.cells_at_first places variables) }
     {
         let cells = self.cells_laid(alloc)?;
@@ -255,7 +255,7 @@ impl Layout {
 
     /// How many locks there are.
     pub fn locks(&self) -> usize
-        ensures { (places : List spec.Place) (variables : List Variable) → Lays places variables self.now
+        ensures { (places : List spec.VariablePlace) (variables : List Variable) → Lays places variables self.now
             → result ≡ count_by is_lock variables }
     {
         self.without_bytes()

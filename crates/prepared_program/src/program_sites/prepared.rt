@@ -83,7 +83,7 @@ impl Prepared {
     ) -> Result<Prepared, AllocError>
         ensures parts { IfOk result (λ prepared. (arc_value prepared.layout ≡ layout) × (arc_value prepared.sites ≡ sites) × (prepared.rules ≡ rules)) }
         ensures accesses { IfOk result (λ prepared. prepared.accesses.items ≡ accesses.items) }
-        ensures laid { (places : List layouts.Place) (variables : List Variable) → Lays places variables layout
+        ensures laid { (places : List layouts.VariablePlace) (variables : List Variable) → Lays places variables layout
             → IfOk result (λ prepared. (prepared.locks ≡ count_by is_lock variables) × (prepared.cells.items ≡ cells_of places variables)
             × (prepared.words.items ≡ cells_at_first places variables)) }
     {
