@@ -92,7 +92,7 @@ fn settings_asked(alloc: Global, request: &CheckRequest<'_>) -> Result<Settings,
     }
 }
 
-/// StatusComplaint standard error, and answers the status that this comes with.
+/// Tells standard error, and answers the status that this comes with.
 pub(crate) fn tell<D: Desk>(complaint: Complaint, desk: &mut D) -> u8
     ensures status { result ≡ complaint_status_of complaint }
     ensures told { whole_of D.written D.failures D.files D.told D.faults desk.new

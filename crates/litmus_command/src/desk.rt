@@ -80,7 +80,7 @@ pub trait Desk: Progress + SearchProgress {
     /// Whether signs beyond ASCII can be shown where standard output goes.
     fn shows_utf8(&self) -> bool;
 
-    /// StatusComplaint standard error.
+    /// Tells standard error.
     fn complain(&mut self, complaint: Complaint)
         ensures told { told self.new ≡ heard (told self.old) complaint }
         ensures faults { faults self.new ≡ faults self.old }

@@ -49,7 +49,7 @@ fn overwrite_line(alloc: Global, path: &str) -> Result<Vec<u8>, AllocError>
     joined(alloc, &[&file, b" would overwrite its input\n"])
 }
 
-/// StatusComplaint that the file of this path would be overwritten, and answers the status that this comes with.
+/// Tells that the file of this path would be overwritten, and answers the status that this comes with.
 /// Nothing else is done.
 pub(crate) fn refuse_overwrite<D: Desk>(alloc: Global, path: &str, desk: &mut D) -> u8
     ensures { IsKept path.now result (whole_of D.written D.failures D.files D.told D.faults desk.old)

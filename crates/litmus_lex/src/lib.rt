@@ -12,7 +12,7 @@ mod source;
 mod token;
 
 pub use head::{Head, read_head};
-pub use laws::{a_text_has_one_reading, bytes_have_one_list_of_tokens};
+pub use laws::{law_a_text_has_one_reading, law_bytes_have_one_list_of_tokens};
 pub use lines::{column_of, line_of};
 pub use next::next_token;
 pub use sign::Sign;

@@ -20,7 +20,7 @@ ghost use Rattle.litmus_parse.specs.Headers.{Items, Process, Processes};
 ghost use Rattle.litmus_parse.specs.ProcessReader.{is_process, processes_at, unbegun};
 ghost use Rattle.litmus_parse.specs.TextReader.{program_at};
 
-use litmus_lex::a_text_has_one_reading;
+use litmus_lex::law_a_text_has_one_reading;
 
 /// Law: what is spelled as processes is read, behind an initialization block that is read and before what begins no
 /// process, where the names have types.
@@ -53,7 +53,7 @@ pub fn law_what_is_spelled_as_a_text_is_read()
 pub fn law_a_text_spells_one_program()
     ensures { (text : List ℕ) (one two : tree.Program) → SpellsProgram text one → SpellsProgram text two → one ≡ two }
 {
-    a_text_has_one_reading();
+    law_a_text_has_one_reading();
 }
 
 /// Law: each name of a variable and of a register in a program that symbols spell is a name among these symbols.

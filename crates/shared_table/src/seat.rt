@@ -191,7 +191,7 @@ impl TaskSeat {
         Answer::Done
     }
 
-    /// TellsFinder the setter at an index who took its watchpoint, by the finder's ticket.
+    /// Tells the setter at an index who took its watchpoint, by the finder's ticket.
     pub(crate) fn tell(&mut self, words: &SharedWords<'_>, index: usize, ticket: u32) -> Answer
         requires table { self.old.table ≡ words.now }
         requires may { MayMake self.old (steps.Tell index ticket) }

@@ -9,7 +9,7 @@ use Rattle.litmus_parse.proofs.laws.law_a_text_spells_one_program.Goals as goal
 
 pub returns : goal.returns
 returns c = λ text one two first second.
-    let same = c.a_text_has_one_reading.ensures text one.name two.name first.tokens second.tokens first.lexed second.lexed in
+    let same = c.law_a_text_has_one_reading.ensures text one.name two.name first.tokens second.tokens first.lexed second.lexed in
     let grammar : Grammar (map symbol_at second.tokens) one =
     subst (λ (l : List Placed). Grammar (map symbol_at l) one) same.1 first.parsed in
     same_given one two

@@ -4,7 +4,7 @@ use Rattle.litmus_lex.specs.declared.token.Part.TheVariants.{Init}
 use Rattle.litmus_lex.specs.Tokens.{TokensAt}
 use Rattle.litmus_lex.proofs.HeadPieces.{head_unique}
 use Rattle.litmus_lex.proofs.UniqueTokens.{tokens_unique}
-use Rattle.litmus_lex.proofs.laws.a_text_has_one_reading.Goals as goal
+use Rattle.litmus_lex.proofs.laws.law_a_text_has_one_reading.Goals as goal
 
 pub returns : goal.returns
 returns c =
