@@ -122,11 +122,11 @@ check_app sizes =
     (number_rule (codes "slots") 3 1024 (codes "64")))
     (name_rule (codes "word") sizes (codes "64"))
 
--- the program, one of whose commands has to be named
+-- the program, which has a version, and one of whose commands has to be named
 abbrev pub program_app : Bor (List (Bor Text)) → App
 program_app sizes =
     with_subcommand (with_subcommand (with_subcommand (with_subcommand (with_subcommand (with_subcommand
-    (on_top (λ shape. record shape { subcommand_required = true }) (new_app (codes "kcsan_litmus")))
+    (on_top (λ shape. record shape { has_version = true; subcommand_required = true }) (new_app (codes "kcsan_litmus")))
     (step_app sizes).top) (run_app sizes).top) (search_app sizes).top) replay_app.top) show_app.top) (check_app sizes).top
 
 -- an argument goes by a rule, and is of its own command alone
@@ -275,6 +275,10 @@ pub record IsSaidOf (words : List Text) (kind : ErrorKind) : Type 0 where
 -- the words ask for help
 abbrev pub AskForHelp : List Text → Type 0
 AskForHelp words = IsSaidOf words kinds.DisplayHelp
+
+-- the words ask for the version
+abbrev pub AskForVersion : List Text → Type 0
+AskForVersion words = IsSaidOf words kinds.DisplayVersion
 
 -- nothing is to be said of the words, and yet no request, with numbers within their bounds, is asked for by the command
 -- that they call

@@ -3,8 +3,10 @@
 
 pub mod help;
 pub mod request;
+pub mod version;
 
 pub use request::{
     CheckRequest, ReplayRequest, Request, RunOptions, RunRequest, SearchRequest, ShowRequest,
     StepRequest, Switches, asked,
 };
+pub use version::version_line;

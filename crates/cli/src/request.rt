@@ -9,6 +9,7 @@ ghost use Rattle.cli.specs.Words.{text_rule, with_options, word_rule, words_rule
 ghost use Rattle.clap.specs.Words.{App, Rule, app_of, first_of, found_of, kind_of, new_app, rows_of, subcommand_rows_of, with_rule, with_subcommand};
 
 use crate::help;
+use crate::version::VERSION;
 use clap::builder::ValueParser;
 use clap::error::ErrorKind;
 use clap::{Arg, ArgAction, ArgMatches, Command};
@@ -175,7 +176,8 @@ pub struct RunOptions<'a> {
     pub turns: u64,
 }
 
-/// What the words ask for; the first of them is the program's name. An error is a mistake in them, or asks for help.
+/// What the words ask for; the first of them is the program's name. An error is a mistake in them, or asks for help or
+/// the version.
 pub fn asked<'a, S: AsStr>(alloc: Global, words: &'a [S]) -> Result<Request<'a>, clap::Error>
     ensures bounds { IfOk result MayBeAsked }
     ensures asked { IfOk result (Ask (map S.text words.entry.now)) }
@@ -440,7 +442,7 @@ fn program<'a>(alloc: Global) -> Result<Command<'a>, AllocError>
 {
     let sizes = BITS.as_slice();
     let top = named(alloc, "kcsan_litmus", help::PROGRAM, help::AFTER_PROGRAM);
-    let command = Ok(top.subcommand_required(true));
+    let command = Ok(top.version(VERSION).subcommand_required(true));
     let command = with_subcommand(command, step_command(alloc, sizes));
     let command = with_subcommand(command, run_command(alloc, sizes));
     let command = with_subcommand(command, search_command(alloc, sizes));

@@ -6,7 +6,8 @@ use Rattle.clap.specs.Words.{kind_of}
 use Rattle.clap.specs.declared.error.Error.{Error}
 use Rattle.clap.specs.declared.error.kind.ErrorKind.{ErrorKind}
 use Rattle.clap.specs.declared.error.kind.ErrorKind.TheVariants as kinds
-use Rattle.cli.specs.Words.{Ask, AskForHelp, MayFail}
+use Rattle.cli.specs.Version.{version_line}
+use Rattle.cli.specs.Words.{Ask, AskForHelp, AskForVersion, MayFail}
 use Rattle.cli.specs.declared.request.CheckRequest.{CheckRequest}
 use Rattle.cli.specs.declared.request.ReplayRequest.{ReplayRequest}
 use Rattle.cli.specs.declared.request.Request.{Request}
@@ -472,9 +473,9 @@ pub record StatusComplaint (status : ℕ) (before after : Option (List Complaint
   pub told : 64 ≤ status → status ≤ 74 → (said : Complaint) × (complaint_status_of said ≡ status) × IsOfNoOverwrite said
       × (after ≡ heard before said)
 
--- an error of the words themselves: neither want of memory nor help
+-- an error of the words themselves: neither want of memory nor help nor the version
 abbrev pub IsFault : ErrorKind → Type 0
-IsFault kind = (kind ≢ kinds.OutOfMemory) × (kind ≢ kinds.DisplayHelp)
+IsFault kind = (kind ≢ kinds.OutOfMemory) × (kind ≢ kinds.DisplayHelp) × (kind ≢ kinds.DisplayVersion)
 
 -- the words are at fault, and that was told, as it may be said of them
 pub record UsageIsTold (words : List (List ℕ)) (before after : Option (List Complaint)) : Type 0 where
@@ -505,6 +506,18 @@ pub record HelpIsCut (words : List (List ℕ)) (before after : State) : Type 0 w
   pub begun : HoldsBeginning text before.written after.written
   pub files : after.files ≡ before.files
 
+-- the words ask for the version, the line that says it was written, and no file was touched
+pub record VersionIsGiven (words : List (List ℕ)) (before after : State) : Type 0 where
+  pub asked : AskForVersion words
+  pub written : after.written ≡ appended before.written version_line
+  pub files : after.files ≡ before.files
+
+-- the words ask for the version, and standard output took but a beginning of that line
+pub record VersionIsCut (words : List (List ℕ)) (before after : State) : Type 0 where
+  pub asked : AskForVersion words
+  pub begun : HoldsBeginning version_line before.written after.written
+  pub files : after.files ≡ before.files
+
 -- nothing was written: standard output has what it had, and one file was read at most
 pub record NothingIsWritten (before after : State) : Type 0 where
   pub written : after.written ≡ before.written
@@ -520,7 +533,7 @@ pub record EndsAs (status : ℕ) (before after : State) : Type 0 where
   pub known : (status ≡ 0) ⊎ (status ≡ 2) ⊎ ((64 ≤ status) × (status ≤ 66))
       ⊎ (status ≡ 70) ⊎ (status ≡ 71) ⊎ (status ≡ 74) ⊎ (status ≡ 75)
 
--- the words ask for help, or are at fault: no file was read, and so much was told and written as the status says
+-- the words ask for help or the version, or are at fault: no file was read, and so much was told and written as the status says
 pub record AreAnswered (words : List (List ℕ)) (status : ℕ) (before after : Whole) : Type 0 where
   pub kind : ErrorKind
   pub other : kind ≢ kinds.OutOfMemory
@@ -529,8 +542,8 @@ pub record AreAnswered (words : List (List ℕ)) (status : ℕ) (before after : 
   pub tells : StatusComplaint status before.told after.told
   pub ends : EndsAs status (state_in before) (state_in after)
 
--- The words ask for something of which this holds; or for help, or they are at fault, and that was answered; or memory
--- ran out over them, which was told, and nothing else was done.
+-- The words ask for something of which this holds; or for help or the version, or they are at fault, and that was
+-- answered; or memory ran out over them, which was told, and nothing else was done.
 abbrev pub OfAsked : (words : List (List ℕ)) → (status : ℕ) → (before after : Whole) → (Request → Type 0) → Type 0
 OfAsked words status before after Holds =
     AskForOne words Holds ⊎ AreAnswered words status before after ⊎ IsOutOfMemory status before after

@@ -2,13 +2,13 @@
 
 ghost use Rattle.std.specs.Prelude.{◌≡◌, ◌≢◌, ◌≤◌, ◌⊎◌, ℕ, List, IfErr, IfOk, OnErr, OnOk, is_some, true, false, map};
 ghost use Rattle.cli.specs.Bounds.{KeepsBounds, KeepsRunBounds, KeepsSearchBounds, MayBeAsked};
-ghost use Rattle.cli.specs.Words.{AskForHelp, MayFail};
+ghost use Rattle.cli.specs.Words.{AskForHelp, AskForVersion, MayFail};
 ghost use Rattle.cli.specs.declared.request.Request as spec;
 ghost use Rattle.clap.specs.Words.{kind_of};
 ghost use Rattle.litmus_command.specs.Check.{IsOutOfMemory, Whole, once_told, whole_of};
 ghost use Rattle.litmus_command.specs.Command.{AskForOne, AskSettings, AsksFor, EndsAs, HelpIsCut, HelpIsGiven, IsCut, IsDone, IsGiven, IsGivenInPart};
 ghost use Rattle.litmus_command.specs.Command.{IsChecked, IsOfFile, IsOfSeveral, IsRefusedOf, IsStopped, IsToldApart, OfAsked};
-ghost use Rattle.litmus_command.specs.Command.{DoesNotRead, DoesRead, IsFault, IsMisused, Reads, SpellsNoPlaces, StatusComplaint, UsageIsTold};
+ghost use Rattle.litmus_command.specs.Command.{DoesNotRead, DoesRead, IsFault, IsMisused, Reads, SpellsNoPlaces, StatusComplaint, UsageIsTold, VersionIsCut, VersionIsGiven};
 ghost use Rattle.litmus_command.specs.Command.{end_status_of, engine_status_of, picture_status_of, read_failure, run_status_of, settings_of, state_of};
 ghost use Rattle.litmus_command.specs.Command.{status_of, text_status_of, times_of, trace_status_of, with_trace};
 ghost use Rattle.litmus_command.specs.Ends.{CommandEnds, IsCarriedOut, IsNoCheck};
@@ -31,6 +31,7 @@ use crate::show::drawn;
 use clap::error::ErrorKind;
 use cli::{
     ReplayRequest, Request, RunOptions, RunRequest, SearchRequest, ShowRequest, StepRequest, asked,
+    version_line,
 };
 use litmus_parse::{FILE_BYTES, ParseError};
 use litmus_step::{RunError, Settings};
@@ -215,11 +216,11 @@ fn picture_status(error: PictureError) -> u8
 /// The whole program: does what the words ask for, and answers the status that the program ends
 /// with. The first word is the program's name.
 ///
-/// 0: no report, a trace that is accepted or drawn, files that read where they are checked, or help. 2: a report. 64:
-/// usage, a file that would be written over its input, a schedule that doesn't read or names a task that isn't there,
-/// or a place that doesn't read or doesn't suit. 65: the file is refused. 66: it can't be read. 70: a task is stuck.
-/// 71: out of memory, or a thread couldn't be started. 74: output can't be written. 75: a search was stopped at its
-/// limit, and tells of no report. Of several files that are checked the greatest status counts. At 64 to 71 nothing
+/// 0: no report, a trace that is accepted or drawn, files that read where they are checked, help, or the version. 2: a
+/// report. 64: usage, a file that would be written over its input, a schedule that doesn't read or names a task that
+/// isn't there, or a place that doesn't read or doesn't suit. 65: the file is refused. 66: it can't be read. 70: a task
+/// is stuck. 71: out of memory, or a thread couldn't be started. 74: output can't be written. 75: a search was stopped at
+/// its limit, and tells of no report. Of several files that are checked the greatest status counts. At 64 to 71 nothing
 /// goes to standard output, but for what is printed of several files that are checked, and no file is written. At 74
 /// standard output and all files have what they had, or standard output has a beginning of what should stand there.
 pub fn command<R: Threads + Wait + Sync, S: AsStr, D: Desk>(
@@ -235,6 +236,8 @@ pub fn command<R: Threads + Wait + Sync, S: AsStr, D: Desk>(
         IsDone request false (state_of D.written D.failures D.files desk.old)
         (state_of D.written D.failures D.files desk.new))
         ⊎ HelpIsGiven (map S.text words.now) (state_of D.written D.failures D.files desk.old)
+        (state_of D.written D.failures D.files desk.new)
+        ⊎ VersionIsGiven (map S.text words.now) (state_of D.written D.failures D.files desk.old)
         (state_of D.written D.failures D.files desk.new) }
     ensures stopped { result ≡ 75 → AskForOne (map S.text words.now) (λ request.
         IsStopped request (state_of D.written D.failures D.files desk.old)
@@ -243,6 +246,8 @@ pub fn command<R: Threads + Wait + Sync, S: AsStr, D: Desk>(
         IsCut request (state_of D.written D.failures D.files desk.old)
         (state_of D.written D.failures D.files desk.new))
         ⊎ HelpIsCut (map S.text words.now) (state_of D.written D.failures D.files desk.old)
+        (state_of D.written D.failures D.files desk.new)
+        ⊎ VersionIsCut (map S.text words.now) (state_of D.written D.failures D.files desk.old)
         (state_of D.written D.failures D.files desk.new) }
     ensures refused { IsOfFile result → AskForOne (map S.text words.now) (λ request.
         IsRefusedOf request result (state_of D.written D.failures D.files desk.old)
@@ -584,16 +589,20 @@ fn show<D: Desk>(alloc: Global, request: &ShowRequest<'_>, desk: &mut D) -> Resu
     emit(request.svg, &written, false, desk)
 }
 
-/// Help goes to standard output, and what is wrong with the words to standard error.
+/// Help and the version go to standard output, and what is wrong with the words to standard error.
 fn explain<D: Desk>(alloc: Global, error: clap::Error, desk: &mut D) -> u8
-    ensures help { (words : List (List ℕ)) → MayFail words (kind_of error) → result ≡ 0
+    ensures answered { (words : List (List ℕ)) → MayFail words (kind_of error) → result ≡ 0
         → HelpIsGiven words (state_of D.written D.failures D.files desk.old)
+        (state_of D.written D.failures D.files desk.new)
+        ⊎ VersionIsGiven words (state_of D.written D.failures D.files desk.old)
         (state_of D.written D.failures D.files desk.new) }
     ensures unreported { result ≢ 2 }
     ensures unstopped { result ≢ 75 }
     ensures of_words { ¬ IsOfFile result }
     ensures unwritten { (words : List (List ℕ)) → MayFail words (kind_of error) → result ≡ 74
         → HelpIsCut words (state_of D.written D.failures D.files desk.old)
+        (state_of D.written D.failures D.files desk.new)
+        ⊎ VersionIsCut words (state_of D.written D.failures D.files desk.old)
         (state_of D.written D.failures D.files desk.new) }
     ensures usage { result ≡ 64 → IsFault (kind_of error) × (D.told desk.new ≡ heard (D.told desk.old) (Complaint.Usage error)) }
     ensures readable { result ≢ 66 }
@@ -607,6 +616,7 @@ fn explain<D: Desk>(alloc: Global, error: clap::Error, desk: &mut D) -> u8
     match error.kind() {
         ErrorKind::OutOfMemory => fail(Failure::OutOfMemory, desk),
         ErrorKind::DisplayHelp => help(alloc, error, desk),
+        ErrorKind::DisplayVersion => version(alloc, desk),
         _ => {
             desk.complain(Complaint::Usage(error));
             USAGE
@@ -636,6 +646,33 @@ fn help<D: Desk>(alloc: Global, help: clap::Error, desk: &mut D) -> u8
         return fail(Failure::OutOfMemory, desk);
     };
     match desk.print(text.as_bytes()) {
+        Ok(()) => NO_REPORT,
+        Err(_) => fail(Failure::CannotWrite, desk),
+    }
+}
+
+/// Writes the line that says the version: our own, since no clause of `clap` says what the text of its error is.
+fn version<D: Desk>(alloc: Global, desk: &mut D) -> u8
+    ensures version { (words : List (List ℕ)) → AskForVersion words → result ≡ 0
+        → VersionIsGiven words (state_of D.written D.failures D.files desk.old)
+        (state_of D.written D.failures D.files desk.new) }
+    ensures unreported { result ≢ 2 }
+    ensures unstopped { result ≢ 75 }
+    ensures of_words { ¬ IsOfFile result }
+    ensures unwritten { (words : List (List ℕ)) → AskForVersion words → result ≡ 74
+        → VersionIsCut words (state_of D.written D.failures D.files desk.old)
+        (state_of D.written D.failures D.files desk.new) }
+    ensures usage { result ≢ 64 }
+    ensures readable { result ≢ 66 }
+    ensures faults { D.faults desk.new ≡ D.faults desk.old }
+    ensures tells { StatusComplaint result (D.told desk.old) (D.told desk.new) }
+    ensures ends { EndsAs result (state_of D.written D.failures D.files desk.old)
+        (state_of D.written D.failures D.files desk.new) }
+{
+    let Ok(line) = version_line(alloc) else {
+        return fail(Failure::OutOfMemory, desk);
+    };
+    match desk.print(line.as_bytes()) {
         Ok(()) => NO_REPORT,
         Err(_) => fail(Failure::CannotWrite, desk),
     }

@@ -445,3 +445,20 @@ fn some_words_ask_for_help(rt: HostRuntime) {
         refuse(&rt, rt.alloc(), words, ErrorKind::DisplayHelp);
     }
 }
+
+#[test]
+fn some_words_ask_for_the_version(rt: HostRuntime) {
+    for words in [
+        ["k", "--version"].as_slice(),
+        ["k", "-V"].as_slice(),
+        ["k", "--version", "step"].as_slice(),
+    ] {
+        refuse(&rt, rt.alloc(), words, ErrorKind::DisplayVersion);
+    }
+    refuse(
+        &rt,
+        rt.alloc(),
+        &["k", "step", "t", "--version"],
+        ErrorKind::UnknownArgument,
+    );
+}

@@ -7,7 +7,8 @@ use Rattle.cli.proofs.request.program.Goals as goal
 pub returns : goal.returns
 returns c =
     let first = ap app_of_fields c.subcommand_required.ensures
-    ∙ ap (on_top (λ shape. record shape { subcommand_required = true })) c.named-top.ensures in
+    ∙ ap (on_top (λ shape. record shape { subcommand_required = true }))
+    (ap app_of_fields c.version.ensures ∙ ap (on_top (λ shape. record shape { has_version = true })) c.named-top.ensures) in
     let e1 = c.with_subcommand-command.ensures _ _ first c.step_command.ensures refl in
     let e2 = c.with_subcommand-command-2.ensures _ _ e1 c.run_command.ensures refl in
     let e3 = c.with_subcommand-command-3.ensures _ _ e2 c.search_command.ensures refl in

@@ -1,4 +1,4 @@
--- help is given where the words ask for it
+-- help and the version are given where the words ask for them
 use Rattle.std.proofs.Common.{inl, inr, map}
 use Rattle.clap.specs.Words.{kind_of}
 use Rattle.litmus_command.proofs.EndLemmas.{on_left}
@@ -6,7 +6,7 @@ use Rattle.litmus_command.proofs.command.command.Goals as goal
 
 pub returns-in-Err-clause-unreported : goal.returns-in-Err-clause-unreported
 returns-in-Err-clause-unreported g c = λ is.
-    inr (c.explain.ensures.help (map g.S.AsStr.text c.args.words.now) c.in-Err.ensures.fails is)
+    inr (c.explain.ensures.answered (map g.S.AsStr.text c.args.words.now) c.in-Err.ensures.fails is)
 
 pub returns-in-Err-clause-unwritten : goal.returns-in-Err-clause-unwritten
 returns-in-Err-clause-unwritten g c = λ is.
