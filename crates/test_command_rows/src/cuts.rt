@@ -2,11 +2,11 @@
 
 use crate::desk::{Given, Table};
 use crate::row::words_of;
-use crate::texts::Texts;
 use litmus_command::command::command;
 use std::alloc::{AllocError, Global};
 use std::sync::Wait;
 use std::thread::Threads;
+use test_rows::texts::Texts;
 
 /// The status where a file is refused.
 const REFUSED: u8 = 65;

@@ -5,7 +5,6 @@
 mod cuts;
 mod desk;
 mod row;
-mod texts;
 mod wanted;
 
 use cuts::Cuts;
@@ -15,31 +14,16 @@ use std::io;
 use std::process::ExitCode;
 use std::sync::Wait;
 use std::thread::Threads;
-use texts::Texts;
-
-/// The status where something else comes of a row, or a line is no row.
-const OTHERWISE: u8 = 1;
-
-/// The status where memory is refused.
-const OUT_OF_MEMORY: u8 = 71;
-
-/// The status where standard input or standard output fails.
-const FAILED: u8 = 74;
+use test_rows::status_of;
+use test_rows::texts::Texts;
 
 fn main(rt: HostRuntime) -> ExitCode {
-    let status = match try_rows(&rt) {
-        Ok(0) => return ExitCode::SUCCESS,
-        Ok(_) => OTHERWISE,
-        Err(error) => match error.kind() {
-            io::ErrorKind::OutOfMemory => OUT_OF_MEMORY,
-            _ => FAILED,
-        },
-    };
-    ExitCode::from(status)
+    status_of(try_rows(&rt))
 }
 
 /// Keeps each text, tries each row, and counts the rows of which something else comes. Lines that are empty or begin
-/// with `#` are neither.
+/// with `#` are neither. The loop stands here and not in `test_rows`, since a row needs a runtime that is `Sync`, and
+/// no method of a trait can be told so.
 fn try_rows<R: Threads + Wait + Sync + Input + Print + Alloc<A = Global>>(
     rt: &R,
 ) -> io::Result<u64> {
@@ -48,7 +32,7 @@ fn try_rows<R: Threads + Wait + Sync + Input + Print + Alloc<A = Global>>(
     let mut others = 0u64;
     for line in rt.lines(rt.alloc()) {
         let line = line?;
-        if line.is_empty() || line.starts_with('#') || is_text(&mut texts, &line)? {
+        if line.is_empty() || line.starts_with('#') || texts.takes(&line)? {
             continue;
         }
         rows = rows.saturating_add(1);
@@ -59,19 +43,6 @@ fn try_rows<R: Threads + Wait + Sync + Input + Print + Alloc<A = Global>>(
     }
     println!(rt; "{rows} rows, {others} of them come otherwise")?;
     Ok(others)
-}
-
-/// Whether the line is a text, which is kept, or goes on with one.
-fn is_text(texts: &mut Texts, line: &str) -> Result<bool, AllocError> {
-    if let Some(text) = line.strip_prefix("text ") {
-        texts.keep(text)?;
-        return Ok(true);
-    }
-    if let Some(text) = line.strip_prefix('|') {
-        texts.go_on(text)?;
-        return Ok(true);
-    }
-    Ok(false)
 }
 
 /// Tries what a line says: a row, one of which each write is also tried failing, for writes of several sizes, or the

@@ -1,13 +1,13 @@
 //! Rows: the words that the program is started with, and what comes of them.
 
 use crate::desk::{Files, Given, Table};
-use crate::texts::Texts;
 use crate::wanted::{Trace, Wanted};
 use litmus_command::command::command;
 use std::alloc::{AllocError, Global};
 use std::sync::Wait;
 use std::thread::Threads;
-use test_escapes::unescaped;
+use test_rows::escapes::unescaped;
+use test_rows::texts::Texts;
 
 /// The status where standard output can't be written.
 const UNWRITABLE: u8 = 74;

@@ -1,7 +1,7 @@
 //! What is wanted of the streams and the file that the program writes.
 
-use crate::texts::Texts;
 use std::alloc::AllocError;
+use test_rows::texts::Texts;
 
 /// What begins each text of the program's own on standard error.
 const OWN: &[u8] = b"kcsan_litmus: ";

@@ -17,64 +17,34 @@ use orders::in_every_order;
 use refusal::Refusal;
 use row::Row;
 use std::alloc::{AllocError, Global};
-use std::io;
 use std::process::ExitCode;
+use test_rows::{Rows, Tried, status_of_rows};
 use trial::{in_one_order, verdict};
 use wanted::fits;
 
-/// The status where something else comes of a row, or a line is no row.
-const OTHERWISE: u8 = 1;
-
-/// The status where memory is refused.
-const OUT_OF_MEMORY: u8 = 71;
-
-/// The status where standard input or standard output fails.
-const FAILED: u8 = 74;
-
 fn main(rt: HostRuntime) -> ExitCode {
-    let status = match try_rows(&rt) {
-        Ok(0) => return ExitCode::SUCCESS,
-        Ok(_) => OTHERWISE,
-        Err(error) => match error.kind() {
-            io::ErrorKind::OutOfMemory => OUT_OF_MEMORY,
-            _ => FAILED,
-        },
-    };
-    ExitCode::from(status)
+    status_of_rows(&rt, &mut Headlines { last: None })
 }
 
-/// Tries each row, and counts those of which something else comes. Lines that are empty or begin with `#` are no rows.
-fn try_rows(rt: &HostRuntime) -> io::Result<u64> {
-    let mut list = None;
-    let mut rows = 0u64;
-    let mut others = 0u64;
-    for line in rt.lines(rt.alloc()) {
-        let line = line?;
-        if line.is_empty() || line.starts_with('#') {
-            continue;
-        }
-        rows = rows.saturating_add(1);
-        if !comes_as_said(rt, &mut list, &line)? {
-            others = others.saturating_add(1);
-        }
-    }
-    println!(rt; "{rows} rows, {others} of them come otherwise")?;
-    Ok(others)
+/// The last row that has a list, which others bend.
+#[derive(Drop)]
+struct Headlines {
+    last: Option<Row>,
 }
 
-/// Tries the row of a line, and prints it if something else comes of it.
-fn comes_as_said(rt: &HostRuntime, list: &mut Option<Row>, line: &str) -> io::Result<bool> {
-    let (row, wanted) = line.split_once(" => ").unwrap_or((line, ""));
-    let comes = match outcome(rt.alloc(), list, row) {
-        Ok(comes) => comes,
-        Err(Refusal::OutOfMemory) => return Err(io::Error::from(AllocError)),
-        Err(refusal) => String::from_str(rt.alloc(), refusal.words())?,
-    };
-    let said = fits(wanted, &comes);
-    if !said {
-        println!(rt; "{line}\ncomes: {comes}")?;
+impl Rows for Headlines {
+    fn try_line(&mut self, alloc: Global, line: &str) -> Result<Tried, AllocError> {
+        let (row, wanted) = line.split_once(" => ").unwrap_or((line, ""));
+        let comes = match outcome(alloc, &mut self.last, row) {
+            Ok(comes) => comes,
+            Err(Refusal::OutOfMemory) => return Err(AllocError),
+            Err(refusal) => String::from_str(alloc, refusal.words())?,
+        };
+        if fits(wanted, &comes) {
+            return Ok(Tried::AsSaid);
+        }
+        Tried::other(alloc, line, &comes)
     }
-    Ok(said)
 }
 
 /// What comes of a row, which may bend the list of the last row that has one.

@@ -7,7 +7,7 @@ use option_lists::step_schedule::{Entry, Schedule};
 use prepared_program::program_layout::Place;
 use prepared_program::program_sites::{RunError, Settings};
 use std::alloc::{AllocError, Global};
-use test_escapes::unescaped;
+use test_rows::escapes::unescaped;
 use watch_word::Layout;
 
 /// What a row is about.

@@ -2,46 +2,38 @@
 
 use crate::{check_row, text_row};
 use std::alloc::{AllocError, Global};
+use test_rows::Tried;
 
 /// What stands before a row of a check.
 const CHECK: &str = "check ";
-
-/// What is to come of a row, and what comes of it.
-#[derive(Drop)]
-pub struct Tried {
-    pub wanted: String,
-    pub comes: String,
-}
 
 /// Whether the row of a line is one of a check.
 pub fn is_check(line: &str) -> bool {
     line.starts_with(CHECK)
 }
 
-/// Tries the row of a line, if it is one.
-pub fn try_row(alloc: Global, line: &str) -> Result<Option<Tried>, AllocError> {
+/// Tries the row of a line.
+pub fn try_row(alloc: Global, line: &str) -> Result<Tried, AllocError> {
     match line.strip_prefix(CHECK) {
-        Some(check) => try_check(alloc, check),
+        Some(check) => try_check(alloc, line, check),
         None => try_text(alloc, line),
     }
 }
 
-/// Tries a row of a text, if it is one.
-fn try_text(alloc: Global, line: &str) -> Result<Option<Tried>, AllocError> {
+/// Tries a row of a text.
+fn try_text(alloc: Global, line: &str) -> Result<Tried, AllocError> {
     let Some(row) = text_row::Row::read(alloc, line)? else {
-        return Ok(None);
+        return Tried::no_row(alloc, line);
     };
     let comes = text_row::outcome(alloc, &row)?;
-    let wanted = row.wanted;
-    Ok(Some(Tried { wanted, comes }))
+    Tried::of(alloc, line, &row.wanted, &comes)
 }
 
-/// Tries a row of a check, if it is one.
-fn try_check(alloc: Global, line: &str) -> Result<Option<Tried>, AllocError> {
-    let Some(row) = check_row::Row::read(alloc, line)? else {
-        return Ok(None);
+/// Tries a row of a check, which is what stands behind the word for its kind.
+fn try_check(alloc: Global, line: &str, check: &str) -> Result<Tried, AllocError> {
+    let Some(row) = check_row::Row::read(alloc, check)? else {
+        return Tried::no_row(alloc, line);
     };
     let comes = check_row::outcome(alloc, &row)?;
-    let wanted = row.wanted;
-    Ok(Some(Tried { wanted, comes }))
+    Tried::of(alloc, line, &row.wanted, &comes)
 }

@@ -6,7 +6,7 @@ use litmus_lex::{column_of, line_of};
 use litmus_parse::{ParseError, Program, Reading, Refused, parse, print, read_text};
 use litmus_syntax::Statement;
 use std::alloc::{AllocError, Global};
-use test_escapes::unescaped;
+use test_rows::escapes::unescaped;
 
 /// What is wanted of a text that only has to be read.
 const READS: &str = "reads";

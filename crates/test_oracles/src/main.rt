@@ -15,60 +15,29 @@ mod words;
 use histories::history_of;
 use play::Play;
 use std::alloc::{AllocError, Global};
-use std::io;
 use std::process::ExitCode;
+use test_rows::{Rows, Tried, status_of_rows};
 use words::Fault;
 
-/// The status where something else comes of a row, or a line is no row.
-const OTHERWISE: u8 = 1;
-
-/// The status where memory is refused.
-const OUT_OF_MEMORY: u8 = 71;
-
-/// The status where standard input or standard output fails.
-const FAILED: u8 = 74;
-
 fn main(rt: HostRuntime) -> ExitCode {
-    let status = match try_rows(&rt) {
-        Ok(0) => return ExitCode::SUCCESS,
-        Ok(_) => OTHERWISE,
-        Err(error) => match error.kind() {
-            io::ErrorKind::OutOfMemory => OUT_OF_MEMORY,
-            _ => FAILED,
-        },
-    };
-    ExitCode::from(status)
+    status_of_rows(&rt, &mut Questions { play: None })
 }
 
-/// Tries each row, and counts those of which something else comes. Lines that are empty or begin with `#`
-/// are no rows.
-fn try_rows(rt: &HostRuntime) -> io::Result<u64> {
-    let mut play = None;
-    let mut rows = 0u64;
-    let mut others = 0u64;
-    for line in rt.lines(rt.alloc()) {
-        let line = line?;
-        if line.is_empty() || line.starts_with('#') {
-            continue;
-        }
-        rows = rows.saturating_add(1);
-        if !comes_as_said(rt, &mut play, &line)? {
-            others = others.saturating_add(1);
-        }
-    }
-    println!(rt; "{rows} rows, {others} of them come otherwise")?;
-    Ok(others)
+/// What rows ask, and the play that they go on with.
+#[derive(Drop)]
+struct Questions {
+    play: Option<Play>,
 }
 
-/// Tries the row of a line, and prints it if something else comes of it.
-fn comes_as_said(rt: &HostRuntime, play: &mut Option<Play>, line: &str) -> io::Result<bool> {
-    match otherwise(rt.alloc(), play, line) {
-        Ok(None) => return Ok(true),
-        Ok(Some(comes)) => println!(rt; "{line}\ncomes: {comes}")?,
-        Err(Fault::NoRow) => println!(rt; "no row: {line}")?,
-        Err(Fault::OutOfMemory) => return Err(AllocError.into()),
+impl Rows for Questions {
+    fn try_line(&mut self, alloc: Global, line: &str) -> Result<Tried, AllocError> {
+        match otherwise(alloc, &mut self.play, line) {
+            Ok(None) => Ok(Tried::AsSaid),
+            Ok(Some(comes)) => Tried::other(alloc, line, &comes),
+            Err(Fault::NoRow) => Tried::no_row(alloc, line),
+            Err(Fault::OutOfMemory) => Err(AllocError),
+        }
     }
-    Ok(false)
 }
 
 /// What comes of the row of a line, where it isn't what the row says.

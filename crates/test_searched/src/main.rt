@@ -3,63 +3,31 @@
 #![tactic(auto)]
 
 mod row;
-mod texts;
 
-use row::{Tried, try_row};
-use std::io;
+use row::try_row;
+use std::alloc::{AllocError, Global};
 use std::process::ExitCode;
-use texts::Texts;
-
-/// The status where something else comes of a row, or a line is no row.
-const OTHERWISE: u8 = 1;
-
-/// The status where memory is refused.
-const OUT_OF_MEMORY: u8 = 71;
-
-/// The status where standard input or standard output fails.
-const FAILED: u8 = 74;
+use test_rows::texts::Texts;
+use test_rows::{Rows, Tried, status_of_rows};
 
 fn main(rt: HostRuntime) -> ExitCode {
-    let status = match try_rows(&rt) {
-        Ok(0) => return ExitCode::SUCCESS,
-        Ok(_) => OTHERWISE,
-        Err(error) => match error.kind() {
-            io::ErrorKind::OutOfMemory => OUT_OF_MEMORY,
-            _ => FAILED,
-        },
+    let mut questions = Questions {
+        texts: Texts::new(rt.alloc()),
     };
-    ExitCode::from(status)
+    status_of_rows(&rt, &mut questions)
 }
 
-/// Keeps each text, tries each row, and counts the rows of which something else comes. Lines that are empty or begin
-/// with `#` are neither.
-fn try_rows(rt: &HostRuntime) -> io::Result<u64> {
-    let mut texts = Texts::new(rt.alloc());
-    let mut rows = 0u64;
-    let mut others = 0u64;
-    for line in rt.lines(rt.alloc()) {
-        let line = line?;
-        if line.is_empty() || line.starts_with('#') || texts.takes(&line)? {
-            continue;
-        }
-        rows = rows.saturating_add(1);
-        if !comes_as_said(rt, &texts, &line)? {
-            others = others.saturating_add(1);
-        }
-    }
-    println!(rt; "{rows} rows, {others} of them come otherwise")?;
-    Ok(others)
+/// The texts so far, of which rows ask.
+#[derive(Drop)]
+struct Questions {
+    texts: Texts,
 }
 
-/// Tries the row of a line, and prints it if something else comes of it.
-fn comes_as_said(rt: &HostRuntime, texts: &Texts, line: &str) -> io::Result<bool> {
-    let Some(Tried { wanted, comes }) = try_row(rt.alloc(), texts, line)? else {
-        println!(rt; "no row: {line}")?;
-        return Ok(false);
-    };
-    let said = comes == wanted;
-    if !said {
-        println!(rt; "{line}\ncomes: {comes}")?;
+impl Rows for Questions {
+    fn try_line(&mut self, alloc: Global, line: &str) -> Result<Tried, AllocError> {
+        if self.texts.takes(line)? {
+            return Ok(Tried::Kept);
+        }
+        try_row(alloc, &self.texts, line)
     }
-    Ok(said)
 }

@@ -1,10 +1,11 @@
 //! Rows: `count NAME RULES SWITCHES => NUMBER`, or `lists NAME RULES SWITCHES => SCHEDULES`.
 
-use crate::texts::Texts;
 use litmus_parse::{ParseError, parse};
 use litmus_step::{RunError, Settings};
 use oracle_steps::oracle_searched::searched_schedules;
 use std::alloc::{AllocError, Global};
+use test_rows::Tried;
+use test_rows::texts::Texts;
 use thiserror::Error;
 use watch_word::Layout;
 
@@ -16,13 +17,6 @@ struct Asked<'a> {
     most: Option<u64>,
     /// How many there are is asked, and not which.
     counts: bool,
-}
-
-/// What is to come of a row, and what comes of it.
-#[derive(Drop)]
-pub struct Tried {
-    pub wanted: String,
-    pub comes: String,
 }
 
 /// Why a text has no bounded executions.
@@ -62,21 +56,20 @@ impl From<RunError> for Refused {
     }
 }
 
-/// Tries the row of a line, if it is one.
-pub fn try_row(alloc: Global, texts: &Texts, line: &str) -> Result<Option<Tried>, AllocError> {
+/// Tries the row of a line.
+pub fn try_row(alloc: Global, texts: &Texts, line: &str) -> Result<Tried, AllocError> {
     let Some((question, wanted)) = line.split_once(" => ") else {
-        return Ok(None);
+        return Tried::no_row(alloc, line);
     };
     let Some(asked) = read(alloc, texts, question)? else {
-        return Ok(None);
+        return Tried::no_row(alloc, line);
     };
-    let wanted = String::from_str(alloc, wanted)?;
     let comes = match answer(alloc, &asked) {
         Ok(words) => words,
         Err(Refused::OutOfMemory) => return Err(AllocError),
         Err(error) => format!(in alloc; "{error}")?,
     };
-    Ok(Some(Tried { wanted, comes }))
+    Tried::of(alloc, line, wanted, &comes)
 }
 
 /// What the words `KIND NAME RULES SWITCHES` ask.

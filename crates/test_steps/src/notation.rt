@@ -1,6 +1,6 @@
 //! What tasks did, in the words of rows.
 
-use crate::texts::add_word;
+use crate::words::add_word;
 use slot_table::{Answer, Step};
 use std::alloc::{AllocError, Global};
 use task_run::TaskRun;

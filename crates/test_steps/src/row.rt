@@ -1,12 +1,14 @@
 //! Rows: litmus texts, how their tasks are asked for steps, and what comes of that.
 
 use crate::play::{PlayError, Scene, played};
-use crate::texts::Texts;
+use crate::words::words_of;
 use option_lists::place_list::parse_places;
 use option_lists::step_schedule::Schedule;
 use prepared_program::program_layout::Place;
 use prepared_program::program_sites::Settings;
 use std::alloc::{AllocError, Global};
+use test_rows::Tried;
+use test_rows::texts::Texts;
 use watch_word::Layout;
 
 /// The rules and the schedule of a text of one task.
@@ -19,24 +21,21 @@ struct Row {
     wanted: String,
 }
 
-/// What is to come of a row, and what comes of it.
-#[derive(Drop)]
-pub struct Tried {
-    pub wanted: String,
-    pub comes: String,
-}
-
-/// Tries the row of a line, if it is one.
-pub fn try_row(alloc: Global, texts: &Texts, line: &str) -> Result<Option<Tried>, AllocError> {
+/// Tries the row of a line. Of one that comes otherwise the words that are wanted are printed too, since it may call
+/// them by a name.
+pub fn try_row(alloc: Global, texts: &Texts, line: &str) -> Result<Tried, AllocError> {
     let Some(Row { scene, wanted }) = read(alloc, texts, line)? else {
-        return Ok(None);
+        return Tried::no_row(alloc, line);
     };
     let comes = match played(alloc, &scene) {
         Ok(words) => words,
         Err(PlayError::OutOfMemory) => return Err(AllocError),
         Err(error) => format!(in alloc; "{error}")?,
     };
-    Ok(Some(Tried { wanted, comes }))
+    if comes == wanted {
+        return Ok(Tried::AsSaid);
+    }
+    Ok(Tried::Otherwise(format!(in alloc; "{line}\nwanted: {wanted}\ncomes:  {comes}")?))
 }
 
 /// The row of a line: a scene, `=>`, and the words of what is to come of it.
@@ -44,7 +43,10 @@ fn read(alloc: Global, texts: &Texts, line: &str) -> Result<Option<Row>, AllocEr
     let Some((scene, wanted)) = line.split_once(" => ") else {
         return Ok(None);
     };
-    match (scene_of(alloc, texts, scene)?, texts.words(wanted)?) {
+    match (
+        scene_of(alloc, texts, scene)?,
+        words_of(alloc, texts, wanted)?,
+    ) {
         (Some(scene), Some(wanted)) => Ok(Some(Row { scene, wanted })),
         _ => Ok(None),
     }

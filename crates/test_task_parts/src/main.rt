@@ -16,81 +16,57 @@ mod walks;
 
 use fault::Fault;
 use std::alloc::{AllocError, Global};
-use std::io;
 use std::process::ExitCode;
-
-/// The status where something else comes of a row, or a line is no row.
-const OTHERWISE: u8 = 1;
-
-/// The status where memory is refused.
-const OUT_OF_MEMORY: u8 = 71;
-
-/// The status where standard input or standard output fails.
-const FAILED: u8 = 74;
+use test_rows::{Rows, Tried, status_of_rows};
 
 fn main(rt: HostRuntime) -> ExitCode {
-    let status = match try_rows(&rt) {
-        Ok(0) => return ExitCode::SUCCESS,
-        Ok(_) => OTHERWISE,
-        Err(error) => match error.kind() {
-            io::ErrorKind::OutOfMemory => OUT_OF_MEMORY,
-            _ => FAILED,
-        },
-    };
-    ExitCode::from(status)
+    status_of_rows(&rt, &mut Parts { row: None })
 }
 
-/// Tries each row, and counts those of which something else comes.
-fn try_rows(rt: &HostRuntime) -> io::Result<u64> {
-    let rows = read_rows(rt)?;
-    let mut others = 0u64;
-    for row in rows.as_slice() {
-        if !comes_as_said(rt, row.as_str())? {
-            others = others.saturating_add(1);
-        }
-    }
-    let rows = rows.len();
-    println!(rt; "{rows} rows, {others} of them come otherwise")?;
-    Ok(others)
+/// The row so far. A line that begins with a blank goes on with it.
+#[derive(Drop)]
+struct Parts {
+    row: Option<String>,
 }
 
-/// The rows. A line that begins with a blank goes on with the row above it; those that are empty or begin with `#` are
-/// left out.
-fn read_rows(rt: &HostRuntime) -> io::Result<Vec<String>> {
-    let mut rows: Vec<String> = Vec::new(rt.alloc());
-    for line in rt.lines(rt.alloc()) {
-        let line = line?;
-        if line.is_empty() || line.starts_with('#') {
-            continue;
-        }
+impl Rows for Parts {
+    fn try_line(&mut self, alloc: Global, line: &str) -> Result<Tried, AllocError> {
         if line.starts_with(' ') {
-            go_on(&mut rows, &line)?;
-        } else {
-            rows.push(line)?;
+            self.go_on(line)?;
+            return Ok(Tried::Kept);
+        }
+        let tried = self.try_last(alloc)?;
+        self.row = Some(String::from_str(alloc, line)?);
+        Ok(tried)
+    }
+
+    fn try_last(&mut self, alloc: Global) -> Result<Tried, AllocError> {
+        match self.row.take() {
+            Some(row) => try_row(alloc, &row),
+            None => Ok(Tried::Kept),
         }
     }
-    Ok(rows)
 }
 
-/// Puts a line behind the last row.
-fn go_on(rows: &mut Vec<String>, line: &str) -> Result<(), AllocError> {
-    if let Some(row) = rows.last_mut() {
-        row.push(' ')?;
-        row.push_str(line.trim_start())?;
+impl Parts {
+    /// Puts a line behind the row.
+    fn go_on(&mut self, line: &str) -> Result<(), AllocError> {
+        if let Some(row) = &mut self.row {
+            row.push(' ')?;
+            row.push_str(line.trim_start())?;
+        }
+        Ok(())
     }
-    Ok(())
 }
 
-/// Tries a row, and prints it if something else comes of it.
-fn comes_as_said(rt: &HostRuntime, row: &str) -> io::Result<bool> {
+/// Tries a row.
+fn try_row(alloc: Global, row: &str) -> Result<Tried, AllocError> {
     let (start, wanted) = row.split_once(" => ").unwrap_or((row, ""));
-    match outcome(rt.alloc(), start, wanted) {
-        Ok(came) if came.as_str() == wanted => return Ok(true),
-        Ok(came) => println!(rt; "{row}\ncomes: {came}")?,
-        Err(Fault::NoRow) => println!(rt; "no row: {row}")?,
-        Err(Fault::OutOfMemory) => return Err(io::Error::from(AllocError)),
+    match outcome(alloc, start, wanted) {
+        Ok(comes) => Tried::of(alloc, row, wanted, &comes),
+        Err(Fault::NoRow) => Tried::no_row(alloc, row),
+        Err(Fault::OutOfMemory) => Err(AllocError),
     }
-    Ok(false)
 }
 
 /// What comes of a row, by the word that it begins with. Where it has a script, that says what is asked.

@@ -47,7 +47,7 @@ impl Block {
     }
 }
 
-/// The blocks of a file.
+/// The blocks so far.
 #[derive(Drop)]
 pub struct Blocks {
     alloc: Global,
@@ -63,27 +63,32 @@ impl Blocks {
         }
     }
 
-    /// Adds a line to the last block, or begins one with it.
-    pub fn add(&mut self, line: &str) -> Result<(), AllocError> {
+    /// Whether a line goes on with the last block, to which it is added.
+    pub fn go_on(&mut self, line: &str) -> Result<bool, AllocError> {
         if let Some(given) = line.strip_prefix('|') {
-            return match self.blocks.last_mut() {
-                Some(last) => add_line(&mut last.given, given.strip_prefix(' ').unwrap_or(given)),
-                None => Ok(()),
-            };
+            if let Some(last) = self.blocks.last_mut() {
+                add_line(&mut last.given, given.strip_prefix(' ').unwrap_or(given))?;
+            }
+            return Ok(true);
         }
         if let Some(wanted) = line.strip_prefix("=> ") {
-            return match self.blocks.last_mut() {
-                Some(last) => add_line(&mut last.wanted, wanted),
-                None => Ok(()),
-            };
+            if let Some(last) = self.blocks.last_mut() {
+                add_line(&mut last.wanted, wanted)?;
+            }
+            return Ok(true);
         }
+        Ok(false)
+    }
+
+    /// Begins a block with its first line.
+    pub fn begin(&mut self, line: &str) -> Result<(), AllocError> {
         self.blocks.push(Block::new(self.alloc, line)?)?;
         Ok(())
     }
 
-    /// All of them.
-    pub fn all(&self) -> &[Block] {
-        self.blocks.as_slice()
+    /// The last block.
+    pub fn last(&self) -> Option<&Block> {
+        self.blocks.last()
     }
 
     /// The text of a name.

@@ -17,67 +17,38 @@ mod tokens;
 
 use blocks::{Block, Blocks};
 use row::outcome;
-use std::io;
+use std::alloc::{AllocError, Global};
 use std::process::ExitCode;
-
-/// The status where something else comes of a row, or a block is no row.
-const OTHERWISE: u8 = 1;
-
-/// The status where memory is refused.
-const OUT_OF_MEMORY: u8 = 71;
-
-/// The status where standard input or standard output fails.
-const FAILED: u8 = 74;
+use test_rows::{Rows, Tried, status_of_rows};
 
 fn main(rt: HostRuntime) -> ExitCode {
-    let status = match try_rows(&rt) {
-        Ok(0) => return ExitCode::SUCCESS,
-        Ok(_) => OTHERWISE,
-        Err(error) => match error.kind() {
-            io::ErrorKind::OutOfMemory => OUT_OF_MEMORY,
-            _ => FAILED,
-        },
-    };
-    ExitCode::from(status)
+    status_of_rows(&rt, &mut Blocks::new(rt.alloc()))
 }
 
-/// Tries each row, and counts those of which something else comes.
-fn try_rows(rt: &HostRuntime) -> io::Result<u64> {
-    let blocks = read_blocks(rt)?;
-    let mut rows = 0u64;
-    let mut others = 0u64;
-    for block in blocks.all() {
-        if block.is_text() {
-            continue;
+impl Rows for Blocks {
+    fn try_line(&mut self, alloc: Global, line: &str) -> Result<Tried, AllocError> {
+        if self.go_on(line)? {
+            return Ok(Tried::Kept);
         }
-        rows = rows.saturating_add(1);
-        if !comes_as_said(rt, &blocks, block)? {
-            others = others.saturating_add(1);
+        let tried = self.try_last(alloc)?;
+        self.begin(line)?;
+        Ok(tried)
+    }
+
+    fn try_last(&mut self, alloc: Global) -> Result<Tried, AllocError> {
+        match self.last() {
+            Some(block) if !block.is_text() => try_block(alloc, self, block),
+            _ => Ok(Tried::Kept),
         }
     }
-    println!(rt; "{rows} rows, {others} of them come otherwise")?;
-    Ok(others)
 }
 
-/// The blocks of standard input. Lines that are empty or begin with `#` are in none.
-fn read_blocks(rt: &HostRuntime) -> io::Result<Blocks> {
-    let mut blocks = Blocks::new(rt.alloc());
-    for line in rt.lines(rt.alloc()) {
-        let line = line?;
-        if !line.is_empty() && !line.starts_with('#') {
-            blocks.add(&line)?;
-        }
+/// Tries the row of a block.
+fn try_block(alloc: Global, blocks: &Blocks, block: &Block) -> Result<Tried, AllocError> {
+    let comes = outcome(alloc, blocks, block)?;
+    if comes == block.wanted {
+        return Ok(Tried::AsSaid);
     }
-    Ok(blocks)
-}
-
-/// Tries the row of a block, and prints it if something else comes of it.
-fn comes_as_said(rt: &HostRuntime, blocks: &Blocks, block: &Block) -> io::Result<bool> {
-    let comes = outcome(rt.alloc(), blocks, block)?;
-    let said = comes == block.wanted;
-    if !said {
-        let (head, given, wanted) = (&block.head, &block.given, &block.wanted);
-        println!(rt; "{head}\n{given}is to come:\n{wanted}comes:\n{comes}")?;
-    }
-    Ok(said)
+    let (head, given, wanted) = (&block.head, &block.given, &block.wanted);
+    Ok(Tried::Otherwise(format!(in alloc; "{head}\n{given}is to come:\n{wanted}comes:\n{comes}")?))
 }

@@ -5,7 +5,7 @@ use crate::numbers::number;
 use litmus_lex::{Lexeme, Part, SourcePosition, Token, line_of, next_token, read_head};
 use std::alloc::Global;
 use std::fmt::Write;
-use test_escapes::unescaped;
+use test_rows::escapes::unescaped;
 
 /// The words before a text between quotes, and that text.
 pub fn quoted(alloc: Global, row: &str) -> Result<(&str, String), Fault> {

@@ -3,10 +3,10 @@
 ghost use Rattle.std.specs.Prelude.{◌≡◌, Some};
 
 use crate::row::number;
-use crate::texts::Texts;
 use crate::trace::Trace;
 use report_text::{Sink, SinkFault};
 use std::alloc::{AllocError, Global};
+use test_rows::texts::Texts;
 
 /// A sink in memory that takes so many bytes at most, and whose write of one number fails.
 #[derive(Drop)]

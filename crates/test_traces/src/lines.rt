@@ -4,7 +4,7 @@ use crate::row::quoted;
 use crate::trace::Trace;
 use report_text::Line;
 use std::alloc::{AllocError, Global};
-use test_escapes::unescaped;
+use test_rows::escapes::unescaped;
 use trace_replay::trace_lines::{Shape, read_head, read_line};
 use watch_word::Layout;
 

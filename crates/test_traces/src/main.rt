@@ -7,84 +7,40 @@ mod lines;
 mod replays;
 mod reports;
 mod row;
-mod texts;
 mod trace;
 
 use row::Row;
-use std::alloc::AllocError;
-use std::io;
+use std::alloc::{AllocError, Global};
 use std::process::ExitCode;
-use texts::Texts;
-
-/// The status where something else comes of a row, or a line is no row.
-const OTHERWISE: u8 = 1;
-
-/// The status where memory is refused.
-const OUT_OF_MEMORY: u8 = 71;
-
-/// The status where standard input or standard output fails.
-const FAILED: u8 = 74;
+use test_rows::texts::Texts;
+use test_rows::{Rows, Tried, status_of_rows};
 
 fn main(rt: HostRuntime) -> ExitCode {
-    let status = match try_rows(&rt) {
-        Ok(0) => return ExitCode::SUCCESS,
-        Ok(_) => OTHERWISE,
-        Err(error) => match error.kind() {
-            io::ErrorKind::OutOfMemory => OUT_OF_MEMORY,
-            _ => FAILED,
-        },
+    let mut questions = Questions {
+        texts: Texts::new(rt.alloc()),
     };
-    ExitCode::from(status)
+    status_of_rows(&rt, &mut questions)
 }
 
-/// Keeps each text, tries each row, and counts the rows of which something else comes. Lines that are empty or begin
-/// with `#` are neither.
-fn try_rows(rt: &HostRuntime) -> io::Result<u64> {
-    let mut texts = Texts::new(rt.alloc());
-    let mut rows = 0u64;
-    let mut others = 0u64;
-    for line in rt.lines(rt.alloc()) {
-        let line = line?;
-        if line.is_empty() || line.starts_with('#') || is_text(&mut texts, &line)? {
-            continue;
+/// The texts so far, of which rows ask.
+#[derive(Drop)]
+struct Questions {
+    texts: Texts,
+}
+
+impl Rows for Questions {
+    fn try_line(&mut self, alloc: Global, line: &str) -> Result<Tried, AllocError> {
+        if self.texts.takes(line)? {
+            return Ok(Tried::Kept);
         }
-        rows = rows.saturating_add(1);
-        if !comes_as_said(rt, &texts, &line)? {
-            others = others.saturating_add(1);
+        let Some(row) = Row::read(line) else {
+            return Tried::no_row(alloc, line);
+        };
+        let comes = row.outcome(alloc, &self.texts)?;
+        let wanted = row.wanted(alloc, &self.texts)?;
+        match (comes, wanted) {
+            (Some(comes), Some(wanted)) => Tried::of(alloc, line, &wanted, &comes),
+            _ => Tried::no_row(alloc, line),
         }
     }
-    println!(rt; "{rows} rows, {others} of them come otherwise")?;
-    Ok(others)
-}
-
-/// Whether the line is a text, which is kept, or goes on with one.
-fn is_text(texts: &mut Texts, line: &str) -> Result<bool, AllocError> {
-    if let Some(text) = line.strip_prefix("text ") {
-        texts.keep(text)?;
-        return Ok(true);
-    }
-    if let Some(text) = line.strip_prefix('|') {
-        texts.go_on(text)?;
-        return Ok(true);
-    }
-    Ok(false)
-}
-
-/// Tries the row of a line, and prints it if something else comes of it.
-fn comes_as_said(rt: &HostRuntime, texts: &Texts, line: &str) -> io::Result<bool> {
-    let Some(row) = Row::read(line) else {
-        println!(rt; "no row: {line}")?;
-        return Ok(false);
-    };
-    let comes = row.outcome(rt.alloc(), texts)?;
-    let wanted = row.wanted(rt.alloc(), texts)?;
-    let (Some(comes), Some(wanted)) = (comes, wanted) else {
-        println!(rt; "no row: {line}")?;
-        return Ok(false);
-    };
-    let said = comes == wanted;
-    if !said {
-        println!(rt; "{line}\ncomes: {comes}")?;
-    }
-    Ok(said)
 }

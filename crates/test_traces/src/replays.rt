@@ -1,9 +1,9 @@
 //! Traces that are replayed.
 
 use crate::row::quoted;
-use crate::texts::Texts;
 use std::alloc::{AllocError, Global};
-use test_escapes::unescaped;
+use test_rows::escapes::unescaped;
+use test_rows::texts::Texts;
 use trace_replay::{TraceError, replay};
 
 /// What is answered of the trace of a name.

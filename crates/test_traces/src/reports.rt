@@ -1,11 +1,11 @@
 //! Reports of the accesses of a trace, and how they are written.
 
 use crate::row::number;
-use crate::texts::Texts;
 use crate::trace::Trace;
 use access_types::{Report, Sites, ValueChange, ticket};
 use report_text::{Groups, MemorySink, write_report};
 use std::alloc::{AllocError, Global};
+use test_rows::texts::Texts;
 
 /// The text of a report: `NAME REPORT`, of the accesses in the trace of this name.
 pub fn reported(alloc: Global, texts: &Texts, asked: &str) -> Result<Option<String>, AllocError> {

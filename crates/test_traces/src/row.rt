@@ -1,8 +1,8 @@
 //! Rows: what is asked, and what is to come of it.
 
-use crate::texts::Texts;
 use crate::{failing, lines, replays, reports, trace};
 use std::alloc::{AllocError, Global};
+use test_rows::texts::Texts;
 
 /// What is asked.
 #[derive(Clone, Copy)]

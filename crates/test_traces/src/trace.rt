@@ -1,9 +1,9 @@
 //! What traces say, and how that is written.
 
-use crate::texts::Texts;
 use access_types::{Arm, Report, Stamped, Take};
 use report_text::{Line, MemorySink, Sink, WriteError, write_trace};
 use std::alloc::{AllocError, Global};
+use test_rows::texts::Texts;
 use trace_replay::trace_lines::{Head, Shape, read_head, read_line};
 
 /// What a trace of version 2 says.

@@ -1,7 +1,7 @@
-//! Texts that rows call by a name: files, and what is written.
+//! Texts that rows call by a name.
 
+use crate::escapes::unescaped;
 use std::alloc::{AllocError, Global};
-use test_escapes::unescaped;
 
 /// A text with its name.
 #[derive(Drop)]
@@ -26,8 +26,22 @@ impl Texts {
         }
     }
 
+    /// Whether a line is kept: it begins a text, as `text NAME` or `text NAME TEXT`, or goes on with the last one, as
+    /// `|LINE`.
+    pub fn takes(&mut self, line: &str) -> Result<bool, AllocError> {
+        if let Some(text) = line.strip_prefix("text ") {
+            self.keep(text)?;
+            return Ok(true);
+        }
+        if let Some(line) = line.strip_prefix('|') {
+            self.go_on(line)?;
+            return Ok(true);
+        }
+        Ok(false)
+    }
+
     /// Keeps the text of a line: its name, a blank, and the text with its escapes.
-    pub fn keep(&mut self, line: &str) -> Result<(), AllocError> {
+    fn keep(&mut self, line: &str) -> Result<(), AllocError> {
         let (name, text) = line.split_once(' ').unwrap_or((line, ""));
         let name = String::from_str(self.alloc, name)?;
         let text = unescaped(self.alloc, text)?;
@@ -36,7 +50,7 @@ impl Texts {
     }
 
     /// Adds a line, which may begin with a blank of its own, to the text that was kept last.
-    pub fn go_on(&mut self, line: &str) -> Result<(), AllocError> {
+    fn go_on(&mut self, line: &str) -> Result<(), AllocError> {
         let line = unescaped(self.alloc, line.strip_prefix(' ').unwrap_or(line))?;
         if let Some(last) = self.named.last_mut() {
             last.text.push_str(&line)?;

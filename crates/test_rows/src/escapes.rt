@@ -1,6 +1,5 @@
 //! Escapes in the texts of rows: `\n`, `\t`, `\r`, `\\`, `\x7f` for a character by its number, and `\15[..]` for a
 //! piece fifteen times.
-#![tactic(auto)]
 
 use std::alloc::{AllocError, Global};
 
