@@ -163,7 +163,7 @@ impl<'a> World<'a> {
         let begins = self.tasks[task].begins();
         let answer = self.board.step(step);
         self.tasks[task].answer(step, answer);
-        let outcome = self.tasks[task].fell();
+        let outcome = self.tasks[task].last_outcome();
         self.steps = self.steps.saturating_add(1);
         let noted = Noted {
             step,

@@ -102,7 +102,7 @@ impl<'t> SeatedTask<'t> {
                 step,
                 answer,
                 begins,
-                outcome: run.fell(),
+                outcome: run.last_outcome(),
             };
             note(&mut log, &mut reports, &noted);
             has_passed(gate, task, run.after());

@@ -30,7 +30,7 @@ pub(crate) struct Came {
 
 impl<'a> Machine<'a> {
     /// So many outcomes came of the checks of the part so far.
-    pub(crate) fn came(&self) -> usize
+    pub(crate) fn outcome_count(&self) -> usize
         ensures { result ≡ length (outcomes_of self.now.checker) }
     {
         self.checker.outcomes().len()
@@ -80,7 +80,7 @@ impl<'a> Machine<'a> {
         ensures begun { self.new.begins ≡ None }
         ensures room { room_of self.new ≡ room_of self.old }
     {
-        let came = self.came();
+        let came = self.outcome_count();
         self.checker.answer(answer, &*self.sites);
         self.has_begun();
         Came {

@@ -252,7 +252,7 @@ impl<'a> TaskRun<'a> {
     }
 
     /// The outcome that fell at the last answer, if one did.
-    pub fn fell(&self) -> Option<Outcome>
+    pub fn last_outcome(&self) -> Option<Outcome>
         ensures { result ≡ fell_of self.now }
     {
         self.news.fell
@@ -298,7 +298,7 @@ impl<'a> TaskRun<'a> {
         let TaskStage::Making(run, _) = &mut self.stage else {
             unreachable!()
         };
-        let came = self.machine.came();
+        let came = self.machine.outcome_count();
         self.machine.answers_access(run, answer);
         let outcomes = self.machine.checker.outcomes();
         self.news.tell_newest(outcomes, came, latest);

@@ -1,5 +1,6 @@
 -- What is known of an operation under way, by its records.
-use Rattle.std.proofs.Common.{◌≡◌, ◌↔◌, ◌∙◌, ◌⊎◌, ◌-◌, ◌^◌, ◌<◌, ◌≤◌, ◌++◌, ◌∷◌, [], ℕ, true, false, List, Option, None, Some, IfSome, IsNone, ap, append_assoc, arith, inl, inr, min, refl, subst, sym}
+use Rattle.std.proofs.Common.{◌≡◌, ◌↔◌, ◌∙◌, ◌⊎◌, ◌-◌, ◌^◌, ◌<◌, ◌≤◌, ◌++◌, ◌∷◌, [], ℕ, true, false}
+use Rattle.std.proofs.Common.{List, Option, None, Some, IfSome, IsNone, ap, append_assoc, arith, inl, inr, min, refl, subst, sym}
 use Rattle.std.proofs.lemmas.List.{append-nil}
 use Rattle.access_types.specs.Access.{Access}
 use Rattle.access_run.specs.memory_operation.Effects.{and_then, did, nothing}

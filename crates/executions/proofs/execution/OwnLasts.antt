@@ -1,5 +1,6 @@
 -- What a list says of the last arming at an index its setter's own records say too, and records of one arming are one.
-use Rattle.std.proofs.Common.{◌≡◌, ◌≢◌, ◌<◌, ◌+◌, ◌==◌, ◌&&◌, ◌⊎◌, ◌∙◌, ◌++◌, if◌then◌else◌, inl, inr, ℕ, suc, Bool, true, false, eqb, length, List, [], ◌∷◌, Option, None, Some, Contains, ap, arith, refl, subst, sym}
+use Rattle.std.proofs.Common.{◌≡◌, ◌≢◌, ◌<◌, ◌+◌, ◌==◌, ◌&&◌, ◌⊎◌, ◌∙◌, ◌++◌, if◌then◌else◌, inl, inr, ℕ, suc, Bool}
+use Rattle.std.proofs.Common.{true, false, eqb, length, List, [], ◌∷◌, Option, None, Some, Contains, ap, arith, refl, subst, sym}
 use Rattle.std.proofs.lemmas.Bool.{eq-eqb}
 use Rattle.std.proofs.lemmas.Bool.Decides.{eqb_tells}
 use Rattle.std.proofs.lemmas.List.{length-append}

@@ -1,5 +1,6 @@
 -- What is so of the records of checks is so of all records of a text.
-use Rattle.std.proofs.Common.{◌≡◌, ◌<◌, ◌≤◌, ◌+◌, ◌-◌, ◌∙◌, ◌∷◌, ◌++◌, ◌||◌, [], ℕ, suc, Bool, true, false, drop, length, map, replicate, List, Option, None, Some, MatchBool, ap, append_assoc, arith, refl, subst, sym}
+use Rattle.std.proofs.Common.{◌≡◌, ◌<◌, ◌≤◌, ◌+◌, ◌-◌, ◌∙◌, ◌∷◌, ◌++◌, ◌||◌, [], ℕ, suc, Bool, true, false}
+use Rattle.std.proofs.Common.{drop, length, map, replicate, List, Option, None, Some, MatchBool, ap, append_assoc, arith, refl, subst, sym}
 use Rattle.std.proofs.lemmas.List.{append-nil}
 use Rattle.access_types.specs.Kind.{is_scoped}
 use Rattle.access_types.specs.Access as access

@@ -1,5 +1,6 @@
 -- An answer to a taking names its setter and its finder, and a report of two sides a true race.
-use Rattle.std.proofs.Common.{◌≡◌, ◌≢◌, ◌↔◌, ◌<◌, ◌==◌, ◌⊎◌, ◌∙◌, ◌+◌, ◌-◌, ◌++◌, ◌||◌, inl, inr, ℕ, suc, Bool, true, false, All, Contains, IsTrue, length, List, [], ◌∷◌, Option, Some, IsSomeAnd, ap}
+use Rattle.std.proofs.Common.{◌≡◌, ◌≢◌, ◌↔◌, ◌<◌, ◌==◌, ◌⊎◌, ◌∙◌, ◌+◌, ◌-◌, ◌++◌, ◌||◌, inl, inr, ℕ}
+use Rattle.std.proofs.Common.{suc, Bool, true, false, All, Contains, IsTrue, length, List, [], ◌∷◌, Option, Some, IsSomeAnd, ap}
 use Rattle.std.proofs.Common.{append_assoc, arith, map, refl, reverse, subst, sym}
 use Rattle.std.specs.List.{filter}
 use Rattle.std.specs.Option.{option_map}

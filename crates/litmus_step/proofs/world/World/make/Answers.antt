@@ -53,7 +53,7 @@ invariant_of-self c =
     let there = slice_get_within c.args.self.now.tasks.items c.args.task c.requires.next.machine c.requires.next.stands in
     let begun = subst (λ (machine : TaskRun). SaysBegin machine c.begins-begins.result) same c.begins-begins.ensures in
     let fallen = fell_in c.args.self.now.tasks.items c.args.task c.requires.next.machine c.index_mut.result.now c.answer.new.self
-    c.index-2.result.now c.fell-outcome.result c.step-answer.result there same_mut c.index-2.ensures c.fell-outcome.ensures
+    c.index-2.result.now c.last_outcome-outcome.result c.step-answer.result there same_mut c.index-2.ensures c.last_outcome-outcome.ensures
     c.answer.ensures.fell in
     record {
       led = ∥∥₁_map c.args.self.now.led (λ is. record {
@@ -67,12 +67,12 @@ invariant_of-self c =
             c.answer.ensures.leads is.run is.records is.leads
             (noted_more c.law_steps_are_kept.ensures.more c.args.self.now c.args.task c.args.step c.step-answer.result
             c.requires.next.machine c.begins-begins.result
-            c.fell-outcome.result c.note_in.new.logs.items c.note_in.new.reports.items
+            c.last_outcome-outcome.result c.note_in.new.logs.items c.note_in.new.reports.items
             (vec_capacity c.note_in.new.reports) c.requires.there c.requires.next.stands
             c.requires.next.makes.says begun fallen
             c.note_in.ensures.noted c.note_in.ensures.room is.run is.records is.leads)
             (world_points c.law_steps_are_kept.ensures.points c.args.self.now c.args.task c.args.step c.step-answer.result
-            c.requires.next.machine c.index_mut.result.now c.answer.new.self c.begins-begins.result c.fell-outcome.result
+            c.requires.next.machine c.index_mut.result.now c.answer.new.self c.begins-begins.result c.last_outcome-outcome.result
             c.requires.next.stands same_mut c.requires.next.makes.says begun fallen c.answer.ensures.points
             is.run is.records is.leads));
       });
@@ -88,7 +88,7 @@ returns-clause-moves c =
     let there = slice_get_within c.args.self.now.tasks.items c.args.task c.requires.next.machine c.requires.next.stands in
     let begun = subst (λ (machine : TaskRun). SaysBegin machine c.begins-begins.result) same c.begins-begins.ensures in
     let fallen = fell_in c.args.self.now.tasks.items c.args.task c.requires.next.machine c.index_mut.result.now c.answer.new.self
-    c.index-2.result.now c.fell-outcome.result c.step-answer.result there same_mut c.index-2.ensures c.fell-outcome.ensures
+    c.index-2.result.now c.last_outcome-outcome.result c.step-answer.result there same_mut c.index-2.ensures c.last_outcome-outcome.ensures
     c.answer.ensures.fell in
     λ run records leads.
     (world_leads c.law_steps_lead_on.ensures.leads c.args.self.now c.args.task c.args.step c.step-answer.result c.index_mut.result.now
@@ -98,12 +98,12 @@ returns-clause-moves c =
     c.answer.ensures.leads run records leads
     (noted_more c.law_steps_are_kept.ensures.more c.args.self.now c.args.task c.args.step c.step-answer.result c.requires.next.machine
     c.begins-begins.result
-    c.fell-outcome.result c.note_in.new.logs.items c.note_in.new.reports.items
+    c.last_outcome-outcome.result c.note_in.new.logs.items c.note_in.new.reports.items
     (vec_capacity c.note_in.new.reports) c.requires.there c.requires.next.stands
     c.requires.next.makes.says begun fallen
     c.note_in.ensures.noted c.note_in.ensures.room run records leads)
     (world_points c.law_steps_are_kept.ensures.points c.args.self.now c.args.task c.args.step c.step-answer.result
-    c.requires.next.machine c.index_mut.result.now c.answer.new.self c.begins-begins.result c.fell-outcome.result
+    c.requires.next.machine c.index_mut.result.now c.answer.new.self c.begins-begins.result c.last_outcome-outcome.result
     c.requires.next.stands same_mut c.requires.next.makes.says begun fallen c.answer.ensures.points
     run records leads))
 

@@ -38,9 +38,9 @@ loop-preserved g c =
           c.step-answer.ensures.made c.loop.invariant.own;
       led = seat_leads_on c.law_seats_lead_on.ensures.leads (run_by c.args.terms) c.args.self.number c.loop.board c.step-answer.new.self c.loop.run
           c.answer.new.self c.loop.log c.note.new.log c.loop.reports.items c.note.new.reports.items (vec_capacity c.loop.reports)
-          (vec_capacity c.note.new.reports) c.in-Some-next.step c.step-answer.result c.begins-begins.result c.fell.result
+          (vec_capacity c.note.new.reports) c.in-Some-next.step c.step-answer.result c.begins-begins.result c.last_outcome.result
           c.requires.terms.can c.requires.seated.there c.loop.invariant.own c.loop.invariant.led next c.step-answer.ensures.kind
-          c.step-answer.ensures.made c.answer.ensures.leads c.begins-begins.ensures c.answer.ensures.fell c.fell.ensures
+          c.step-answer.ensures.made c.answer.ensures.leads c.begins-begins.ensures c.answer.ensures.fell c.last_outcome.ensures
           c.note.ensures.noted c.note.ensures.room;
       room = subst (λ n. watches_kept (run_by c.args.terms) c.args.self.number ≤ n) (sym c.note.ensures.room) c.loop.invariant.room;
     }

@@ -46,8 +46,8 @@ returns-else-is_over-clause-leads c = λ s registers body records step leads say
 pub returns-in-Making-stage-clause-fell : goal.returns-in-Making-stage-clause-fell
 returns-in-Making-stage-clause-fell c = λ s registers body records step leads says later.
     making_fell s registers body records c.args.self.now leads (made s.text.task step c.args.answer) c.answers_access.new.self c.tell_newest.new.self.fell
-    (c.tell_newest.ensures.fell ∙ ap (λ (l : List Outcome). slice_get l c.came-came.result) c.outcomes-outcomes.ensures.value
-    ∙ ap (λ n. slice_get (outcomes_of c.answers_access.new.self.checker) n) c.came-came.ensures)
+    (c.tell_newest.ensures.fell ∙ ap (λ (l : List Outcome). slice_get l c.outcome_count-came.result) c.outcomes-outcomes.ensures.value
+    ∙ ap (λ n. slice_get (outcomes_of c.answers_access.new.self.checker) n) c.outcome_count-came.ensures)
     later c.in-Making.run' c.answers_access.new.run c.in-Making.field-1 c.in-Making.is
     (λ scopes begun asked operation so_far sites l. c.answers_access.ensures.leads (checks_of s) scopes begun asked operation so_far step sites l
     (subst (λ stage. StageSays stage c.args.self.now step) c.in-Making.is says))
@@ -55,8 +55,8 @@ returns-in-Making-stage-clause-fell c = λ s registers body records step leads s
 pub returns-else-is_over-clause-fell : goal.returns-else-is_over-clause-fell
 returns-else-is_over-clause-fell c = λ s registers body records step leads says later.
     making_fell s registers body records c.args.self.now leads (made s.text.task step c.args.answer) c.answers_access.new.self c.tell_newest.new.self.fell
-    (c.tell_newest.ensures.fell ∙ ap (λ (l : List Outcome). slice_get l c.came-came.result) c.outcomes-outcomes.ensures.value
-    ∙ ap (λ n. slice_get (outcomes_of c.answers_access.new.self.checker) n) c.came-came.ensures)
+    (c.tell_newest.ensures.fell ∙ ap (λ (l : List Outcome). slice_get l c.outcome_count-came.result) c.outcomes-outcomes.ensures.value
+    ∙ ap (λ n. slice_get (outcomes_of c.answers_access.new.self.checker) n) c.outcome_count-came.ensures)
     later c.in-Making.run' c.answers_access.new.run c.in-Making.field-1 c.in-Making.is
     (λ scopes begun asked operation so_far sites l. c.answers_access.ensures.leads (checks_of s) scopes begun asked operation so_far step sites l
     (subst (λ stage. StageSays stage c.args.self.now step) c.in-Making.is says))
