@@ -7,13 +7,13 @@ use Rattle.litmus_lex.specs.declared.sign.Sign.TheVariants.{OpenParen, ClosePare
 use Rattle.litmus_syntax.specs.Limits.{call_scopes}
 use Rattle.litmus_syntax.specs.declared.statement.Call.{Call}
 use Rattle.litmus_syntax.specs.declared.statement.Call.TheVariants as calls
-use Rattle.litmus_cursor.specs.declared.words.CallWord.{CallWord}
-use Rattle.litmus_cursor.specs.declared.words.CallWord.TheVariants as asks
-use Rattle.litmus_cursor.specs.declared.words.VariableType.{VariableType}
-use Rattle.litmus_cursor.specs.declared.words.VariableType.TheVariants as types
-use Rattle.litmus_cursor.specs.declared.words.Word.TheVariants as words
-use Rattle.litmus_cursor.specs.Front.{◌>>=◌, first, number_of, others, take_number, take_sign}
-use Rattle.litmus_cursor.specs.Words.{Symbol, word, identifier, number, sign, fault}
+use Rattle.litmus_lex.specs.declared.words.CallWord.{CallWord}
+use Rattle.litmus_lex.specs.declared.words.CallWord.TheVariants as asks
+use Rattle.litmus_lex.specs.declared.words.VariableType.{VariableType}
+use Rattle.litmus_lex.specs.declared.words.VariableType.TheVariants as types
+use Rattle.litmus_lex.specs.declared.words.Word.TheVariants as words
+use Rattle.litmus_lex.specs.Front.{◌>>=◌, first, number_of, others, take_number, take_sign}
+use Rattle.litmus_lex.specs.Words.{Symbol, word, identifier, number, sign, fault}
 use Rattle.litmus_expression.specs.declared.process.Takes.{Takes}
 use Rattle.litmus_expression.specs.declared.process.Takes.TheVariants.{Locks, Memory}
 use Rattle.litmus_body.specs.CallReader.{ReadsCall, arguments, call_accesses, call_at, check, count_assertion, count_call, count_check, marked, sized, target}

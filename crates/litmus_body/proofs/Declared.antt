@@ -2,8 +2,8 @@
 use Rattle.std.proofs.Common.{◌≡◌, ◌∙◌, List, [], ◌∷◌, Bool, true, false, cond, Option, Some, None, ℕ, refl, sym, ap}
 use Rattle.std.specs.Prelude.{IsTrue}
 use Rattle.litmus_lex.specs.declared.sign.Sign.TheVariants.{Comma, Star}
-use Rattle.litmus_cursor.specs.Front.{◌>>=◌, first, identifier_at, is_sign, others}
-use Rattle.litmus_cursor.specs.Words.{Symbol, word, identifier, number, sign, fault}
+use Rattle.litmus_lex.specs.Front.{◌>>=◌, first, identifier_at, is_sign, others}
+use Rattle.litmus_lex.specs.Words.{Symbol, word, identifier, number, sign, fault}
 use Rattle.litmus_expression.specs.NameReader.{name_among, register_at, register_name, register_named}
 use Rattle.litmus_expression.specs.PlaceReader.{take_changed}
 use Rattle.litmus_expression.specs.Places.{is_counter}

@@ -11,12 +11,12 @@ use Rattle.litmus_syntax.specs.declared.statement.Call.{Call}
 use Rattle.litmus_syntax.specs.declared.statement.Call.TheVariants as calls
 use Rattle.litmus_syntax.specs.declared.statement.WriteForm.{WriteForm}
 use Rattle.litmus_syntax.specs.declared.statement.WriteForm.TheVariants as writes
-use Rattle.litmus_cursor.specs.declared.words.CallWord.{CallWord}
-use Rattle.litmus_cursor.specs.declared.words.CallWord.TheVariants as asks
-use Rattle.litmus_cursor.specs.declared.words.StoreWord.{StoreWord}
-use Rattle.litmus_cursor.specs.declared.words.StoreWord.TheVariants as stores
-use Rattle.litmus_cursor.specs.Front.{◌>>=◌, begins_call, first, is_sign, number_of, others, take_number, take_sign}
-use Rattle.litmus_cursor.specs.Words.{Symbol, word, identifier, number, sign, fault}
+use Rattle.litmus_lex.specs.declared.words.CallWord.{CallWord}
+use Rattle.litmus_lex.specs.declared.words.CallWord.TheVariants as asks
+use Rattle.litmus_lex.specs.declared.words.StoreWord.{StoreWord}
+use Rattle.litmus_lex.specs.declared.words.StoreWord.TheVariants as stores
+use Rattle.litmus_lex.specs.Front.{◌>>=◌, begins_call, first, is_sign, number_of, others, take_number, take_sign}
+use Rattle.litmus_lex.specs.Words.{Symbol, word, identifier, number, sign, fault}
 use Rattle.litmus_expression.specs.declared.process.Takes.{Takes}
 use Rattle.litmus_expression.specs.declared.process.Takes.TheVariants.{Integers, Atomics, Locks, Memory}
 use Rattle.litmus_expression.specs.Expressions.{bare}

@@ -7,9 +7,9 @@ use Rattle.litmus_syntax.specs.Limits.{call_scopes, check_limit, scoped_limit}
 use Rattle.litmus_syntax.specs.Sites.{call_has_access}
 use Rattle.litmus_syntax.specs.declared.statement.Call.{Call}
 use Rattle.litmus_syntax.specs.declared.statement.Call.TheVariants as calls
-use Rattle.litmus_cursor.specs.declared.words.CallWord.{CallWord}
-use Rattle.litmus_cursor.specs.declared.words.CallWord.TheVariants as asks
-use Rattle.litmus_cursor.specs.Front.{◌>>=◌, others, take_number, take_sign}
+use Rattle.litmus_lex.specs.declared.words.CallWord.{CallWord}
+use Rattle.litmus_lex.specs.declared.words.CallWord.TheVariants as asks
+use Rattle.litmus_lex.specs.Front.{◌>>=◌, others, take_number, take_sign}
 use Rattle.litmus_expression.specs.declared.process.Takes.TheVariants.{Locks, Memory}
 use Rattle.litmus_expression.specs.ExpressionReader.{take_star}
 use Rattle.litmus_expression.specs.NameReader.{count_access, take_variable}

@@ -2,8 +2,8 @@
 use Rattle.std.specs.Prelude.{◌≡◌, ◌+◌, ◌≤◌, ℕ, List, length, false}
 use Rattle.litmus_lex.specs.declared.sign.Sign.TheVariants.{Assign, AddAssign}
 use Rattle.litmus_syntax.specs.Limits.{own_repeats, registers_limit}
-use Rattle.litmus_cursor.specs.Front.{first, is_sign}
-use Rattle.litmus_cursor.specs.Words.{Symbol}
+use Rattle.litmus_lex.specs.Front.{first, is_sign}
+use Rattle.litmus_lex.specs.Words.{Symbol}
 use Rattle.litmus_expression.specs.Followed.{Follows}
 use Rattle.litmus_expression.specs.Places.{NestingPlace}
 use Rattle.litmus_expression.specs.States.{State}

@@ -4,11 +4,11 @@ use Rattle.litmus_lex.specs.declared.sign.Sign.TheVariants.{OpenParen, ClosePare
 use Rattle.litmus_syntax.specs.Tree as tree
 use Rattle.litmus_syntax.specs.declared.expression.ReadForm.TheVariants as reads
 use Rattle.litmus_syntax.specs.declared.statement.WriteForm.TheVariants as writes
-use Rattle.litmus_cursor.specs.declared.words.StoreWord.{StoreWord}
-use Rattle.litmus_cursor.specs.declared.words.Word.{Word}
-use Rattle.litmus_cursor.specs.declared.words.Word.TheVariants as words
-use Rattle.litmus_cursor.specs.Front.{◌>>=◌, begins_call, first, is_sign, others, take_sign}
-use Rattle.litmus_cursor.specs.Words.{Symbol, word, identifier, number, sign, fault}
+use Rattle.litmus_lex.specs.declared.words.StoreWord.{StoreWord}
+use Rattle.litmus_lex.specs.declared.words.Word.{Word}
+use Rattle.litmus_lex.specs.declared.words.Word.TheVariants as words
+use Rattle.litmus_lex.specs.Front.{◌>>=◌, begins_call, first, is_sign, others, take_sign}
+use Rattle.litmus_lex.specs.Words.{Symbol, word, identifier, number, sign, fault}
 use Rattle.litmus_expression.specs.declared.process.Takes.TheVariants.{Integers}
 use Rattle.litmus_expression.specs.Expressions.{bare}
 use Rattle.litmus_expression.specs.ExpressionReader.{expression_at, load_at, pure_at, take_star}

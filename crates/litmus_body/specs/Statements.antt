@@ -9,11 +9,11 @@ use Rattle.litmus_syntax.specs.declared.statement.Call.{Call}
 use Rattle.litmus_syntax.specs.declared.statement.Call.TheVariants as calls
 use Rattle.litmus_syntax.specs.declared.statement.WriteForm.TheVariants as writes
 use Rattle.litmus_syntax.specs.Tree as tree
-use Rattle.litmus_cursor.specs.declared.words.VariableType.{VariableType}
-use Rattle.litmus_cursor.specs.declared.words.Word.TheVariants as words
-use Rattle.litmus_cursor.specs.declared.words.StoreWord.TheVariants as stores
-use Rattle.litmus_cursor.specs.declared.words.CallWord.TheVariants as asks
-use Rattle.litmus_cursor.specs.Words.{Symbol, word, identifier, number, sign}
+use Rattle.litmus_lex.specs.declared.words.VariableType.{VariableType}
+use Rattle.litmus_lex.specs.declared.words.Word.TheVariants as words
+use Rattle.litmus_lex.specs.declared.words.StoreWord.TheVariants as stores
+use Rattle.litmus_lex.specs.declared.words.CallWord.TheVariants as asks
+use Rattle.litmus_lex.specs.Words.{Symbol, word, identifier, number, sign}
 use Rattle.litmus_expression.specs.Expressions.{Load, Pure, Expression, enclosed_once}
 use Rattle.litmus_syntax.specs.Limits.{check_limit, nesting_limit}
 use Rattle.litmus_expression.specs.Names.{Names, Parameter, IsVariable, IsInteger, IsAtomic, IsLock, HasBytes, IsChanged}

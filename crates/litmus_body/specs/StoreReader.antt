@@ -4,9 +4,9 @@ use Rattle.litmus_lex.specs.declared.sign.Sign.TheVariants.{OpenParen, ClosePare
 use Rattle.litmus_syntax.specs.Tree as tree
 use Rattle.litmus_syntax.specs.declared.statement.WriteForm.{WriteForm}
 use Rattle.litmus_syntax.specs.declared.statement.WriteForm.TheVariants as writes
-use Rattle.litmus_cursor.specs.declared.words.StoreWord.{StoreWord}
-use Rattle.litmus_cursor.specs.declared.words.StoreWord.TheVariants as stores
-use Rattle.litmus_cursor.specs.Front.{◌>>=◌, others, take_sign}
+use Rattle.litmus_lex.specs.declared.words.StoreWord.{StoreWord}
+use Rattle.litmus_lex.specs.declared.words.StoreWord.TheVariants as stores
+use Rattle.litmus_lex.specs.Front.{◌>>=◌, others, take_sign}
 use Rattle.litmus_expression.specs.declared.process.Takes.{Takes}
 use Rattle.litmus_expression.specs.declared.process.Takes.TheVariants.{Integers, Atomics}
 use Rattle.litmus_expression.specs.ExpressionReader.{pure_at, take_star}

@@ -2,16 +2,15 @@
 
 ghost use Rattle.std.specs.Prelude.{◌≡◌, ◌≤◌, ◌<◌, OnOk};
 ghost use Rattle.litmus_syntax.specs.Limits.{check_limit};
-ghost use Rattle.litmus_cursor.specs.Cursor.{count_left};
-ghost use Rattle.litmus_cursor.specs.Front.{Answers};
+ghost use Rattle.litmus_lex.specs.Cursor.{count_left};
+ghost use Rattle.litmus_lex.specs.Front.{Answers};
 ghost use Rattle.litmus_expression.specs.Places.{place_of};
 ghost use Rattle.litmus_expression.specs.States.{state_of};
 ghost use Rattle.litmus_body.specs.CallReader as reader;
 ghost use Rattle.litmus_body.specs.StatementReader as statements;
 
-use litmus_cursor::{CallWord, Excess, Expected, Refusal};
 use litmus_expression::{Process, Surroundings, Takes};
-use litmus_lex::Sign;
+use litmus_lex::{CallWord, Excess, Expected, Refusal, Sign};
 use litmus_syntax::{Call, Mark};
 
 /// The largest size of a check.

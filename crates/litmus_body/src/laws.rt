@@ -3,10 +3,10 @@
 ghost use Rattle.std.specs.Prelude.{◌≡◌, ◌≤◌, ◌+◌, ℕ, List, Some, length, map};
 ghost use Rattle.litmus_syntax.specs.Limits.{call_scopes, nesting_limit, own_repeats, registers_limit, repeats_limit, scoped_limit};
 ghost use Rattle.litmus_syntax.specs.declared.statement.Call.{Call};
-ghost use Rattle.litmus_cursor.specs.declared.words.CallWord.{CallWord};
-ghost use Rattle.litmus_cursor.specs.declared.words.Word.TheVariants as words;
-ghost use Rattle.litmus_cursor.specs.Front.{first};
-ghost use Rattle.litmus_cursor.specs.Words.{Symbol, word};
+ghost use Rattle.litmus_lex.specs.declared.words.CallWord.{CallWord};
+ghost use Rattle.litmus_lex.specs.declared.words.Word.TheVariants as words;
+ghost use Rattle.litmus_lex.specs.Front.{first};
+ghost use Rattle.litmus_lex.specs.Words.{Symbol, word};
 ghost use Rattle.litmus_expression.specs.Counters.{AreCounters};
 ghost use Rattle.litmus_expression.specs.Followed.{Differ, name_of};
 ghost use Rattle.litmus_expression.specs.Names.{Names};

@@ -4,8 +4,8 @@
 //! be a path of the proof.
 
 ghost use Rattle.std.specs.Prelude.{◌≡◌, ◌≤◌, ◌<◌, ◌+◌, ◌^◌, ◌-◌, IfOk, OnOk};
-ghost use Rattle.litmus_cursor.specs.Cursor.{count_left};
-ghost use Rattle.litmus_cursor.specs.Front.{Answers};
+ghost use Rattle.litmus_lex.specs.Cursor.{count_left};
+ghost use Rattle.litmus_lex.specs.Front.{Answers};
 ghost use Rattle.litmus_syntax.specs.Views.{assignment_of, statement_of};
 ghost use Rattle.litmus_expression.specs.Places.{place_of};
 ghost use Rattle.litmus_expression.specs.States.{state_of};
@@ -14,9 +14,8 @@ ghost use Rattle.litmus_body.specs.SimpleReader as reader;
 ghost use Rattle.litmus_body.specs.Statements.{alone, raced};
 ghost use Rattle.litmus_body.specs.StoreReader as stores;
 
-use litmus_cursor::{Expected, Refusal, StoreWord, Word};
 use litmus_expression::{Process, Surroundings, Takes};
-use litmus_lex::{Sign, Token};
+use litmus_lex::{Expected, Refusal, Sign, StoreWord, Token, Word};
 use litmus_syntax::{Assignment, Fetch, Load, ReadForm, Statement, WriteForm};
 
 /// A simple statement.

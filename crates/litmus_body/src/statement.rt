@@ -6,8 +6,8 @@
 ghost use Rattle.std.specs.Prelude.{◌≡◌, ◌≤◌, ◌<◌, ◌+◌, ◌^◌, IfOk, IsTrue, OnOk, option_map};
 ghost use Rattle.litmus_syntax.specs.Limits.{registers_limit, turns_limit};
 ghost use Rattle.litmus_syntax.specs.Views.{block_of, statement_of};
-ghost use Rattle.litmus_cursor.specs.Cursor.{count_left};
-ghost use Rattle.litmus_cursor.specs.Front.{Answers, first, symbols_left};
+ghost use Rattle.litmus_lex.specs.Cursor.{count_left};
+ghost use Rattle.litmus_lex.specs.Front.{Answers, first, symbols_left};
 ghost use Rattle.litmus_expression.specs.PlaceReader.{take_changed};
 ghost use Rattle.litmus_expression.specs.Places.{place_of};
 ghost use Rattle.litmus_expression.specs.States.{state_of};
@@ -16,9 +16,8 @@ ghost use Rattle.litmus_body.specs.StatementReader as reader;
 
 use crate::call::{is_scoped, read_call};
 use crate::simple::read_simple;
-use litmus_cursor::{CallWord, Cursor, Expected, Fault, Refusal, VariableType, Word};
 use litmus_expression::{Process, Surroundings};
-use litmus_lex::{Sign, Token};
+use litmus_lex::{CallWord, Cursor, Expected, Fault, Refusal, Sign, Token, VariableType, Word};
 use litmus_syntax::{Assignment, Call, Statement};
 
 /// How a statement begins.
@@ -407,7 +406,7 @@ fn read_counter(process: &mut Process<'_>, around: &Surroundings) -> Result<usiz
 }
 
 /// `REG < NUMBER ;`
-#[tactic(auto, unfolding(crate::specs::StatementReader::bound_at, litmus_cursor::specs::Front::take_number))]
+#[tactic(auto, unfolding(crate::specs::StatementReader::bound_at, litmus_lex::specs::Front::take_number))]
 fn read_bound(
     process: &mut Process<'_>,
     register: usize,

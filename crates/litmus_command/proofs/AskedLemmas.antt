@@ -1,6 +1,6 @@
 -- What was asked of tasks was asked of them in a view of their states too, where moves and ends are kept.
 use Rattle.std.proofs.Common.{◌↔◌, ℕ, List, [], ◌∷◌, ap, inl, inr}
-use Rattle.option_lists.specs.step_schedule.Order.{AreAsked, IsAsked, Tasks}
+use Rattle.prepared_program.specs.step_schedule.Order.{AreAsked, IsAsked, Tasks}
 
 -- what was asked of tasks in states was asked of them in what is seen of these states, where as much is known of them
 module _ {S T : Type 0} (known : Tasks S) (others : Tasks T) (view : S → T)

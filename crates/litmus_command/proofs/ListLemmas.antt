@@ -6,10 +6,10 @@ use Rattle.diagnostics.specs.option_diagnostics.Item.{items_of}
 use Rattle.diagnostics.specs.option_diagnostics.Places as places
 use Rattle.diagnostics.specs.option_diagnostics.Schedules as schedules
 use Rattle.litmus_command.specs.Lists.{SpellsNoPlaces, SpellsNoSchedule}
-use Rattle.option_lists.specs.place_list.Spelling as place
+use Rattle.prepared_program.specs.place_list.Spelling as place
 use Rattle.prepared_program.specs.declared.program_layout.place.Place.{Place}
-use Rattle.option_lists.specs.step_schedule.Spelling as schedule
-use Rattle.option_lists.specs.declared.step_schedule.schedule.Entry.{Entry}
+use Rattle.prepared_program.specs.step_schedule.Spelling as schedule
+use Rattle.prepared_program.specs.declared.step_schedule.schedule.Entry.{Entry}
 
 join-append : (x : List ℕ) (xs : List (List ℕ)) (y : List ℕ) (ys : List (List ℕ))
     → join_with_byte 44 ((x ∷ xs) ++ y ∷ ys) ≡ join_with_byte 44 (x ∷ xs) ++ 44 ∷ join_with_byte 44 (y ∷ ys)

@@ -31,7 +31,7 @@ use Rattle.litmus_syntax.specs.declared.program.Program.{Program}
 use Rattle.prepared_program.specs.program_layout.Places.{AreFit}
 use Rattle.prepared_program.specs.program_sites.Errors.{IsOfPreparing}
 use Rattle.prepared_program.specs.declared.program_sites.settings.Settings.{Settings}
-use Rattle.option_lists.specs.declared.step_schedule.schedule.Entry.{Entry}
+use Rattle.prepared_program.specs.declared.step_schedule.schedule.Entry.{Entry}
 
 -- a status that a failure can end with
 abbrev pub IsKnown : ℕ → Type 0

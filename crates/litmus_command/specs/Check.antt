@@ -24,8 +24,8 @@ use Rattle.report_text.specs.Sink.{CountsFailure, HoldsBeginning, appended}
 use Rattle.litmus_parse.specs.Text.{file_bytes}
 use Rattle.prepared_program.specs.declared.program_sites.settings.Settings.{Settings}
 use Rattle.run_output.specs.declared.error.EngineError.TheVariants as engine
-use Rattle.option_lists.specs.step_schedule.Spelling as schedules
-use Rattle.option_lists.specs.declared.step_schedule.schedule.Entry.{Entry}
+use Rattle.prepared_program.specs.step_schedule.Spelling as schedules
+use Rattle.prepared_program.specs.declared.step_schedule.schedule.Entry.{Entry}
 use Rattle.diagnostics.specs.declared.text_check.checked.Check.TheVariants.{Misplaced, Reads, Refused}
 
 -- what standard output has taken, how often it has failed, what was done with files, what standard error was told, and

@@ -22,7 +22,7 @@ use Rattle.cli.specs.declared.request.Switches.TheVariants as switches
 use Rattle.litmus_parse.specs.Grammar.{SpellsProgram}
 use Rattle.litmus_parse.specs.Text.{file_bytes}
 use Rattle.litmus_syntax.specs.Tree as tree
-use Rattle.option_lists.specs.place_list.Spelling as places
+use Rattle.prepared_program.specs.place_list.Spelling as places
 use Rattle.report_text.specs.Faults.{size_limit}
 use Rattle.report_text.specs.Sink.{CountsFailure, HoldsBeginning, appended}
 use Rattle.litmus_syntax.specs.declared.error.ParseError.{ParseError}
@@ -32,8 +32,8 @@ use Rattle.run_stats.specs.Output as tally_output
 use Rattle.run_stats.specs.declared.times.Times.{Times}
 use Rattle.prepared_program.specs.declared.program_sites.error.RunError.{RunError}
 use Rattle.prepared_program.specs.declared.program_sites.error.RunError.TheVariants as run
-use Rattle.option_lists.specs.step_schedule.Spelling as schedules
-use Rattle.option_lists.specs.declared.step_schedule.schedule.Entry.{Entry}
+use Rattle.prepared_program.specs.step_schedule.Spelling as schedules
+use Rattle.prepared_program.specs.declared.step_schedule.schedule.Entry.{Entry}
 use Rattle.prepared_program.specs.declared.program_sites.settings.Settings.{Settings}
 use Rattle.search_all.specs.Texts.{AllIsSearched}
 use Rattle.search_all.specs.declared.wanted.AllWanted.{AllWanted}

@@ -19,9 +19,9 @@ use Rattle.executions.specs.execution.Run as lists
 use Rattle.executions.specs.execution.Execution.{AllHaveEnded, Execution}
 use Rattle.slot_table.specs.declared.records.Record.{Record}
 use Rattle.schedule_search.specs.Again.{tasks_known}
-use Rattle.option_lists.specs.step_schedule.Order.{AreAsked, IsOrder}
-use Rattle.option_lists.specs.step_schedule.Schedule.{names_stranger}
-use Rattle.option_lists.specs.declared.step_schedule.schedule.Entry.{Entry}
+use Rattle.prepared_program.specs.step_schedule.Order.{AreAsked, IsOrder}
+use Rattle.prepared_program.specs.step_schedule.Schedule.{names_stranger}
+use Rattle.prepared_program.specs.declared.step_schedule.schedule.Entry.{Entry}
 
 -- from the first step on the tasks of the run were asked in the order of the schedule, and these are the steps that
 -- they made

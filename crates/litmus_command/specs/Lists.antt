@@ -1,9 +1,9 @@
 -- Which lists on the command line read.
 use Rattle.std.specs.Prelude.{ℕ, List}
-use Rattle.option_lists.specs.place_list.Spelling as places
+use Rattle.prepared_program.specs.place_list.Spelling as places
 use Rattle.prepared_program.specs.declared.program_layout.place.Place.{Place}
-use Rattle.option_lists.specs.step_schedule.Spelling as schedules
-use Rattle.option_lists.specs.declared.step_schedule.schedule.Entry.{Entry}
+use Rattle.prepared_program.specs.step_schedule.Spelling as schedules
+use Rattle.prepared_program.specs.declared.step_schedule.schedule.Entry.{Entry}
 
 -- the text spells no places, or no schedule
 abbrev pub SpellsNoPlaces : List ℕ → Type 0

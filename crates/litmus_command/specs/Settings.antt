@@ -3,7 +3,7 @@ use Rattle.std.specs.Global.{Global}
 use Rattle.std.specs.Prelude.{◌≡◌, Vec, not}
 use Rattle.cli.specs.Bounds.{KeepsBounds}
 use Rattle.cli.specs.declared.request.RunOptions.{RunOptions}
-use Rattle.option_lists.specs.place_list.Spelling as places
+use Rattle.prepared_program.specs.place_list.Spelling as places
 use Rattle.prepared_program.specs.declared.program_layout.place.Place.{Place}
 use Rattle.prepared_program.specs.declared.program_sites.settings.Settings.{Settings}
 

@@ -25,8 +25,8 @@ use diagnostics::option_diagnostics::{place_fault, schedule_fault};
 use diagnostics::text_check::calls;
 use litmus_parse::FILE_BYTES;
 use litmus_step::Settings;
-use option_lists::place_list::parse_places;
-use option_lists::step_schedule::Schedule;
+use prepared_program::place_list::parse_places;
+use prepared_program::step_schedule::Schedule;
 use run_output::EngineError;
 use std::alloc::{AllocError, Global};
 

@@ -18,7 +18,7 @@ ghost use Rattle.litmus_command.specs.declared.command.Failure.TheVariants.{Engi
 ghost use Rattle.picture_text.specs.declared.cells.Style.TheVariants.{Ascii};
 ghost use Rattle.report_text.specs.Sink.{CountsFailure};
 ghost use Rattle.std.specs.Option.{option_map};
-ghost use Rattle.option_lists.specs.step_schedule.Schedule.{entries_of};
+ghost use Rattle.prepared_program.specs.step_schedule.Schedule.{entries_of};
 
 use crate::check::{carry_check, list_calls};
 use crate::complaint::Complaint;
@@ -35,10 +35,10 @@ use cli::{
 };
 use litmus_parse::{FILE_BYTES, ParseError};
 use litmus_step::{RunError, Settings};
-use option_lists::place_list::parse_places;
-use option_lists::step_schedule::Schedule;
 use picture_text::Style;
+use prepared_program::place_list::parse_places;
 use prepared_program::program_layout::Place;
+use prepared_program::step_schedule::Schedule;
 use run_output::{EngineError, Written};
 use run_stats::{Times, run_text_often};
 use std::alloc::{AllocError, Global};

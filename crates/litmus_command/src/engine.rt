@@ -17,11 +17,11 @@ ghost use Rattle.executions.specs.execution.Reports.{reports_of};
 ghost use Rattle.executions.specs.execution.Run.{Run};
 ghost use Rattle.executions.specs.execution.Execution.{AllHaveEnded};
 ghost use Rattle.slot_table.specs.declared.records.Record.{Record};
-ghost use Rattle.option_lists.specs.step_schedule.Schedule.{entries_of};
+ghost use Rattle.prepared_program.specs.step_schedule.Schedule.{entries_of};
 
 use litmus_parse::{Limit, ParseError, Program, parse};
 use litmus_step::{Prepared, Settings, World};
-use option_lists::step_schedule::Schedule;
+use prepared_program::step_schedule::Schedule;
 use run_output::{EngineError, Written, output_of, trace_if};
 use std::alloc::{AllocError, Global};
 

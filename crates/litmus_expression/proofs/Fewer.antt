@@ -2,8 +2,8 @@
 use Rattle.std.proofs.Common.{◌≡◌, ◌∙◌, ℕ, ◌+◌, ◌*◌, ◌<◌, ◌≤◌, List, Bool, true, false, cond, Option, Some, None, length, refl, ap, subst}
 use Rattle.litmus_lex.specs.declared.sign.Sign.TheVariants.{Star}
 use Rattle.litmus_syntax.specs.Tree as tree
-use Rattle.litmus_cursor.specs.Front.{◌>>=◌, take_sign}
-use Rattle.litmus_cursor.specs.Words.{Symbol}
+use Rattle.litmus_lex.specs.Front.{◌>>=◌, take_sign}
+use Rattle.litmus_lex.specs.Words.{Symbol}
 use Rattle.litmus_expression.specs.ExpressionReader.{all_of_it, deep, expression_at, level_at, load_at, pure_at, take_star}
 use Rattle.litmus_expression.specs.NameReader.{register_at, take_register}
 use Rattle.litmus_expression.specs.PlaceReader.{take_changed}

@@ -7,7 +7,7 @@ use Rattle.std.specs.Bool.{Decides}
 use Rattle.std.proofs.lemmas.Bool.{cases_lt, le-ltb, lt-ltb}
 use Rattle.std.proofs.lemmas.Bool.Decides.{Decides-eqb}
 use Rattle.std.proofs.lemmas.Slice.Eq.{slice_eq-Decides}
-use Rattle.litmus_cursor.specs.Words.{is_same}
+use Rattle.litmus_lex.specs.Words.{is_same}
 use Rattle.litmus_expression.specs.Followed.{Differ, name_of}
 use Rattle.litmus_expression.specs.NameReader.{index_of, parameter_named}
 use Rattle.litmus_expression.specs.Names.{Names, Parameter}

@@ -1,8 +1,8 @@
 -- The `data_race (` before a load, and the `)` behind it, one at a time.
 use Rattle.std.proofs.Common.{◌≡◌, ◌∙◌, ℕ, zero, suc, ◌+◌, ◌-◌, ◌<◌, ◌≤◌, List, [], ◌∷◌, Bool, true, false, cond, Option, Some, None, refl, sym, ap, arith}
 use Rattle.litmus_lex.specs.declared.sign.Sign.TheVariants.{OpenParen, CloseParen}
-use Rattle.litmus_cursor.specs.Front.{◌>>=◌, first, others, is_sign, take_sign, word_at}
-use Rattle.litmus_cursor.specs.Words.{Symbol}
+use Rattle.litmus_lex.specs.Front.{◌>>=◌, first, others, is_sign, take_sign, word_at}
+use Rattle.litmus_lex.specs.Words.{Symbol}
 use Rattle.litmus_expression.specs.ExpressionReader.{closed, is_data_race, opened}
 
 opened_step : (b : Bool) (count : ℕ) (rest : List Symbol) → cond b (opened (count + 1) rest) None ≡ (cond b (Some rest) None >>= λ l. opened (count + 1) l)

@@ -6,8 +6,8 @@ use Rattle.litmus_lex.specs.declared.sign.Sign.TheVariants.{OpenBrace, CloseBrac
 use Rattle.litmus_lex.specs.declared.sign.Sign.TheVariants.{AddAssign, Increment, Plus, Minus, Star, Tilde, Not, Ampersand, Caret, Bar}
 use Rattle.litmus_lex.specs.declared.sign.Sign.TheVariants.{Less, Greater, LessEqual, GreaterEqual, Equal, NotEqual, Conjunction, Disjunction, Slash, Percent}
 use Rattle.litmus_lex.specs.declared.sign.Sign.TheVariants.{ShiftLeft, ShiftRight, LogicalAnd, LogicalOr, Question}
-use Rattle.litmus_cursor.specs.Front.{◌>>=◌, first, others, is_sign, same_sign, sign_number, take_number, take_sign, number_of}
-use Rattle.litmus_cursor.specs.Words.{Symbol, word, identifier, number, sign, fault}
+use Rattle.litmus_lex.specs.Front.{◌>>=◌, first, others, is_sign, same_sign, sign_number, take_number, take_sign, number_of}
+use Rattle.litmus_lex.specs.Words.{Symbol, word, identifier, number, sign, fault}
 
 -- ---- steps that gave a value
 

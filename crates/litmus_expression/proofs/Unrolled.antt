@@ -5,10 +5,10 @@ use Rattle.litmus_lex.specs.declared.sign.Sign.TheVariants.{OpenParen, ClosePare
 use Rattle.litmus_syntax.specs.declared.expression.BinaryOperator.{BinaryOperator}
 use Rattle.litmus_syntax.specs.declared.expression.UnaryOperator.{UnaryOperator}
 use Rattle.litmus_syntax.specs.Tree as tree
-use Rattle.litmus_cursor.specs.declared.words.LoadWord.{LoadWord}
-use Rattle.litmus_cursor.specs.declared.words.LoadWord.TheVariants as loads
-use Rattle.litmus_cursor.specs.Front.{◌>>=◌, first, others, take_sign}
-use Rattle.litmus_cursor.specs.Words.{Symbol}
+use Rattle.litmus_lex.specs.declared.words.LoadWord.{LoadWord}
+use Rattle.litmus_lex.specs.declared.words.LoadWord.TheVariants as loads
+use Rattle.litmus_lex.specs.Front.{◌>>=◌, first, others, take_sign}
+use Rattle.litmus_lex.specs.Words.{Symbol}
 use Rattle.litmus_expression.specs.declared.expression.Rest.{Rest}
 use Rattle.litmus_expression.specs.declared.process.Takes.TheVariants.{Integers}
 use Rattle.litmus_expression.specs.ExpressionReader.{Readers, Beginning, a_number, parenthesis, a_load, a_name, nothing}

@@ -5,8 +5,8 @@ use Rattle.std.specs.Prelude.{Contains, get_or, slice_get}
 use Rattle.litmus_lex.specs.declared.sign.Sign.TheVariants.{Star}
 use Rattle.litmus_syntax.specs.Limits.{operators}
 use Rattle.litmus_syntax.specs.Tree as tree
-use Rattle.litmus_cursor.specs.Front.{◌>>=◌, others, take_sign}
-use Rattle.litmus_cursor.specs.Words.{Symbol, identifier, sign}
+use Rattle.litmus_lex.specs.Front.{◌>>=◌, others, take_sign}
+use Rattle.litmus_lex.specs.Words.{Symbol, identifier, sign}
 use Rattle.litmus_expression.specs.Counters.{AreCounters}
 use Rattle.litmus_expression.specs.Expressions as grammar
 use Rattle.litmus_expression.specs.ExpressionReader.{all_of_it, deep, expression_at, level_at, load_at, pure_at, take_star}

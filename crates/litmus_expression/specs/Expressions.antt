@@ -9,9 +9,9 @@ use Rattle.litmus_syntax.specs.declared.expression.BinaryOperator.{BinaryOperato
 use Rattle.litmus_syntax.specs.declared.expression.BinaryOperator.TheVariants as binaries
 use Rattle.litmus_syntax.specs.declared.expression.ReadForm.TheVariants as reads
 use Rattle.litmus_syntax.specs.Tree as tree
-use Rattle.litmus_cursor.specs.declared.words.Word.TheVariants as words
-use Rattle.litmus_cursor.specs.declared.words.LoadWord.TheVariants as loads
-use Rattle.litmus_cursor.specs.Words.{Symbol, word, identifier, number, sign}
+use Rattle.litmus_lex.specs.declared.words.Word.TheVariants as words
+use Rattle.litmus_lex.specs.declared.words.LoadWord.TheVariants as loads
+use Rattle.litmus_lex.specs.Words.{Symbol, word, identifier, number, sign}
 use Rattle.litmus_syntax.specs.Limits.{nesting_limit, operators, operators_limit, pure_operators}
 use Rattle.litmus_expression.specs.Names.{Names, Parameter, IsVariable, IsInteger, IsAtomic, IsRegister}
 

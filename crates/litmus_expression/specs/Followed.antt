@@ -3,8 +3,8 @@ use Rattle.std.specs.Prelude.{◌≡◌, ◌<◌, ℕ, List, [], ◌∷◌, Some
 use Rattle.litmus_lex.specs.declared.sign.Sign.TheVariants.{OpenParen}
 use Rattle.litmus_syntax.specs.declared.expression.BinaryOperator.{BinaryOperator}
 use Rattle.litmus_syntax.specs.Tree as tree
-use Rattle.litmus_cursor.specs.Front.{first, is_sign}
-use Rattle.litmus_cursor.specs.Words.{Symbol}
+use Rattle.litmus_lex.specs.Front.{first, is_sign}
+use Rattle.litmus_lex.specs.Words.{Symbol}
 use Rattle.litmus_expression.specs.ExpressionReader.{binary_at, is_foreign}
 use Rattle.litmus_expression.specs.Expressions.{level_of}
 use Rattle.litmus_expression.specs.Names.{Names, Parameter}

@@ -1,9 +1,9 @@
 -- Reading variables and registers, and counting accesses.
 use Rattle.std.specs.Prelude.{ℕ, List, [], ◌∷◌, ◌+◌, ◌++◌, ◌==◌, nat_lt, Option, Some, None, Bool, true, false, find, is_some, length, position, if◌then◌else◌}
-use Rattle.litmus_cursor.specs.declared.words.VariableType.{VariableType}
-use Rattle.litmus_cursor.specs.declared.words.VariableType.TheVariants.{Char, Short, Int, Long, Atomic, Lock}
-use Rattle.litmus_cursor.specs.Front.{◌>>=◌, begins_call, first, identifier_at}
-use Rattle.litmus_cursor.specs.Words.{is_same}
+use Rattle.litmus_lex.specs.declared.words.VariableType.{VariableType}
+use Rattle.litmus_lex.specs.declared.words.VariableType.TheVariants.{Char, Short, Int, Long, Atomic, Lock}
+use Rattle.litmus_lex.specs.Front.{◌>>=◌, begins_call, first, identifier_at}
+use Rattle.litmus_lex.specs.Words.{is_same}
 use Rattle.litmus_expression.specs.declared.process.Takes.{Takes}
 use Rattle.litmus_expression.specs.declared.process.Takes.TheVariants.{Integers, Atomics, Locks, Memory}
 use Rattle.litmus_syntax.specs.Limits.{registers_limit, repeats_limit}

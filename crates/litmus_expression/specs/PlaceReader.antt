@@ -1,7 +1,7 @@
 -- Reading registers that are changed, and counting statements.
 use Rattle.std.specs.Prelude.{ℕ, ◌+◌, ◌==◌, List, Option, Some, None, Bool, if◌then◌else◌}
 use Rattle.litmus_syntax.specs.Limits.{statements_limit}
-use Rattle.litmus_cursor.specs.Front.{◌>>=◌}
+use Rattle.litmus_lex.specs.Front.{◌>>=◌}
 use Rattle.litmus_expression.specs.NameReader.{register_at}
 use Rattle.litmus_expression.specs.Places.{is_counter}
 use Rattle.litmus_expression.specs.States.{State, after}

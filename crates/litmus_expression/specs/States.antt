@@ -1,7 +1,7 @@
 -- What a reader of a process's body has: what is left, what names mean, and how much of the limits is used.
 use Rattle.std.specs.Prelude.{ℕ, List, [], Bool, map}
-use Rattle.litmus_cursor.specs.Front.{now, others, symbols_left}
-use Rattle.litmus_cursor.specs.Words.{Symbol}
+use Rattle.litmus_lex.specs.Front.{now, others, symbols_left}
+use Rattle.litmus_lex.specs.Words.{Symbol}
 use Rattle.litmus_expression.specs.declared.process.Parameter as coded
 use Rattle.litmus_expression.specs.declared.process.Process.{Process}
 use Rattle.litmus_expression.specs.Names.{Names, Parameter}

@@ -5,15 +5,14 @@
 
 ghost use Rattle.std.specs.Prelude.{◌≡◌, ◌≤◌, ◌<◌, ◌+◌, false, IfOk, IsSome, OnErr, OnOk, IsTrue, option_map};
 ghost use Rattle.litmus_syntax.specs.Views.{expression_of, fetch_of, load_of, pure_of};
-ghost use Rattle.litmus_cursor.specs.Front.{Answers, first, symbol_of_token, symbols_left};
+ghost use Rattle.litmus_lex.specs.Front.{Answers, first, symbol_of_token, symbols_left};
 ghost use Rattle.litmus_expression.specs.Expressions.{level_of};
 ghost use Rattle.litmus_expression.specs.ExpressionReader as reader;
 ghost use Rattle.litmus_expression.specs.States.{state_of};
-ghost use Rattle.litmus_cursor.specs.Cursor.{count_left, is_end};
+ghost use Rattle.litmus_lex.specs.Cursor.{count_left, is_end};
 
 use crate::process::{Process, Surroundings, Takes};
-use litmus_cursor::{Cursor, Excess, Expected, LoadWord, Refusal, Unread, Word};
-use litmus_lex::{Sign, Token};
+use litmus_lex::{Cursor, Excess, Expected, LoadWord, Refusal, Sign, Token, Unread, Word};
 use litmus_syntax::{
     BinaryOperator, Expression, Fetch, Load, Loading, Pure, ReadForm, UnaryOperator,
 };
@@ -33,7 +32,7 @@ struct Rest {
 }
 
 impl Rest {
-    ghost use Rattle.litmus_cursor.specs.Front.{Answers};
+    ghost use Rattle.litmus_lex.specs.Front.{Answers};
     ghost use Rattle.litmus_expression.specs.ExpressionReader as reader;
 
     /// Counts an operator, which stands at the place.
@@ -511,7 +510,7 @@ impl<'a> Process<'a> {
     }
 
     /// Takes the `*` before a variable.
-    #[tactic(auto, unfolding(crate::specs::ExpressionReader::take_star, litmus_cursor::specs::Front::take_sign))]
+    #[tactic(auto, unfolding(crate::specs::ExpressionReader::take_star, litmus_lex::specs::Front::take_sign))]
     pub fn take_star(&mut self) -> Result<(), Refusal>
         ensures moves { OnOk result (count_left self.new.cursor < count_left self.old.cursor) }
         ensures reads { Answers result (λ _. state_of self.new) (reader.take_star (state_of self.old)) }

@@ -3,7 +3,7 @@
 ghost use Rattle.std.specs.Prelude.{◌≡◌, ◌≤◌, ◌+◌, ℕ, List, Some, length, map};
 ghost use Rattle.litmus_syntax.specs.Limits.{nesting_limit, registers_limit, repeats_limit};
 ghost use Rattle.litmus_syntax.specs.Tree as tree;
-ghost use Rattle.litmus_cursor.specs.Words.{Symbol};
+ghost use Rattle.litmus_lex.specs.Words.{Symbol};
 ghost use Rattle.litmus_expression.specs.Expressions.{Expression, Load, Pure};
 ghost use Rattle.litmus_expression.specs.ExpressionReader.{expression_at, load_at, pure_at};
 ghost use Rattle.litmus_expression.specs.Followed.{Differ, Follows, accesses, name_of};

@@ -1,11 +1,11 @@
 //! A process, as far as it is read: what its names mean, and how much of its limits is used.
 
 ghost use Rattle.std.specs.Prelude.{◌≡◌, ◌≤◌, ◌<◌, ◌+◌, ◌==◌, false, length, IsTrue, OnErr, vec_len, IfOk, IfSome, IsSome, OnOk, find, position};
-ghost use Rattle.litmus_cursor.specs.Words.{is_same};
-ghost use Rattle.litmus_cursor.specs.Cursor.{count_left};
+ghost use Rattle.litmus_lex.specs.Words.{is_same};
+ghost use Rattle.litmus_lex.specs.Cursor.{count_left};
 ghost use Rattle.litmus_syntax.specs.Limits.{nesting_limit, registers_limit, repeats_limit, scoped_limit, statements_limit, turns_limit};
 
-use litmus_cursor::{Cursor, Excess, Expected, Fault, Refusal, Unread, VariableType};
+use litmus_lex::{Cursor, Excess, Expected, Fault, Refusal, Unread, VariableType};
 use std::alloc::{AllocError, Global};
 
 /// How many registers a task can have.
@@ -90,7 +90,7 @@ pub struct Surroundings {
 }
 
 impl Surroundings {
-    ghost use Rattle.litmus_cursor.specs.Front.{Answers};
+    ghost use Rattle.litmus_lex.specs.Front.{Answers};
     ghost use Rattle.litmus_expression.specs.Places as places;
     ghost use Rattle.litmus_expression.specs.Places.{outermost, place_of};
 
@@ -230,7 +230,7 @@ pub struct Process<'a> {
 
 impl<'a> Process<'a> {
     ghost use Rattle.std.specs.Prelude.{IfNone, map, option_map};
-    ghost use Rattle.litmus_cursor.specs.Front.{Answers, first, identifier_at, now, symbols_left};
+    ghost use Rattle.litmus_lex.specs.Front.{Answers, first, identifier_at, now, symbols_left};
     ghost use Rattle.litmus_expression.specs.NameReader as reader;
     ghost use Rattle.litmus_expression.specs.PlaceReader as places;
     ghost use Rattle.litmus_expression.specs.Places.{place_of};

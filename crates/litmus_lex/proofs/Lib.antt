@@ -1,3 +1,5 @@
+mod Spelled
+mod Lengths
 mod Runs
 mod Separators
 mod Signs

@@ -8,3 +8,7 @@ pub mod Head
 pub mod Found
 pub mod Source
 pub mod Lines
+pub mod Cursor
+pub mod Words
+pub mod Spots
+pub mod Front

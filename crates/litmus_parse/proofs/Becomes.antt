@@ -3,12 +3,12 @@
 use Rattle.std.proofs.Common.{◌≡◌, ◌≤◌, ℕ, zero, suc, List, [], ◌∷◌, ◌++◌, Some, length, map, refl, ap}
 use Rattle.std.proofs.Common.{subst, arith}
 use Rattle.std.specs.Prelude.{Contains, slice_get}
-use Rattle.litmus_cursor.specs.Words.{Symbol}
+use Rattle.litmus_lex.specs.Words.{Symbol}
 use Rattle.litmus_expression.specs.Names.{Names, Numbered, Parameter, known, new}
 use Rattle.litmus_expression.proofs.Named.{among, in_front, in_none, in_rest}
 use Rattle.litmus_body.proofs.statement_laws.Named.{Named, numbered_named}
-use Rattle.litmus_declarations.specs.Mentions as mentions
-use Rattle.litmus_declarations.specs.Mentions.{AreNumbered, Mention}
+use Rattle.litmus_parse.specs.Mentions as mentions
+use Rattle.litmus_parse.specs.Mentions.{AreNumbered, Mention}
 use Rattle.litmus_parse.specs.Headers as headers
 use Rattle.litmus_parse.specs.Headers.{Listed, Parameters, mention_of}
 

@@ -11,19 +11,19 @@ use Rattle.litmus_syntax.specs.declared.program.Variable.{Variable}
 use Rattle.litmus_syntax.specs.Limits as limits
 use Rattle.litmus_syntax.specs.Limits.{BlockTyped, BodyKeepsLimits, HaveOwnNames, IsOfSort, KeepsLimits, Sort, TaskKeepsLimits, block_rises}
 use Rattle.litmus_syntax.specs.Tree as tree
-use Rattle.litmus_cursor.specs.declared.words.VariableType.{VariableType}
-use Rattle.litmus_cursor.specs.declared.words.VariableType.TheVariants.{Char, Short, Int, Long, Atomic, Lock}
-use Rattle.litmus_cursor.specs.Words.{Symbol}
+use Rattle.litmus_lex.specs.declared.words.VariableType.{VariableType}
+use Rattle.litmus_lex.specs.declared.words.VariableType.TheVariants.{Char, Short, Int, Long, Atomic, Lock}
+use Rattle.litmus_lex.specs.Words.{Symbol}
 use Rattle.litmus_expression.specs.Followed.{Differ}
 use Rattle.litmus_expression.specs.Names.{HasBytes, IsAtomic, IsInteger, IsLock, IsVariable, Names, Numbered, Parameter}
 use Rattle.litmus_expression.proofs.Named.{in_front, in_rest}
 use Rattle.litmus_expression.proofs.Taken.{same_given}
 use Rattle.litmus_body.proofs.statement_laws.Named.{Named, numbered_named, statements_named}
-use Rattle.litmus_declarations.specs.Conditions as conditions
-use Rattle.litmus_declarations.specs.Conditions.{Atom, Conjoined, Disjoined, Negation, with_registers}
-use Rattle.litmus_declarations.specs.Mentions as mentions
-use Rattle.litmus_declarations.specs.Mentions.{AreDeclared, IsDeclared, Mention, contents_of, parameter}
-use Rattle.litmus_declarations.proofs.Items.{item_fewer}
+use Rattle.litmus_parse.specs.Conditions as conditions
+use Rattle.litmus_parse.specs.Conditions.{Atom, Conjoined, Disjoined, Negation, with_registers}
+use Rattle.litmus_parse.specs.Mentions as mentions
+use Rattle.litmus_parse.specs.Mentions.{AreDeclared, IsDeclared, Mention, contents_of, parameter}
+use Rattle.litmus_parse.proofs.Items.{item_fewer}
 use Rattle.litmus_parse.specs.Grammar.{Grammar, mentions_of, said_by, task_of}
 use Rattle.litmus_parse.specs.Headers as headers
 use Rattle.litmus_parse.specs.Headers.{IsProcess, Items, Process, Processes, mention_of}

@@ -11,7 +11,7 @@ use Rattle.litmus_syntax.specs.declared.statement.Call.TheVariants as calls
 use Rattle.litmus_syntax.specs.declared.program.Variable.{Variable}
 use Rattle.litmus_syntax.specs.declared.proposition.Quantifier.{Quantifier}
 use Rattle.litmus_syntax.specs.Tree as tree
-use Rattle.litmus_cursor.specs.Words.{Symbol, word, identifier, number, sign, fault}
+use Rattle.litmus_lex.specs.Words.{Symbol, word, identifier, number, sign, fault}
 use Rattle.litmus_expression.specs.Expressions as grammar
 use Rattle.litmus_expression.specs.Expressions.{Applied, Combined, Expression, Level, Load, Operand, Pure}
 use Rattle.litmus_expression.specs.Names.{Names, Numbered, Parameter, known, new}
@@ -19,10 +19,10 @@ use Rattle.litmus_expression.proofs.Named.{in_front, in_rest}
 use Rattle.litmus_expression.proofs.Taken.{same_given}
 use Rattle.litmus_body.specs.Statements as statements
 use Rattle.litmus_body.specs.Statements.{Body, Calls, Declared, Enclosable, IsPlainMark, Simple, Statement, Statements, alone, assignment, kept, load, raced}
-use Rattle.litmus_declarations.specs.Conditions as conditions
-use Rattle.litmus_declarations.specs.Conditions.{Atom, Conjoined, Disjoined, Negation, Quantifies, with_registers}
-use Rattle.litmus_declarations.specs.Mentions as mentions
-use Rattle.litmus_declarations.specs.Mentions.{AreDeclared, AreNumbered, Mention}
+use Rattle.litmus_parse.specs.Conditions as conditions
+use Rattle.litmus_parse.specs.Conditions.{Atom, Conjoined, Disjoined, Negation, Quantifies, with_registers}
+use Rattle.litmus_parse.specs.Mentions as mentions
+use Rattle.litmus_parse.specs.Mentions.{AreDeclared, AreNumbered, Mention}
 use Rattle.litmus_parse.specs.Grammar.{Grammar, task_of}
 use Rattle.litmus_parse.specs.Headers as headers
 use Rattle.litmus_parse.specs.Headers.{IsProcess, Item, Items, Listed, Parameters, Process, Processes, Signed, Value}

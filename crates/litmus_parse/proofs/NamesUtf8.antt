@@ -17,8 +17,8 @@ use Rattle.litmus_lex.specs.Sign.{sign_bytes}
 use Rattle.litmus_lex.specs.Token as terminals
 use Rattle.litmus_lex.specs.Token.{IsName, IsNumber, Spells, Terminal}
 use Rattle.litmus_lex.specs.Tokens.{AreTokens, Placed, StartsAt, part_after}
-use Rattle.litmus_cursor.specs.declared.words.Word.{Word}
-use Rattle.litmus_cursor.specs.Words.{symbol_of, symbol_of_name, word_of}
+use Rattle.litmus_lex.specs.declared.words.Word.{Word}
+use Rattle.litmus_lex.specs.Words.{symbol_of, symbol_of_name, word_of}
 use Rattle.litmus_parse.specs.Grammar.{SpellsProgram, symbol_at}
 use Rattle.litmus_parse.specs.Text.{IsTextByte}
 use Rattle.litmus_parse.proofs.NamesSpelled.{Any, OfSymbol, Spell, spelled_holds}

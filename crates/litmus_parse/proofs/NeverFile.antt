@@ -1,8 +1,8 @@
 -- No limit that a token passes is that of the file.
 use Rattle.std.proofs.Common.{◌≡◌}
 use Rattle.litmus_syntax.specs.declared.error.Limit.TheVariants as limits
-use Rattle.litmus_cursor.specs.declared.cursor.Excess.{Excess}
-use Rattle.litmus_cursor.specs.declared.cursor.Excess.TheVariants as excesses
+use Rattle.litmus_lex.specs.declared.cursor.Excess.{Excess}
+use Rattle.litmus_lex.specs.declared.cursor.Excess.TheVariants as excesses
 use Rattle.litmus_parse.specs.Answer.{limit_of}
 
 pub never_file : (excess : Excess) → limit_of excess ≡ limits.File → ⊥

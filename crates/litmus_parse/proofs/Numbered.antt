@@ -1,16 +1,16 @@
 -- The names of a text are those that its items and parameters mention.
 use Rattle.std.proofs.Common.{◌≡◌, ◌++◌, ℕ, zero, suc, List, [], ◌∷◌, Some, map, subst}
 use Rattle.std.specs.Prelude.{Contains, flat_map, slice_get}
-use Rattle.litmus_cursor.specs.declared.words.VariableType.{VariableType}
-use Rattle.litmus_cursor.specs.Words.{Symbol}
+use Rattle.litmus_lex.specs.declared.words.VariableType.{VariableType}
+use Rattle.litmus_lex.specs.Words.{Symbol}
 use Rattle.litmus_syntax.specs.declared.program.Variable.{Variable}
 use Rattle.litmus_expression.specs.Names.{Names, Numbered, Parameter, known, new}
 use Rattle.litmus_expression.proofs.Named.{among, in_front, in_none, in_rest}
 use Rattle.litmus_expression.proofs.Taken.{same_given}
-use Rattle.litmus_declarations.specs.Mentions as mentions
-use Rattle.litmus_declarations.specs.Mentions.{AreDeclared, AreNumbered, HasType, Mention, Said, Says}
-use Rattle.litmus_declarations.specs.Typed.{AreTyped}
-use Rattle.litmus_declarations.proofs.Listed.{at_the_end, before_or_last, in_before}
+use Rattle.litmus_parse.specs.Mentions as mentions
+use Rattle.litmus_parse.specs.Mentions.{AreDeclared, AreNumbered, HasType, Mention, Said, Says}
+use Rattle.litmus_parse.specs.Typed.{AreTyped}
+use Rattle.litmus_parse.proofs.Listed.{at_the_end, before_or_last, in_before}
 use Rattle.litmus_parse.specs.Grammar.{mentions_of}
 use Rattle.litmus_parse.specs.Headers as grammar
 use Rattle.litmus_parse.specs.Headers.{IsProcess, Listed, Parameters, Process, Processes, mention_of}

@@ -5,7 +5,7 @@ use Rattle.std.proofs.lemmas.Bool.{ne_eqb}
 use Rattle.litmus_lex.specs.declared.sign.Sign.TheVariants.{CloseParen, Comma, OpenParen}
 use Rattle.litmus_syntax.specs.Tree as tree
 use Rattle.litmus_syntax.specs.Views.{block_of}
-use Rattle.litmus_cursor.specs.Front.{◌>>=◌, first, is_sign, take_sign}
+use Rattle.litmus_lex.specs.Front.{◌>>=◌, first, is_sign, take_sign}
 use Rattle.litmus_expression.specs.declared.process.Process as coded
 use Rattle.litmus_expression.specs.Places.{outermost}
 use Rattle.litmus_expression.specs.States.{State, entering, state_of}
@@ -13,13 +13,13 @@ use Rattle.litmus_expression.proofs.Fewer.{TakesSome, at_last, behind_it, either
 use Rattle.litmus_expression.proofs.Taken.{sign_fewer}
 use Rattle.litmus_body.specs.StatementReader.{block_at}
 use Rattle.litmus_body.proofs.Shorter.{deep_shorter}
-use Rattle.litmus_declarations.specs.ItemReader.{Heading, past}
-use Rattle.litmus_declarations.specs.ParameterReader.{behind_paren, behind_parameter, listed_at, listed_by, parameter_at, parameters_at}
-use Rattle.litmus_declarations.specs.Turns.{Turn, again, done, turned}
-use Rattle.litmus_declarations.proofs.EnoughTurns.{going_at_most, going_unrolls}
+use Rattle.litmus_parse.specs.ItemReader.{Heading, past}
+use Rattle.litmus_parse.specs.ParameterReader.{behind_paren, behind_parameter, listed_at, listed_by, parameter_at, parameters_at}
+use Rattle.litmus_parse.specs.Turns.{Turn, again, done, turned}
+use Rattle.litmus_parse.proofs.EnoughTurns.{going_at_most, going_unrolls}
 use Rattle.litmus_syntax.specs.declared.statement.Statement.{Statement}
-use Rattle.litmus_declarations.proofs.Parameters.{parameter_fewer, parameter_read}
-use Rattle.litmus_declarations.proofs.Unrolled.{Listing, left_listed, listed_short, others_at_most}
+use Rattle.litmus_parse.proofs.Parameters.{parameter_fewer, parameter_read}
+use Rattle.litmus_parse.proofs.Unrolled.{Listing, left_listed, listed_short, others_at_most}
 use Rattle.litmus_parse.specs.ProcessReader.{Course, and_process, is_process, process_at, process_with, processes_at, processes_by}
 use Rattle.litmus_parse.specs.TextReader.{bodies_of}
 

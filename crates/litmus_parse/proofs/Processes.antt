@@ -7,8 +7,8 @@ use Rattle.std.proofs.lemmas.List.{length-append}
 use Rattle.litmus_lex.specs.declared.sign.Sign.TheVariants.{OpenParen}
 use Rattle.litmus_syntax.specs.Limits.{BodyKeepsLimits}
 use Rattle.litmus_syntax.specs.Tree as tree
-use Rattle.litmus_cursor.specs.Front.{◌>>=◌, first, identifier_at, others}
-use Rattle.litmus_cursor.specs.Words.{Symbol, identifier, sign}
+use Rattle.litmus_lex.specs.Front.{◌>>=◌, first, identifier_at, others}
+use Rattle.litmus_lex.specs.Words.{Symbol, identifier, sign}
 use Rattle.litmus_expression.specs.Names.{Parameter}
 use Rattle.litmus_expression.specs.Places.{outermost}
 use Rattle.litmus_expression.specs.States.{State, entering}
@@ -19,20 +19,20 @@ use Rattle.litmus_body.specs.StatementReader.{block_at}
 use Rattle.litmus_body.specs.statement_laws.Reads.{ReadsWhole}
 use Rattle.litmus_body.proofs.statement_laws.Kept.{whole_keeps}
 use Rattle.litmus_body.proofs.statement_laws.Sound.{whole_reads}
-use Rattle.litmus_declarations.specs.ItemReader.{Heading, past}
-use Rattle.litmus_declarations.specs.Mentions.{Mention}
-use Rattle.litmus_declarations.specs.ParameterReader.{parameters_at}
-use Rattle.litmus_declarations.specs.Seen.{process_of}
-use Rattle.litmus_declarations.specs.Seen.{seen}
-use Rattle.litmus_declarations.specs.Mentioned.{all_told, told_of}
-use Rattle.litmus_declarations.specs.Turns.{again, done, going, turned}
-use Rattle.litmus_declarations.specs.Entries.{Entry}
-use Rattle.litmus_declarations.proofs.Items.{identifier_is}
-use Rattle.litmus_declarations.proofs.Listed.{ReadsParameters, parameters_read}
-use Rattle.litmus_declarations.proofs.PropositionSound.{AllFew}
-use Rattle.litmus_declarations.proofs.Spelled.{Said}
-use Rattle.litmus_declarations.proofs.Tidy.{Tidy, entry_in}
-use Rattle.litmus_declarations.proofs.Unrolled.{Listing}
+use Rattle.litmus_parse.specs.ItemReader.{Heading, past}
+use Rattle.litmus_parse.specs.Mentions.{Mention}
+use Rattle.litmus_parse.specs.ParameterReader.{parameters_at}
+use Rattle.litmus_parse.specs.Seen.{process_of}
+use Rattle.litmus_parse.specs.Seen.{seen}
+use Rattle.litmus_parse.specs.Mentioned.{all_told, told_of}
+use Rattle.litmus_parse.specs.Turns.{again, done, going, turned}
+use Rattle.litmus_parse.specs.Entries.{Entry}
+use Rattle.litmus_parse.proofs.Items.{identifier_is}
+use Rattle.litmus_parse.proofs.Listed.{ReadsParameters, parameters_read}
+use Rattle.litmus_parse.proofs.PropositionSound.{AllFew}
+use Rattle.litmus_parse.proofs.Spelled.{Said}
+use Rattle.litmus_parse.proofs.Tidy.{Tidy, entry_in}
+use Rattle.litmus_parse.proofs.Unrolled.{Listing}
 use Rattle.litmus_parse.specs.Grammar.{mentions_of}
 use Rattle.litmus_parse.specs.Headers as grammar
 use Rattle.litmus_parse.specs.Headers.{IsProcess, Parameters, Process, Processes, mention_of, name_of, process_name}

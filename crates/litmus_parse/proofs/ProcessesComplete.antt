@@ -7,8 +7,8 @@ use Rattle.litmus_lex.specs.declared.sign.Sign.TheVariants.{OpenBrace, OpenParen
 use Rattle.litmus_syntax.specs.Limits.{BodyKeepsLimits, block_count, block_repeats}
 use Rattle.litmus_syntax.specs.declared.proposition.Quantifier.{Quantifier}
 use Rattle.litmus_syntax.specs.Tree as tree
-use Rattle.litmus_cursor.specs.Front.{◌>>=◌, first}
-use Rattle.litmus_cursor.specs.Words.{Symbol, identifier, sign}
+use Rattle.litmus_lex.specs.Front.{◌>>=◌, first}
+use Rattle.litmus_lex.specs.Words.{Symbol, identifier, sign}
 use Rattle.litmus_expression.specs.Followed.{Differ}
 use Rattle.litmus_expression.specs.Names.{Names, Parameter}
 use Rattle.litmus_expression.specs.States.{State}
@@ -17,19 +17,19 @@ use Rattle.litmus_expression.proofs.Named.{among, in_front, in_none, in_rest, is
 use Rattle.litmus_body.specs.Statements.{Statements}
 use Rattle.litmus_body.proofs.statement_laws.Named.{statements_named}
 use Rattle.litmus_body.proofs.statement_laws.Whole.{whole_is_read}
-use Rattle.litmus_declarations.specs.Conditions as conditions
-use Rattle.litmus_declarations.specs.Conditions.{Quantifies}
-use Rattle.litmus_declarations.specs.Distinct.{AllDistinct, Distinct, body_of}
-use Rattle.litmus_declarations.specs.Entries.{Entry}
-use Rattle.litmus_declarations.specs.ItemReader.{Heading}
-use Rattle.litmus_declarations.specs.Mentions.{Mention}
-use Rattle.litmus_declarations.specs.Seen.{process_of, seen}
-use Rattle.litmus_declarations.specs.Typed.{AreTyped}
-use Rattle.litmus_declarations.proofs.Fits.{Behind, Fits}
-use Rattle.litmus_declarations.proofs.ItemsComplete.{heading}
-use Rattle.litmus_declarations.proofs.ParametersComplete.{parameters_complete}
-use Rattle.litmus_declarations.proofs.Tidy.{entry_in}
-use Rattle.litmus_declarations.proofs.Unrolled.{Listing}
+use Rattle.litmus_parse.specs.Conditions as conditions
+use Rattle.litmus_parse.specs.Conditions.{Quantifies}
+use Rattle.litmus_parse.specs.Distinct.{AllDistinct, Distinct, body_of}
+use Rattle.litmus_parse.specs.Entries.{Entry}
+use Rattle.litmus_parse.specs.ItemReader.{Heading}
+use Rattle.litmus_parse.specs.Mentions.{Mention}
+use Rattle.litmus_parse.specs.Seen.{process_of, seen}
+use Rattle.litmus_parse.specs.Typed.{AreTyped}
+use Rattle.litmus_parse.proofs.Fits.{Behind, Fits}
+use Rattle.litmus_parse.proofs.ItemsComplete.{heading}
+use Rattle.litmus_parse.proofs.ParametersComplete.{parameters_complete}
+use Rattle.litmus_parse.proofs.Tidy.{entry_in}
+use Rattle.litmus_parse.proofs.Unrolled.{Listing}
 use Rattle.litmus_parse.specs.Grammar.{mentions_of}
 use Rattle.litmus_parse.specs.Headers as grammar
 use Rattle.litmus_parse.specs.Headers.{IsProcess, Parameters, Process, Processes, mention_of, name_of, process_name}

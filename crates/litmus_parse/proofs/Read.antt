@@ -2,8 +2,8 @@
 use Rattle.std.proofs.Common.{◌≡◌, ◌∙◌, ◌≤◌, ℕ, List, [], ◌∷◌, Option, Some, length, map, refl, sym, ap, subst}
 use Rattle.std.specs.Prelude.{All, Err, IfErr, IfOk, Ok, Result}
 use Rattle.litmus_syntax.specs.Views.{program_of}
-use Rattle.litmus_cursor.specs.declared.cursor.Refusal.{Refusal}
-use Rattle.litmus_cursor.specs.declared.cursor.Refusal.TheVariants.{Limit, OutOfMemory, Syntax, Unsupported}
+use Rattle.litmus_lex.specs.declared.cursor.Refusal.{Refusal}
+use Rattle.litmus_lex.specs.declared.cursor.Refusal.TheVariants.{Limit, OutOfMemory, Syntax, Unsupported}
 use Rattle.litmus_lex.specs.declared.token.Part.{Part}
 use Rattle.litmus_lex.specs.declared.token.Part.TheVariants.{Init}
 use Rattle.litmus_lex.specs.declared.token.SourcePosition.{SourcePosition}
@@ -14,10 +14,10 @@ use Rattle.litmus_lex.specs.Token.{Terminal, terminal_of}
 use Rattle.litmus_lex.specs.Tokens.{Placed, TokensAt}
 use Rattle.litmus_syntax.specs.Limits.{file_bytes}
 use Rattle.litmus_syntax.specs.Tree as tree
-use Rattle.litmus_cursor.specs.declared.cursor.Spot.{Spot}
-use Rattle.litmus_cursor.specs.Front.{symbol_of_spot, symbol_of_token}
-use Rattle.litmus_cursor.specs.Spots.{AreSpots, AreTokensFrom}
-use Rattle.litmus_cursor.specs.Words.{Symbol, symbol_of}
+use Rattle.litmus_lex.specs.declared.cursor.Spot.{Spot}
+use Rattle.litmus_lex.specs.Front.{symbol_of_spot, symbol_of_token}
+use Rattle.litmus_lex.specs.Spots.{AreSpots, AreTokensFrom}
+use Rattle.litmus_lex.specs.Words.{Symbol, symbol_of}
 use Rattle.litmus_expression.proofs.Taken.{same_given}
 use Rattle.litmus_parse.specs.declared.answer.Reading.{Reading}
 use Rattle.litmus_parse.specs.Grammar.{Grammar, SpellsProgram, symbol_at}

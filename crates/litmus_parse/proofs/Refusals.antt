@@ -6,17 +6,17 @@ use Rattle.std.specs.Str.{IsUtf8}
 use Rattle.litmus_syntax.specs.Tree as tree
 use Rattle.litmus_syntax.specs.declared.program.Variable.{Variable}
 use Rattle.litmus_syntax.specs.declared.proposition.Quantifier.{Quantifier}
-use Rattle.litmus_cursor.specs.Front.{◌>>=◌, now}
-use Rattle.litmus_cursor.specs.Words.{Symbol}
+use Rattle.litmus_lex.specs.Front.{◌>>=◌, now}
+use Rattle.litmus_lex.specs.Words.{Symbol}
 use Rattle.litmus_expression.specs.declared.process.Process.{Process}
 use Rattle.litmus_expression.specs.States.{State, state_of}
 use Rattle.litmus_expression.proofs.Taken.{same_given}
-use Rattle.litmus_declarations.specs.ConditionReader.{quantifier_at}
-use Rattle.litmus_declarations.specs.ItemReader.{Heading, initialization_at, unnamed}
-use Rattle.litmus_declarations.specs.Seen.{process_of, seen}
-use Rattle.litmus_declarations.specs.PropositionReader.{whole_at}
-use Rattle.litmus_declarations.specs.Variables.{has_contradiction, locks_in, variables_in}
-use Rattle.litmus_declarations.proofs.Refusals.{all_there}
+use Rattle.litmus_parse.specs.ConditionReader.{quantifier_at}
+use Rattle.litmus_parse.specs.ItemReader.{Heading, initialization_at, unnamed}
+use Rattle.litmus_parse.specs.Seen.{process_of, seen}
+use Rattle.litmus_parse.specs.PropositionReader.{whole_at}
+use Rattle.litmus_parse.specs.Variables.{has_contradiction, locks_in, variables_in}
+use Rattle.litmus_parse.proofs.DeclarationRefusals.{all_there}
 use Rattle.litmus_parse.specs.Grammar.{task_of}
 use Rattle.litmus_parse.specs.ProcessReader.{Course, processes_at, unbegun}
 use Rattle.litmus_parse.specs.TextReader.{Parts, condition_at, ended, parts_at, parts_behind, program_at, put_together}

@@ -9,7 +9,7 @@ use Rattle.litmus_syntax.specs.declared.statement.Call.{Call}
 use Rattle.litmus_syntax.specs.Limits as limits
 use Rattle.litmus_syntax.specs.Limits.{AssignmentTyped, BlockTyped, CallTyped, ExpressionTyped, FetchTyped, PureTyped, Sort, StatementTyped}
 use Rattle.litmus_syntax.specs.Tree as tree
-use Rattle.litmus_cursor.specs.Words.{Symbol}
+use Rattle.litmus_lex.specs.Words.{Symbol}
 use Rattle.litmus_expression.specs.Expressions as grammar
 use Rattle.litmus_expression.specs.Expressions.{Applied, Combined, Expression, Level, Load, Operand, Pure}
 use Rattle.litmus_expression.specs.Names.{HasBytes, IsAtomic, IsInteger, IsLock, IsVariable, Names, Numbered, Parameter, known, new}

@@ -10,8 +10,8 @@ use Rattle.litmus_syntax.specs.declared.expression.UnaryOperator.{UnaryOperator}
 use Rattle.litmus_syntax.specs.declared.statement.Call.{Call}
 use Rattle.litmus_syntax.specs.Limits.{BlockTurns, StatementTurns, assignment_rises, block_rises, call_rises, expression_rises, mark_rises, statement_rises}
 use Rattle.litmus_syntax.specs.Tree as tree
-use Rattle.litmus_cursor.specs.declared.words.Word.TheVariants as words
-use Rattle.litmus_cursor.specs.Words.{Symbol, word}
+use Rattle.litmus_lex.specs.declared.words.Word.TheVariants as words
+use Rattle.litmus_lex.specs.Words.{Symbol, word}
 use Rattle.litmus_expression.specs.Expressions as grammar
 use Rattle.litmus_expression.specs.Expressions.{Applied, Combined, Expression, Level, Load, Operand, Pure}
 use Rattle.litmus_expression.specs.Names.{Names, Parameter}

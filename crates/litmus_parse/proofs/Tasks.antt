@@ -9,7 +9,7 @@ use Rattle.litmus_syntax.specs.declared.program.Task.{Task}
 use Rattle.litmus_syntax.specs.declared.statement.Statement.{Statement}
 use Rattle.litmus_expression.specs.declared.process.Process.{Process}
 use Rattle.litmus_expression.specs.States.{state_of}
-use Rattle.litmus_declarations.specs.Seen.{process_of, seen}
+use Rattle.litmus_parse.specs.Seen.{process_of, seen}
 use Rattle.litmus_parse.specs.Grammar.{task_of}
 use Rattle.litmus_parse.specs.TextReader.{bodies_of}
 

@@ -4,32 +4,32 @@ use Rattle.std.specs.Prelude.{Contains, flat_map, slice_get}
 use Rattle.litmus_syntax.specs.Tree as tree
 use Rattle.litmus_syntax.specs.declared.program.Variable.{Variable}
 use Rattle.litmus_syntax.specs.declared.proposition.Quantifier.{Quantifier}
-use Rattle.litmus_cursor.specs.declared.words.VariableType.{VariableType}
-use Rattle.litmus_cursor.specs.Front.{◌>>=◌}
-use Rattle.litmus_cursor.specs.Words.{Symbol}
+use Rattle.litmus_lex.specs.declared.words.VariableType.{VariableType}
+use Rattle.litmus_lex.specs.Front.{◌>>=◌}
+use Rattle.litmus_lex.specs.Words.{Symbol}
 use Rattle.litmus_expression.specs.NameReader.{index_of}
 use Rattle.litmus_expression.specs.Names.{Names}
 use Rattle.litmus_expression.specs.States.{State}
 use Rattle.litmus_expression.proofs.Named as Named
 use Rattle.litmus_expression.proofs.Named.{found_at, in_none, in_rest}
-use Rattle.litmus_declarations.specs.Conditions.{IsKnown}
-use Rattle.litmus_declarations.specs.Distinct.{body_of}
-use Rattle.litmus_declarations.specs.Entries.{Entry, fresh}
-use Rattle.litmus_declarations.specs.ItemReader.{Heading}
-use Rattle.litmus_declarations.specs.Mentions.{HasType, Mention}
-use Rattle.litmus_declarations.specs.Seen.{seen}
-use Rattle.litmus_declarations.specs.PropositionReader.{whole_at}
-use Rattle.litmus_declarations.specs.Variables.{locks_in, variables_in}
-use Rattle.litmus_declarations.specs.Mentioned.{all_told}
-use Rattle.litmus_declarations.specs.Typed.{AreTyped}
-use Rattle.litmus_declarations.specs.VariableReader.{is_lock_type}
-use Rattle.litmus_declarations.proofs.Declared.{Ends, EndsAt, no_contradiction, one_type, variables_are}
-use Rattle.litmus_declarations.proofs.Fits.{Fit, Fits, fits_at_first, no_lock_type}
-use Rattle.litmus_declarations.proofs.ItemsComplete.{BlockGoes, block_goes, heading}
-use Rattle.litmus_declarations.proofs.Known as known
-use Rattle.litmus_declarations.proofs.PropositionComplete.{whole_complete}
-use Rattle.litmus_declarations.proofs.Quantifiers.{quantifier_read}
-use Rattle.litmus_declarations.proofs.Tidy.{entry_at, entry_in}
+use Rattle.litmus_parse.specs.Conditions.{IsKnown}
+use Rattle.litmus_parse.specs.Distinct.{body_of}
+use Rattle.litmus_parse.specs.Entries.{Entry, fresh}
+use Rattle.litmus_parse.specs.ItemReader.{Heading}
+use Rattle.litmus_parse.specs.Mentions.{HasType, Mention}
+use Rattle.litmus_parse.specs.Seen.{seen}
+use Rattle.litmus_parse.specs.PropositionReader.{whole_at}
+use Rattle.litmus_parse.specs.Variables.{locks_in, variables_in}
+use Rattle.litmus_parse.specs.Mentioned.{all_told}
+use Rattle.litmus_parse.specs.Typed.{AreTyped}
+use Rattle.litmus_parse.specs.VariableReader.{is_lock_type}
+use Rattle.litmus_parse.proofs.Declared.{Ends, EndsAt, no_contradiction, one_type, variables_are}
+use Rattle.litmus_parse.proofs.Fits.{Fit, Fits, fits_at_first, no_lock_type}
+use Rattle.litmus_parse.proofs.ItemsComplete.{BlockGoes, block_goes, heading}
+use Rattle.litmus_parse.proofs.Known as known
+use Rattle.litmus_parse.proofs.PropositionComplete.{whole_complete}
+use Rattle.litmus_parse.proofs.Quantifiers.{quantifier_read}
+use Rattle.litmus_parse.proofs.Tidy.{entry_at, entry_in}
 use Rattle.litmus_parse.specs.Grammar.{Grammar, mentions_of, said_by, task_of}
 use Rattle.litmus_parse.specs.Headers.{Process}
 use Rattle.litmus_parse.specs.ProcessReader.{Course, processes_at, unbegun}

@@ -4,31 +4,31 @@ use Rattle.std.proofs.Common.{sym, ap, subst, arith}
 use Rattle.std.specs.Prelude.{flat_map, slice_get, unwrap_or}
 use Rattle.litmus_syntax.specs.Tree as tree
 use Rattle.litmus_syntax.specs.declared.proposition.Quantifier.{Quantifier}
-use Rattle.litmus_cursor.specs.declared.words.VariableType.{VariableType}
-use Rattle.litmus_cursor.specs.declared.words.VariableType.TheVariants.{Int}
-use Rattle.litmus_cursor.specs.Front.{◌>>=◌}
-use Rattle.litmus_cursor.specs.Words.{Symbol}
+use Rattle.litmus_lex.specs.declared.words.VariableType.{VariableType}
+use Rattle.litmus_lex.specs.declared.words.VariableType.TheVariants.{Int}
+use Rattle.litmus_lex.specs.Front.{◌>>=◌}
+use Rattle.litmus_lex.specs.Words.{Symbol}
 use Rattle.litmus_expression.specs.Names.{Names, Parameter}
 use Rattle.litmus_expression.specs.States.{State}
 use Rattle.litmus_expression.proofs.Fewer.{at_last, behind_it, unless_it}
 use Rattle.litmus_expression.proofs.Named.{found_at, in_none, nowhere}
-use Rattle.litmus_declarations.specs.ConditionReader.{quantifier_at}
-use Rattle.litmus_declarations.specs.Conditions.{Disjoined, IsKnown}
-use Rattle.litmus_declarations.specs.Entries.{Entry, fresh, has_two_types}
-use Rattle.litmus_declarations.specs.ItemReader.{Heading, initialization_at, unnamed}
-use Rattle.litmus_declarations.specs.Mentions as mentions
-use Rattle.litmus_declarations.specs.Mentions.{AreDeclared, AreNumbered, Mention, contents_of}
-use Rattle.litmus_declarations.specs.Seen.{seen}
-use Rattle.litmus_declarations.specs.PropositionReader.{whole_at}
-use Rattle.litmus_declarations.specs.Variables.{has_contradiction, is_lock_entry, locks_in, variable_in, variables_in}
-use Rattle.litmus_declarations.specs.Mentioned.{all_told}
-use Rattle.litmus_declarations.specs.VariableReader.{is_lock_type}
-use Rattle.litmus_declarations.proofs.Known as known
-use Rattle.litmus_declarations.proofs.Known.{AreItems, AreParameters, has_type, lock_is, not_both, value_is}
-use Rattle.litmus_declarations.proofs.PropositionSound.{AllFew, whole_reads}
-use Rattle.litmus_declarations.proofs.Quantifiers.{quantifier_spelled}
-use Rattle.litmus_declarations.proofs.Spelled.{ReadsBlock, initialization_read}
-use Rattle.litmus_declarations.proofs.Tidy.{Tidy, entry_at, entry_in}
+use Rattle.litmus_parse.specs.ConditionReader.{quantifier_at}
+use Rattle.litmus_parse.specs.Conditions.{Disjoined, IsKnown}
+use Rattle.litmus_parse.specs.Entries.{Entry, fresh, has_two_types}
+use Rattle.litmus_parse.specs.ItemReader.{Heading, initialization_at, unnamed}
+use Rattle.litmus_parse.specs.Mentions as mentions
+use Rattle.litmus_parse.specs.Mentions.{AreDeclared, AreNumbered, Mention, contents_of}
+use Rattle.litmus_parse.specs.Seen.{seen}
+use Rattle.litmus_parse.specs.PropositionReader.{whole_at}
+use Rattle.litmus_parse.specs.Variables.{has_contradiction, is_lock_entry, locks_in, variable_in, variables_in}
+use Rattle.litmus_parse.specs.Mentioned.{all_told}
+use Rattle.litmus_parse.specs.VariableReader.{is_lock_type}
+use Rattle.litmus_parse.proofs.Known as known
+use Rattle.litmus_parse.proofs.Known.{AreItems, AreParameters, has_type, lock_is, not_both, value_is}
+use Rattle.litmus_parse.proofs.PropositionSound.{AllFew, whole_reads}
+use Rattle.litmus_parse.proofs.Quantifiers.{quantifier_spelled}
+use Rattle.litmus_parse.proofs.Spelled.{ReadsBlock, initialization_read}
+use Rattle.litmus_parse.proofs.Tidy.{Tidy, entry_at, entry_in}
 use Rattle.litmus_parse.specs.Grammar.{Grammar, mentions_of, said_by, task_of}
 use Rattle.litmus_parse.specs.Headers as headers
 use Rattle.litmus_parse.specs.Headers.{Item, Items, Process, Processes, mention_of}

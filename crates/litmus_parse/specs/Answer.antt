@@ -4,8 +4,8 @@ use Rattle.litmus_syntax.specs.declared.error.Limit.{Limit}
 use Rattle.litmus_syntax.specs.declared.error.Limit.TheVariants as limits
 use Rattle.litmus_syntax.specs.declared.error.ParseError.{ParseError}
 use Rattle.litmus_syntax.specs.declared.error.ParseError.TheVariants as errors
-use Rattle.litmus_cursor.specs.declared.cursor.Excess.{Excess}
-use Rattle.litmus_cursor.specs.declared.cursor.Excess.TheVariants as excesses
+use Rattle.litmus_lex.specs.declared.cursor.Excess.{Excess}
+use Rattle.litmus_lex.specs.declared.cursor.Excess.TheVariants as excesses
 use Rattle.litmus_lex.specs.Lines.{line_at}
 use Rattle.litmus_parse.specs.declared.answer.Reason.{Reason}
 use Rattle.litmus_parse.specs.declared.answer.Reason.TheVariants as reasons

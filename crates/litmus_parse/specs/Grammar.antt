@@ -4,11 +4,11 @@ use Rattle.litmus_lex.specs.declared.sign.Sign.TheVariants.{OpenBrace}
 use Rattle.litmus_lex.specs.Head.{IsText}
 use Rattle.litmus_lex.specs.Tokens.{Placed}
 use Rattle.litmus_syntax.specs.Tree.{Program, Task}
-use Rattle.litmus_cursor.specs.Words.{Symbol, sign, symbol_of}
+use Rattle.litmus_lex.specs.Words.{Symbol, sign, symbol_of}
 use Rattle.litmus_syntax.specs.Limits.{connectives, file_bytes, operators_limit}
 use Rattle.litmus_expression.specs.Names.{Names, Parameter}
-use Rattle.litmus_declarations.specs.Conditions.{Disjoined, Quantifies}
-use Rattle.litmus_declarations.specs.Mentions.{AreDeclared, AreNumbered, Mention}
+use Rattle.litmus_parse.specs.Conditions.{Disjoined, Quantifies}
+use Rattle.litmus_parse.specs.Mentions.{AreDeclared, AreNumbered, Mention}
 use Rattle.litmus_parse.specs.Headers.{Items, Process, Processes, mention_of}
 use Rattle.litmus_parse.specs.Text.{IsTextByte}
 

@@ -1,3 +1,19 @@
+pub mod Mentions
+pub mod ProcessHeaders
+pub mod Conditions
+pub mod HeaderReader
+pub mod ConditionReader
+pub mod VariableReader
+pub mod Entries
+pub mod Variables
+pub mod ItemReader
+pub mod Turns
+pub mod ParameterReader
+pub mod Seen
+pub mod PropositionReader
+pub mod Mentioned
+pub mod Typed
+pub mod Distinct
 pub mod Text
 pub mod Processes
 pub mod Headers
@@ -7,5 +23,3 @@ pub mod ProcessReader
 pub mod TextReader
 pub mod Refused
 pub mod Answer
-pub use Rattle.litmus_declarations.specs.Conditions
-pub use Rattle.litmus_declarations.specs.Mentions

@@ -2,15 +2,15 @@
 use Rattle.std.specs.Prelude.{◌==◌, ◌++◌, ℕ, suc, List, [], ◌∷◌, Option, Some, None, Bool, false, length, if◌then◌else◌}
 use Rattle.litmus_syntax.specs.Limits.{tasks_limit}
 use Rattle.litmus_syntax.specs.Tree as tree
-use Rattle.litmus_cursor.specs.Front.{◌>>=◌, first, identifier_at}
-use Rattle.litmus_cursor.specs.Words.{Symbol, is_same}
+use Rattle.litmus_lex.specs.Front.{◌>>=◌, first, identifier_at}
+use Rattle.litmus_lex.specs.Words.{Symbol, is_same}
 use Rattle.litmus_expression.specs.Names.{Parameter}
 use Rattle.litmus_expression.specs.Places.{outermost}
 use Rattle.litmus_expression.specs.States.{State, entering}
 use Rattle.litmus_body.specs.StatementReader.{block_at}
-use Rattle.litmus_declarations.specs.ItemReader.{Heading, past}
-use Rattle.litmus_declarations.specs.ParameterReader.{parameters_at}
-use Rattle.litmus_declarations.specs.Turns.{Turn, again, done, going}
+use Rattle.litmus_parse.specs.ItemReader.{Heading, past}
+use Rattle.litmus_parse.specs.ParameterReader.{parameters_at}
+use Rattle.litmus_parse.specs.Turns.{Turn, again, done, going}
 use Rattle.litmus_parse.specs.Processes.{process_name}
 
 -- what stands before the condition: a heading, and the processes with their bodies

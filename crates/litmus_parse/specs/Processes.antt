@@ -4,11 +4,11 @@ use Rattle.std.specs.Prelude.{◌<◌, ◌++◌, ℕ, suc, List, [], ◌∷◌, 
 use Rattle.std.specs.Fmt.{decimal}
 use Rattle.litmus_lex.specs.declared.sign.Sign.TheVariants.{OpenBrace, OpenParen}
 use Rattle.litmus_syntax.specs.Tree as tree
-use Rattle.litmus_cursor.specs.Words.{Symbol, identifier, sign}
+use Rattle.litmus_lex.specs.Words.{Symbol, identifier, sign}
 use Rattle.litmus_syntax.specs.Limits.{BodyKeepsLimits, tasks_limit}
 use Rattle.litmus_expression.specs.Names.{Names, Parameter}
 use Rattle.litmus_body.specs.Statements.{Statements}
-use Rattle.litmus_declarations.specs.Headers.{Parameters, Process}
+use Rattle.litmus_parse.specs.ProcessHeaders.{Parameters, Process}
 
 -- the name of a process
 abbrev pub process_name : ℕ → List ℕ

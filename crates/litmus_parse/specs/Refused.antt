@@ -2,8 +2,8 @@
 use Rattle.std.specs.Prelude.{◌≡◌, All, Option, Some}
 use Rattle.std.specs.Str.{IsUtf8}
 use Rattle.litmus_syntax.specs.Tree as tree
-use Rattle.litmus_cursor.specs.declared.cursor.Refusal.{Refusal}
-use Rattle.litmus_cursor.specs.declared.cursor.Refusal.TheVariants.{OutOfMemory}
+use Rattle.litmus_lex.specs.declared.cursor.Refusal.{Refusal}
+use Rattle.litmus_lex.specs.declared.cursor.Refusal.TheVariants.{OutOfMemory}
 
 -- the names of variables and of registers are UTF-8
 abbrev pub HasUtf8Names : tree.Program → Type 0

@@ -5,18 +5,18 @@ use Rattle.std.specs.Global.{Global}
 use Rattle.litmus_syntax.specs.Tree as tree
 use Rattle.litmus_syntax.specs.Views.{block_of, proposition_of}
 use Rattle.litmus_syntax.specs.declared.proposition.Quantifier.{Quantifier}
-use Rattle.litmus_cursor.specs.Front.{◌>>=◌}
-use Rattle.litmus_cursor.specs.Words.{Symbol}
+use Rattle.litmus_lex.specs.Front.{◌>>=◌}
+use Rattle.litmus_lex.specs.Words.{Symbol}
 use Rattle.litmus_expression.specs.Names.{Names}
 use Rattle.litmus_expression.specs.States.{State, state_of}
-use Rattle.litmus_declarations.specs.declared.initialization.Header.{Header}
-use Rattle.litmus_declarations.specs.ConditionReader.{quantifier_at}
-use Rattle.litmus_declarations.specs.Entries.{Entry, table_of}
-use Rattle.litmus_declarations.specs.ItemReader.{heading_of, initialization_at, unnamed}
-use Rattle.litmus_declarations.specs.Seen.{seen}
-use Rattle.litmus_declarations.specs.PropositionReader.{whole_at}
-use Rattle.litmus_declarations.specs.VariableReader.{names_of}
-use Rattle.litmus_declarations.specs.Variables.{has_contradiction, locks_in, variables_in}
+use Rattle.litmus_parse.specs.declared.initialization.Header.{Header}
+use Rattle.litmus_parse.specs.ConditionReader.{quantifier_at}
+use Rattle.litmus_parse.specs.Entries.{Entry, table_of}
+use Rattle.litmus_parse.specs.ItemReader.{heading_of, initialization_at, unnamed}
+use Rattle.litmus_parse.specs.Seen.{seen}
+use Rattle.litmus_parse.specs.PropositionReader.{whole_at}
+use Rattle.litmus_parse.specs.VariableReader.{names_of}
+use Rattle.litmus_parse.specs.Variables.{has_contradiction, locks_in, variables_in}
 use Rattle.litmus_parse.specs.declared.text.Processes.{Processes}
 use Rattle.litmus_parse.specs.declared.text.Pieces.{Pieces}
 use Rattle.litmus_parse.specs.Grammar.{task_of}

@@ -3,8 +3,7 @@
 ghost use Rattle.std.specs.Prelude.{◌≡◌, ◌≤◌, length};
 ghost use Rattle.litmus_parse.specs.Answer.{error_of, limit_of};
 
-use litmus_cursor::{Excess, Expected, Fault, Unread};
-use litmus_lex::line_of;
+use litmus_lex::{Excess, Expected, Fault, Unread, line_of};
 use litmus_syntax::{Limit, ParseError, Program};
 
 /// What is read of a text.

@@ -2,8 +2,8 @@
 
 ghost use Rattle.std.specs.Prelude.{◌≡◌};
 
+use crate::VARIABLES;
 use crate::text::{FILE_BYTES, TASKS};
-use litmus_declarations::VARIABLES;
 
 /// Law: the limits are these numbers.
 pub fn law_text_limits()

@@ -5,12 +5,12 @@ ghost use Rattle.std.specs.Str.{IsUtf8};
 ghost use Rattle.litmus_syntax.specs.Limits.{KeepsLimits, tasks_limit};
 ghost use Rattle.litmus_syntax.specs.Tree as tree;
 ghost use Rattle.litmus_syntax.specs.Views.{block_of, program_of, task_of};
-ghost use Rattle.litmus_cursor.specs.Cursor.{count_left, refused_at};
-ghost use Rattle.litmus_cursor.specs.Front.{Answers, first, now, symbols_left};
-ghost use Rattle.litmus_cursor.specs.declared.cursor.Refusal.TheVariants.{OutOfMemory};
+ghost use Rattle.litmus_lex.specs.Cursor.{count_left, refused_at};
+ghost use Rattle.litmus_lex.specs.Front.{Answers, first, now, symbols_left};
+ghost use Rattle.litmus_lex.specs.declared.cursor.Refusal.TheVariants.{OutOfMemory};
 ghost use Rattle.litmus_expression.specs.States.{parameter_of, state_of};
-ghost use Rattle.litmus_declarations.specs.ItemReader.{heading_of};
-ghost use Rattle.litmus_declarations.specs.Seen.{process_of, seen};
+ghost use Rattle.litmus_parse.specs.ItemReader.{heading_of};
+ghost use Rattle.litmus_parse.specs.Seen.{process_of, seen};
 ghost use Rattle.litmus_parse.specs.Answer.{IsFirstForeign, error_of};
 ghost use Rattle.litmus_parse.specs.Grammar.{SpellsProgram, variable_of};
 ghost use Rattle.litmus_parse.specs.Grammar.{task_of as reads_task};
@@ -22,11 +22,10 @@ ghost use Rattle.litmus_parse.specs.Text.{file_bytes, IsTextByte};
 
 use crate::answer::{Reading, Reason, Refused};
 use crate::laws::{law_a_text_spells_one_program, law_a_text_spells_what_keeps_limits};
+use crate::{Condition, Declarations, Header, name_of, unsupported_name};
 use litmus_body::read_block;
-use litmus_cursor::{Cursor, Excess, Expected, Fault, Refusal, Unread, tokens};
-use litmus_declarations::{Condition, Declarations, Header, name_of, unsupported_name};
 use litmus_expression::{Parameter, Process, Surroundings};
-use litmus_lex::read_head;
+use litmus_lex::{Cursor, Excess, Expected, Fault, Refusal, Unread, read_head, tokens};
 use litmus_syntax::{
     Limit, Name, ParseError, Program, Proposition, Quantifier, Sequence, Statement, Task,
 };
@@ -179,7 +178,7 @@ struct Pieces<'a> {
 }
 
 /// Reads the tokens of a text. Each limit and each type is looked at where it is read.
-#[tactic(auto, using(litmus_declarations::proofs::Tables::locks_are), unfolding(crate::specs::TextReader::parts_at))]
+#[tactic(auto, using(crate::proofs::Tables::locks_are), unfolding(crate::specs::TextReader::parts_at))]
 fn parts<'a>(alloc: Global, cursor: Cursor<'a>) -> Result<Pieces<'a>, Refusal>
     ensures sized { IfOk result (λ read. vec_len read.processes ≡ vec_len read.bodies) }
     ensures reads { Answers result parts_of (parts_at (symbols_left cursor.entry)) }

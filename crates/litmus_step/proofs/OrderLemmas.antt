@@ -1,6 +1,6 @@
 -- Tasks that are asked one after the other.
 use Rattle.std.proofs.Common.{◌≡◌, ◌++◌, ◌∙◌, ◌+◌, ◌∷◌, [], ℕ, zero, suc, List, ap, arith, inl, refl, replicate, subst}
-use Rattle.option_lists.specs.step_schedule.Order.{AreAsked, IsAsked, NobodyIsStuck, Tasks}
+use Rattle.prepared_program.specs.step_schedule.Order.{AreAsked, IsAsked, NobodyIsStuck, Tasks}
 
 module _ {State : Type 0} (known : Tasks State) (tasks : ℕ) where
   pub asked_none : (state : State) → AreAsked known tasks state [] state

@@ -4,8 +4,8 @@ use Rattle.std.proofs.Common.{append_assoc, arith, drop, get_or, length, refl, r
 use Rattle.std.specs.List.{range_with_len}
 use Rattle.std.proofs.lemmas.Grind.{flat_map-append}
 use Rattle.std.proofs.lemmas.List.{append-nil, take-append-drop, take_more}
-use Rattle.option_lists.specs.step_schedule.Order.{asked_by, in_rounds}
-use Rattle.option_lists.specs.declared.step_schedule.schedule.Entry.{Entry}
+use Rattle.prepared_program.specs.step_schedule.Order.{asked_by, in_rounds}
+use Rattle.prepared_program.specs.declared.step_schedule.schedule.Entry.{Entry}
 use Rattle.litmus_step.proofs.OrderLemmas.{one_more, some_more}
 use Rattle.litmus_step.proofs.TurnLemmas.{asked_both, asked_nothing, each_machine}
 use Rattle.litmus_step.specs.Steps.{IsFree, IsMachine, SteppedLeaves, tasks_in}

@@ -16,8 +16,8 @@ use Rattle.litmus_syntax.specs.Limits.{TaskKeepsLimits}
 use Rattle.executions.specs.execution.Run.{Run, idle, task_of, task_setting}
 use Rattle.slot_table.specs.Records.{records_of}
 use Rattle.slot_table.specs.declared.records.Record.{Record}
-use Rattle.option_lists.specs.step_schedule.Order as order
-use Rattle.option_lists.specs.step_schedule.Order.{AreAsked, IsAsked}
+use Rattle.prepared_program.specs.step_schedule.Order as order
+use Rattle.prepared_program.specs.step_schedule.Order.{AreAsked, IsAsked}
 use Rattle.task_run.specs.declared.run.TaskRun.{TaskRun}
 use Rattle.program_order.specs.WrittenOrder.{SpellsAll}
 

@@ -3,8 +3,8 @@ use Rattle.std.specs.Prelude.{◌≡◌, ◌++◌, ◌<◌, ◌≤◌, ◌+◌, 
 use Rattle.executions.specs.execution.Run.{Run}
 use Rattle.executions.specs.execution.Execution as execution
 use Rattle.slot_table.specs.declared.records.Record.{Record}
-use Rattle.option_lists.specs.step_schedule.Order.{AreAsked, IsOrder, Tasks}
-use Rattle.option_lists.specs.declared.step_schedule.schedule.Entry.{Entry}
+use Rattle.prepared_program.specs.step_schedule.Order.{AreAsked, IsOrder, Tasks}
+use Rattle.prepared_program.specs.declared.step_schedule.schedule.Entry.{Entry}
 use Rattle.litmus_step.specs.Runs.{HasEnded, IsStuck, tasks_of}
 use Rattle.litmus_step.specs.Steps.{IsFree, IsMachine, LeadsTo, tasks_in}
 use Rattle.prepared_program.specs.declared.program_sites.error.RunError.{RunError}

@@ -10,7 +10,7 @@ mod readers;
 mod schedules;
 pub mod world;
 
-pub use option_lists::step_schedule::Schedule;
+pub use prepared_program::step_schedule::Schedule;
 pub use prepared_program::program_sites::{Prepared, RunError, Settings, sites_of};
 pub use ran::Ran;
 pub use task_run::TaskRun;

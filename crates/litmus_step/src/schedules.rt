@@ -5,12 +5,12 @@ ghost use Rattle.std.specs.List.{range_with_len};
 ghost use Rattle.soundness.specs.Headline.{Headline};
 ghost use Rattle.executions.specs.execution.Run.{Run};
 ghost use Rattle.slot_table.specs.declared.records.Record.{Record};
-ghost use Rattle.option_lists.specs.step_schedule.Order.{asked_by, in_rounds};
-ghost use Rattle.option_lists.specs.step_schedule.Schedule.{entries_of, names_stranger};
+ghost use Rattle.prepared_program.specs.step_schedule.Order.{asked_by, in_rounds};
+ghost use Rattle.prepared_program.specs.step_schedule.Schedule.{entries_of, names_stranger};
 
 use crate::world::{Stepped, World};
 use executions::step_bounds::laws::law_few_steps_are_made;
-use option_lists::step_schedule::Schedule;
+use prepared_program::step_schedule::Schedule;
 use prepared_program::program_sites::RunError;
 use soundness::laws::law_the_headline_holds;
 

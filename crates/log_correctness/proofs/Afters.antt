@@ -22,13 +22,13 @@ use Rattle.slot_table.specs.declared.records.Record.{Record}
 use Rattle.task_plan.specs.Follow.{Follow, Taker, assigned, condition, goes_on, loaded_by, marks_next, nobody, so_often, to_register}
 use Rattle.task_run.specs.Part.{FollowLeft, TakerLeft}
 use Rattle.task_run.proofs.FellLemmas.{AllShorter, Descends, check_descends, close_descends}
-use Rattle.text_walk.specs.Left.{BlocksLeft, BodyLeft, Closes, EndLeft, NothingLeft, OpenLeft, OutsideLeft, TurnsLeft, WalkLeft}
-use Rattle.text_walk.specs.declared.block.AtEnd.{AtEnd}
-use Rattle.text_walk.specs.declared.block.AtEnd.TheVariants as ends
-use Rattle.text_walk.specs.declared.block.Loop.{Loop}
-use Rattle.text_walk.specs.declared.block.OpenBlock.{OpenBlock}
-use Rattle.text_walk.specs.declared.block.Choice.{Choice}
-use Rattle.text_walk.specs.declared.walk.Walk.{Walk}
+use Rattle.task_plan.specs.Left.{BlocksLeft, BodyLeft, Closes, EndLeft, NothingLeft, OpenLeft, OutsideLeft, TurnsLeft, WalkLeft}
+use Rattle.task_plan.specs.declared.block.AtEnd.{AtEnd}
+use Rattle.task_plan.specs.declared.block.AtEnd.TheVariants as ends
+use Rattle.task_plan.specs.declared.block.Loop.{Loop}
+use Rattle.task_plan.specs.declared.block.OpenBlock.{OpenBlock}
+use Rattle.task_plan.specs.declared.block.Choice.{Choice}
+use Rattle.task_plan.specs.declared.walk.Walk.{Walk}
 use Rattle.program_order.specs.Access.{Makes, operated}
 use Rattle.program_order.specs.Standing.{Point, Setting, Standing, checks_of, coming, counting, doing, lock_number, registered}
 use Rattle.program_order.specs.WrittenOrder.{ClosesScope, OpensScope, Steps, StepsOfBlock, StepsOfTurns, marked_so_often}

@@ -46,7 +46,7 @@ use Rattle.task_run.specs.Says.{Says}
 use Rattle.task_run.specs.Position.{AllFellFrom, AllFrom, IsTold, last_of}
 use Rattle.task_run.specs.declared.run.TaskRun.{TaskRun}
 use Rattle.task_run.proofs.FellLemmas.{AllShorter}
-use Rattle.text_walk.specs.declared.walk.Walk.{Walk}
+use Rattle.task_plan.specs.declared.walk.Walk.{Walk}
 use Rattle.program_order.specs.Access.{Makes, operated}
 use Rattle.program_order.specs.Standing.{BeginsNow, Point, Setting, Standing, checks_of, doing, point_by}
 use Rattle.program_order.specs.TaskObserved.{did_by, did_next, fell_next, to_come}

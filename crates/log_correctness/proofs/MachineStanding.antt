@@ -20,7 +20,7 @@ use Rattle.task_run.specs.declared.machine.Machine.{Machine}
 use Rattle.task_run.specs.declared.run.TaskRun.{TaskRun}
 use Rattle.task_run.specs.declared.stage.TaskStage.{TaskStage}
 use Rattle.task_run.specs.declared.stage.TaskStage.TheVariants as stages
-use Rattle.text_walk.specs.declared.walk.Walk.{Walk}
+use Rattle.task_plan.specs.declared.walk.Walk.{Walk}
 use Rattle.program_order.specs.Access.{Makes, operated}
 use Rattle.program_order.specs.Standing.{Point, Setting, Standing, doing, point_by}
 use Rattle.program_order.specs.WrittenOrder.{WrittenOrder, first_point, stands_after}

@@ -1,2 +1,4 @@
+pub mod step_schedule
+pub mod place_list
 pub mod program_layout
 pub mod program_sites

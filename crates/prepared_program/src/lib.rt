@@ -2,5 +2,7 @@
 //! make.
 #![tactic(auto)]
 
+pub mod place_list;
 pub mod program_layout;
 pub mod program_sites;
+pub mod step_schedule;

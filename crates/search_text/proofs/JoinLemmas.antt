@@ -10,7 +10,7 @@ use Rattle.search_text.specs.Joined.{both, joined, joined_one, option_both}
 use Rattle.search_text.specs.Seen.{sighted}
 use Rattle.search_text.specs.Times.{Sighting, Times}
 use Rattle.search_text.specs.declared.found.SearchFindings.{SearchFindings}
-use Rattle.option_lists.specs.declared.step_schedule.schedule.Entry.{Entry}
+use Rattle.prepared_program.specs.declared.step_schedule.schedule.Entry.{Entry}
 
 -- what holds of no list, and with a last one more, holds of all
 by_last : (P : List Searched → Type 0) → P [] → ((before : List Searched) (one : Searched) → P before → P (before ++ one ∷ []))

@@ -8,8 +8,8 @@ use Rattle.std.proofs.lemmas.Fmt.{decimal_nonempty, digits_decimal, digits_value
 use Rattle.std.proofs.lemmas.List.Elements.{All-head, All-tail}
 use Rattle.std.proofs.lemmas.Str.Parse.{IsNumeralModel, numerals_by_value, tells_all_ascii_digits}
 use Rattle.search_text.specs.Schedules.{entry_text, later_text, schedule_text}
-use Rattle.option_lists.specs.step_schedule.Spelling.{SpellEach, Spells, SpellsEntry, SpellsNumber}
-use Rattle.option_lists.specs.declared.step_schedule.schedule.Entry.{Entry}
+use Rattle.prepared_program.specs.step_schedule.Spelling.{SpellEach, Spells, SpellsEntry, SpellsNumber}
+use Rattle.prepared_program.specs.declared.step_schedule.schedule.Entry.{Entry}
 
 own : IsNumeralModel (λ ds. all_ascii_digits ds ≡ true) (digits_value 10)
 own = numerals_by_value _ tells_all_ascii_digits

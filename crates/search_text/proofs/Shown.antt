@@ -9,7 +9,7 @@ use Rattle.search_text.specs.SearchFindings.{option_again}
 use Rattle.search_text.specs.Joined.{both, joined_one, option_both}
 use Rattle.search_text.specs.Seen.{again, sighted}
 use Rattle.search_text.specs.Times.{Sighting, Times}
-use Rattle.option_lists.specs.declared.step_schedule.schedule.Entry as schedules
+use Rattle.prepared_program.specs.declared.step_schedule.schedule.Entry as schedules
 
 -- an entry of the map, without where it lies in memory
 abbrev pub Entry : Type 0

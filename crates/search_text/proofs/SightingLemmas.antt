@@ -12,7 +12,7 @@ use Rattle.search_text.proofs.TextLists.{AreDistinct, any_flat, any_fold, any_mo
 use Rattle.search_text.specs.SearchFindings.{Searched, first_schedule, has, option_again, resting, seen_in, sightings_in, times_in}
 use Rattle.search_text.specs.Seen.{again, sighted}
 use Rattle.search_text.specs.Times.{Sighting, Times}
-use Rattle.option_lists.specs.declared.step_schedule.schedule.Entry.{Entry}
+use Rattle.prepared_program.specs.declared.step_schedule.schedule.Entry.{Entry}
 
 -- each text with what is kept of it
 abbrev pub each_with : (List ℕ → Times) → List (List ℕ) → List Sighting

@@ -2,7 +2,7 @@
 use Rattle.std.specs.Prelude.{◌++◌, ◌∷◌, [], ℕ, List, codes}
 use Rattle.std.specs.Fmt.{decimal}
 use Rattle.std.specs.List.{flat_map}
-use Rattle.option_lists.specs.declared.step_schedule.schedule.Entry.{Entry}
+use Rattle.prepared_program.specs.declared.step_schedule.schedule.Entry.{Entry}
 
 -- an entry
 abbrev pub entry_text : Entry → List ℕ

@@ -2,7 +2,7 @@
 use Rattle.std.specs.Prelude.{◌∷◌, [], ℕ, List, if◌then◌else◌}
 use Rattle.report_text.specs.Groups.{is_text, one_more}
 use Rattle.search_text.specs.Times.{Sighting, Times}
-use Rattle.option_lists.specs.declared.step_schedule.schedule.Entry.{Entry}
+use Rattle.prepared_program.specs.declared.step_schedule.schedule.Entry.{Entry}
 
 -- in one list more, where a count rests at its last value
 abbrev pub again : Times → Times

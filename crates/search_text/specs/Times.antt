@@ -1,6 +1,6 @@
 -- What is kept of something that is seen in lists.
 use Rattle.std.specs.Prelude.{ℕ, List}
-use Rattle.option_lists.specs.declared.step_schedule.schedule.Entry.{Entry}
+use Rattle.prepared_program.specs.declared.step_schedule.schedule.Entry.{Entry}
 
 -- in how many lists it is, and the schedule of the first
 abbrev pub Times : Type 0

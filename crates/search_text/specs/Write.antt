@@ -7,7 +7,7 @@ use Rattle.search_text.specs.SearchFindings.{Searched, fails, is_deadlocked, mee
 use Rattle.search_text.specs.Schedules.{schedule_text}
 use Rattle.search_text.specs.Times.{Sighting, Times}
 use Rattle.search_text.specs.declared.found.SearchFindings.{SearchFindings}
-use Rattle.option_lists.specs.declared.step_schedule.schedule.Entry.{Entry}
+use Rattle.prepared_program.specs.declared.step_schedule.schedule.Entry.{Entry}
 
 -- in how many schedules something was, behind this word
 unfoldable pub times_head : List ℕ → ℕ → List ℕ

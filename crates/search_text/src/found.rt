@@ -10,7 +10,7 @@ ghost use Rattle.search_text.specs.Texts.{ending_of, texts_in};
 use crate::seen::{Seen, Sightings};
 use crate::texts::texts_of;
 use access_types::{Report, Sites};
-use option_lists::step_schedule::Entry;
+use prepared_program::step_schedule::Entry;
 use std::alloc::{AllocError, Global};
 
 /// How a list ends after which all tasks have ended.

@@ -5,8 +5,8 @@ ghost use Rattle.std.specs.List.{IsDistinct, flat_map};
 ghost use Rattle.report_text.specs.Groups.{is_text};
 ghost use Rattle.search_text.specs.SearchFindings.{Searched, sightings_in, states_of};
 ghost use Rattle.search_text.specs.Schedules.{schedule_text};
-ghost use Rattle.option_lists.specs.step_schedule.Spelling.{Spells};
-ghost use Rattle.option_lists.specs.declared.step_schedule.schedule.Entry as entries;
+ghost use Rattle.prepared_program.specs.step_schedule.Spelling.{Spells};
+ghost use Rattle.prepared_program.specs.declared.step_schedule.schedule.Entry as entries;
 
 /// Law: a schedule that is written is read back.
 pub fn law_schedules_are_read_back()

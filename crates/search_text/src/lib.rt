@@ -15,7 +15,7 @@ pub mod write;
 
 pub use found::{Ending, SearchFindings};
 pub use locations::{Location, locations_of};
-pub use option_lists::step_schedule::Entry;
+pub use prepared_program::step_schedule::Entry;
 pub use report_text::{MemorySink, Sink, WriteError};
 pub use states::state_of;
 pub use visited::{Visited, write_states_search};

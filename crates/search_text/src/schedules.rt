@@ -5,7 +5,7 @@ ghost use Rattle.report_text.specs.Sink.{Writes};
 ghost use Rattle.search_text.specs.Schedules as spec;
 ghost use Rattle.search_text.specs.Schedules.{entry_text, later_text};
 
-use option_lists::step_schedule::Entry;
+use prepared_program::step_schedule::Entry;
 use report_text::pieces::{Piece, write_pieces};
 use report_text::{Sink, WriteError};
 

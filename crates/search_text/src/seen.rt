@@ -8,7 +8,7 @@ ghost use Rattle.search_text.specs.Seen as spec;
 ghost use Rattle.search_text.specs.Seen.{sighted};
 
 use indexmap::IndexMap;
-use option_lists::step_schedule::Entry;
+use prepared_program::step_schedule::Entry;
 use std::alloc::{AllocError, Global};
 use std::marker::Model;
 

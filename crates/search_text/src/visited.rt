@@ -11,7 +11,7 @@ use crate::found::SearchFindings;
 use crate::schedules::write_schedule;
 use crate::seen::{Seen, Sightings};
 use crate::write::write_ending;
-use option_lists::step_schedule::Entry;
+use prepared_program::step_schedule::Entry;
 use report_text::pieces::{Piece, write_pieces};
 use report_text::{Sink, WriteError, write_all};
 

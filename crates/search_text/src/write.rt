@@ -3,7 +3,7 @@
 ghost use Rattle.std.specs.Prelude.{◌≡◌, ◌++◌, List, codes, decimal, length};
 ghost use Rattle.std.specs.List.{flat_map};
 ghost use Rattle.report_text.specs.Sink.{Writes};
-ghost use Rattle.option_lists.specs.declared.step_schedule.schedule.Entry as entries;
+ghost use Rattle.prepared_program.specs.declared.step_schedule.schedule.Entry as entries;
 ghost use Rattle.search_text.specs.SearchFindings.{Finds, Searched};
 ghost use Rattle.search_text.specs.Write.{bounds_text, endings_text, observation_line, observed, search_text, searched_line, sighting_text, state_line};
 ghost use Rattle.search_text.specs.Write.{states_line, stopped_line, stopped_text, stuck_text, text_found, times_head, times_line, word_of};
@@ -11,7 +11,7 @@ ghost use Rattle.search_text.specs.Write.{states_line, stopped_line, stopped_tex
 use crate::found::SearchFindings;
 use crate::schedules::write_schedule;
 use crate::seen::{Seen, Sightings};
-use option_lists::step_schedule::Entry;
+use prepared_program::step_schedule::Entry;
 use report_text::pieces::{Piece, write_pieces};
 use report_text::{Sink, WriteError, write_all};
 

@@ -1,2 +1,10 @@
+pub mod CountLemmas
+pub mod FormLemmas
+pub mod StackLemmas
+pub mod StepsLemmas
+pub mod LeftLemmas
+pub mod BeginsLemmas
+pub mod Copies
+pub mod WalkSent
 pub mod KeepsLemmas
 pub mod Sent

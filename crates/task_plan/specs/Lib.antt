@@ -1,3 +1,11 @@
+pub mod Depth
+pub mod Cost
+pub mod WalkRoom
+pub mod Capacity
+pub mod Copies
+pub mod Left
+pub mod Form
+pub mod Places
 pub mod Counts
 pub mod Follow
 pub mod Views

@@ -5,8 +5,8 @@ ghost use Rattle.task_plan.specs.Follow as spec;
 ghost use Rattle.task_plan.specs.Follow.{disable_count, taker_off};
 ghost use Rattle.task_plan.specs.Views.{follow_of, taker_of};
 
+use crate::same_text::is_same_loading;
 use litmus_syntax::Loading;
-use text_walk::same_text::is_same_loading;
 
 /// What takes the value of a load.
 #[derive(Clone, Copy)]

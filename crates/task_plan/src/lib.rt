@@ -2,14 +2,22 @@
 //! statement makes, what follows on it, its registers, counts and locks.
 #![tactic(auto)]
 
+mod block;
+pub mod count;
+pub mod due;
 pub mod follow;
 pub mod laws;
 pub mod locks;
+mod places;
 pub mod plan;
 pub mod progress;
+pub mod same_text;
 pub mod task_points;
+pub mod walk;
 
+pub use due::Due;
 pub use follow::{Taker, Then};
 pub use locks::{is_lock_at, lock_number};
 pub use plan::{Plan, Planner, load_in};
 pub use progress::Progress;
+pub use walk::Walk;

@@ -34,8 +34,8 @@ use Rattle.task_run.specs.Agrees.{begins_now}
 use Rattle.task_run.specs.Part.{FollowLeft, PartLeft, closes, locks, makes, opens}
 use Rattle.task_run.specs.Stands.{Counts, IsOf, Stands}
 use Rattle.task_run.specs.declared.machine.Machine.{Machine}
-use Rattle.text_walk.specs.Left.{WalkLeft}
-use Rattle.text_walk.specs.declared.walk.Walk.{Walk}
+use Rattle.task_plan.specs.Left.{WalkLeft}
+use Rattle.task_plan.specs.declared.walk.Walk.{Walk}
 use Rattle.program_order.specs.Access.{operated}
 use Rattle.program_order.specs.Standing.{BeginsNow, IsDisabled, IsLockAt, Setting, Standing, checks_of, doing, lock_number}
 

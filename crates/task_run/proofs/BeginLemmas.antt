@@ -57,10 +57,10 @@ use Rattle.task_run.specs.Position.{nothing}
 use Rattle.task_run.specs.declared.machine.Machine.{Machine}
 use Rattle.task_run.specs.declared.stage.TaskStage.TheVariants as stages
 use Rattle.program_order.specs.text_bounds.Scopes.{is_scoped}
-use Rattle.text_walk.specs.Left.{DueLeft}
-use Rattle.text_walk.specs.declared.due.Due.{Due}
-use Rattle.text_walk.specs.declared.due.Due.TheVariants as dues
-use Rattle.text_walk.specs.declared.walk.Walk.{Walk}
+use Rattle.task_plan.specs.Left.{DueLeft}
+use Rattle.task_plan.specs.declared.due.Due.{Due}
+use Rattle.task_plan.specs.declared.due.Due.TheVariants as dues
+use Rattle.task_plan.specs.declared.walk.Walk.{Walk}
 use Rattle.program_order.specs.Standing.{BeginsNow, Setting, Standing, checks_of, coming, counting, doing, is_lock, lock_number, moments, registered}
 
 -- what is due is the part itself, or the text is over

@@ -8,8 +8,8 @@ use Rattle.task_run.specs.Stands.{SameToEnd, Stands}
 use Rattle.task_run.specs.Position.{ComputesBy}
 use Rattle.task_run.specs.declared.machine.Machine.{Machine}
 use Rattle.task_run.specs.declared.stage.TaskStage.{TaskStage}
-use Rattle.text_walk.proofs.StepsLemmas.{through}
-use Rattle.text_walk.specs.Left.{Same, WalkLeft}
+use Rattle.task_plan.proofs.StepsLemmas.{through}
+use Rattle.task_plan.specs.Left.{Same, WalkLeft}
 use Rattle.program_order.specs.Standing.{Setting, Standing}
 use Rattle.program_order.specs.WrittenOrder.{Steps}
 

@@ -30,8 +30,8 @@ use Rattle.task_run.specs.Stops.{PassesWith}
 use Rattle.task_run.specs.declared.machine.Machine.{Machine}
 use Rattle.task_run.specs.declared.run.TaskRun.{TaskRun}
 use Rattle.task_run.specs.declared.stage.TaskStage.{TaskStage}
-use Rattle.text_walk.proofs.Copies as walk
-use Rattle.text_walk.specs.Left.{BodyLeft, ClosesNewest, WalkLeft}
+use Rattle.task_plan.proofs.Copies as walk
+use Rattle.task_plan.specs.Left.{BodyLeft, ClosesNewest, WalkLeft}
 use Rattle.program_order.specs.Access.{Makes}
 use Rattle.program_order.specs.Standing.{IsLockAt, Setting, Standing, checks_of, doing, lock_number, moments, registered}
 use Rattle.program_order.specs.WrittenOrder.{OpensScope, Steps, StepsOfBlock, at_first}

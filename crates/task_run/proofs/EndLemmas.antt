@@ -20,7 +20,7 @@ use Rattle.slot_table.specs.declared.records.Record.{Record}
 use Rattle.slot_table.specs.declared.step.Answer.{Answer}
 use Rattle.slot_table.specs.declared.step.Answer.TheVariants as answers
 use Rattle.setup_access.specs.Records.{OnFlag}
-use Rattle.text_walk.specs.Left.{ClosesNewest}
+use Rattle.task_plan.specs.Left.{ClosesNewest}
 use Rattle.program_order.specs.Access.{Makes, operated}
 use Rattle.program_order.specs.Standing.{BeginsNow, IsDisabled, Setting, Standing, checks_of, doing}
 use Rattle.program_order.specs.WrittenOrder.{OpensScope}

@@ -16,9 +16,9 @@ use Rattle.task_run.specs.Stands.{Stands, StandsBy}
 use Rattle.task_run.specs.Position.{ComputesBy, nothing}
 use Rattle.task_run.specs.declared.machine.Machine.{Machine}
 use Rattle.task_run.specs.declared.stage.TaskStage.{TaskStage}
-use Rattle.text_walk.proofs.StepsLemmas.{through}
-use Rattle.text_walk.specs.Left.{BodyLeft, Same, WalkLeft}
-use Rattle.text_walk.specs.declared.walk.Walk.{Walk}
+use Rattle.task_plan.proofs.StepsLemmas.{through}
+use Rattle.task_plan.specs.Left.{BodyLeft, Same, WalkLeft}
+use Rattle.task_plan.specs.declared.walk.Walk.{Walk}
 use Rattle.program_order.specs.Standing.{Setting, Standing, doing, registered}
 use Rattle.program_order.specs.WrittenOrder.{Steps}
 

@@ -13,12 +13,12 @@ use Rattle.access_run.specs.declared.memory_operation.operation.Operation.{Opera
 use Rattle.access_run.specs.declared.memory_operation.operation.Operation.TheVariants as operations
 use Rattle.setup_access.specs.declared.begun.Begun.{Begun}
 use Rattle.slot_table.specs.declared.records.Record.{Record}
-use Rattle.text_walk.specs.Left.{BlocksLeft, BodyLeft, Closes, ClosesNewest, EndLeft, NothingLeft, OpenLeft, OutsideLeft, Then, WalkLeft}
-use Rattle.text_walk.specs.declared.block.AtEnd.{AtEnd}
-use Rattle.text_walk.specs.declared.block.AtEnd.TheVariants as ends
-use Rattle.text_walk.specs.declared.block.Choice.{Choice}
-use Rattle.text_walk.specs.declared.block.OpenBlock.{OpenBlock}
-use Rattle.text_walk.specs.declared.walk.Walk.{Walk}
+use Rattle.task_plan.specs.Left.{BlocksLeft, BodyLeft, Closes, ClosesNewest, EndLeft, NothingLeft, OpenLeft, OutsideLeft, Then, WalkLeft}
+use Rattle.task_plan.specs.declared.block.AtEnd.{AtEnd}
+use Rattle.task_plan.specs.declared.block.AtEnd.TheVariants as ends
+use Rattle.task_plan.specs.declared.block.Choice.{Choice}
+use Rattle.task_plan.specs.declared.block.OpenBlock.{OpenBlock}
+use Rattle.task_plan.specs.declared.walk.Walk.{Walk}
 use Rattle.program_order.specs.Access.{Makes, operated}
 use Rattle.program_order.specs.Standing.{Setting, Standing, counting, doing}
 use Rattle.program_order.specs.WrittenOrder.{ClosesScope, OpensScope, Steps, StepsOfBlock, StepsOfTurns}

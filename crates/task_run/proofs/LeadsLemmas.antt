@@ -12,9 +12,9 @@ use Rattle.task_run.specs.Part.{Part, PartLeft}
 use Rattle.task_run.specs.Stops.{ScopesAreTold}
 use Rattle.task_run.specs.Position.{IsTold}
 use Rattle.task_run.specs.declared.run.TaskRun.{TaskRun}
-use Rattle.text_walk.proofs.StepsLemmas.{through}
-use Rattle.text_walk.specs.Left.{WalkLeft}
-use Rattle.text_walk.specs.declared.walk.Walk.{Walk}
+use Rattle.task_plan.proofs.StepsLemmas.{through}
+use Rattle.task_plan.specs.Left.{WalkLeft}
+use Rattle.task_plan.specs.declared.walk.Walk.{Walk}
 use Rattle.program_order.specs.Standing.{Setting, Standing}
 use Rattle.program_order.specs.WrittenOrder.{StepsOfBlock, at_first}
 

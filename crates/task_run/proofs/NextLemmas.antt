@@ -47,8 +47,8 @@ use Rattle.task_context.specs.History.{LeadsTo}
 use Rattle.task_plan.specs.Keeps.{Keeps}
 use Rattle.task_run.specs.Stands.{IsOf, Stands, StandsBy}
 use Rattle.task_run.specs.declared.machine.Machine.{Machine}
-use Rattle.text_walk.proofs.StepsLemmas.{through}
-use Rattle.text_walk.specs.Left.{Same, WalkLeft}
+use Rattle.task_plan.proofs.StepsLemmas.{through}
+use Rattle.task_plan.specs.Left.{Same, WalkLeft}
 use Rattle.program_order.specs.WrittenOrder.{SpellsAll, StepsOfBlock, at_first}
 use Rattle.task_run.specs.Agrees.{Agrees, Begins, IsIn, in_part}
 use Rattle.task_run.specs.Leads.{IsStuck, Leads, WaitsTooLong}

@@ -20,8 +20,8 @@ use Rattle.task_plan.specs.Follow.{assigned, condition, goes_on, marks_next, nob
 use Rattle.task_run.specs.Part.{PartLeft, disabled, enabled, locks, makes, unlocks}
 use Rattle.task_plan.specs.Plans.{load_plan}
 use Rattle.task_run.specs.Plans.{PlanLeft}
-use Rattle.text_walk.specs.Left.{BodyLeft, WalkLeft}
-use Rattle.text_walk.specs.declared.walk.Walk.{Walk}
+use Rattle.task_plan.specs.Left.{BodyLeft, WalkLeft}
+use Rattle.task_plan.specs.declared.walk.Walk.{Walk}
 use Rattle.program_order.specs.Access.{Makes, operated}
 use Rattle.program_order.specs.Standing.{Setting, Standing, coming, counting, doing, registered}
 use Rattle.program_order.specs.WrittenOrder.{Only, Steps}

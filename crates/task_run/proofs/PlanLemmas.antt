@@ -29,8 +29,8 @@ use Rattle.task_run.specs.Stands.{Stands}
 use Rattle.task_run.specs.Position as computes
 use Rattle.task_run.specs.declared.machine.Machine.{Machine}
 use Rattle.task_run.specs.declared.stage.TaskStage.{TaskStage}
-use Rattle.text_walk.specs.Left.{BodyLeft, WalkLeft}
-use Rattle.text_walk.specs.declared.walk.Walk.{Walk}
+use Rattle.task_plan.specs.Left.{BodyLeft, WalkLeft}
+use Rattle.task_plan.specs.declared.walk.Walk.{Walk}
 use Rattle.program_order.specs.Standing.{EndsNothing, Setting, Standing, counting, doing}
 use Rattle.program_order.specs.WrittenOrder.{ChecksAt, Only, Steps, StepsOfCall, fetch_operation}
 

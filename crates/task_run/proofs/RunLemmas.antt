@@ -54,9 +54,9 @@ use Rattle.task_run.specs.Stands.{Counts, IsOf, Stands, StandsBy}
 use Rattle.task_run.specs.declared.machine.Machine.{Machine}
 use Rattle.task_run.specs.declared.run.TaskRun.{TaskRun}
 use Rattle.task_run.specs.declared.stage.TaskStage.TheVariants as stages
-use Rattle.text_walk.proofs.StepsLemmas.{through}
-use Rattle.text_walk.specs.Left.{WalkLeft}
-use Rattle.text_walk.specs.declared.walk.Walk.{Walk}
+use Rattle.task_plan.proofs.StepsLemmas.{through}
+use Rattle.task_plan.specs.Left.{WalkLeft}
+use Rattle.task_plan.specs.declared.walk.Walk.{Walk}
 use Rattle.program_order.specs.Access.{operated}
 use Rattle.program_order.specs.Standing.{Setting, Standing, checks_of, doing, lock_number}
 use Rattle.program_order.specs.Waits.{is_tried_again}

@@ -47,9 +47,9 @@ use Rattle.program_order.proofs.text_bounds.Scopes.{one_more}
 use Rattle.program_order.specs.text_bounds.Passes.{PassesALimit, disables, nest_opens, scopes}
 use Rattle.program_order.specs.text_bounds.Scopes.{is_scoped}
 use Rattle.task_run.proofs.GrowLemmas.{GoesOn, begins_on, choice_grows, makes_grow, opens_grow, walk_grows}
-use Rattle.text_walk.specs.Left.{DueLeft}
-use Rattle.text_walk.specs.declared.due.Due.TheVariants as dues
-use Rattle.text_walk.specs.declared.walk.Walk.{Walk}
+use Rattle.task_plan.specs.Left.{DueLeft}
+use Rattle.task_plan.specs.declared.due.Due.TheVariants as dues
+use Rattle.task_plan.specs.declared.walk.Walk.{Walk}
 use Rattle.program_order.proofs.WayLemmas.{Begins}
 use Rattle.program_order.specs.Standing.{BeginsNow, Setting, Standing, checks_of, counting, is_lock, moments}
 use Rattle.program_order.specs.WrittenOrder.{Steps}

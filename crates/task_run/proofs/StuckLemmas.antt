@@ -50,8 +50,8 @@ use Rattle.task_run.specs.declared.run.TaskRun.{TaskRun}
 use Rattle.task_run.specs.declared.stage.TaskStage.{TaskStage}
 use Rattle.task_run.specs.declared.stage.TaskStage.TheVariants as stages
 use Rattle.program_order.proofs.text_bounds.Passes.{passes_none}
-use Rattle.text_walk.specs.Left.{DueLeft}
-use Rattle.text_walk.specs.declared.due.Due.{Due}
+use Rattle.task_plan.specs.Left.{DueLeft}
+use Rattle.task_plan.specs.declared.due.Due.{Due}
 use Rattle.program_order.specs.Standing.{Setting, Standing, checks_of, lock_number}
 use Rattle.program_order.specs.Waits as waits
 use Rattle.program_order.specs.Waits.{IsTooMuch, OnlyStep}

@@ -28,7 +28,7 @@ use Rattle.task_run.specs.declared.stage.TaskStage.{TaskStage}
 use Rattle.task_run.specs.declared.stage.TaskStage.TheVariants as stages
 use Rattle.program_order.specs.Standing.{BeginsNow, IsDisabled, IsLockAt, Setting, Standing, checks_of, doing, lock_number}
 use Rattle.program_order.specs.text_bounds.Scopes.{is_scoped}
-use Rattle.text_walk.specs.Left.{DueLeft}
+use Rattle.task_plan.specs.Left.{DueLeft}
 use Rattle.program_order.specs.WrittenOrder.{Steps}
 
 -- where the task stands while it is in the part: an access begins with it

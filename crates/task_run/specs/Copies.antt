@@ -4,7 +4,7 @@ use Rattle.std.specs.Arc.{arc_value}
 use Rattle.setup_access.specs.Copies as checker
 use Rattle.task_plan.specs.Keeps.{Keeps}
 use Rattle.task_run.specs.declared.machine.Machine.{Machine}
-use Rattle.text_walk.specs.Copies as walk
+use Rattle.task_plan.specs.Copies as walk
 use Rattle.program_order.specs.Standing.{Standing}
 
 -- a copy of a machine: it goes by the same, and is as far in its text

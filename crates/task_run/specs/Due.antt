@@ -8,8 +8,8 @@ use Rattle.task_run.specs.Stands.{SameToEnd, StandsBy}
 use Rattle.task_run.specs.Position.{ComputesBy}
 use Rattle.task_run.specs.declared.machine.Machine.{Machine}
 use Rattle.task_run.specs.declared.stage.TaskStage.{TaskStage}
-use Rattle.text_walk.specs.Left.{BodyLeft, Then, WalkLeft}
-use Rattle.text_walk.specs.declared.walk.Walk.{Walk}
+use Rattle.task_plan.specs.Left.{BodyLeft, Then, WalkLeft}
+use Rattle.task_plan.specs.declared.walk.Walk.{Walk}
 use Rattle.program_order.specs.Standing.{Setting, Standing}
 use Rattle.program_order.specs.WrittenOrder.{Steps, StepsOf, StepsOfExpression}
 

@@ -14,9 +14,9 @@ use Rattle.setup_access.specs.declared.begun.Begun.{Begun}
 use Rattle.slot_table.specs.declared.records.Record.{Record}
 use Rattle.slot_table.specs.declared.step.Step.TheVariants.{LockStore}
 use Rattle.task_plan.specs.Follow.{Follow, Taker, assigned, condition, goes_on, loaded_by, marks_next, nobody, so_often, to_register}
-use Rattle.text_walk.specs.Left.{BodyLeft, ClosesNewest, DueLeft, NothingLeft, WalkLeft}
-use Rattle.text_walk.specs.declared.due.Due.{Due}
-use Rattle.text_walk.specs.declared.walk.Walk.{Walk}
+use Rattle.task_plan.specs.Left.{BodyLeft, ClosesNewest, DueLeft, NothingLeft, WalkLeft}
+use Rattle.task_plan.specs.declared.due.Due.{Due}
+use Rattle.task_plan.specs.declared.walk.Walk.{Walk}
 use Rattle.program_order.specs.Access.{Makes}
 use Rattle.program_order.specs.Standing.{IsLockAt, Setting, Standing, doing, lock_number, registered}
 use Rattle.program_order.specs.WrittenOrder.{OpensScope, Steps, marked_so_often}

@@ -7,7 +7,7 @@ use Rattle.task_plan.specs.Follow.{Taker}
 use Rattle.task_plan.specs.Plans.{load_plan, planned_access}
 use Rattle.task_plan.specs.Views.{Plan}
 use Rattle.task_run.specs.Part.{Part, PartLeft, before_access, makes}
-use Rattle.text_walk.specs.declared.walk.Walk.{Walk}
+use Rattle.task_plan.specs.declared.walk.Walk.{Walk}
 use Rattle.program_order.specs.Standing.{Setting, Standing}
 use Rattle.program_order.specs.WrittenOrder.{Steps}
 

@@ -4,7 +4,7 @@ use Rattle.setup_access.specs.Shown as checker
 use Rattle.task_plan.specs.Room as progress
 use Rattle.task_run.specs.declared.machine.Machine.{Machine}
 use Rattle.task_run.specs.declared.run.TaskRun.{TaskRun}
-use Rattle.text_walk.specs.Capacity as walk
+use Rattle.task_plan.specs.Capacity as walk
 
 -- of each list below it, how much
 abbrev pub room_of : Machine → List ℕ

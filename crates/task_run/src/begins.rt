@@ -19,11 +19,11 @@ ghost use Rattle.task_run.specs.Room.{room_of};
 ghost use Rattle.task_run.specs.Stands.{Stands, StandsBy};
 ghost use Rattle.task_run.specs.Stops.{CanBegin, Stops};
 ghost use Rattle.program_order.specs.text_bounds.Scopes.{is_scoped};
-ghost use Rattle.text_walk.specs.Form.{HasNoBlock, IsOfForm};
+ghost use Rattle.task_plan.specs.Form.{HasNoBlock, IsOfForm};
 ghost use Rattle.task_plan.specs.Views.{plan_of, taker_of};
-ghost use Rattle.text_walk.specs.Cost.{walk_cost};
-ghost use Rattle.text_walk.specs.Left.{DueLeft, WalkLeft};
-ghost use Rattle.text_walk.specs.declared.due.Due.TheVariants as dues;
+ghost use Rattle.task_plan.specs.Cost.{walk_cost};
+ghost use Rattle.task_plan.specs.Left.{DueLeft, WalkLeft};
+ghost use Rattle.task_plan.specs.declared.due.Due.TheVariants as dues;
 ghost use Rattle.program_order.specs.Standing.{BeginsNow, Setting, Standing, checks_of};
 
 use crate::machine::{Beyond, Machine};
@@ -37,8 +37,7 @@ use setup_access::Begun;
 use setup_access::checker::SCOPES;
 use task_plan::follow::so_often;
 use task_plan::progress::SITES;
-use task_plan::{Plan, Planner, Taker, Then, is_lock_at, load_in};
-use text_walk::Due;
+use task_plan::{Due, Plan, Planner, Taker, Then, is_lock_at, load_in};
 
 impl<'a> Machine<'a> {
     /// Goes on in the text to the next part that makes a step, or to the end: the stage becomes that of it.

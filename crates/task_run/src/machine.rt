@@ -5,8 +5,7 @@ use litmus_syntax::Variable;
 use prepared_program::program_layout::Layout;
 use setup_access::{Begun, Checker, Rules};
 use std::sync::Arc;
-use task_plan::Progress;
-use text_walk::Walk;
+use task_plan::{Progress, Walk};
 
 /// What a task goes by, and how far it has come in its text. What it is doing there is told beside it.
 #[derive(Drop)]

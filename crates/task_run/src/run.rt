@@ -15,9 +15,8 @@ use setup_access::{Begun, Outcome};
 use slot_table::{Answer, Step};
 use std::alloc::{AllocError, Global};
 use std::sync::Arc;
-use task_plan::Progress;
 use task_plan::task_points::{After, Before, Latest};
-use text_walk::Walk;
+use task_plan::{Progress, Walk};
 
 /// A task of a program, from its first statement to its last: the step that it makes next, and what it
 /// goes on with after the answer. It makes no step itself, so it runs over any words.

@@ -2,10 +2,10 @@
 
 use diagnostics::option_diagnostics::{place_fault, schedule_fault};
 use diagnostics::text_check::{Check, calls, check_text};
-use option_lists::place_list::parse_places;
-use option_lists::step_schedule::{Entry, Schedule};
+use prepared_program::place_list::parse_places;
 use prepared_program::program_layout::Place;
 use prepared_program::program_sites::{RunError, Settings};
+use prepared_program::step_schedule::{Entry, Schedule};
 use std::alloc::{AllocError, Global};
 use test_rows::escapes::unescaped;
 use watch_word::Layout;

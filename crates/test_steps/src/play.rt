@@ -6,8 +6,8 @@ ghost use Rattle.litmus_syntax.specs.Views.{program_of};
 
 use crate::notation::Story;
 use litmus_parse::{ParseError, Program, parse};
-use option_lists::step_schedule::{Entry, Schedule};
 use prepared_program::program_sites::{Prepared, RunError, Settings};
+use prepared_program::step_schedule::{Entry, Schedule};
 use slot_table::{Answer, Board, BoardError, PlainBoard, Shape, Step};
 use std::alloc::{AllocError, Global};
 use task_run::TaskRun;

@@ -2,10 +2,10 @@
 
 use crate::play::{PlayError, Scene, played};
 use crate::words::words_of;
-use option_lists::place_list::parse_places;
-use option_lists::step_schedule::Schedule;
+use prepared_program::place_list::parse_places;
 use prepared_program::program_layout::Place;
 use prepared_program::program_sites::Settings;
+use prepared_program::step_schedule::Schedule;
 use std::alloc::{AllocError, Global};
 use test_rows::Tried;
 use test_rows::texts::Texts;

@@ -9,8 +9,8 @@ use crate::script::{Asked, begin_word};
 use litmus_parse::Program;
 use litmus_syntax::Statement;
 use std::alloc::Global;
-use text_walk::same_text::is_same_block;
-use text_walk::{Due, Walk};
+use task_plan::same_text::is_same_block;
+use task_plan::{Due, Walk};
 
 /// What stands between two texts of a row.
 const AND: &str = " and ";

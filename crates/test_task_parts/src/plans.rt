@@ -8,8 +8,7 @@ use access_types::Access;
 use litmus_parse::Program;
 use litmus_syntax::{Statement, Variable};
 use std::alloc::{AllocError, Global};
-use task_plan::{Plan, Planner, Taker, Then, is_lock_at, lock_number};
-use text_walk::Due;
+use task_plan::{Due, Plan, Planner, Taker, Then, is_lock_at, lock_number};
 
 /// What comes of the first statement of a process, with these values of its registers: `REGISTERS PROCESS`.
 pub fn plan(alloc: Global, start: &str) -> Result<String, Fault> {

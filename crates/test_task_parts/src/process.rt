@@ -5,8 +5,8 @@ use litmus_parse::{Program, parse};
 use litmus_syntax::Statement;
 use prepared_program::program_layout::Layout;
 use std::alloc::Global;
-use text_walk::Walk;
-use text_walk::count::sites_in;
+use task_plan::Walk;
+use task_plan::count::sites_in;
 
 /// At most so many statements of a process have an access.
 pub const SITES: usize = 256;

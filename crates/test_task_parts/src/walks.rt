@@ -7,8 +7,8 @@ use crate::script::{Asked, begin_word};
 use litmus_syntax::{Assignment, Expression, Fetch, Load, Loading, Statement};
 use std::alloc::{AllocError, Global};
 use std::str::Bytes;
-use text_walk::count::{depth_in, sites_in};
-use text_walk::{Due, Walk};
+use task_plan::count::{depth_in, sites_in};
+use task_plan::{Due, Walk};
 
 /// What is due in a text whose conditions hold, where there is a `1`, or not, in this order: `CONDITIONS PROCESS`.
 pub fn walk(alloc: Global, start: &str, script: &str) -> Result<String, Fault> {

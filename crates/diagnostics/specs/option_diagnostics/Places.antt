@@ -1,7 +1,7 @@
 -- Which items of a place list read, and what is said of the first that doesn't.
 use Rattle.std.specs.Prelude.{◌≡◌, ◌<◌, ℕ, List, Some, codes, length, slice_get}
 use Rattle.diagnostics.specs.option_diagnostics.Item.{fault_line, items_of}
-use Rattle.option_lists.specs.place_list.Spelling.{Spells, SpellsPlace}
+use Rattle.prepared_program.specs.place_list.Spelling.{Spells, SpellsPlace}
 use Rattle.prepared_program.specs.declared.program_layout.place.Place.{Place}
 
 -- the item is read

@@ -1,8 +1,8 @@
 -- Which items of a schedule read, and what is said of the first that doesn't.
 use Rattle.std.specs.Prelude.{◌≡◌, ◌<◌, ℕ, List, Some, codes, length, slice_get}
 use Rattle.diagnostics.specs.option_diagnostics.Item.{fault_line, items_of}
-use Rattle.option_lists.specs.step_schedule.Spelling.{Spells, SpellsEntry}
-use Rattle.option_lists.specs.declared.step_schedule.schedule.Entry.{Entry}
+use Rattle.prepared_program.specs.step_schedule.Spelling.{Spells, SpellsEntry}
+use Rattle.prepared_program.specs.declared.step_schedule.schedule.Entry.{Entry}
 
 -- the item is read
 pub record Reads (item : List ℕ) : Type 0 where

@@ -1,8 +1,8 @@
 -- What would stand where a text is refused, in words.
 use Rattle.std.specs.Prelude.{ℕ, List, [], ◌∷◌, codes}
 use Rattle.std.specs.List.{concat}
-use Rattle.litmus_cursor.specs.declared.reason.Expected.{Expected}
-use Rattle.litmus_cursor.specs.declared.reason.Expected.TheVariants as places
+use Rattle.litmus_lex.specs.declared.reason.Expected.{Expected}
+use Rattle.litmus_lex.specs.declared.reason.Expected.TheVariants as places
 use Rattle.litmus_lex.specs.Sign.{sign_bytes}
 
 -- what would stand there, where that is no sign alone

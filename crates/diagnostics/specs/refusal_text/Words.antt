@@ -4,12 +4,12 @@ use Rattle.std.specs.Fmt.{decimal}
 use Rattle.std.specs.List.{concat, starts_with}
 use Rattle.litmus_syntax.specs.Limits.{check_limit, nesting_limit, operators_limit, registers_limit, repeats_limit, scoped_limit, statements_limit, tasks_limit, turns_limit, variables_limit}
 use Rattle.program_table.specs.text_pieces.Shown.{shown}
-use Rattle.litmus_cursor.specs.declared.cursor.Excess.{Excess}
-use Rattle.litmus_cursor.specs.declared.cursor.Excess.TheVariants as excesses
-use Rattle.litmus_cursor.specs.declared.reason.Fault.{Fault}
-use Rattle.litmus_cursor.specs.declared.reason.Fault.TheVariants as faults
-use Rattle.litmus_cursor.specs.declared.reason.Unread.{Unread}
-use Rattle.litmus_cursor.specs.declared.reason.Unread.TheVariants as unreads
+use Rattle.litmus_lex.specs.declared.cursor.Excess.{Excess}
+use Rattle.litmus_lex.specs.declared.cursor.Excess.TheVariants as excesses
+use Rattle.litmus_lex.specs.declared.reason.Fault.{Fault}
+use Rattle.litmus_lex.specs.declared.reason.Fault.TheVariants as faults
+use Rattle.litmus_lex.specs.declared.reason.Unread.{Unread}
+use Rattle.litmus_lex.specs.declared.reason.Unread.TheVariants as unreads
 
 -- what is wrong with a token, behind its bytes
 abbrev pub fault_words : Fault → List ℕ

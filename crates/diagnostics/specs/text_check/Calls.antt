@@ -1,9 +1,9 @@
 -- The calls that are read in the bodies of processes: the words of the grammar that are called.
 use Rattle.std.specs.Prelude.{◌++◌, ℕ, List, Bool, codes, false, filter, true}
 use Rattle.std.specs.List.{flat_map}
-use Rattle.litmus_cursor.specs.Words.{table}
-use Rattle.litmus_cursor.specs.declared.words.Word.{Word}
-use Rattle.litmus_cursor.specs.declared.words.Word.TheVariants as words
+use Rattle.litmus_lex.specs.Words.{table}
+use Rattle.litmus_lex.specs.declared.words.Word.{Word}
+use Rattle.litmus_lex.specs.declared.words.Word.TheVariants as words
 
 -- the word is called
 abbrev pub is_called : Word → Bool

@@ -4,7 +4,7 @@ ghost use Rattle.std.specs.Prelude.{IfNone, IfOk, IfSome, IsTrue};
 ghost use Rattle.diagnostics.specs.option_diagnostics.Places.{AllRead, IsFault, Reads};
 
 use crate::option_diagnostics::item::{fault_line, items};
-use option_lists::place_list::parse_places;
+use prepared_program::place_list::parse_places;
 use std::alloc::{AllocError, Global};
 
 /// The item spells a place.

@@ -4,7 +4,7 @@ ghost use Rattle.std.specs.Prelude.{IfNone, IfOk, IfSome, IsTrue};
 ghost use Rattle.diagnostics.specs.option_diagnostics.Schedules.{AllRead, IsFault, Reads};
 
 use crate::option_diagnostics::item::{fault_line, items};
-use option_lists::step_schedule::Schedule;
+use prepared_program::step_schedule::Schedule;
 use std::alloc::{AllocError, Global};
 
 /// The item spells an entry.

@@ -4,7 +4,7 @@ ghost use Rattle.std.specs.Prelude.{◌≡◌, IfOk};
 ghost use Rattle.diagnostics.specs.refusal_text.Expected as spec;
 
 use crate::refusal_text::token::sign_words;
-use litmus_cursor::Expected;
+use litmus_lex::Expected;
 use program_table::text_pieces::joined;
 use std::alloc::{AllocError, Global};
 

@@ -3,7 +3,7 @@
 ghost use Rattle.std.specs.Prelude.{◌≡◌, IfOk};
 ghost use Rattle.diagnostics.specs.refusal_text.Words as spec;
 
-use litmus_cursor::{Excess, Fault, Unread};
+use litmus_lex::{Excess, Fault, Unread};
 use program_table::text_pieces::{joined, number, shown};
 use std::alloc::{AllocError, Global};
 

@@ -12,11 +12,11 @@ use Rattle.litmus_syntax.specs.Sites.{has_access}
 use Rattle.litmus_syntax.specs.Tree as tree
 use Rattle.litmus_syntax.specs.declared.statement.Call.{Call}
 use Rattle.litmus_syntax.specs.declared.statement.Call.TheVariants as calls
-use Rattle.litmus_cursor.specs.declared.words.CallWord.{CallWord}
-use Rattle.litmus_cursor.specs.declared.words.CallWord.TheVariants as asks
-use Rattle.litmus_cursor.specs.declared.words.StoreWord.{StoreWord}
-use Rattle.litmus_cursor.specs.Front.{◌>>=◌, begins_call, first, is_sign, others, take_number, take_sign}
-use Rattle.litmus_cursor.specs.Words.{Symbol}
+use Rattle.litmus_lex.specs.declared.words.CallWord.{CallWord}
+use Rattle.litmus_lex.specs.declared.words.CallWord.TheVariants as asks
+use Rattle.litmus_lex.specs.declared.words.StoreWord.{StoreWord}
+use Rattle.litmus_lex.specs.Front.{◌>>=◌, begins_call, first, is_sign, others, take_number, take_sign}
+use Rattle.litmus_lex.specs.Words.{Symbol}
 use Rattle.litmus_expression.specs.Counters.{AreCounters}
 use Rattle.litmus_expression.specs.declared.process.Takes.TheVariants.{Integers, Locks, Memory}
 use Rattle.litmus_expression.specs.ExpressionReader.{expression_at, load_at, take_star}

@@ -8,9 +8,9 @@ use Rattle.litmus_syntax.specs.declared.expression.UnaryOperator.{UnaryOperator}
 use Rattle.litmus_syntax.specs.declared.expression.ReadForm.{ReadForm}
 use Rattle.litmus_syntax.specs.declared.expression.ReadForm.TheVariants as reads
 use Rattle.litmus_syntax.specs.Tree as tree
-use Rattle.litmus_cursor.specs.declared.words.LoadWord.{LoadWord}
-use Rattle.litmus_cursor.specs.declared.words.LoadWord.TheVariants as loads
-use Rattle.litmus_cursor.specs.Front.{◌>>=◌, begins_call, first, others, take_sign}
+use Rattle.litmus_lex.specs.declared.words.LoadWord.{LoadWord}
+use Rattle.litmus_lex.specs.declared.words.LoadWord.TheVariants as loads
+use Rattle.litmus_lex.specs.Front.{◌>>=◌, begins_call, first, others, take_sign}
 use Rattle.litmus_expression.specs.declared.process.Takes.{Takes}
 use Rattle.litmus_expression.specs.declared.process.Takes.TheVariants.{Integers}
 use Rattle.litmus_expression.specs.ExpressionReader.{Readers, Beginning, a_number, parenthesis, a_load, a_name, nothing, Loader, starred, called, by, deep}

@@ -1,7 +1,7 @@
 -- Names of registers still differ, and are no more than may be, behind what is spelled.
 use Rattle.std.proofs.Common.{ℕ, ◌≤◌, List, [], ◌∷◌, Option, length, arith, length-append}
 use Rattle.litmus_syntax.specs.Tree as tree
-use Rattle.litmus_cursor.specs.Words.{Symbol}
+use Rattle.litmus_lex.specs.Words.{Symbol}
 use Rattle.litmus_expression.specs.Expressions as grammar
 use Rattle.litmus_expression.specs.Expressions.{Expression, Level, Load, Operand, Pure}
 use Rattle.litmus_expression.specs.Followed.{Differ}

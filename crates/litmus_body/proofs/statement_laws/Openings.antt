@@ -1,12 +1,12 @@
 -- How a statement begins says with which symbol.
 use Rattle.std.proofs.Common.{◌≡◌, ℕ, List, ◌∷◌, Option, Some, None, refl, ap, subst}
 use Rattle.litmus_lex.specs.declared.sign.Sign.TheVariants.{OpenParen, Semicolon, Star}
-use Rattle.litmus_cursor.specs.declared.words.VariableType.{VariableType}
-use Rattle.litmus_cursor.specs.declared.words.VariableType.TheVariants as types
-use Rattle.litmus_cursor.specs.declared.words.Word.{Word}
-use Rattle.litmus_cursor.specs.declared.words.Word.TheVariants as words
-use Rattle.litmus_cursor.specs.Front.{begins_call, first, others}
-use Rattle.litmus_cursor.specs.Words.{Symbol, word, identifier, number, sign, fault}
+use Rattle.litmus_lex.specs.declared.words.VariableType.{VariableType}
+use Rattle.litmus_lex.specs.declared.words.VariableType.TheVariants as types
+use Rattle.litmus_lex.specs.declared.words.Word.{Word}
+use Rattle.litmus_lex.specs.declared.words.Word.TheVariants as words
+use Rattle.litmus_lex.specs.Front.{begins_call, first, others}
+use Rattle.litmus_lex.specs.Words.{Symbol, word, identifier, number, sign, fault}
 use Rattle.litmus_expression.specs.NameReader.{parameter_named}
 use Rattle.litmus_expression.specs.Names.{IsInteger, Parameter}
 use Rattle.litmus_expression.specs.States.{State}

@@ -2,9 +2,9 @@
 use Rattle.std.proofs.Common.{◌≡◌, ◌∙◌, ℕ, zero, suc, ◌+◌, ◌*◌, ◌<◌, ◌≤◌, List, [], ◌∷◌, Bool, true, false, Option, Some, None, length, refl, sym, ap, subst, arith}
 use Rattle.litmus_lex.specs.declared.sign.Sign.TheVariants.{OpenParen, CloseParen, OpenBrace, CloseBrace, Semicolon}
 use Rattle.litmus_syntax.specs.Tree as tree
-use Rattle.litmus_cursor.specs.declared.words.Word.TheVariants as words
-use Rattle.litmus_cursor.specs.Front.{◌>>=◌, first, is_sign, others, take_sign}
-use Rattle.litmus_cursor.specs.Words.{Symbol, word, sign}
+use Rattle.litmus_lex.specs.declared.words.Word.TheVariants as words
+use Rattle.litmus_lex.specs.Front.{◌>>=◌, first, is_sign, others, take_sign}
+use Rattle.litmus_lex.specs.Words.{Symbol, word, sign}
 use Rattle.litmus_expression.specs.Counters.{AreCounters}
 use Rattle.litmus_expression.specs.Expressions.{Expression}
 use Rattle.litmus_expression.specs.ExpressionReader.{expression_at}

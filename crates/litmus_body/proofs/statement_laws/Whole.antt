@@ -3,7 +3,7 @@ use Rattle.std.proofs.Common.{◌≡◌, ◌∙◌, ℕ, ◌+◌, ◌<◌, ◌�
 use Rattle.std.specs.Prelude.{replicate}
 use Rattle.litmus_syntax.specs.Limits.{BodyKeepsLimits, block_count, block_repeats}
 use Rattle.litmus_syntax.specs.Tree as tree
-use Rattle.litmus_cursor.specs.Words.{Symbol}
+use Rattle.litmus_lex.specs.Words.{Symbol}
 use Rattle.litmus_expression.specs.Followed.{Differ, name_of}
 use Rattle.litmus_expression.specs.Names.{Names, Parameter}
 use Rattle.litmus_expression.specs.Places.{outermost}

@@ -4,7 +4,7 @@ use Rattle.std.specs.Prelude.{◌≡◌, ◌≤◌, ℕ, List, [], ◌∷◌, Op
 use Rattle.litmus_lex.specs.declared.sign.Sign.TheVariants.{OpenBrace}
 use Rattle.litmus_syntax.specs.Limits.{nesting_limit, registers_limit, scoped_limit}
 use Rattle.litmus_syntax.specs.Tree as tree
-use Rattle.litmus_cursor.specs.Words.{Symbol, sign}
+use Rattle.litmus_lex.specs.Words.{Symbol, sign}
 use Rattle.litmus_expression.specs.Counters.{AreCounters}
 use Rattle.litmus_expression.specs.Places.{NestingPlace}
 use Rattle.litmus_expression.specs.States.{State}

@@ -1,7 +1,7 @@
 -- Where the body of a process begins to be read: its parameters are known, and nothing is counted.
 use Rattle.std.specs.Prelude.{List, [], ◌∷◌}
 use Rattle.litmus_lex.specs.declared.sign.Sign.TheVariants.{OpenBrace}
-use Rattle.litmus_cursor.specs.Words.{Symbol, sign}
+use Rattle.litmus_lex.specs.Words.{Symbol, sign}
 use Rattle.litmus_expression.specs.Names.{Parameter}
 use Rattle.litmus_expression.specs.States.{State}
 

@@ -3,7 +3,7 @@
 ghost use Rattle.std.specs.Prelude.{◌≡◌, ℕ, List, [], Option, Some, map};
 ghost use Rattle.litmus_syntax.specs.Limits.{BodyKeepsLimits, block_count, block_repeats};
 ghost use Rattle.litmus_syntax.specs.Tree as tree;
-ghost use Rattle.litmus_cursor.specs.Words.{Symbol};
+ghost use Rattle.litmus_lex.specs.Words.{Symbol};
 ghost use Rattle.litmus_expression.specs.Followed.{Differ, name_of};
 ghost use Rattle.litmus_expression.specs.Names.{Names, Parameter};
 ghost use Rattle.litmus_expression.specs.Places.{NestingPlace, outermost};

@@ -9,9 +9,9 @@ use Rattle.litmus_syntax.specs.declared.statement.WriteForm.TheVariants as write
 use Rattle.litmus_syntax.specs.PrintedForm.{assignment_text, name_at, pure_text, variable_name, write_text}
 use Rattle.litmus_syntax.specs.Tree.{Assignment, Pure}
 use Rattle.litmus_syntax.specs.Tree as tree
-use Rattle.litmus_cursor.specs.declared.words.Word.TheVariants as words
-use Rattle.litmus_cursor.specs.declared.words.StoreWord.TheVariants as stores
-use Rattle.litmus_cursor.specs.Words.{Symbol, identifier, sign, word_of}
+use Rattle.litmus_lex.specs.declared.words.Word.TheVariants as words
+use Rattle.litmus_lex.specs.declared.words.StoreWord.TheVariants as stores
+use Rattle.litmus_lex.specs.Words.{Symbol, identifier, sign, word_of}
 use Rattle.litmus_expression.specs.Names.{Names}
 use Rattle.print_roundtrip.specs.printed_texts.PrintedSymbols.{assignment_symbols, pure_symbols, write_symbols}
 use Rattle.print_roundtrip.specs.printed_bytes.Reads.{Ends, Reads}

@@ -12,10 +12,10 @@ use Rattle.litmus_syntax.specs.declared.statement.Barrier.TheVariants as barrier
 use Rattle.litmus_syntax.specs.declared.statement.Call.{Call}
 use Rattle.litmus_syntax.specs.declared.statement.Call.TheVariants as calls
 use Rattle.litmus_syntax.specs.PrintedForm.{barrier_name, call_text, mark_text, variable_name}
-use Rattle.litmus_cursor.specs.declared.words.Word.TheVariants as words
-use Rattle.litmus_cursor.specs.declared.words.CallWord.{CallWord}
-use Rattle.litmus_cursor.specs.declared.words.CallWord.TheVariants as asks
-use Rattle.litmus_cursor.specs.Words.{Symbol, identifier, number, sign, word, word_of}
+use Rattle.litmus_lex.specs.declared.words.Word.TheVariants as words
+use Rattle.litmus_lex.specs.declared.words.CallWord.{CallWord}
+use Rattle.litmus_lex.specs.declared.words.CallWord.TheVariants as asks
+use Rattle.litmus_lex.specs.Words.{Symbol, identifier, number, sign, word, word_of}
 use Rattle.litmus_expression.specs.Names.{Names}
 use Rattle.print_roundtrip.specs.printed_texts.PrintedSymbols.{call_symbols, mark_symbols}
 use Rattle.print_roundtrip.specs.printed_bytes.Reads.{Reads}

@@ -22,9 +22,9 @@ use Rattle.litmus_syntax.specs.declared.program.Variable.{Variable}
 use Rattle.litmus_syntax.specs.PrintedForm.{binary_sign, expression_text, fetch_text, joined, load_text, loading_text, name_at, parenthesized, pure_text, read_text, repeated, unary_sign, variable_name}
 use Rattle.litmus_syntax.specs.Tree.{Expression, Fetch, Load, Loading, Pure}
 use Rattle.litmus_syntax.specs.Tree as tree
-use Rattle.litmus_cursor.specs.declared.words.LoadWord.TheVariants as loads
-use Rattle.litmus_cursor.specs.declared.words.Word.TheVariants as words
-use Rattle.litmus_cursor.specs.Words.{Symbol, identifier, sign, word, word_of}
+use Rattle.litmus_lex.specs.declared.words.LoadWord.TheVariants as loads
+use Rattle.litmus_lex.specs.declared.words.Word.TheVariants as words
+use Rattle.litmus_lex.specs.Words.{Symbol, identifier, sign, word, word_of}
 use Rattle.litmus_expression.specs.Expressions.{sign_of_binary, sign_of_unary}
 use Rattle.litmus_expression.specs.Names.{Names}
 use Rattle.print_roundtrip.specs.printed_texts.PrintedSymbols.{closes, expression_symbols, fetch_symbols, load_symbols, loading_symbols, opens, pure_symbols, read_symbols}

@@ -9,7 +9,7 @@ use Rattle.litmus_lex.specs.Bytes.{belongs, IsRun}
 use Rattle.litmus_lex.specs.Head.{HasTitle, IsAtBrace, IsHead, IsText}
 use Rattle.litmus_lex.specs.Tokens.{AreTokens, Placed}
 use Rattle.litmus_syntax.specs.PrintedForm.{name_line}
-use Rattle.litmus_cursor.specs.Words.{Symbol}
+use Rattle.litmus_lex.specs.Words.{Symbol}
 use Rattle.litmus_parse.specs.Grammar.{symbol_at}
 use Rattle.litmus_parse.specs.Text.{IsTextByte}
 use Rattle.print_roundtrip.specs.printed_bytes.Reads.{AreText, Reads}

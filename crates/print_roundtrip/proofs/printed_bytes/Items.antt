@@ -9,9 +9,9 @@ use Rattle.litmus_syntax.specs.declared.program.Contents.{Contents}
 use Rattle.litmus_syntax.specs.declared.program.Contents.TheVariants as contents
 use Rattle.litmus_syntax.specs.declared.program.Variable.{Variable}
 use Rattle.litmus_syntax.specs.PrintedForm.{initial_text, initialization_line, item_text, items_text, type_name}
-use Rattle.litmus_cursor.specs.declared.words.VariableType.TheVariants as types
-use Rattle.litmus_cursor.specs.declared.words.Word.TheVariants as words
-use Rattle.litmus_cursor.specs.Words.{Symbol, identifier, sign, word, word_of}
+use Rattle.litmus_lex.specs.declared.words.VariableType.TheVariants as types
+use Rattle.litmus_lex.specs.declared.words.Word.TheVariants as words
+use Rattle.litmus_lex.specs.Words.{Symbol, identifier, sign, word, word_of}
 use Rattle.print_roundtrip.specs.printed_texts.PrintedProcess.{type_of}
 use Rattle.print_roundtrip.specs.printed_texts.PrintedProgram.{initial_symbols, items_symbols, signed_symbols}
 use Rattle.print_roundtrip.specs.printed_bytes.Reads.{Ends, IsIdentifier, Reads}

@@ -17,8 +17,8 @@ use Rattle.litmus_lex.specs.Sign.{sign_bytes, IsLongestSign}
 use Rattle.litmus_lex.specs.Token as terminals
 use Rattle.litmus_lex.specs.Token.{BeginsHexadecimal, IsName, IsNumber, Spells, Terminal}
 use Rattle.litmus_lex.specs.Tokens.{AreTokens, First, Placed, StartsAt, part_after, place_of}
-use Rattle.litmus_cursor.specs.declared.words.Word.{Word}
-use Rattle.litmus_cursor.specs.Words.{Symbol, identifier, number, sign, symbol_of, symbol_of_name, word, word_of}
+use Rattle.litmus_lex.specs.declared.words.Word.{Word}
+use Rattle.litmus_lex.specs.Words.{Symbol, identifier, number, sign, symbol_of, symbol_of_name, word, word_of}
 use Rattle.litmus_parse.specs.Grammar.{symbol_at}
 use Rattle.print_roundtrip.specs.printed_bytes.Reads.{AreText, Ends, IsIdentifier, Reads}
 use Rattle.print_roundtrip.proofs.printed_bytes.TextBytes.{blank_text, both_text, digits_text, name_text, sign_text}

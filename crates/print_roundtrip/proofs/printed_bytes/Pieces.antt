@@ -12,7 +12,7 @@ use Rattle.litmus_lex.specs.Bytes.{belongs, IsRun}
 use Rattle.litmus_lex.specs.Gap.{IsAtToken, Opens}
 use Rattle.litmus_lex.specs.Sign.{sign_bytes, Begins, IsLongestSign}
 use Rattle.litmus_lex.specs.Token.{IsName}
-use Rattle.litmus_cursor.specs.Words.{Symbol}
+use Rattle.litmus_lex.specs.Words.{Symbol}
 use Rattle.print_roundtrip.specs.printed_bytes.Reads.{Reads}
 
 and_first : (a b : Bool) → (a && b) ≡ true → a ≡ true

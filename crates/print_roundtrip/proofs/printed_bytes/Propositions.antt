@@ -21,8 +21,8 @@ use Rattle.litmus_syntax.specs.declared.proposition.Quantifier.TheVariants.{Exis
 use Rattle.litmus_syntax.specs.PrintedForm.{name_at, proposition_text, quantifier_text, registers_of, variable_name}
 use Rattle.litmus_syntax.specs.Tree.{Proposition, Task}
 use Rattle.litmus_syntax.specs.Tree as tree
-use Rattle.litmus_cursor.specs.declared.words.Word.TheVariants as words
-use Rattle.litmus_cursor.specs.Words.{Symbol, number, sign, word_of}
+use Rattle.litmus_lex.specs.declared.words.Word.TheVariants as words
+use Rattle.litmus_lex.specs.Words.{Symbol, number, sign, word_of}
 use Rattle.print_roundtrip.specs.printed_texts.PrintedCondition.{proposition_symbols, quantifier_symbols}
 use Rattle.print_roundtrip.specs.printed_bytes.Reads.{Ends, Reads}
 use Rattle.print_roundtrip.specs.printed_bytes.Expressions.{IsShort}

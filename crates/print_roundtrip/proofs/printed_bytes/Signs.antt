@@ -12,8 +12,8 @@ use Rattle.litmus_lex.specs.Part.{closed}
 use Rattle.litmus_lex.specs.Sign.{sign_bytes}
 use Rattle.litmus_lex.specs.Token as terminals
 use Rattle.litmus_lex.specs.Tokens.{part_after}
-use Rattle.litmus_cursor.specs.declared.words.Word.{Word}
-use Rattle.litmus_cursor.specs.Words.{Symbol, sign, word, word_of}
+use Rattle.litmus_lex.specs.declared.words.Word.{Word}
+use Rattle.litmus_lex.specs.Words.{Symbol, sign, word, word_of}
 use Rattle.print_roundtrip.specs.printed_bytes.Reads.{Ends, Reads}
 use Rattle.print_roundtrip.proofs.printed_bytes.Lexed.{blank_reads, sign_reads, word_reads}
 use Rattle.print_roundtrip.proofs.printed_bytes.Pieces.{alone, begins_longer, double, ended, is_word, paren_token, plain_token, word_is}

@@ -14,9 +14,9 @@ use Rattle.litmus_syntax.specs.declared.program.Variable.{Variable}
 use Rattle.litmus_syntax.specs.Limits.{IsVariable, Sort, TaskKeepsLimits}
 use Rattle.litmus_syntax.specs.PrintedForm.{name_at, registers_of}
 use Rattle.litmus_syntax.specs.Tree as tree
-use Rattle.litmus_cursor.specs.declared.words.VariableType.{VariableType}
-use Rattle.litmus_cursor.specs.declared.words.VariableType.TheVariants.{Char, Short, Int, Long, Atomic, Lock}
-use Rattle.litmus_cursor.specs.Words.{Symbol}
+use Rattle.litmus_lex.specs.declared.words.VariableType.{VariableType}
+use Rattle.litmus_lex.specs.declared.words.VariableType.TheVariants.{Char, Short, Int, Long, Atomic, Lock}
+use Rattle.litmus_lex.specs.Words.{Symbol}
 use Rattle.litmus_expression.specs.Names.{Names, Parameter}
 use Rattle.litmus_expression.proofs.Named.{in_front, in_rest}
 use Rattle.litmus_parse.specs.Conditions as conditions

@@ -10,8 +10,8 @@ use Rattle.litmus_syntax.specs.declared.program.Variable.{Variable}
 use Rattle.litmus_syntax.specs.PrintedForm.{assign_text, assignment_text, block_text, call_text, expression_text, for_head, if_head, line, load_text, name_at, statement_text}
 use Rattle.litmus_syntax.specs.Tree.{Assignment, Block, Expression, Statement}
 use Rattle.litmus_syntax.specs.Tree as tree
-use Rattle.litmus_cursor.specs.declared.words.Word.TheVariants as words
-use Rattle.litmus_cursor.specs.Words.{Symbol, number, sign, word, word_of}
+use Rattle.litmus_lex.specs.declared.words.Word.TheVariants as words
+use Rattle.litmus_lex.specs.Words.{Symbol, number, sign, word, word_of}
 use Rattle.litmus_expression.specs.Names.{Names}
 use Rattle.print_roundtrip.specs.printed_texts.PrintedSymbols.{assign_symbols, assignment_symbols, block_symbols, expression_symbols, for_symbols, statement_symbols}
 use Rattle.print_roundtrip.specs.printed_bytes.Reads.{Ends, IsIdentifier, Reads}

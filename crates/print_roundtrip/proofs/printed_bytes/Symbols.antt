@@ -7,8 +7,8 @@ use Rattle.litmus_lex.specs.Bytes.{IsRun}
 use Rattle.litmus_lex.specs.Token as terminals
 use Rattle.litmus_lex.specs.Token.{IsName, Spells, Terminal}
 use Rattle.litmus_lex.specs.Tokens.{AreTokens, Placed, part_after}
-use Rattle.litmus_cursor.specs.declared.words.Word.{Word}
-use Rattle.litmus_cursor.specs.Words.{symbol_of, symbol_of_name, word_of}
+use Rattle.litmus_lex.specs.declared.words.Word.{Word}
+use Rattle.litmus_lex.specs.Words.{symbol_of, symbol_of_name, word_of}
 use Rattle.litmus_parse.specs.Grammar.{symbol_at}
 use Rattle.litmus_parse.proofs.NamesSpelled.{OfSymbol, Spell}
 use Rattle.print_roundtrip.specs.printed_bytes.Expressions.{IsShort}

@@ -15,9 +15,9 @@ use Rattle.litmus_syntax.specs.declared.program.Contents.TheVariants as contents
 use Rattle.litmus_syntax.specs.declared.program.Variable.{Variable}
 use Rattle.litmus_syntax.specs.PrintedForm.{block_text, continued, declaration, declarations, listed, parameter_of, parameter_texts, task_text, tasks_text, type_name}
 use Rattle.litmus_syntax.specs.Tree.{Task}
-use Rattle.litmus_cursor.specs.declared.words.VariableType.TheVariants.{Int}
-use Rattle.litmus_cursor.specs.declared.words.Word.TheVariants as words
-use Rattle.litmus_cursor.specs.Words.{Symbol, sign, word_of}
+use Rattle.litmus_lex.specs.declared.words.VariableType.TheVariants.{Int}
+use Rattle.litmus_lex.specs.declared.words.Word.TheVariants as words
+use Rattle.litmus_lex.specs.Words.{Symbol, sign, word_of}
 use Rattle.litmus_expression.specs.Names.{Names}
 use Rattle.litmus_parse.specs.Headers.{process_name}
 use Rattle.print_roundtrip.specs.printed_texts.PrintedProcess.{continued_symbols, declarations_symbols, listed_symbols, parameter_symbols, task_symbols}

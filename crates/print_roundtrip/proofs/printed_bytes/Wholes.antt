@@ -7,7 +7,7 @@ use Rattle.litmus_lex.specs.Tokens.{Placed}
 use Rattle.litmus_syntax.specs.PrintedForm.{condition_line, printed, proposition_text}
 use Rattle.litmus_syntax.specs.Tree.{Program}
 use Rattle.litmus_syntax.specs.Limits.{file_bytes}
-use Rattle.litmus_cursor.specs.Words.{Symbol}
+use Rattle.litmus_lex.specs.Words.{Symbol}
 use Rattle.litmus_parse.specs.Grammar.{Grammar, SpellsProgram, symbol_at}
 use Rattle.litmus_parse.specs.Text.{IsTextByte}
 use Rattle.print_roundtrip.specs.printed_texts.PrintedCondition.{proposition_symbols, quantifier_symbols}

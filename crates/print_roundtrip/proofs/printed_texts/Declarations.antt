@@ -4,9 +4,9 @@ use Rattle.std.specs.Prelude.{Contains, flat_map, slice_get}
 use Rattle.litmus_syntax.specs.declared.program.Contents.{Contents}
 use Rattle.litmus_syntax.specs.declared.program.Contents.TheVariants as contents
 use Rattle.litmus_syntax.specs.declared.program.Variable.{Variable}
-use Rattle.litmus_cursor.specs.declared.words.VariableType.{VariableType}
-use Rattle.litmus_cursor.specs.declared.words.VariableType.TheVariants.{Int, Lock}
-use Rattle.litmus_cursor.specs.Words.{is_same}
+use Rattle.litmus_lex.specs.declared.words.VariableType.{VariableType}
+use Rattle.litmus_lex.specs.declared.words.VariableType.TheVariants.{Int, Lock}
+use Rattle.litmus_lex.specs.Words.{is_same}
 use Rattle.litmus_expression.specs.Followed.{Differ}
 use Rattle.litmus_expression.specs.Names.{Names, Parameter}
 use Rattle.litmus_expression.proofs.Named.{among, in_front, in_none, in_rest, is_itself, is_other}

@@ -9,8 +9,8 @@ use Rattle.litmus_syntax.specs.declared.program.Variable.{Variable}
 use Rattle.litmus_syntax.specs.PrintedForm.{name_at, variable_name}
 use Rattle.litmus_syntax.specs.Limits.{operators, pure_operators}
 use Rattle.litmus_syntax.specs.Tree as tree
-use Rattle.litmus_cursor.specs.declared.words.VariableType.{VariableType}
-use Rattle.litmus_cursor.specs.Words.{Symbol, sign}
+use Rattle.litmus_lex.specs.declared.words.VariableType.{VariableType}
+use Rattle.litmus_lex.specs.Words.{Symbol, sign}
 use Rattle.litmus_expression.specs.Expressions as grammar
 use Rattle.litmus_expression.specs.Expressions.{Applied, Combined, Expression, Level, Load, Operand, Pure, bare, level_of, sign_of_binary, sign_of_unary}
 use Rattle.litmus_expression.specs.Names.{IsChanged, IsRegister, IsVariable, Names, Parameter, known}

@@ -2,7 +2,7 @@
 use Rattle.std.proofs.Common.{◌≡◌, ℕ, List, Option, Some}
 use Rattle.std.specs.Prelude.{slice_get}
 use Rattle.litmus_syntax.specs.Tree as tree
-use Rattle.litmus_cursor.specs.Words.{Symbol}
+use Rattle.litmus_lex.specs.Words.{Symbol}
 use Rattle.litmus_expression.specs.Expressions as grammar
 use Rattle.litmus_expression.specs.Expressions.{Level, Load, Operand, Pure}
 use Rattle.litmus_expression.specs.Names.{Names, Numbered, Parameter}

@@ -10,10 +10,10 @@ use Rattle.litmus_lex.specs.declared.sign.Sign.TheVariants.{CloseBrace, Semicolo
 use Rattle.litmus_syntax.specs.declared.program.Contents.{Contents}
 use Rattle.litmus_syntax.specs.declared.program.Contents.TheVariants as contents
 use Rattle.litmus_syntax.specs.declared.program.Variable.{Variable}
-use Rattle.litmus_cursor.specs.declared.words.VariableType.{VariableType}
-use Rattle.litmus_cursor.specs.declared.words.VariableType.TheVariants.{Char, Short, Int, Long, Atomic, Lock}
-use Rattle.litmus_cursor.specs.declared.words.Word.TheVariants as words
-use Rattle.litmus_cursor.specs.Words.{Symbol, identifier, sign, word}
+use Rattle.litmus_lex.specs.declared.words.VariableType.{VariableType}
+use Rattle.litmus_lex.specs.declared.words.VariableType.TheVariants.{Char, Short, Int, Long, Atomic, Lock}
+use Rattle.litmus_lex.specs.declared.words.Word.TheVariants as words
+use Rattle.litmus_lex.specs.Words.{Symbol, identifier, sign, word}
 use Rattle.litmus_expression.specs.Followed.{Differ}
 use Rattle.litmus_expression.specs.Names.{Names, Numbered, new}
 use Rattle.litmus_parse.specs.Headers as headers

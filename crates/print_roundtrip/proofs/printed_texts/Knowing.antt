@@ -6,9 +6,9 @@ use Rattle.litmus_syntax.specs.declared.program.Contents.{Contents}
 use Rattle.litmus_syntax.specs.declared.program.Variable.{Variable}
 use Rattle.litmus_syntax.specs.PrintedForm.{variable_name}
 use Rattle.litmus_syntax.specs.Tree as tree
-use Rattle.litmus_cursor.specs.declared.words.VariableType.{VariableType}
-use Rattle.litmus_cursor.specs.declared.words.VariableType.TheVariants.{Int, Lock}
-use Rattle.litmus_cursor.specs.Words.{Symbol}
+use Rattle.litmus_lex.specs.declared.words.VariableType.{VariableType}
+use Rattle.litmus_lex.specs.declared.words.VariableType.TheVariants.{Int, Lock}
+use Rattle.litmus_lex.specs.Words.{Symbol}
 use Rattle.litmus_expression.specs.Followed.{Differ}
 use Rattle.litmus_expression.specs.Names.{Names, Numbered, Parameter, known, new}
 use Rattle.litmus_expression.proofs.Named.{among, in_front, in_none, in_rest}

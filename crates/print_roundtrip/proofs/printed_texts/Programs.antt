@@ -6,7 +6,7 @@ use Rattle.std.proofs.lemmas.List.{length-append, length-set}
 use Rattle.litmus_lex.specs.declared.sign.Sign.TheVariants.{CloseBrace}
 use Rattle.litmus_syntax.specs.declared.program.Variable.{Variable}
 use Rattle.litmus_syntax.specs.Tree as tree
-use Rattle.litmus_cursor.specs.Words.{Symbol, sign}
+use Rattle.litmus_lex.specs.Words.{Symbol, sign}
 use Rattle.litmus_expression.specs.Followed.{Differ}
 use Rattle.litmus_expression.specs.Names.{IsFree, IsRegister, Names, Numbered, Parameter, known, new}
 use Rattle.litmus_expression.proofs.Complete.{numbered_differ}

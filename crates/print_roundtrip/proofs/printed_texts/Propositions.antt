@@ -6,7 +6,7 @@ use Rattle.litmus_syntax.specs.declared.program.Variable.{Variable}
 use Rattle.litmus_syntax.specs.declared.proposition.Quantifier.{Quantifier}
 use Rattle.litmus_syntax.specs.PrintedForm.{name_at, registers_of, variable_name}
 use Rattle.litmus_syntax.specs.Tree as tree
-use Rattle.litmus_cursor.specs.Words.{Symbol, sign}
+use Rattle.litmus_lex.specs.Words.{Symbol, sign}
 use Rattle.litmus_expression.specs.Names.{IsFree, IsRegister, Names, Parameter, known}
 use Rattle.litmus_parse.specs.Conditions as conditions
 use Rattle.litmus_parse.specs.Conditions.{Atom, Conjoined, Disjoined, IsKnown, Negation, Quantifies, with_registers}

@@ -13,11 +13,11 @@ use Rattle.litmus_syntax.specs.declared.statement.WriteForm.{WriteForm}
 use Rattle.litmus_syntax.specs.declared.statement.WriteForm.TheVariants as writes
 use Rattle.litmus_syntax.specs.PrintedForm.{variable_name}
 use Rattle.litmus_syntax.specs.Tree as tree
-use Rattle.litmus_cursor.specs.declared.words.VariableType.{VariableType}
-use Rattle.litmus_cursor.specs.declared.words.Word.{Word}
-use Rattle.litmus_cursor.specs.declared.words.Word.TheVariants as words
-use Rattle.litmus_cursor.specs.Front.{first}
-use Rattle.litmus_cursor.specs.Words.{Symbol, word, identifier, number, sign, fault}
+use Rattle.litmus_lex.specs.declared.words.VariableType.{VariableType}
+use Rattle.litmus_lex.specs.declared.words.Word.{Word}
+use Rattle.litmus_lex.specs.declared.words.Word.TheVariants as words
+use Rattle.litmus_lex.specs.Front.{first}
+use Rattle.litmus_lex.specs.Words.{Symbol, word, identifier, number, sign, fault}
 use Rattle.litmus_expression.specs.Names.{Names, Parameter}
 use Rattle.litmus_body.specs.Statements as statements
 use Rattle.litmus_body.specs.Statements.{Body, Calls, Enclosable, IsNoDataRace, IsNoElse, Simple, Statement, Statements, alone, kept, raced}

@@ -5,7 +5,7 @@ use Rattle.litmus_lex.specs.declared.token.Part.{Part}
 use Rattle.litmus_lex.specs.Bytes.{IsRun}
 use Rattle.litmus_lex.specs.Token.{IsName}
 use Rattle.litmus_lex.specs.Tokens.{AreTokens, Placed}
-use Rattle.litmus_cursor.specs.Words.{Symbol, word_of}
+use Rattle.litmus_lex.specs.Words.{Symbol, word_of}
 use Rattle.litmus_parse.specs.Grammar.{symbol_at}
 use Rattle.litmus_parse.specs.Text.{IsTextByte}
 

@@ -8,8 +8,8 @@ use Rattle.litmus_syntax.specs.Limits.{nesting_limit}
 use Rattle.litmus_syntax.specs.PrintedForm.{name_at, registers_of, variable_name}
 use Rattle.litmus_syntax.specs.Tree.{Proposition, Task}
 use Rattle.litmus_syntax.specs.Tree as tree
-use Rattle.litmus_cursor.specs.declared.words.Word.TheVariants as words
-use Rattle.litmus_cursor.specs.Words.{Symbol, word, identifier, number, sign}
+use Rattle.litmus_lex.specs.declared.words.Word.TheVariants as words
+use Rattle.litmus_lex.specs.Words.{Symbol, word, identifier, number, sign}
 
 abbrev pub proposition_symbols : List Variable → List Task → Proposition → List Symbol → List Symbol
 proposition_symbols variables tasks tree.always rest = word words.True ∷ rest

@@ -13,11 +13,11 @@ use Rattle.litmus_syntax.specs.declared.statement.WriteForm.{WriteForm}
 use Rattle.litmus_syntax.specs.declared.statement.WriteForm.TheVariants as writes
 use Rattle.litmus_syntax.specs.declared.statement.Call.{Call}
 use Rattle.litmus_syntax.specs.declared.statement.Call.TheVariants as calls
-use Rattle.litmus_cursor.specs.declared.words.Word.TheVariants as words
-use Rattle.litmus_cursor.specs.declared.words.LoadWord.TheVariants as loads
-use Rattle.litmus_cursor.specs.declared.words.StoreWord.TheVariants as stores
-use Rattle.litmus_cursor.specs.declared.words.CallWord.TheVariants as asks
-use Rattle.litmus_cursor.specs.Words.{Symbol, word, identifier, number, sign}
+use Rattle.litmus_lex.specs.declared.words.Word.TheVariants as words
+use Rattle.litmus_lex.specs.declared.words.LoadWord.TheVariants as loads
+use Rattle.litmus_lex.specs.declared.words.StoreWord.TheVariants as stores
+use Rattle.litmus_lex.specs.declared.words.CallWord.TheVariants as asks
+use Rattle.litmus_lex.specs.Words.{Symbol, word, identifier, number, sign}
 use Rattle.litmus_expression.specs.Expressions.{sign_of_binary, sign_of_unary}
 use Rattle.litmus_expression.specs.Names.{Names}
 

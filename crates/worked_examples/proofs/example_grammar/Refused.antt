@@ -9,10 +9,10 @@ use Rattle.litmus_syntax.specs.declared.expression.BinaryOperator.{BinaryOperato
 use Rattle.litmus_syntax.specs.declared.expression.BinaryOperator.TheVariants as binaries
 use Rattle.litmus_syntax.specs.declared.statement.Call.{Call}
 use Rattle.litmus_syntax.specs.Tree as tree
-use Rattle.litmus_cursor.specs.declared.words.VariableType.{VariableType}
-use Rattle.litmus_cursor.specs.declared.words.VariableType.TheVariants.{Int, Atomic}
-use Rattle.litmus_cursor.specs.declared.words.Word.TheVariants as words
-use Rattle.litmus_cursor.specs.Words.{Symbol, word, identifier, number, sign, fault}
+use Rattle.litmus_lex.specs.declared.words.VariableType.{VariableType}
+use Rattle.litmus_lex.specs.declared.words.VariableType.TheVariants.{Int, Atomic}
+use Rattle.litmus_lex.specs.declared.words.Word.TheVariants as words
+use Rattle.litmus_lex.specs.Words.{Symbol, word, identifier, number, sign, fault}
 use Rattle.litmus_expression.specs.Names.{Names, Numbered, known, new, Parameter, IsFree, IsVariable, IsInteger}
 use Rattle.litmus_expression.specs.Expressions.{Applied, to_pure, to_loading, Combined, none, left, right, Level, operand, prefixed, stronger, infixed, sign_of_binary, sign_of_unary}
 use Rattle.litmus_expression.specs.Expressions.{Operand, a_number, a_register, parenthesized, Load, plain, once, acquire, atomic, exchange, compare_exchange, enclosed, Pure, whole}

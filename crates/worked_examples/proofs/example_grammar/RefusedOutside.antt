@@ -3,9 +3,9 @@ use Rattle.std.proofs.Common.{◌≡◌, ◌⊎◌, inl, inr, ⊎_elim, ◌∙�
 use Rattle.std.specs.Prelude.{Contains, codes, map}
 use Rattle.litmus_lex.specs.declared.sign.Sign.TheVariants.{CloseBrace, OpenParen}
 use Rattle.litmus_syntax.specs.Tree.{Proposition}
-use Rattle.litmus_cursor.specs.declared.words.VariableType.{VariableType}
-use Rattle.litmus_cursor.specs.declared.words.VariableType.TheVariants.{Char, Lock}
-use Rattle.litmus_cursor.specs.Words.{Symbol, identifier, sign}
+use Rattle.litmus_lex.specs.declared.words.VariableType.{VariableType}
+use Rattle.litmus_lex.specs.declared.words.VariableType.TheVariants.{Char, Lock}
+use Rattle.litmus_lex.specs.Words.{Symbol, identifier, sign}
 use Rattle.litmus_expression.specs.Names.{Names, Parameter}
 use Rattle.litmus_parse.specs.Conditions.{IsKnown, Atom, Disjoined, Conjoined, Negation}
 use Rattle.litmus_parse.specs.Conditions as conditions

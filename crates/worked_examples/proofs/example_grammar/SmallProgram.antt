@@ -2,8 +2,8 @@
 use Rattle.std.proofs.Common.{◌≡◌, ◌<◌, ℕ, zero, suc, List, [], ◌∷◌, Option, refl, sym, ap, length, drop, arith, lit<, lit≤}
 use Rattle.std.specs.Prelude.{Contains, codes}
 use Rattle.std.specs.Fmt.{digits}
-use Rattle.litmus_cursor.specs.declared.words.VariableType.{VariableType}
-use Rattle.litmus_cursor.specs.declared.words.VariableType.TheVariants.{Int}
+use Rattle.litmus_lex.specs.declared.words.VariableType.{VariableType}
+use Rattle.litmus_lex.specs.declared.words.VariableType.TheVariants.{Int}
 use Rattle.litmus_syntax.specs.Limits.{BodyKeepsLimits}
 use Rattle.litmus_expression.specs.Names.{Parameter, IsChanged, IsFree, IsRegister, IsVariable, IsInteger, known, new}
 use Rattle.litmus_expression.specs.Expressions.{operand, a_load, plain, stronger}

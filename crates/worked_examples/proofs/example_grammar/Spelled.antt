@@ -7,8 +7,8 @@ use Rattle.litmus_syntax.specs.declared.expression.UnaryOperator.TheVariants as 
 use Rattle.litmus_syntax.specs.declared.expression.BinaryOperator.TheVariants as binaries
 use Rattle.litmus_syntax.specs.declared.expression.ReadForm.TheVariants.{Plain}
 use Rattle.litmus_syntax.specs.Tree as tree
-use Rattle.litmus_cursor.specs.declared.words.VariableType.TheVariants.{Int}
-use Rattle.litmus_cursor.specs.Words.{Symbol, number, sign}
+use Rattle.litmus_lex.specs.declared.words.VariableType.TheVariants.{Int}
+use Rattle.litmus_lex.specs.Words.{Symbol, number, sign}
 use Rattle.litmus_expression.specs.Names.{Names, Parameter, IsFree, IsRegister, IsVariable, IsInteger, new}
 use Rattle.litmus_expression.specs.Expressions.{Level, operand, prefixed, stronger, infixed, Operand, a_number, a_register, a_load, parenthesized, Load}
 use Rattle.litmus_expression.specs.Expressions.{plain, once, acquire, atomic, exchange, compare_exchange, enclosed, to_loading, none, bare, Expression, sign_of_unary}

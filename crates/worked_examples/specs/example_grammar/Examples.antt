@@ -9,9 +9,9 @@ use Rattle.litmus_syntax.specs.declared.expression.ReadForm.TheVariants.{Plain}
 use Rattle.litmus_syntax.specs.declared.program.Contents.TheVariants as contents
 use Rattle.litmus_syntax.specs.declared.proposition.Quantifier.TheVariants.{Exists}
 use Rattle.litmus_syntax.specs.Tree as tree
-use Rattle.litmus_cursor.specs.declared.words.VariableType.TheVariants.{Char, Int, Atomic, Lock}
-use Rattle.litmus_cursor.specs.declared.words.Word.TheVariants as words
-use Rattle.litmus_cursor.specs.Words.{Symbol, word, identifier, number, sign}
+use Rattle.litmus_lex.specs.declared.words.VariableType.TheVariants.{Char, Int, Atomic, Lock}
+use Rattle.litmus_lex.specs.declared.words.Word.TheVariants as words
+use Rattle.litmus_lex.specs.Words.{Symbol, word, identifier, number, sign}
 use Rattle.litmus_expression.specs.Names.{Names, Parameter}
 use Rattle.litmus_parse.specs.Mentions.{Mention, parameter}
 

@@ -3,8 +3,8 @@
 ghost use Rattle.std.specs.Prelude.{◌≡◌, ℕ, List, [], ◌∷◌, Option, Some, codes};
 ghost use Rattle.litmus_lex.specs.declared.sign.Sign.TheVariants.{Plus, Semicolon};
 ghost use Rattle.litmus_syntax.specs.Tree as tree;
-ghost use Rattle.litmus_cursor.specs.declared.words.VariableType.{VariableType};
-ghost use Rattle.litmus_cursor.specs.Words.{Symbol, sign};
+ghost use Rattle.litmus_lex.specs.declared.words.VariableType.{VariableType};
+ghost use Rattle.litmus_lex.specs.Words.{Symbol, sign};
 ghost use Rattle.litmus_expression.specs.Expressions.{Expression};
 ghost use Rattle.litmus_expression.specs.Names.{Names, Parameter};
 ghost use Rattle.litmus_body.specs.Statements.{Statement};

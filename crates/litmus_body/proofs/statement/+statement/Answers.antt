@@ -3,7 +3,7 @@ use Rattle.std.proofs.Common.{◌≡◌, ◌∙◌, List, Some, sym, ap, subst}
 use Rattle.litmus_syntax.specs.Tree as tree
 use Rattle.litmus_syntax.specs.Views.{block_of}
 use Rattle.litmus_syntax.proofs.TreeLemmas.{statement_of-For}
-use Rattle.litmus_cursor.specs.Words.{Symbol}
+use Rattle.litmus_lex.specs.Words.{Symbol}
 use Rattle.litmus_expression.specs.Places.{place_of}
 use Rattle.litmus_expression.specs.States.{after, state_of, with_left}
 use Rattle.litmus_body.specs.StatementReader.{header_at}

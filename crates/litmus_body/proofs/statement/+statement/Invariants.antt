@@ -1,7 +1,7 @@
 -- Tokens are taken, or the part that is read is nearer to its first token.
 use Rattle.std.proofs.Common.{◌≡◌, ◌+◌, ◌*◌, ◌<◌}
 use Rattle.litmus_syntax.specs.Views.{block_of}
-use Rattle.litmus_cursor.specs.Cursor.{count_left}
+use Rattle.litmus_lex.specs.Cursor.{count_left}
 use Rattle.litmus_expression.specs.Places.{place_of}
 use Rattle.litmus_expression.specs.States.{state_of}
 use Rattle.litmus_body.specs.StatementReader.{block_at, more_at}

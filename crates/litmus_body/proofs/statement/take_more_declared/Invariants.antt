@@ -1,7 +1,7 @@
 -- Each `,` takes a token, and what is left to read is what was to be read.
 use Rattle.std.proofs.Common.{◌≡◌, ◌≤◌}
-use Rattle.litmus_cursor.specs.Cursor.{count_left}
-use Rattle.litmus_cursor.specs.Front.{symbols_left}
+use Rattle.litmus_lex.specs.Cursor.{count_left}
+use Rattle.litmus_lex.specs.Front.{symbols_left}
 use Rattle.litmus_expression.specs.Places.{place_of}
 use Rattle.litmus_expression.specs.States.{state_of}
 use Rattle.litmus_body.specs.StatementReader.{more_declared}

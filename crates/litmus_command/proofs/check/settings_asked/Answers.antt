@@ -7,7 +7,7 @@ use Rattle.litmus_command.proofs.CheckLemmas.{is_missing, is_there, list_fault}
 use Rattle.litmus_command.proofs.ListLemmas.{some_item_is_no_entry, some_item_is_no_place}
 use Rattle.litmus_command.specs.Lists.{SpellsNoPlaces, SpellsNoSchedule}
 use Rattle.litmus_command.specs.declared.command.Failure.TheVariants.{BadPlace, BadSchedule}
-use Rattle.option_lists.specs.step_schedule.Schedule.{entries_of}
+use Rattle.prepared_program.specs.step_schedule.Schedule.{entries_of}
 use Rattle.litmus_command.proofs.check.settings_asked.Goals as goal
 
 pub returns-then-is_none-clause-at_fault : goal.returns-then-is_none-clause-at_fault

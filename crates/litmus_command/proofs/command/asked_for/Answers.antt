@@ -2,7 +2,7 @@
 use Rattle.std.proofs.Common.{◌≡◌, ◌∙◌, None, Some, ap, inl, inr, sym}
 use Rattle.std.specs.Option.{option_map}
 use Rattle.litmus_command.proofs.ResultLemmas.{err_holds}
-use Rattle.option_lists.specs.step_schedule.Schedule.{entries_of}
+use Rattle.prepared_program.specs.step_schedule.Schedule.{entries_of}
 use Rattle.litmus_command.proofs.command.asked_for.Goals as goal
 
 pub returns-in_default-clause-misused : goal.returns-in_default-clause-misused

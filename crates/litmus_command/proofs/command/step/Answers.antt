@@ -11,7 +11,7 @@ use Rattle.litmus_command.specs.Engine.{IsRefused, TextLeaves}
 use Rattle.litmus_command.specs.declared.command.Failure.TheVariants.{Engine}
 use Rattle.litmus_command.specs.declared.desk.ReadFault.TheVariants as fault
 use Rattle.litmus_parse.specs.Text.{file_bytes}
-use Rattle.option_lists.specs.step_schedule.Schedule.{entries_of}
+use Rattle.prepared_program.specs.step_schedule.Schedule.{entries_of}
 
 pub returns-in_err-settings : goal.returns-in_err-settings
 returns-in_err-settings g c =

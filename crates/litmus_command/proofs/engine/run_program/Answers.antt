@@ -6,7 +6,7 @@ use Rattle.litmus_command.specs.Engine.{Stops}
 use Rattle.litmus_step.specs.Runs.{run_of}
 use Rattle.litmus_step.specs.Steps.{LeadsTo}
 use Rattle.run_output.specs.declared.error.EngineError.TheVariants.{Run}
-use Rattle.option_lists.specs.step_schedule.Schedule.{entries_of}
+use Rattle.prepared_program.specs.step_schedule.Schedule.{entries_of}
 
 pub run_ready-requires-clause-begins : goal.run_ready-requires-clause-begins
 run_ready-requires-clause-begins c =

@@ -13,8 +13,8 @@ use Rattle.litmus_syntax.specs.Views.{task_of}
 use Rattle.prepared_program.specs.program_sites.Prepared.{sites_in}
 use Rattle.prepared_program.specs.declared.program_sites.error.RunError.TheVariants.{BadSchedule, OutOfMemory, Stuck}
 use Rattle.run_output.specs.declared.error.EngineError.TheVariants.{Run}
-use Rattle.option_lists.specs.step_schedule.Order.{IsOrder}
-use Rattle.option_lists.specs.step_schedule.Schedule.{entries_of, names_stranger}
+use Rattle.prepared_program.specs.step_schedule.Order.{IsOrder}
+use Rattle.prepared_program.specs.step_schedule.Schedule.{entries_of, names_stranger}
 
 is_false : (said : Bool) → (IsTrue said → ⊥) → said ≡ false
 is_false true isnt = absurd (isnt refl)

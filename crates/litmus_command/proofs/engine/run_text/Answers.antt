@@ -2,7 +2,7 @@
 use Rattle.litmus_command.proofs.ResultLemmas.{err_holds, map_ok, no_sink_stops, refused_of}
 use Rattle.litmus_command.specs.Engine.{IsRefused}
 use Rattle.run_output.specs.declared.error.EngineError.TheVariants.{Text}
-use Rattle.option_lists.specs.step_schedule.Schedule.{entries_of}
+use Rattle.prepared_program.specs.step_schedule.Schedule.{entries_of}
 use Rattle.litmus_parse.specs.Read.{IsReadAs}
 use Rattle.litmus_command.proofs.engine.run_text.Goals as goal
 

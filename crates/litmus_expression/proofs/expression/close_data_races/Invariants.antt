@@ -1,7 +1,7 @@
 -- Each `)` takes a token, and is one of those that are closed.
 use Rattle.std.proofs.Common.{◌≡◌, ◌-◌, ◌≤◌}
-use Rattle.litmus_cursor.specs.Cursor.{count_left}
-use Rattle.litmus_cursor.specs.Front.{symbols_left}
+use Rattle.litmus_lex.specs.Cursor.{count_left}
+use Rattle.litmus_lex.specs.Front.{symbols_left}
 use Rattle.litmus_expression.specs.ExpressionReader.{closed}
 use Rattle.litmus_expression.proofs.expression.close_data_races.Given as goal
 

@@ -1,7 +1,7 @@
 -- Each `data_race (` takes two tokens, and is one of those that are opened.
 use Rattle.std.proofs.Common.{◌≡◌, ◌+◌, ◌≤◌}
-use Rattle.litmus_cursor.specs.Cursor.{count_left}
-use Rattle.litmus_cursor.specs.Front.{symbols_left}
+use Rattle.litmus_lex.specs.Cursor.{count_left}
+use Rattle.litmus_lex.specs.Front.{symbols_left}
 use Rattle.litmus_expression.specs.ExpressionReader.{opened}
 use Rattle.litmus_expression.proofs.expression.open_data_races.Given as goal
 

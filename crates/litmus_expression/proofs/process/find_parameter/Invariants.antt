@@ -1,7 +1,7 @@
 -- No parameter that was passed has the name.
 use Rattle.std.proofs.Common.{◌≡◌, length}
 use Rattle.std.specs.Prelude.{find}
-use Rattle.litmus_cursor.specs.Words.{is_same}
+use Rattle.litmus_lex.specs.Words.{is_same}
 use Rattle.litmus_expression.proofs.process.find_parameter.Given as goal
 
 abbrev pub invariant-loop-parameters : goal.invariant-loop-parameters

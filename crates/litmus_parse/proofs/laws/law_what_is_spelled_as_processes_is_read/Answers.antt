@@ -1,10 +1,10 @@
 -- Process by process, behind the items.
 use Rattle.std.proofs.Common.{◌∙◌, List, ap, sym, subst}
 use Rattle.litmus_expression.proofs.Taken.{same_given}
-use Rattle.litmus_declarations.specs.Entries.{Entry}
-use Rattle.litmus_declarations.specs.ItemReader.{Heading}
-use Rattle.litmus_declarations.proofs.Fits.{Fits, fits_at_first}
-use Rattle.litmus_declarations.proofs.ItemsComplete.{block_goes, heading}
+use Rattle.litmus_parse.specs.Entries.{Entry}
+use Rattle.litmus_parse.specs.ItemReader.{Heading}
+use Rattle.litmus_parse.proofs.Fits.{Fits, fits_at_first}
+use Rattle.litmus_parse.proofs.ItemsComplete.{block_goes, heading}
 use Rattle.litmus_parse.specs.ProcessReader.{unbegun}
 use Rattle.litmus_parse.proofs.ProcessesComplete.{processes_complete}
 use Rattle.litmus_parse.proofs.laws.law_what_is_spelled_as_processes_is_read.Goals as goal

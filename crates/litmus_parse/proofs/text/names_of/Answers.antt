@@ -1,9 +1,9 @@
 -- The name that isn't UTF-8 is one of those.
 use Rattle.std.proofs.Common.{◌≡◌, All, map}
 use Rattle.std.specs.Str.{IsUtf8}
-use Rattle.litmus_cursor.specs.declared.cursor.Refusal.TheVariants.{OutOfMemory}
-use Rattle.litmus_cursor.specs.Front.{now}
-use Rattle.litmus_declarations.proofs.Refusals.{err_holds}
+use Rattle.litmus_lex.specs.declared.cursor.Refusal.TheVariants.{OutOfMemory}
+use Rattle.litmus_lex.specs.Front.{now}
+use Rattle.litmus_parse.proofs.DeclarationRefusals.{err_holds}
 use Rattle.litmus_parse.proofs.Refusals.{name_there}
 use Rattle.litmus_parse.proofs.text.names_of.Goals as goal
 

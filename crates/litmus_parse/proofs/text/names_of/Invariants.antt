@@ -1,6 +1,6 @@
 -- The names so far and those to come are all.
 use Rattle.std.proofs.Common.{◌≡◌, ◌++◌, length, map}
-use Rattle.litmus_cursor.specs.Front.{now}
+use Rattle.litmus_lex.specs.Front.{now}
 use Rattle.litmus_parse.proofs.text.names_of.Given as goal
 
 abbrev pub invariant-loop-all : goal.invariant-loop-all

@@ -1,9 +1,9 @@
 -- The head, the tokens and what they are read as spell the text.
 use Rattle.std.proofs.Common.{◌≡◌, ◌∙◌, subst, sym}
 use Rattle.std.specs.Str.{IsUtf8}
-use Rattle.litmus_cursor.specs.declared.cursor.Refusal.TheVariants.{OutOfMemory}
-use Rattle.litmus_cursor.specs.Front.{symbols_left}
-use Rattle.litmus_declarations.proofs.Refusals.{err_holds}
+use Rattle.litmus_lex.specs.declared.cursor.Refusal.TheVariants.{OutOfMemory}
+use Rattle.litmus_lex.specs.Front.{symbols_left}
+use Rattle.litmus_parse.proofs.DeclarationRefusals.{err_holds}
 use Rattle.litmus_parse.specs.TextReader.{program_at}
 use Rattle.litmus_parse.proofs.NamesUtf8.{names_are_utf8}
 use Rattle.litmus_parse.proofs.Read.{complete_if, result_is_spelled, spelled_is_read}

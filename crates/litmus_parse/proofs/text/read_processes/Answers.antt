@@ -5,11 +5,11 @@ use Rattle.std.proofs.lemmas.List.{length-map}
 use Rattle.litmus_syntax.specs.declared.statement.Statement.{Statement}
 use Rattle.litmus_syntax.specs.Tree as tree
 use Rattle.litmus_syntax.specs.Views.{block_of}
-use Rattle.litmus_cursor.specs.declared.cursor.Refusal.TheVariants.{OutOfMemory}
-use Rattle.litmus_cursor.specs.Words.{Symbol}
+use Rattle.litmus_lex.specs.declared.cursor.Refusal.TheVariants.{OutOfMemory}
+use Rattle.litmus_lex.specs.Words.{Symbol}
 use Rattle.litmus_expression.specs.declared.process.Process.{Process}
 use Rattle.litmus_expression.specs.States.{State, state_of}
-use Rattle.litmus_declarations.specs.ItemReader.{Heading, heading_of}
+use Rattle.litmus_parse.specs.ItemReader.{Heading, heading_of}
 use Rattle.litmus_parse.specs.ProcessReader.{Course, process_at, processes_at, unbegun}
 use Rattle.litmus_parse.specs.TextReader.{bodies_of}
 use Rattle.litmus_parse.proofs.ProcessUnrolled.{bodies_more, no_more, none_at_all, read_more, refused, states_more, too_many}

@@ -2,9 +2,9 @@
 use Rattle.std.proofs.Common.{◌≡◌, ◌≤◌, map}
 use Rattle.std.specs.Prelude.{vec_len}
 use Rattle.litmus_syntax.specs.Limits.{tasks_limit}
-use Rattle.litmus_cursor.specs.Cursor.{count_left}
+use Rattle.litmus_lex.specs.Cursor.{count_left}
 use Rattle.litmus_expression.specs.States.{state_of}
-use Rattle.litmus_declarations.specs.ItemReader.{heading_of}
+use Rattle.litmus_parse.specs.ItemReader.{heading_of}
 use Rattle.litmus_parse.specs.ProcessReader.{processes_at, unbegun}
 use Rattle.litmus_parse.specs.TextReader.{bodies_of}
 use Rattle.litmus_parse.proofs.text.read_processes.Given as goal

@@ -1,9 +1,9 @@
 -- As its registers are named.
 use Rattle.std.proofs.Common.{◌≡◌, All, Bor, List, map, subst, sym, ℕ}
 use Rattle.std.specs.Str.{IsUtf8}
-use Rattle.litmus_cursor.specs.declared.cursor.Refusal.TheVariants.{OutOfMemory}
-use Rattle.litmus_cursor.specs.Front.{now}
-use Rattle.litmus_declarations.proofs.Refusals.{err_holds}
+use Rattle.litmus_lex.specs.declared.cursor.Refusal.TheVariants.{OutOfMemory}
+use Rattle.litmus_lex.specs.Front.{now}
+use Rattle.litmus_parse.proofs.DeclarationRefusals.{err_holds}
 use Rattle.litmus_parse.proofs.text.task.Goals as goal
 
 pub returns-in_err-names_of-clause-err : goal.returns-in_err-names_of-clause-err

@@ -5,11 +5,11 @@ use Rattle.litmus_syntax.specs.Views as views
 use Rattle.litmus_syntax.specs.declared.program.Task.{Task}
 use Rattle.litmus_syntax.specs.declared.statement.Statement.{Statement}
 use Rattle.litmus_expression.specs.States.{state_of}
-use Rattle.litmus_declarations.specs.Seen.{seen}
-use Rattle.litmus_declarations.proofs.Refusals.{err_holds}
+use Rattle.litmus_parse.specs.Seen.{seen}
+use Rattle.litmus_parse.proofs.DeclarationRefusals.{err_holds}
 use Rattle.litmus_parse.specs.Grammar.{task_of}
 use Rattle.std.specs.Str.{IsUtf8}
-use Rattle.litmus_cursor.specs.declared.cursor.Refusal.TheVariants.{OutOfMemory}
+use Rattle.litmus_lex.specs.declared.cursor.Refusal.TheVariants.{OutOfMemory}
 use Rattle.litmus_parse.specs.TextReader.{bodies_of}
 use Rattle.litmus_parse.proofs.Refusals.{task_there}
 use Rattle.litmus_parse.proofs.Tasks.{next_task, rest_sized}

@@ -3,7 +3,7 @@ use Rattle.std.proofs.Common.{◌≡◌, ◌++◌, length, map}
 use Rattle.std.specs.Prelude.{vec_len}
 use Rattle.litmus_syntax.specs.Views as views
 use Rattle.litmus_expression.specs.States.{state_of}
-use Rattle.litmus_declarations.specs.Seen.{seen}
+use Rattle.litmus_parse.specs.Seen.{seen}
 use Rattle.litmus_parse.specs.Grammar.{task_of}
 use Rattle.litmus_parse.specs.TextReader.{bodies_of}
 use Rattle.litmus_parse.proofs.text.tasks.Given as goal

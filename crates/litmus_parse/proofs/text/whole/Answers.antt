@@ -4,12 +4,12 @@ use Rattle.std.specs.Str.{IsUtf8}
 use Rattle.litmus_syntax.specs.Tree as tree
 use Rattle.litmus_syntax.specs.Views as views
 use Rattle.litmus_syntax.specs.declared.program.Variable.{Variable}
-use Rattle.litmus_cursor.specs.Front.{symbols_left}
+use Rattle.litmus_lex.specs.Front.{symbols_left}
 use Rattle.litmus_expression.specs.declared.process.Process.{Process}
 use Rattle.litmus_expression.specs.States.{state_of}
-use Rattle.litmus_declarations.specs.Seen.{seen}
-use Rattle.litmus_declarations.specs.Variables.{variables_in}
-use Rattle.litmus_declarations.proofs.Refusals.{err_holds}
+use Rattle.litmus_parse.specs.Seen.{seen}
+use Rattle.litmus_parse.specs.Variables.{variables_in}
+use Rattle.litmus_parse.proofs.DeclarationRefusals.{err_holds}
 use Rattle.litmus_parse.specs.Grammar.{task_of}
 use Rattle.litmus_parse.specs.Refused.{Refuses}
 use Rattle.litmus_parse.specs.TextReader.{Parts, bodies_of, parts_of, program_at}

@@ -1,8 +1,8 @@
 -- A level goes on from the stronger ones, and fails where one of them does.
 use Rattle.std.proofs.Common.{◌≡◌, ◌+◌, ◌∙◌, None, ap, sym, arith, rules}
 use Rattle.litmus_syntax.specs.Views.{expression_of}
-use Rattle.litmus_cursor.specs.declared.cursor.Refusal.TheVariants.{OutOfMemory}
-use Rattle.litmus_cursor.specs.Words.{Symbol}
+use Rattle.litmus_lex.specs.declared.cursor.Refusal.TheVariants.{OutOfMemory}
+use Rattle.litmus_lex.specs.Words.{Symbol}
 use Rattle.litmus_expression.specs.ExpressionReader.{binary_at, level_at, of_level}
 use Rattle.litmus_expression.specs.States.{state_of}
 use Rattle.litmus_expression.proofs.Shorter.{Found}

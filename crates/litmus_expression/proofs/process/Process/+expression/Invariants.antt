@@ -1,7 +1,7 @@
 -- Tokens are taken, or the part that is read is nearer to an operand.
 use Rattle.std.proofs.Common.{◌≡◌, ◌+◌, ◌*◌, ◌<◌, ◌≤◌, Some}
 use Rattle.litmus_syntax.specs.Views.{expression_of}
-use Rattle.litmus_cursor.specs.Cursor.{count_left}
+use Rattle.litmus_lex.specs.Cursor.{count_left}
 use Rattle.litmus_expression.specs.ExpressionReader.{level_at, more_at}
 use Rattle.litmus_expression.specs.States.{state_of}
 use Rattle.litmus_expression.proofs.process.Process.+expression.Given as goal

@@ -1,7 +1,7 @@
 -- The parameter that is found is the one of the name.
 use Rattle.std.proofs.Common.{◌≡◌, List, Option, ap, ◌∙◌}
 use Rattle.std.specs.Prelude.{find, option_map}
-use Rattle.litmus_cursor.specs.Words.{is_same}
+use Rattle.litmus_lex.specs.Words.{is_same}
 use Rattle.litmus_expression.specs.declared.process.Parameter as coded
 use Rattle.litmus_expression.specs.NameReader.{parameter_named}
 use Rattle.litmus_expression.specs.Names.{Parameter}

@@ -2,8 +2,8 @@
 use Rattle.std.proofs.Common.{List, ℕ, ap, ◌∙◌}
 use Rattle.std.specs.Prelude.{position}
 use Rattle.std.specs.Borrow.{Bor}
-use Rattle.litmus_cursor.specs.Front.{now}
-use Rattle.litmus_cursor.specs.Words.{is_same}
+use Rattle.litmus_lex.specs.Front.{now}
+use Rattle.litmus_lex.specs.Words.{is_same}
 use Rattle.litmus_expression.specs.NameReader.{index_of}
 use Rattle.litmus_expression.proofs.Found.{position_map}
 use Rattle.litmus_expression.proofs.process.Process.register_of.Goals as goal

@@ -2,8 +2,8 @@
 use Rattle.std.proofs.Common.{◌∙◌, ◌++◌, ◌≤◌, ◌+◌, ℕ, List, ap, arith, drop, length, refl, subst, sym, take}
 use Rattle.std.proofs.lemmas.List.{take_all}
 use Rattle.std.proofs.lemmas.Result.{err_from_is_err_and}
-use Rattle.option_lists.specs.step_schedule.Order.{asked_by}
-use Rattle.option_lists.specs.declared.step_schedule.schedule.Entry.{Entry}
+use Rattle.prepared_program.specs.step_schedule.Order.{asked_by}
+use Rattle.prepared_program.specs.declared.step_schedule.schedule.Entry.{Entry}
 use Rattle.litmus_step.proofs.RoundLemmas.{asked_along, entries_more, entries_rest, stops_after, stops_before}
 use Rattle.litmus_step.proofs.TurnLemmas.{asked_both, asked_nothing}
 use Rattle.litmus_step.proofs.world.World.entries.Goals as goal

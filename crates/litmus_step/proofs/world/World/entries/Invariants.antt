@@ -1,7 +1,7 @@
 -- So far the tasks were asked as the entries before this one say, and nobody is stuck.
 use Rattle.std.proofs.Common.{◌≡◌, take}
-use Rattle.option_lists.specs.step_schedule.Order.{asked_by}
-use Rattle.option_lists.specs.step_schedule.Schedule.{entries_of}
+use Rattle.prepared_program.specs.step_schedule.Order.{asked_by}
+use Rattle.prepared_program.specs.step_schedule.Schedule.{entries_of}
 use Rattle.litmus_step.proofs.world.World.entries.Given as goal
 use Rattle.litmus_step.specs.Steps.{room_in, tasks_in}
 use Rattle.litmus_step.specs.Turns.{Asked, NobodyIsStuck}

@@ -4,7 +4,7 @@ use Rattle.std.proofs.Props.{props}
 use mathlib.Core.Logic.{∥∥₁_elim}
 use Rattle.std.proofs.lemmas.Result.{err_from_is_err_and}
 use Rattle.std.specs.List.{range_with_len}
-use Rattle.option_lists.specs.step_schedule.Order.{in_rounds}
+use Rattle.prepared_program.specs.step_schedule.Order.{in_rounds}
 use Rattle.litmus_step.proofs.FurtherLemmas.{further_both, further_none}
 use Rattle.litmus_step.proofs.RoundLemmas.{asked_along, stops_after}
 use Rattle.litmus_step.proofs.TurnLemmas.{asked_both, asked_nothing}

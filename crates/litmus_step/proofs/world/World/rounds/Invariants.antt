@@ -1,6 +1,6 @@
 -- So far the tasks took turns so often, and nobody is stuck.
 use Rattle.std.proofs.Common.{◌≡◌, ◌-◌, ◌^◌}
-use Rattle.option_lists.specs.step_schedule.Order.{in_rounds}
+use Rattle.prepared_program.specs.step_schedule.Order.{in_rounds}
 use Rattle.litmus_step.proofs.world.World.rounds.Given as goal
 use Rattle.litmus_step.specs.Steps.{room_in, tasks_in}
 use Rattle.litmus_step.specs.Turns.{Asked, LeadsFurther, NobodyIsStuck}

@@ -1,7 +1,7 @@
 -- By the entries, and then the rounds.
 use Rattle.std.proofs.Common.{◌∙◌, sym}
 use Rattle.std.proofs.lemmas.Result.{err_from_is_err_and}
-use Rattle.option_lists.specs.step_schedule.Schedule.{entries_of}
+use Rattle.prepared_program.specs.step_schedule.Schedule.{entries_of}
 use Rattle.litmus_step.proofs.RoundLemmas.{runs_in_entries, runs_in_turn, runs_nowhere, same_error, stuck_by, stuck_in_turn}
 use Rattle.litmus_step.proofs.world.World.run.Goals as goal
 

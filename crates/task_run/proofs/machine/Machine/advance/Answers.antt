@@ -5,7 +5,7 @@ use Rattle.task_plan.specs.Room as progress
 use Rattle.task_run.proofs.BeginsLemmas.{begins_then, ends_then, to_end, walked}
 use Rattle.task_run.proofs.machine.Machine.advance.Goals as goal
 use Rattle.task_run.specs.Position.{nothing}
-use Rattle.text_walk.specs.Left.{DueLeft, WalkLeft}
+use Rattle.task_plan.specs.Left.{DueLeft, WalkLeft}
 
 pub loop-next-init : goal.loop-next-init
 loop-next-init c = record {

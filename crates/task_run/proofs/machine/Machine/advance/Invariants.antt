@@ -5,8 +5,8 @@ use Rattle.task_run.specs.Due.{EndsAtOnce}
 use Rattle.task_run.specs.Room.{room_of}
 use Rattle.task_run.specs.Stands.{StandsBy}
 use Rattle.task_run.proofs.machine.Machine.advance.Given as goal
-use Rattle.text_walk.specs.Cost.{walk_cost}
-use Rattle.text_walk.specs.Left.{WalkLeft}
+use Rattle.task_plan.specs.Cost.{walk_cost}
+use Rattle.task_plan.specs.Left.{WalkLeft}
 use Rattle.program_order.specs.Standing.{Setting, Standing}
 
 abbrev pub invariant-loop-next : goal.invariant-loop-next

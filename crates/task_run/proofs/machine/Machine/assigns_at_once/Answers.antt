@@ -18,7 +18,7 @@ use Rattle.std.proofs.Common.{◌+◌, ◌<◌, ◌^◌}
 use Rattle.setup_access.specs.Shown.{context_of}
 use Rattle.task_run.proofs.StopLemmas.{at_once_stops}
 use Rattle.task_run.proofs.machine.Machine.assigns_at_once.Goals as goal
-use Rattle.text_walk.specs.Left.{WalkLeft}
+use Rattle.task_plan.specs.Left.{WalkLeft}
 use Rattle.program_order.specs.Standing.{Standing, registered}
 
 pub returns-clause-begins : goal.returns-clause-begins

@@ -7,7 +7,7 @@ use Rattle.task_run.proofs.FollowLemmas.{chosen_fails, chosen_holds}
 use Rattle.task_run.proofs.PlanLemmas.{decides_left}
 use Rattle.task_run.specs.Position.{nothing}
 use Rattle.task_run.proofs.machine.Machine.decides.Goals as goal
-use Rattle.text_walk.proofs.StepsLemmas.{through}
+use Rattle.task_plan.proofs.StepsLemmas.{through}
 
 pub returns-then-pure_value-ne0-clause-begins : goal.returns-then-pure_value-ne0-clause-begins
 returns-then-pure_value-ne0-clause-begins c = λ s site before stands. (

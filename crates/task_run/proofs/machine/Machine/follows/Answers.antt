@@ -7,7 +7,7 @@ use Rattle.task_run.specs.Due.{EndsAtOnce}
 use Rattle.task_run.specs.Part.{TakerLeft, enabled}
 use Rattle.task_run.specs.Stands.{Stands}
 use Rattle.task_run.proofs.machine.Machine.follows.Goals as goal
-use Rattle.text_walk.specs.declared.walk.Walk.{Walk}
+use Rattle.task_plan.specs.declared.walk.Walk.{Walk}
 
 pub returns-in-GoesOn-clause-stands : goal.returns-in-GoesOn-clause-stands
 returns-in-GoesOn-clause-stands c = λ s before stands read. rw c.in-GoesOn.is (follows_nothing s c.args.self.now.walk before c.args.self.now c.args.effect refl stands)

@@ -12,8 +12,8 @@ use Rattle.task_run.specs.Stands.{Stands}
 use Rattle.task_run.specs.Stops.{CanBegin}
 use Rattle.task_run.specs.declared.machine.Machine.{Machine}
 use Rattle.task_run.specs.declared.stage.TaskStage.TheVariants as stages
-use Rattle.text_walk.specs.Left.{DueLeft}
-use Rattle.text_walk.specs.declared.due.Due.TheVariants as dues
+use Rattle.task_plan.specs.Left.{DueLeft}
+use Rattle.task_plan.specs.declared.due.Due.TheVariants as dues
 use Rattle.program_order.specs.Standing.{Standing, checks_of}
 
 pub returns-clause-begins : goal.returns-clause-begins

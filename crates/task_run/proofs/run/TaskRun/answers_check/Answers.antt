@@ -15,7 +15,7 @@ use Rattle.task_run.specs.declared.machine.Machine.{Machine}
 use Rattle.task_run.specs.declared.run.TaskRun.{TaskRun}
 use Rattle.task_run.specs.declared.stage.TaskStage.{TaskStage}
 use Rattle.task_run.specs.declared.stage.TaskStage.TheVariants as stages
-use Rattle.text_walk.specs.Left.{WalkLeft}
+use Rattle.task_plan.specs.Left.{WalkLeft}
 use Rattle.program_order.specs.Standing.{Setting, Standing, checks_of}
 
 closes_else : (stage : TaskStage) → (stage ≡ stages.Opening) ⊎ (stage ≡ stages.Closing) → ¬ (stage ≡ stages.Opening) → stage ≡ stages.Closing

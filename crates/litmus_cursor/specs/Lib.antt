@@ -1,4 +1,0 @@
-pub mod Cursor
-pub mod Words
-pub mod Spots
-pub mod Front

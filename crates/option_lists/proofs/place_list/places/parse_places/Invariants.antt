@@ -1,8 +1,0 @@
-use Rattle.std.proofs.Common.{take}
-use Rattle.option_lists.specs.place_list.Spelling.{SpellEach}
-use Rattle.option_lists.proofs.place_list.SpellingLemmas.{texts_of}
-use Rattle.option_lists.proofs.place_list.places.parse_places.Given as goal
-
--- the items before the index spell the places so far
-abbrev pub invariant-loop-item : goal.invariant-loop-item
-invariant-loop-item l = SpellEach (texts_of (take l.item-index l.item-items)) l.places.items

@@ -1,2 +1,0 @@
-pub mod step_schedule
-pub mod place_list

@@ -1,8 +1,0 @@
-pub mod CountLemmas
-pub mod FormLemmas
-pub mod StackLemmas
-pub mod StepsLemmas
-pub mod LeftLemmas
-pub mod BeginsLemmas
-pub mod Copies
-pub mod Sent
