@@ -6,10 +6,9 @@ use Rattle.diagnostics.specs.option_diagnostics.Item.{items_of}
 use Rattle.diagnostics.specs.option_diagnostics.Places as places
 use Rattle.diagnostics.specs.option_diagnostics.Schedules as schedules
 use Rattle.litmus_command.specs.Lists.{SpellsNoPlaces, SpellsNoSchedule}
-use Rattle.prepared_program.specs.place_list.Spelling as place
-use Rattle.prepared_program.specs.declared.program_layout.place.Place.{Place}
-use Rattle.prepared_program.specs.step_schedule.Spelling as schedule
-use Rattle.prepared_program.specs.declared.step_schedule.schedule.Entry.{Entry}
+use Rattle.prepared_program.specs.Lists.{SpellEach}
+use Rattle.prepared_program.specs.place_list.Spelling.{SpellsPlace}
+use Rattle.prepared_program.specs.step_schedule.Spelling.{SpellsEntry}
 
 join-append : (x : List ℕ) (xs : List (List ℕ)) (y : List ℕ) (ys : List (List ℕ))
     → join_with_byte 44 ((x ∷ xs) ++ y ∷ ys) ≡ join_with_byte 44 (x ∷ xs) ++ 44 ∷ join_with_byte 44 (y ∷ ys)
@@ -18,19 +17,25 @@ join-append x (z ∷ xs) y ys =
     ap (λ (rest : List ℕ). x ++ 44 ∷ rest) (join-append z xs y ys)
     ∙ sym (append_assoc x (44 ∷ join_with_byte 44 (z ∷ xs)) (44 ∷ join_with_byte 44 (y ∷ ys)))
 
--- texts that spell values each, in lists of both
-module _ {X : Type 0} (Each : List (List ℕ) → List X → Type 0)
-    (both : (xs ys : List (List ℕ)) (us vs : List X) → Each xs us → Each ys vs → Each (xs ++ ys) (us ++ vs)) where
+-- texts that spell items
+module _ {A : Type 0} (SpellsItem : List ℕ → A → Type 0) where
+  both : (xs ys : List (List ℕ)) (us vs : List A) → SpellEach SpellsItem xs us
+      → SpellEach SpellsItem ys vs → SpellEach SpellsItem (xs ++ ys) (us ++ vs)
+  both [] ys [] vs one other = other
+  both [] ys (u ∷ us) vs one other = absurd one
+  both (x ∷ xs) ys [] vs one other = absurd one
+  both (x ∷ xs) ys (u ∷ us) vs one other = (one.0, both xs ys us vs one.1 other)
+
   -- the text is that of such texts, joined by commas, of which there are some
   pub record Joins (text : List ℕ) : Type 0 where
-    pub values : List X
+    pub values : List A
     pub first : List ℕ
     pub rest : List (List ℕ)
     pub joined : text ≡ join_with_byte 44 (first ∷ rest)
-    pub each : Each (first ∷ rest) values
+    pub each : SpellEach SpellsItem (first ∷ rest) values
 
-  pub joins_one : (item : List ℕ) → 0 < length item → (items : List (List ℕ)) (values : List X) → item ≡ join_with_byte 44 items
-      → Each items values → Joins item
+  pub joins_one : (item : List ℕ) → 0 < length item → (items : List (List ℕ)) (values : List A) → item ≡ join_with_byte 44 items
+      → SpellEach SpellsItem items values → Joins item
   joins_one item some [] values is each = absurd (let none : length item ≡ 0 = ap length is in omega (arith, some, none))
   joins_one item some (first ∷ rest) values is each =
       record { values = values; first = first; rest = rest; joined = is; each = each }
@@ -60,34 +65,20 @@ module _ {X : Type 0} (Each : List (List ℕ) → List X → Type 0)
           subst Joins (ap (join_with_byte 44) (sym is) ∙ join_with_byte-slice_split 44 text)
           (joins_all item items (λ n it at. reads n it (ap (λ (parts : List (List ℕ)). slice_get parts n) is ∙ at)))
 
-entries_both : (xs ys : List (List ℕ)) (us vs : List Entry) → schedule.SpellEach xs us → schedule.SpellEach ys vs
-    → schedule.SpellEach (xs ++ ys) (us ++ vs)
-entries_both [] ys [] vs one other = other
-entries_both [] ys (u ∷ us) vs one other = absurd one
-entries_both (x ∷ xs) ys [] vs one other = absurd one
-entries_both (x ∷ xs) ys (u ∷ us) vs one other = (one.0, entries_both xs ys us vs one.1 other)
-
-places_both : (xs ys : List (List ℕ)) (us vs : List Place) → place.SpellEach xs us → place.SpellEach ys vs
-    → place.SpellEach (xs ++ ys) (us ++ vs)
-places_both [] ys [] vs one other = other
-places_both [] ys (u ∷ us) vs one other = absurd one
-places_both (x ∷ xs) ys [] vs one other = absurd one
-places_both (x ∷ xs) ys (u ∷ us) vs one other = (one.0, places_both xs ys us vs one.1 other)
-
 -- a schedule that doesn't read has an item that doesn't
 pub some_item_is_no_entry : (text : List ℕ) → SpellsNoSchedule text → schedules.AllRead text → ⊥
 some_item_is_no_entry [] none all = none [] (record { items = []; joined = refl; each = tt })
 some_item_is_no_entry (byte ∷ bytes) none all =
-    let made = joins_text schedule.SpellEach entries_both (byte ∷ bytes) (omega arith) (λ n it at.
+    let made = joins_text SpellsEntry (byte ∷ bytes) (omega arith) (λ n it at.
     let read = all (omega arith) n it at in
-    joins_one schedule.SpellEach entries_both it read.some read.spelled.items read.entries read.spelled.joined read.spelled.each) in
+    joins_one SpellsEntry it read.some read.spelled.items read.entries read.spelled.joined read.spelled.each) in
     none made.values (record { items = made.first ∷ made.rest; joined = made.joined; each = made.each })
 
 -- and so it is of a place list
 pub some_item_is_no_place : (text : List ℕ) → SpellsNoPlaces text → places.AllRead text → ⊥
 some_item_is_no_place [] none all = none [] (record { items = []; joined = refl; each = tt })
 some_item_is_no_place (byte ∷ bytes) none all =
-    let made = joins_text place.SpellEach places_both (byte ∷ bytes) (omega arith) (λ n it at.
+    let made = joins_text SpellsPlace (byte ∷ bytes) (omega arith) (λ n it at.
     let read = all (omega arith) n it at in
-    joins_one place.SpellEach places_both it read.some read.spelled.items read.places read.spelled.joined read.spelled.each) in
+    joins_one SpellsPlace it read.some read.spelled.items read.places read.spelled.joined read.spelled.each) in
     none made.values (record { items = made.first ∷ made.rest; joined = made.joined; each = made.each })

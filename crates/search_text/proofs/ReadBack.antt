@@ -8,7 +8,8 @@ use Rattle.std.proofs.lemmas.Fmt.{decimal_nonempty, digits_decimal, digits_value
 use Rattle.std.proofs.lemmas.List.Elements.{All-head, All-tail}
 use Rattle.std.proofs.lemmas.Str.Parse.{IsNumeralModel, numerals_by_value, tells_all_ascii_digits}
 use Rattle.search_text.specs.Schedules.{entry_text, later_text, schedule_text}
-use Rattle.prepared_program.specs.step_schedule.Spelling.{SpellEach, Spells, SpellsEntry, SpellsNumber}
+use Rattle.prepared_program.specs.Lists.{SpellEach}
+use Rattle.prepared_program.specs.step_schedule.Spelling.{Spells, SpellsEntry, SpellsNumber}
 use Rattle.prepared_program.specs.declared.step_schedule.schedule.Entry.{Entry}
 
 own : IsNumeralModel (λ ds. all_ascii_digits ds ≡ true) (digits_value 10)
@@ -32,7 +33,7 @@ entry_back entry below = record {
 }
 
 each_back : (schedule : List Entry) → All (λ entry. (entry.task < 2 ^ 64) × (entry.steps < 2 ^ 64)) schedule
-    → SpellEach (map entry_text schedule) schedule
+    → SpellEach SpellsEntry (map entry_text schedule) schedule
 each_back [] below = tt
 each_back (entry ∷ schedule) below = (
   entry_back entry (All-head (λ entry. (entry.task < 2 ^ 64) × (entry.steps < 2 ^ 64)) entry schedule below),

@@ -3,15 +3,16 @@ use Rattle.std.proofs.Common.{◌≡◌, ◌≢◌, ◌<◌, ◌++◌, ◌↔◌
 use Rattle.std.proofs.Common.{Option, None, Some, false, ap, arith, get_or, length}
 use Rattle.std.proofs.Common.{map, refl, sym, subst, take}
 use Rattle.std.specs.Prelude.{MatchOption, ◌==◌, option_map}
-use Rattle.std.specs.List.{join_with_byte, slice_split}
+use Rattle.std.specs.List.{slice_split}
 use Rattle.std.proofs.lemmas.Bool.{ne_eqb}
 use Rattle.std.proofs.lemmas.List.{length-append}
 use Rattle.std.proofs.lemmas.List.Elements.{All-append, All-cons, All-from_get_or}
 use Rattle.std.proofs.lemmas.List.Folds.{list_all_at}
-use Rattle.std.proofs.lemmas.List.Splits.{join_with_byte-slice_split, slice_split_at, slice_split_none}
+use Rattle.std.proofs.lemmas.List.Splits.{slice_split_at, slice_split_none}
 use Rattle.std.proofs.lemmas.Str.Pattern.{IsSplitOnceResult, split_after, split_parts}
-use Rattle.prepared_program.specs.place_list.Spelling.{SpellEach, Spells, SpellsName, SpellsNumber, SpellsPlace, is_part}
-use Rattle.prepared_program.proofs.place_list.NumberLemmas.{Lacks, number-lacks, number-one}
+use Rattle.prepared_program.specs.place_list.Spelling.{SpellsName, SpellsNumber, SpellsPlace, is_part}
+use Rattle.prepared_program.proofs.place_list.NumberLemmas.{number-lacks, number-one}
+use Rattle.prepared_program.proofs.ListLemmas.{IsItem, NoComma}
 use Rattle.prepared_program.specs.declared.program_layout.place.Place.{Place}
 
 -- no byte of a name is one that none has
@@ -126,9 +127,6 @@ place-one text one other s t =
     ∙ ap (place_of other.name) (number-one t.address one.addr other.addr
     (subst (λ a. SpellsNumber a one.addr) address s.number) t.number)
 
-abbrev NoComma : List ℕ → Type 0
-NoComma text = Lacks 44 text
-
 place-no_comma : (text : List ℕ) (place : Place) → SpellsPlace text place → NoComma text
 place-no_comma text place spelled =
     let P : ℕ → Type 0 = λ byte. (byte == 44) ≡ false in
@@ -144,136 +142,5 @@ place-some text place spelled =
     let long = spelled.name.some in
     omega (arith, ap length spelled.parts, length-append place.name (61 ∷ spelled.address))
 
--- joined, they are cut there again
-joined-split : (item : List ℕ) (items : List (List ℕ)) (place : Place) (places : List Place)
-    → SpellsPlace item place → SpellEach items places
-    → slice_split (λ byte. byte == 44) (join_with_byte 44 (item ∷ items)) ≡ item ∷ items
-joined-split item [] place places first each = slice_split_none (λ byte. byte == 44) item (place-no_comma
-    item place first)
-joined-split item (next ∷ items) place [] first each = absurd each
-joined-split item (next ∷ items) place (second ∷ places) first each =
-    slice_split_at (λ byte. byte == 44) item 44 (join_with_byte 44 (next ∷ items)) (place-no_comma item place
-    first) refl
-    ∙ ap (λ more. item ∷ more) (joined-split next items second places each.0 each.1)
-
-joined-some : (item : List ℕ) (items : List (List ℕ)) → 0 < length item
-    → 0 < length (join_with_byte 44 (item ∷ items))
-joined-some item [] long = long
-joined-some item (next ∷ items) long = omega (
-  arith,
-  length-append item (44 ∷ join_with_byte 44 (next ∷
-      items)),
-)
-
--- the empty text spells no place
-pub spells-empty : (text : List ℕ) (read places : List Place) → text ≡ [] → read ≡ []
-    → Spells text places ↔ (Some read ≡ Some places)
-spells-empty text read places empty nothing = (
-  λ spelled. ap Some (nothing ∙ none spelled.items places (sym spelled.joined ∙ empty) spelled.each),
-  λ e. let same : read ≡ places = cc in record {
-    items = [];
-    joined = empty;
-    each = subst (SpellEach [])
-        (sym nothing ∙ same) tt;
-  },
-)
-  where
-    none : (items : List (List ℕ)) (places : List Place) → join_with_byte 44 items ≡ []
-        → SpellEach items places → [] ≡ places
-    none [] [] e each = refl
-    none [] (place ∷ places) e each = absurd each
-    none (item ∷ items) [] e each = absurd each
-    none (item ∷ items) (place ∷ places) e each =
-        let long = joined-some item items (place-some item place each.0) in absurd (omega (
-          arith,
-          ap length
-              e,
-        ))
-
--- any other text spells what its parts between the commas do
-pub spells-parts : (text : List ℕ) (places : List Place) → text ≢ []
-    → Spells text places ↔ SpellEach (slice_split (λ byte. byte == 44) text) places
-spells-parts text places some = (
-  λ spelled. each-part spelled.items places spelled.joined spelled.each,
-  λ each. record {
-    items = slice_split (λ byte. byte == 44) text;
-    joined = sym (join_with_byte-slice_split 44
-        text);
-    each = each;
-  },
-)
-  where
-    each-part : (items : List (List ℕ)) (places : List Place) → text ≡ join_with_byte 44 items
-        → SpellEach items places → SpellEach (slice_split (λ byte. byte == 44) text) places
-    each-part [] places joined each = absurd (some joined)
-    each-part (item ∷ items) [] joined each = absurd each
-    each-part (item ∷ items) (place ∷ places) joined each =
-        subst (λ parts. SpellEach parts (place ∷ places)) (sym (joined-split item items place places each.0
-        each.1) ∙ ap (slice_split (λ byte. byte == 44)) (sym joined)) each
-
--- the texts of these
-abbrev pub texts_of : List (Bor (List ℕ)) → List (List ℕ)
-texts_of items = map (λ item. item.now) items
-
--- one more place is spelled
-pub each-more : (items : List (Bor (List ℕ))) (i : ℕ) (d : Bor (List ℕ)) (places : List Place) (place :
-    Place) → i < length items
-    → SpellEach (texts_of (take i items)) places → SpellsPlace ((get_or items i d).now) place
-    → SpellEach (texts_of (take (suc i) items)) (places ++ place ∷ [])
-each-more [] i d places place within each spelled = absurd (omega arith)
-each-more (item ∷ items) zero d [] place within each spelled = (spelled, tt)
-each-more (item ∷ items) zero d (other ∷ places) place within each spelled = absurd each
-each-more (item ∷ items) (suc i) d [] place within each spelled = absurd each
-each-more (item ∷ items) (suc i) d (other ∷ places) place within each spelled =
-    (each.0, each-more items i d places place (omega arith) each.1 spelled)
-
--- each text spells an place
-pub each-at : (items : List (Bor (List ℕ))) (i : ℕ) (d : Bor (List ℕ)) (places : List Place)
-    → i < length items
-    → SpellEach (texts_of items) places → (place : Place) × SpellsPlace ((get_or items i d).now) place
-each-at [] i d places within each = absurd (omega arith)
-each-at (item ∷ items) i d [] within each = absurd each
-each-at (item ∷ items) zero d (place ∷ places) within each = (place, each.0)
-each-at (item ∷ items) (suc i) d (place ∷ places) within each = each-at items i d places (omega arith)
-    each.1
-
--- texts spell at most one list of places
-pub each-one : (texts : List (List ℕ)) (one other : List Place) → SpellEach texts one
-    → SpellEach texts other → one ≡ other
-each-one [] [] [] s t = refl
-each-one [] [] (place ∷ other) s t = absurd t
-each-one [] (place ∷ one) other s t = absurd s
-each-one (text ∷ texts) [] other s t = absurd s
-each-one (text ∷ texts) (place ∷ one) [] s t = absurd t
-each-one (text ∷ texts) (place ∷ one) (same ∷ other) s t =
-    let first = place-one text place same s.0 t.0 in
-    let rest = each-one texts one other s.1 t.1 in
-    cc
-
--- what the parts of a text between its commas spell, it spells, and no other places
-pub spells-read : (text : List ℕ) (parts : List (List ℕ)) (read : List Place) → text ≢ []
-    → parts ≡ slice_split (λ byte. byte == 44) text → SpellEach parts read
-    → (places : List Place) → Spells text places ↔ (Some read ≡ Some places)
-spells-read text parts read some are each places =
-    let whole = spells-parts text places some in (
-      λ spelled. ap Some (each-one parts read places each (subst (λ p. SpellEach p places) (sym are)
-          (whole.0 spelled))),
-      λ e. let same : read ≡ places = cc in whole.1 (subst (λ p. SpellEach p places) are (subst (SpellEach
-          parts) same each)),
-    )
-
--- a part that spells nothing: nor does the text
-pub spells-nothing : (text : List ℕ) (items : List (Bor (List ℕ))) (i : ℕ) (d : Bor (List ℕ)) (read : Option
-    (List Place)) → text ≢ [] → texts_of items ≡ slice_split (λ byte. byte == 44) text → i < length items
-    → ((place : Place) → SpellsPlace ((get_or items i d).now) place → ⊥) → read ≡ None
-    → (places : List Place) → Spells text places ↔ (read ≡ Some places)
-spells-nothing text items i d read some are within nothing none places = (
-  λ spelled. let each = subst (λ p. SpellEach p places) (sym are) ((spells-parts text places some).0
-      spelled) in
-      let at = each-at items i d places within each in absurd (nothing at.0 at.1),
-  λ e. absurd cc,
-)
-
-pub no-bytes : (text : List ℕ) → length text ≡ 0 → text ≡ []
-no-bytes [] none = refl
-no-bytes (byte ∷ text) none = absurd (omega arith)
+pub place-item : IsItem SpellsPlace
+place-item = record { no_comma = place-no_comma; some = place-some; one = place-one }

@@ -1,11 +1,11 @@
--- A text spells at most one list of entries: the one read between its commas, and round the first `x` of each.
+-- A text spells at most one entry: the one round its first `x`.
 use Rattle.std.proofs.Common.{◌≡◌, ◌≢◌, ◌<◌, ◌^◌, ◌++◌, ◌↔◌, ◌∙◌, ℕ, zero, suc, List, [], ◌∷◌, Bor}
 use Rattle.std.proofs.Common.{Option, None, Some, Result, Ok, Err, true, false, ap, arith, get_or, length}
 use Rattle.std.proofs.Common.{map, refl, sym, subst, take}
 use Rattle.std.specs.Prelude.{All, MatchOption, ◌==◌}
 use Rattle.std.specs.Int.{IsInRange}
 use Rattle.std.specs.Char.{is_ascii_digit}
-use Rattle.std.specs.List.{join_with_byte, list_all, slice_split}
+use Rattle.std.specs.List.{list_all, slice_split}
 use Rattle.std.proofs.Math.Bool.{◌&&◌}
 use Rattle.std.specs.Result.{result_ok}
 use Rattle.std.specs.Str.{all_ascii_digits}
@@ -13,11 +13,12 @@ use Rattle.std.specs.Str.Parse.{ParsesUnsigned, digits_value}
 use Rattle.std.proofs.lemmas.Bool.{ne_eqb}
 use Rattle.std.proofs.lemmas.List.{length-append}
 use Rattle.std.proofs.lemmas.List.Elements.{All-append, All-cons, All-from_get_or}
-use Rattle.std.proofs.lemmas.List.Splits.{join_with_byte-slice_split, slice_split_at, slice_split_none}
+use Rattle.std.proofs.lemmas.List.Splits.{slice_split_at, slice_split_none}
 use Rattle.std.proofs.lemmas.Str.Parse.{IsNumeralModel, not_in_digits, numerals_by_value, parse_digits}
 use Rattle.std.proofs.lemmas.Str.Parse.{tells_all_ascii_digits}
 use Rattle.std.proofs.lemmas.Str.Pattern.{IsSplitOnceResult, split_after, split_parts}
-use Rattle.prepared_program.specs.step_schedule.Spelling.{SpellEach, Spells, SpellsEntry, SpellsNumber}
+use Rattle.prepared_program.specs.step_schedule.Spelling.{SpellsEntry, SpellsNumber}
+use Rattle.prepared_program.proofs.ListLemmas.{IsItem, NoComma}
 use Rattle.prepared_program.specs.declared.step_schedule.schedule.Entry.{Entry}
 
 own : IsNumeralModel (λ ds. all_ascii_digits ds ≡ true) (digits_value 10)
@@ -139,7 +140,7 @@ entries-same : (one other : Entry) → one.task ≡ other.task → one.steps ≡
 entries-same one other task steps = ap (λ n. entry_of n one.steps) task ∙ ap (entry_of other.task) steps
 
 -- it spells at most one entry
-pub entry-one : (text : List ℕ) (one other : Entry) → SpellsEntry text one → SpellsEntry text other
+entry-one : (text : List ℕ) (one other : Entry) → SpellsEntry text one → SpellsEntry text other
     → one ≡ other
 entry-one text one other s t =
     let cut : s.before ∷ s.after ∷ [] ≡ t.before ∷ t.after ∷ [] = sym (entry-cut text one s)
@@ -161,9 +162,6 @@ entry-read text parts x entry is split task steps other =
       λ e. let same : entry ≡ other = cc in subst (SpellsEntry text) same made,
     )
 
-abbrev NoComma : List ℕ → Type 0
-NoComma text = All (λ byte. (byte == 44) ≡ false) text
-
 number-no_comma : (text : List ℕ) (n : ℕ) → SpellsNumber text n → NoComma text
 number-no_comma text n spelled =
     All-from_get_or (λ byte. (byte == 44) ≡ false) text 0
@@ -182,136 +180,5 @@ entry-some text entry spelled =
     let long = spelled.task.some in
     omega (arith, ap length spelled.parts, length-append spelled.before (120 ∷ spelled.after))
 
--- joined, they are cut there again
-joined-split : (item : List ℕ) (items : List (List ℕ)) (entry : Entry) (entries : List Entry)
-    → SpellsEntry item entry → SpellEach items entries
-    → slice_split (λ byte. byte == 44) (join_with_byte 44 (item ∷ items)) ≡ item ∷ items
-joined-split item [] entry entries first each = slice_split_none (λ byte. byte == 44) item (entry-no_comma
-    item entry first)
-joined-split item (next ∷ items) entry [] first each = absurd each
-joined-split item (next ∷ items) entry (second ∷ entries) first each =
-    slice_split_at (λ byte. byte == 44) item 44 (join_with_byte 44 (next ∷ items)) (entry-no_comma item entry
-    first) refl
-    ∙ ap (λ more. item ∷ more) (joined-split next items second entries each.0 each.1)
-
-joined-some : (item : List ℕ) (items : List (List ℕ)) → 0 < length item
-    → 0 < length (join_with_byte 44 (item ∷ items))
-joined-some item [] long = long
-joined-some item (next ∷ items) long = omega (
-  arith,
-  length-append item (44 ∷ join_with_byte 44 (next ∷
-      items)),
-)
-
--- the empty text spells no entry
-pub spells-empty : (text : List ℕ) (read entries : List Entry) → text ≡ [] → read ≡ []
-    → Spells text entries ↔ (Some read ≡ Some entries)
-spells-empty text read entries empty nothing = (
-  λ spelled. ap Some (nothing ∙ none spelled.items entries (sym spelled.joined ∙ empty) spelled.each),
-  λ e. let same : read ≡ entries = cc in record {
-    items = [];
-    joined = empty;
-    each = subst (SpellEach [])
-        (sym nothing ∙ same) tt;
-  },
-)
-  where
-    none : (items : List (List ℕ)) (entries : List Entry) → join_with_byte 44 items ≡ []
-        → SpellEach items entries → [] ≡ entries
-    none [] [] e each = refl
-    none [] (entry ∷ entries) e each = absurd each
-    none (item ∷ items) [] e each = absurd each
-    none (item ∷ items) (entry ∷ entries) e each =
-        let long = joined-some item items (entry-some item entry each.0) in absurd (omega (
-          arith,
-          ap length
-              e,
-        ))
-
--- any other text spells what its parts between the commas do
-pub spells-parts : (text : List ℕ) (entries : List Entry) → text ≢ []
-    → Spells text entries ↔ SpellEach (slice_split (λ byte. byte == 44) text) entries
-spells-parts text entries some = (
-  λ spelled. each-part spelled.items entries spelled.joined spelled.each,
-  λ each. record {
-    items = slice_split (λ byte. byte == 44) text;
-    joined = sym (join_with_byte-slice_split 44
-        text);
-    each = each;
-  },
-)
-  where
-    each-part : (items : List (List ℕ)) (entries : List Entry) → text ≡ join_with_byte 44 items
-        → SpellEach items entries → SpellEach (slice_split (λ byte. byte == 44) text) entries
-    each-part [] entries joined each = absurd (some joined)
-    each-part (item ∷ items) [] joined each = absurd each
-    each-part (item ∷ items) (entry ∷ entries) joined each =
-        subst (λ parts. SpellEach parts (entry ∷ entries)) (sym (joined-split item items entry entries each.0
-        each.1) ∙ ap (slice_split (λ byte. byte == 44)) (sym joined)) each
-
--- the texts of these
-abbrev pub texts_of : List (Bor (List ℕ)) → List (List ℕ)
-texts_of items = map (λ item. item.now) items
-
--- one more entry is spelled
-pub each-more : (items : List (Bor (List ℕ))) (i : ℕ) (d : Bor (List ℕ)) (entries : List Entry) (entry :
-    Entry) → i < length items
-    → SpellEach (texts_of (take i items)) entries → SpellsEntry ((get_or items i d).now) entry
-    → SpellEach (texts_of (take (suc i) items)) (entries ++ entry ∷ [])
-each-more [] i d entries entry within each spelled = absurd (omega arith)
-each-more (item ∷ items) zero d [] entry within each spelled = (spelled, tt)
-each-more (item ∷ items) zero d (other ∷ entries) entry within each spelled = absurd each
-each-more (item ∷ items) (suc i) d [] entry within each spelled = absurd each
-each-more (item ∷ items) (suc i) d (other ∷ entries) entry within each spelled =
-    (each.0, each-more items i d entries entry (omega arith) each.1 spelled)
-
--- each text spells an entry
-pub each-at : (items : List (Bor (List ℕ))) (i : ℕ) (d : Bor (List ℕ)) (entries : List Entry)
-    → i < length items
-    → SpellEach (texts_of items) entries → (entry : Entry) × SpellsEntry ((get_or items i d).now) entry
-each-at [] i d entries within each = absurd (omega arith)
-each-at (item ∷ items) i d [] within each = absurd each
-each-at (item ∷ items) zero d (entry ∷ entries) within each = (entry, each.0)
-each-at (item ∷ items) (suc i) d (entry ∷ entries) within each = each-at items i d entries (omega arith)
-    each.1
-
--- texts spell at most one list of entries
-pub each-one : (texts : List (List ℕ)) (one other : List Entry) → SpellEach texts one
-    → SpellEach texts other → one ≡ other
-each-one [] [] [] s t = refl
-each-one [] [] (entry ∷ other) s t = absurd t
-each-one [] (entry ∷ one) other s t = absurd s
-each-one (text ∷ texts) [] other s t = absurd s
-each-one (text ∷ texts) (entry ∷ one) [] s t = absurd t
-each-one (text ∷ texts) (entry ∷ one) (same ∷ other) s t =
-    let first = entry-one text entry same s.0 t.0 in
-    let rest = each-one texts one other s.1 t.1 in
-    cc
-
--- what the parts of a text between its commas spell, it spells, and no other entries
-pub spells-read : (text : List ℕ) (parts : List (List ℕ)) (read : List Entry) → text ≢ []
-    → parts ≡ slice_split (λ byte. byte == 44) text → SpellEach parts read
-    → (entries : List Entry) → Spells text entries ↔ (Some read ≡ Some entries)
-spells-read text parts read some are each entries =
-    let whole = spells-parts text entries some in (
-      λ spelled. ap Some (each-one parts read entries each (subst (λ p. SpellEach p entries) (sym are)
-          (whole.0 spelled))),
-      λ e. let same : read ≡ entries = cc in whole.1 (subst (λ p. SpellEach p entries) are (subst (SpellEach
-          parts) same each)),
-    )
-
--- a part that spells nothing: nor does the text
-pub spells-nothing : (text : List ℕ) (items : List (Bor (List ℕ))) (i : ℕ) (d : Bor (List ℕ)) (read : Option
-    (List Entry)) → text ≢ [] → texts_of items ≡ slice_split (λ byte. byte == 44) text → i < length items
-    → ((entry : Entry) → SpellsEntry ((get_or items i d).now) entry → ⊥) → read ≡ None
-    → (entries : List Entry) → Spells text entries ↔ (read ≡ Some entries)
-spells-nothing text items i d read some are within nothing none entries = (
-  λ spelled. let each = subst (λ p. SpellEach p entries) (sym are) ((spells-parts text entries some).0
-      spelled) in
-      let at = each-at items i d entries within each in absurd (nothing at.0 at.1),
-  λ e. absurd cc,
-)
-
-pub no-bytes : (text : List ℕ) → length text ≡ 0 → text ≡ []
-no-bytes [] none = refl
-no-bytes (byte ∷ text) none = absurd (omega arith)
+pub entry-item : IsItem SpellsEntry
+entry-item = record { no_comma = entry-no_comma; some = entry-some; one = entry-one }

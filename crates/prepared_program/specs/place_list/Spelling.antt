@@ -1,8 +1,9 @@
 -- Which texts spell which places.
-use Rattle.std.specs.Prelude.{◌≡◌, ◌<◌, ◌^◌, ◌++◌, ◌∷◌, ◌==◌, ◌||◌, ◌⊎◌, [], ℕ, Bool, List, true, false, length, slice_index}
+use Rattle.std.specs.Prelude.{◌≡◌, ◌<◌, ◌^◌, ◌++◌, ◌∷◌, ◌==◌, ◌||◌, ◌⊎◌, ℕ, Bool, List, true, false, length, slice_index}
 use Rattle.std.specs.Char.{is_ascii_alphanumeric, is_ascii_digit}
-use Rattle.std.specs.List.{join_with_byte, list_all}
+use Rattle.std.specs.List.{list_all}
 use Rattle.std.specs.Str.Parse.{IsNumeral, digits_value}
+use Rattle.prepared_program.specs.Lists.{SpellsList}
 use Rattle.prepared_program.specs.declared.program_layout.place.Place.{Place}
 
 -- the byte may stand in a name: a letter, a digit, or `_`, which is 95
@@ -33,15 +34,6 @@ pub record SpellsPlace (text : List ℕ) (place : Place) : Type 0 where
   pub name : SpellsName place.name
   pub number : SpellsNumber address place.addr
 
--- each text spells the place that stands where it does
-abbrev pub SpellEach : List (List ℕ) → List Place → Type 0
-SpellEach [] [] = Unit {0}
-SpellEach [] (place ∷ places) = ⊥
-SpellEach (text ∷ texts) [] = ⊥
-SpellEach (text ∷ texts) (place ∷ places) = SpellsPlace text place × SpellEach texts places
-
--- a text spells places: texts that spell each, joined by commas
-pub record Spells (text : List ℕ) (places : List Place) : Type 0 where
-  pub items : List (List ℕ)
-  pub joined : text ≡ join_with_byte 44 items
-  pub each : SpellEach items places
+-- a text spells places, joined by commas
+abbrev pub Spells : List ℕ → List Place → Type 0
+Spells = SpellsList SpellsPlace

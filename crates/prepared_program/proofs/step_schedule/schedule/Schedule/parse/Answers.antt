@@ -3,15 +3,16 @@ use Rattle.std.specs.List.{slice_split}
 use Rattle.std.specs.Prelude.{◌==◌}
 use Rattle.std.proofs.lemmas.Bool.{eqb-false, eqb-true}
 use Rattle.std.proofs.lemmas.List.{take_all}
-use Rattle.prepared_program.specs.step_schedule.Spelling.{SpellEach}
-use Rattle.prepared_program.proofs.step_schedule.SpellingLemmas.{each-more, no-bytes, spells-empty, spells-nothing}
-use Rattle.prepared_program.proofs.step_schedule.SpellingLemmas.{spells-read, texts_of}
+use Rattle.prepared_program.specs.Lists.{SpellEach}
+use Rattle.prepared_program.specs.step_schedule.Spelling.{SpellsEntry}
+use Rattle.prepared_program.proofs.ListLemmas.{each-more, no-bytes, spells-empty, spells-nothing, spells-read, texts_of}
+use Rattle.prepared_program.proofs.step_schedule.SpellingLemmas.{entry-item}
 use Rattle.prepared_program.proofs.step_schedule.schedule.Schedule.parse.Goals as goal
 
 pub returns-then-is_empty : goal.returns-then-is_empty
 returns-then-is_empty c = λ entries.
     let none = eqb-true (length c.args.text.now) 0 (sym c.is_empty.ensures ∙ c.if-is_empty.true) in
-    spells-empty c.args.text.now c.new-entries.result.items entries (no-bytes c.args.text.now none)
+    spells-empty entry-item c.args.text.now c.new-entries.result.items entries (no-bytes c.args.text.now none)
     c.new-entries.ensures.items
 
 pub returns-in-None : goal.returns-in-None
@@ -20,7 +21,7 @@ returns-in-None c = λ entries.
     ∙ c.if-is_empty.false) (ap length e) in
     let are : texts_of c.deref-item-items.result.now ≡ slice_split (λ byte. byte == 44) c.args.text.now = ap
     texts_of c.deref-item-items.ensures.value ∙ c.in_ok-items.ensures in
-    spells-nothing c.args.text.now c.deref-item-items.result.now c.loop-item.item-index _ _ some are (omega
+    spells-nothing entry-item c.args.text.now c.deref-item-items.result.now c.loop-item.item-index _ _ some are (omega
     arith)
     (λ entry spelled. let read = (c.in-None.ensures entry).0 spelled in absurd cc) refl entries
 
@@ -28,7 +29,7 @@ pub loop-item-preserved : goal.loop-item-preserved
 loop-item-preserved c =
     let next : c.loop-item.item-index + 1 ≡ suc c.loop-item.item-index = omega arith in
     rw (c.in_ok-push-in-Some.ensures.items, next)
-    (each-more c.deref-item-items.result.now c.loop-item.item-index _ c.loop-item.entries.items
+    (each-more entry-item c.deref-item-items.result.now c.loop-item.item-index _ c.loop-item.entries.items
     c.in-Some.entry (omega arith) c.loop-item.invariant ((c.in-Some.ensures c.in-Some.entry).1 refl))
 
 pub returns : goal.returns
@@ -38,7 +39,7 @@ returns c = λ entries.
     let are : texts_of c.deref-item-items.result.now ≡ slice_split (λ byte. byte == 44) c.args.text.now = ap
     texts_of c.deref-item-items.ensures.value ∙ c.in_ok-items.ensures in
     let all = take_all c.loop-item.item-index c.deref-item-items.result.now (omega arith) in
-    let each = subst (λ items. SpellEach (texts_of items) c.loop-item.entries.items) all
+    let each = subst (λ items. SpellEach SpellsEntry (texts_of items) c.loop-item.entries.items) all
     c.loop-item.invariant in
-    spells-read c.args.text.now (texts_of c.deref-item-items.result.now) c.loop-item.entries.items some are
+    spells-read entry-item c.args.text.now (texts_of c.deref-item-items.result.now) c.loop-item.entries.items some are
     each entries
