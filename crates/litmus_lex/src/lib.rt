@@ -1,4 +1,5 @@
-//! The tokens of litmus texts, the head that stands before them, and the reading of a whole source.
+//! The tokens of litmus texts, the head that stands before them, and the reading of a whole source; the words of the
+//! grammar, and a cursor over the tokens of a text.
 #![tactic(auto)]
 
 mod bytes;

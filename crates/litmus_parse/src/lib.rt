@@ -1,4 +1,5 @@
-//! Litmus texts, read into programs.
+//! Litmus texts, read into programs: the initialization block, the parameters of processes, the condition, and the
+//! whole over these and the bodies.
 #![tactic(auto)]
 
 mod answer;

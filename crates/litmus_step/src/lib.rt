@@ -10,8 +10,8 @@ mod readers;
 mod schedules;
 pub mod world;
 
-pub use prepared_program::step_schedule::Schedule;
 pub use prepared_program::program_sites::{Prepared, RunError, Settings, sites_of};
+pub use prepared_program::step_schedule::Schedule;
 pub use ran::Ran;
 pub use task_run::TaskRun;
 pub use world::{Stepped, World};

@@ -10,8 +10,8 @@ ghost use Rattle.prepared_program.specs.step_schedule.Schedule.{entries_of, name
 
 use crate::world::{Stepped, World};
 use executions::step_bounds::laws::law_few_steps_are_made;
-use prepared_program::step_schedule::Schedule;
 use prepared_program::program_sites::RunError;
+use prepared_program::step_schedule::Schedule;
 use soundness::laws::law_the_headline_holds;
 
 impl<'a> World<'a> {

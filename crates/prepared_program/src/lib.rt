@@ -1,5 +1,5 @@
-//! What a litmus program comes to under the settings of its runs: where its variables stand, and which accesses it can
-//! make.
+//! What a litmus program comes to under the settings of its runs: where its variables stand, which accesses it can make,
+//! and the lists of the options that name its variables and tasks.
 #![tactic(auto)]
 
 pub mod place_list;

@@ -1,5 +1,5 @@
-//! What a task is about to do at a statement, and what it keeps of what it did: the access that a
-//! statement makes, what follows on it, its registers, counts and locks.
+//! Where a task stands in its text, what it is about to do at a statement, and what it keeps of what it did: the access
+//! that a statement makes, what follows on it, its registers, counts and locks.
 #![tactic(auto)]
 
 mod block;
