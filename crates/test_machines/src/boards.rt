@@ -1,15 +1,15 @@
 //! Boards by their numbers: each word tells them apart, but for the clock.
 
-use slot_table::{Board, PlainBoard, Shape, Step};
-use state_search::visited_set::KnownWords;
+use board_numbers::Boards;
+use slot_table::Step;
 use std::test::Fail;
 
 /// The word of a plain read of 4 bytes at 0x10000.
 const READ: u64 = 0x0008_0000_0001_0000;
 
-/// Steps on one board, each with the number that the board has behind it: 0 where its words are those before the first
-/// step.
-const ROWS: [(Step, usize); 14] = [
+/// Steps, each on the board behind the one before, with the number of the board behind it: 0 where its words are those
+/// before the first step.
+const ROWS: [(Step, u32); 14] = [
     (Step::Clock, 0),
     (Step::Name(1, 5), 1),
     (Step::Clock, 1),
@@ -26,27 +26,15 @@ const ROWS: [(Step, usize); 14] = [
     (Step::Name(2, 5), 7),
 ];
 
-/// The board makes the step, if it has its words.
-fn step(board: &mut PlainBoard, step: Step) {
-    if board.has(step) {
-        board.step(step);
-    }
-}
-
 #[test]
 fn each_word_but_the_clock_tells_boards_apart(rt: HostRuntime) -> Result<(), Fail> {
-    let shape = Shape {
-        slots: 3,
-        tasks: 2,
-        locks: 1,
-        cells: &[7, 8],
-    };
-    let mut board = PlainBoard::new(rt.alloc(), shape)?;
-    let mut known = KnownWords::new(rt.alloc());
-    assert_eq!(rt; known.number_of(rt.alloc(), &board)?, 0);
+    let mut boards = Boards::new(rt.alloc(), [7, 8].as_slice())?;
+    let mut board = 0;
     for (made, number) in &ROWS {
-        step(&mut board, *made);
-        assert_eq!(rt; known.number_of(rt.alloc(), &board)?, *number);
+        let step = boards.step_number(*made)?;
+        board = boards.make(board, step)?.board;
+        assert_eq!(rt; board, *number);
     }
+    assert_eq!(rt; boards.len(), 8);
     Ok(())
 }
