@@ -1,5 +1,6 @@
 -- What is noted and reported of a task is no more than the outcomes that fall.
-use Rattle.std.proofs.Common.{◌≡◌, ◌∙◌, ◌≤◌, ◌+◌, ◌-◌, ◌==◌, ◌++◌, ◌∷◌, ◌⊎◌, [], inl, inr, ℕ, zero, suc, Bool, true, false, List, None, Option, Some, ap, arith, cond, count_by, length, refl, sym}
+use Rattle.std.proofs.Common.{◌≡◌, ◌∙◌, ◌≤◌, ◌+◌, ◌-◌, ◌==◌, ◌++◌, ◌∷◌, ◌⊎◌, [], inl, inr, ℕ, zero}
+use Rattle.std.proofs.Common.{suc, Bool, true, false, List, None, Option, Some, ap, arith, cond, count_by, length, refl, sym}
 use Rattle.std.specs.List.{filter}
 use Rattle.std.specs.Option.{option_to_list}
 use Rattle.std.proofs.lemmas.Bool.{eq-eqb, ne_eqb}

@@ -1,5 +1,6 @@
 -- So much a task has of each thing, and so much all tasks.
-use Rattle.std.proofs.Common.{◌≡◌, ◌∙◌, ◌<◌, ◌≤◌, ◌+◌, ◌*◌, ◌==◌, ◌++◌, ◌∷◌, if◌then◌else◌, [], inl, inr, ℕ, zero, suc, Bool, true, false, List, MatchBool, None, Option, Some, ap, arith, cond, count_by, length, map, refl, reverse, subst}
+use Rattle.std.proofs.Common.{◌≡◌, ◌∙◌, ◌<◌, ◌≤◌, ◌+◌, ◌*◌, ◌==◌, ◌++◌, ◌∷◌, if◌then◌else◌, [], inl, inr, ℕ, zero, suc}
+use Rattle.std.proofs.Common.{Bool, true, false, List, MatchBool, None, Option, Some, ap, arith, cond, count_by, length, map, refl, reverse, subst}
 use Rattle.std.proofs.lemmas.Bool.Decides.{eqb_tells}
 use Rattle.std.proofs.lemmas.List.{append-nil, length-append, length-map}
 use Rattle.std.proofs.Math.Nat.{suc-mul}

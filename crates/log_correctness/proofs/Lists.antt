@@ -1,5 +1,6 @@
 -- What is reported of a run is no more than the outcomes of its tasks.
-use Rattle.std.proofs.Common.{◌≡◌, ◌∙◌, ◌<◌, ◌≤◌, ◌+◌, ◌*◌, ◌++◌, ◌∷◌, [], inl, inr, ℕ, zero, suc, Bool, true, false, List, None, Option, Some, ap, arith, cond, count_by, length, refl, reverse, sum_by, take}
+use Rattle.std.proofs.Common.{◌≡◌, ◌∙◌, ◌<◌, ◌≤◌, ◌+◌, ◌*◌, ◌++◌, ◌∷◌, [], inl, inr, ℕ, zero, suc, Bool}
+use Rattle.std.proofs.Common.{true, false, List, None, Option, Some, ap, arith, cond, count_by, length, refl, reverse, sum_by, take}
 use Rattle.std.specs.List.{cons_option, filter_map}
 use Rattle.std.proofs.lemmas.Bool.Decides.{eqb_tells}
 use Rattle.std.proofs.lemmas.List.{length-append, length-map, length-reverse}

@@ -1,5 +1,6 @@
 -- An access that isn't a scoped assertion has one verdict at most.
-use Rattle.std.proofs.Common.{◌+◌, ◌≡◌, ◌≤◌, ◌==◌, ◌&&◌, ◌∙◌, ◌∷◌, ◌++◌, ◌||◌, [], ℕ, Bool, true, false, List, Option, MatchBool, ap, append-nil, append_assoc, arith, count_by, drop, if◌then◌else◌, refl, replicate, subst, sym}
+use Rattle.std.proofs.Common.{◌+◌, ◌≡◌, ◌≤◌, ◌==◌, ◌&&◌, ◌∙◌, ◌∷◌, ◌++◌, ◌||◌, [], ℕ, Bool, true, false, List}
+use Rattle.std.proofs.Common.{Option, MatchBool, ap, append-nil, append_assoc, arith, count_by, drop, if◌then◌else◌, refl, replicate, subst, sym}
 use Rattle.std.specs.Prelude.{not}
 use Rattle.access_types.specs.Access as access
 use Rattle.access_types.specs.Kind.{is_scoped}

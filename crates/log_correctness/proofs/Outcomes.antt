@@ -1,5 +1,6 @@
 -- A part of a text adds at most nine outcomes for each access of which its statements make one.
-use Rattle.std.proofs.Common.{◌≡◌, ◌∙◌, ◌≤◌, ◌+◌, ◌*◌, ◌==◌, ◌||◌, ◌++◌, ◌∷◌, [], inl, inr, ℕ, zero, suc, Bool, true, false, List, MatchBool, Option, None, Some, ap, arith, length, not, refl, subst, sym, if◌then◌else◌}
+use Rattle.std.proofs.Common.{◌≡◌, ◌∙◌, ◌≤◌, ◌+◌, ◌*◌, ◌==◌, ◌||◌, ◌++◌, ◌∷◌, [], inl, inr, ℕ, zero, suc}
+use Rattle.std.proofs.Common.{Bool, true, false, List, MatchBool, Option, None, Some, ap, arith, length, not, refl, subst, sym, if◌then◌else◌}
 use Rattle.std.proofs.Math.Nat.{one-mul, suc-mul}
 use Rattle.std.proofs.lemmas.List.{length-append}
 use Rattle.access_types.specs.Access as access

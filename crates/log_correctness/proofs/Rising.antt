@@ -1,5 +1,6 @@
 -- The begins of a task's accesses rise.
-use Rattle.std.proofs.Common.{◌≡◌, ◌∙◌, ◌<◌, ◌≤◌, ◌+◌, ◌++◌, ◌∷◌, [], inl, inr, ℕ, suc, All, Bool, true, false, List, None, Option, Some, ap, append_assoc, arith, cond, map, refl, subst, sym, if◌then◌else◌}
+use Rattle.std.proofs.Common.{◌≡◌, ◌∙◌, ◌<◌, ◌≤◌, ◌+◌, ◌++◌, ◌∷◌, [], inl, inr, ℕ, suc, All, Bool, true}
+use Rattle.std.proofs.Common.{false, List, None, Option, Some, ap, append_assoc, arith, cond, map, refl, subst, sym, if◌then◌else◌}
 use Rattle.std.specs.List.{AllPairs, cons_option, filter_map, list_any}
 use Rattle.std.proofs.lemmas.Bool.Decides.{eqb_tells}
 use Rattle.std.proofs.lemmas.List.{map-append}

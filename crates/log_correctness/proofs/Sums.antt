@@ -1,5 +1,6 @@
 -- The counts of tasks add up to those of the list.
-use Rattle.std.proofs.Common.{◌≡◌, ◌≢◌, ◌∙◌, ◌<◌, ◌≤◌, ◌+◌, ◌==◌, ◌++◌, ◌∷◌, [], inl, inr, ℕ, zero, suc, Bool, false, List, None, Option, Some, ap, append_assoc, arith, cond, count_by, filter, length, map}
+use Rattle.std.proofs.Common.{◌≡◌, ◌≢◌, ◌∙◌, ◌<◌, ◌≤◌, ◌+◌, ◌==◌, ◌++◌, ◌∷◌, [], inl, inr, ℕ}
+use Rattle.std.proofs.Common.{zero, suc, Bool, false, List, None, Option, Some, ap, append_assoc, arith, cond, count_by, filter, length, map}
 use Rattle.std.proofs.Common.{nat_lt, refl, reverse, slice_index_or, subst, sym}
 use Rattle.std.specs.Option.{option_to_list}
 use Rattle.std.proofs.lemmas.Bool.{eq-eqb, le-ltb, lt-ltb, ne_eqb}

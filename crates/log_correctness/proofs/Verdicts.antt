@@ -1,5 +1,6 @@
 -- Each arming that a task removes has its verdict: the last that fell for the task is on this arming.
-use Rattle.std.proofs.Common.{◌≡◌, ◌≢◌, ◌∙◌, ◌+◌, ◌==◌, ◌&&◌, ◌++◌, ◌∷◌, if◌then◌else◌, [], inl, inr, ℕ, suc, All, Bool, true, false, Contains, List, MatchBool, None, Option, Some, ap, append_assoc, arith, filter}
+use Rattle.std.proofs.Common.{◌≡◌, ◌≢◌, ◌∙◌, ◌+◌, ◌==◌, ◌&&◌, ◌++◌, ◌∷◌, if◌then◌else◌, [], inl, inr}
+use Rattle.std.proofs.Common.{ℕ, suc, All, Bool, true, false, Contains, List, MatchBool, None, Option, Some, ap, append_assoc, arith, filter}
 use Rattle.std.proofs.Common.{length, map, refl, reverse, subst, sym, unwrap_or}
 use Rattle.std.specs.Option.{option_map, option_or, option_to_list}
 use Rattle.std.proofs.lemmas.Bool.{eq-eqb}

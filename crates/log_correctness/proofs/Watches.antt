@@ -1,5 +1,6 @@
 -- No more watchpoints are removed, and no more are told of, than outcomes fall.
-use Rattle.std.proofs.Common.{◌≡◌, ◌∙◌, ◌<◌, ◌≤◌, ◌+◌, ◌++◌, ◌∷◌, [], inl, inr, ℕ, zero, suc, Bool, true, false, List, MatchBool, None, Option, Some, ap, arith, cond, count_by, length, refl, reverse, sym}
+use Rattle.std.proofs.Common.{◌≡◌, ◌∙◌, ◌<◌, ◌≤◌, ◌+◌, ◌++◌, ◌∷◌, [], inl, inr, ℕ, zero, suc, Bool}
+use Rattle.std.proofs.Common.{true, false, List, MatchBool, None, Option, Some, ap, arith, cond, count_by, length, refl, reverse, sym}
 use Rattle.std.proofs.lemmas.Bool.{eq-eqb}
 use Rattle.std.proofs.lemmas.Bool.Decides.{eqb_tells}
 use Rattle.std.proofs.lemmas.List.{length-append, length-map, reverse-append}

@@ -1,3 +1,4 @@
+pub mod Entries
 pub mod Order
 pub mod Schedule
 pub mod Spelling

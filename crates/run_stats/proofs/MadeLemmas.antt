@@ -1,5 +1,6 @@
 -- One run more keeps what is told of those made before: each by a call of its own, no report before the last.
-use Rattle.std.proofs.Common.{◌≤◌, ◌&&◌, Bor, ◌≡◌, ◌<◌, ◌⊎◌, ◌++◌, ◌∷◌, ◌==◌, ◌∙◌, [], suc, All, List, OnOk, Option, None, Some, Bool, IfErr, IfOk, IfSome, Result, Ok, Err, Vec, ℕ, ap, ap₂, arith}
+use Rattle.std.proofs.Common.{◌≤◌, ◌&&◌, Bor, ◌≡◌, ◌<◌, ◌⊎◌, ◌++◌, ◌∷◌, ◌==◌, ◌∙◌, [], suc}
+use Rattle.std.proofs.Common.{All, List, OnOk, Option, None, Some, Bool, IfErr, IfOk, IfSome, Result, Ok, Err, Vec, ℕ, ap, ap₂, arith}
 use Rattle.std.proofs.Common.{drop, false, is_some, length, not, refl, slice_get, slice_index_or, subst, sym, true, zero, ◌+◌, ◌*◌}
 use Rattle.std.proofs.lemmas.List.{length-append}
 use Rattle.std.proofs.lemmas.List.Elements.{All-append}

@@ -1,5 +1,6 @@
 -- Tasks whose threads start in another order, and what comes of them in the first.
-use Rattle.std.proofs.Common.{◌≡◌, ◌<◌, ◌≤◌, ◌+◌, ◌-◌, ◌∙◌, ◌++◌, ◌∷◌, [], ℕ, List, Result, Some, Vec, ap, append_assoc, arith, inl, inr, length, map, option_map, refl, slice_get, slice_index_or, subst, sym}
+use Rattle.std.proofs.Common.{◌≡◌, ◌<◌, ◌≤◌, ◌+◌, ◌-◌, ◌∙◌, ◌++◌, ◌∷◌, [], ℕ, List, Result, Some}
+use Rattle.std.proofs.Common.{Vec, ap, append_assoc, arith, inl, inr, length, map, option_map, refl, slice_get, slice_index_or, subst, sym}
 use Rattle.std.specs.List.{RotatedLeft, RotatedRight}
 use Rattle.std.proofs.lemmas.Bool.Decides.{leb_tells}
 use Rattle.std.proofs.lemmas.List.{length-map, map-append}

@@ -1,5 +1,6 @@
 -- What is found of lists, with one list more.
-use Rattle.std.proofs.Common.{◌≡◌, ◌↔◌, ◌+◌, ◌<◌, ◌++◌, ◌∷◌, ◌∙◌, ◌==◌, ◌||◌, ℕ, Contains, IsTrue, List, [], Bool, Option, None, Some, true, false, ap, arith, fold, inl, inr, length, length-append, map, not, refl, sym, if◌then◌else◌}
+use Rattle.std.proofs.Common.{◌≡◌, ◌↔◌, ◌+◌, ◌<◌, ◌++◌, ◌∷◌, ◌∙◌, ◌==◌, ◌||◌, ℕ, Contains, IsTrue, List, [], Bool}
+use Rattle.std.proofs.Common.{Option, None, Some, true, false, ap, arith, fold, inl, inr, length, length-append, map, not, refl, sym, if◌then◌else◌}
 use Rattle.std.specs.List.{flat_map, list_any}
 use Rattle.std.proofs.lemmas.Bool.Decides.{eqb_tells}
 use Rattle.std.proofs.lemmas.Cmp.{nat_list_eq_equiv}

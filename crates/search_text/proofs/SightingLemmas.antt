@@ -1,5 +1,6 @@
 -- What is seen in lists, with one list more.
-use Rattle.std.proofs.Common.{◌≡◌, ◌+◌, ◌-◌, ◌^◌, ◌++◌, ◌∷◌, ◌∙◌, ◌||◌, ℕ, List, [], Bool, Option, None, Some, true, false, ap, append_assoc, arith, append-nil, cond, flat_map, fold, length, map, min, refl, subst, sym, if◌then◌else◌}
+use Rattle.std.proofs.Common.{◌≡◌, ◌+◌, ◌-◌, ◌^◌, ◌++◌, ◌∷◌, ◌∙◌, ◌||◌, ℕ, List, [], Bool, Option, None, Some, true}
+use Rattle.std.proofs.Common.{false, ap, append_assoc, arith, append-nil, cond, flat_map, fold, length, map, min, refl, subst, sym, if◌then◌else◌}
 use Rattle.std.specs.Prelude.{count_by}
 use Rattle.std.specs.List.{list_any}
 use Rattle.std.proofs.lemmas.Cmp.{nat_list_eq_equiv}

@@ -1,5 +1,6 @@
 -- Each taking that its setter heard of has one answer: by induction on the list, index by index.
-use Rattle.std.proofs.Common.{◌≡◌, ◌≢◌, ◌≤◌, ◌==◌, ◌⊎◌, ◌+◌, ◌∙◌, ◌∷◌, ◌++◌, [], inl, inr, ℕ, true, false, List, Option, Some, Contains, ap, append_assoc, arith, cond, length, map, refl, subst, sym}
+use Rattle.std.proofs.Common.{◌≡◌, ◌≢◌, ◌≤◌, ◌==◌, ◌⊎◌, ◌+◌, ◌∙◌, ◌∷◌, ◌++◌, [], inl, inr}
+use Rattle.std.proofs.Common.{ℕ, true, false, List, Option, Some, Contains, ap, append_assoc, arith, cond, length, map, refl, subst, sym}
 use Rattle.std.specs.Option.{option_map}
 use Rattle.std.proofs.lemmas.Bool.{eq-eqb}
 use Rattle.std.proofs.lemmas.Bool.Decides.{eqb_tells}

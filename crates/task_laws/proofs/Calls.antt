@@ -1,5 +1,6 @@
 -- Calls are open, but for scoped assertions.
-use Rattle.std.proofs.Common.{◌≡◌, ◌≢◌, ◌<◌, ◌≤◌, ◌↔◌, ◌+◌, ◌^◌, ◌==◌, ℕ, Bool, true, false, IsTrue, List, [], ◌∷◌, MatchBool, None, Option, Some, ap, arith, count_by, not, refl, if◌then◌else◌}
+use Rattle.std.proofs.Common.{◌≡◌, ◌≢◌, ◌<◌, ◌≤◌, ◌↔◌, ◌+◌, ◌^◌, ◌==◌, ℕ, Bool, true, false, IsTrue}
+use Rattle.std.proofs.Common.{List, [], ◌∷◌, MatchBool, None, Option, Some, ap, arith, count_by, not, refl, if◌then◌else◌}
 use Rattle.std.proofs.lemmas.List.Sums.{sum_by-append}
 use Rattle.access_types.specs.Access.{proper_mask}
 use Rattle.access_types.specs.declared.history.Bytes.{Bytes}

@@ -1,5 +1,6 @@
 -- Where a text keeps its limits, no more than 256 accesses begin at a site.
-use Rattle.std.proofs.Common.{◌≡◌, ◌<◌, ◌≤◌, ◌⊎◌, ◌∙◌, ◌+◌, ◌*◌, ◌==◌, ◌++◌, ℕ, Bool, true, false, List, [], ◌∷◌, add-zero, ap, arith, inl, inr, length, length-append, ne_eqb, refl, subst, sym, zero-add, if◌then◌else◌}
+use Rattle.std.proofs.Common.{◌≡◌, ◌<◌, ◌≤◌, ◌⊎◌, ◌∙◌, ◌+◌, ◌*◌, ◌==◌, ◌++◌, ℕ, Bool, true, false, List, []}
+use Rattle.std.proofs.Common.{◌∷◌, add-zero, ap, arith, inl, inr, length, length-append, ne_eqb, refl, subst, sym, zero-add, if◌then◌else◌}
 use Rattle.std.proofs.Math.Nat.{mul-zero, mul_assoc}
 use Rattle.std.proofs.lemmas.Bool.{cases_eq}
 use Rattle.litmus_semantics.specs.Meaning.{after_condition}

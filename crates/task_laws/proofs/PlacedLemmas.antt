@@ -1,5 +1,6 @@
 -- Variables at multiples of their sizes are placed: each lies in a cell.
-use Rattle.std.proofs.Common.{◌≡◌, ◌<◌, ◌≤◌, ◌∙◌, ◌+◌, ◌-◌, ◌%◌, ◌^◌, ◌==◌, ◌||◌, ◌++◌, ℕ, zero, suc, Bool, true, false, List, [], ◌∷◌, Option, None, Some, IsSome, add-zero, ap, arith, cond, eq-eqb}
+use Rattle.std.proofs.Common.{◌≡◌, ◌<◌, ◌≤◌, ◌∙◌, ◌+◌, ◌-◌, ◌%◌, ◌^◌, ◌==◌, ◌||◌, ◌++◌, ℕ}
+use Rattle.std.proofs.Common.{zero, suc, Bool, true, false, List, [], ◌∷◌, Option, None, Some, IsSome, add-zero, ap, arith, cond, eq-eqb}
 use Rattle.std.proofs.Common.{fold, option_map, refl, slice_get, subst, sym, unwrap_or, zero-add, if◌then◌else◌}
 use Rattle.std.proofs.lemmas.Bool.{eqb-true, le-leb, ne_eqb}
 use Rattle.std.proofs.lemmas.Iterator.Adapters.{position_from-zero}

@@ -1,5 +1,6 @@
 -- Each block is spelled by some records where it fits.
-use Rattle.std.proofs.Common.{◌≡◌, ◌<◌, ◌≤◌, ◌∙◌, ◌+◌, ◌++◌, ℕ, Bool, true, false, List, [], ◌∷◌, Option, None, Some, ap, append_assoc, arith, drop, inl, inr, le_refl, length, length-append, refl, subst, sym, if◌then◌else◌}
+use Rattle.std.proofs.Common.{◌≡◌, ◌<◌, ◌≤◌, ◌∙◌, ◌+◌, ◌++◌, ℕ, Bool, true, false, List, [], ◌∷◌, Option, None}
+use Rattle.std.proofs.Common.{Some, ap, append_assoc, arith, drop, inl, inr, le_refl, length, length-append, refl, subst, sym, if◌then◌else◌}
 use Rattle.std.proofs.lemmas.Bool.{cases_eq}
 use Rattle.access_run.proofs.CheckEnds.{some_check, some_close}
 use Rattle.access_run.proofs.CheckFronts.{close, framed_checks}

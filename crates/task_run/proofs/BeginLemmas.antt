@@ -1,5 +1,6 @@
 -- Each part of a text as it begins.
-use Rattle.std.proofs.Common.{◌≡◌, ◌≢◌, ◌↔◌, ◌∙◌, ◌+◌, ◌^◌, ◌++◌, ◌<◌, ◌≤◌, ◌||◌, ℕ, Bool, true, false, MatchBool, IsSomeAnd, IsTrue, List, [], ◌∷◌, None, Option, Some, ap, append_assoc, arith, rules}
+use Rattle.std.proofs.Common.{◌≡◌, ◌≢◌, ◌↔◌, ◌∙◌, ◌+◌, ◌^◌, ◌++◌, ◌<◌, ◌≤◌, ◌||◌, ℕ, Bool, true}
+use Rattle.std.proofs.Common.{false, MatchBool, IsSomeAnd, IsTrue, List, [], ◌∷◌, None, Option, Some, ap, append_assoc, arith, rules}
 use Rattle.std.proofs.Common.{count_by, length, refl, replicate, slice_get, subst, sym}
 use Rattle.std.proofs.lemmas.List.{append-nil, replicate-append-replicate}
 use Rattle.access_run.specs.Leads.{AccessLeads, HasCell}

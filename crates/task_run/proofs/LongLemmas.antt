@@ -1,5 +1,6 @@
 -- A wait that has had so many failed tries goes on with a step that comes after as many, by the records alone.
-use Rattle.std.proofs.Common.{◌≡◌, ◌<◌, ◌≤◌, ◌+◌, ◌∙◌, ◌++◌, ◌∷◌, [], ℕ, zero, suc, Bool, true, false, IsSomeAnd, List, MatchBool, None, Option, Some, ap, arith, eq-eqb, le_refl, refl, subst, sym, if◌then◌else◌}
+use Rattle.std.proofs.Common.{◌≡◌, ◌<◌, ◌≤◌, ◌+◌, ◌∙◌, ◌++◌, ◌∷◌, [], ℕ, zero, suc, Bool, true, false, IsSomeAnd}
+use Rattle.std.proofs.Common.{List, MatchBool, None, Option, Some, ap, arith, eq-eqb, le_refl, refl, subst, sym, if◌then◌else◌}
 use Rattle.access_types.specs.Access.{Access}
 use Rattle.access_run.proofs.memory_operation.LeadsLemmas.{over_is_whole}
 use Rattle.access_run.specs.memory_operation.LockLeads.{LockLeads, LockLeft}

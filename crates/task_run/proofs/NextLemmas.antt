@@ -1,5 +1,6 @@
 -- What a task's machine says of where the task stands, and of its next step.
-use Rattle.std.proofs.Common.{◌≡◌, ◌↔◌, ◌∙◌, ◌++◌, ◌∷◌, [], append_assoc, ℕ, Bool, false, true, List, Option, None, Some, IfSome, IsNone, ◌⊎◌, ap, count_by, length, reverse, take, inl, inr, refl, subst, sym}
+use Rattle.std.proofs.Common.{◌≡◌, ◌↔◌, ◌∙◌, ◌++◌, ◌∷◌, [], append_assoc, ℕ, Bool, false, true, List, Option}
+use Rattle.std.proofs.Common.{None, Some, IfSome, IsNone, ◌⊎◌, ap, count_by, length, reverse, take, inl, inr, refl, subst, sym}
 use Rattle.std.proofs.lemmas.List.{append-nil, reverse-append}
 use Rattle.access_run.specs.Leads.{AccessIsOver, AccessIsStuck, AccessLeads, AccessOnlyStep, AccessSays}
 use Rattle.access_run.specs.Whole.{NoneWhole}

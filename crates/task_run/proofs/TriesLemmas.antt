@@ -1,5 +1,6 @@
 -- A step that is a try too much is not made: the part that it is of is stuck.
-use Rattle.std.proofs.Common.{◌≡◌, ◌<◌, ◌≤◌, ◌+◌, ◌==◌, ◌∙◌, ◌++◌, ◌∷◌, [], ℕ, zero, suc, Bool, true, false, IsSomeAnd, List, None, Option, Some, ap, append_assoc, arith, le_refl, refl, reverse, subst, sym, if◌then◌else◌}
+use Rattle.std.proofs.Common.{◌≡◌, ◌<◌, ◌≤◌, ◌+◌, ◌==◌, ◌∙◌, ◌++◌, ◌∷◌, [], ℕ, zero, suc, Bool, true, false}
+use Rattle.std.proofs.Common.{IsSomeAnd, List, None, Option, Some, ap, append_assoc, arith, le_refl, refl, reverse, subst, sym, if◌then◌else◌}
 use Rattle.task_run.proofs.SaysLemmas.{one_some}
 use Rattle.std.proofs.lemmas.List.{append-nil, reverse-append}
 use Rattle.access_run.specs.Leads.{AccessIsDone, AccessIsStuck, AccessLeads, Runs, StageLeads, in_check, in_operation}

@@ -1,5 +1,6 @@
 -- Accesses by their tickets, and their stamps.
-use Rattle.std.proofs.Common.{◌≡◌, ◌≢◌, ◌∷◌, ◌++◌, ◌∙◌, ◌==◌, ◌||◌, ◌+◌, ◌⊎◌, inl, inr, ℕ, zero, suc, List, [], Bool, true, false, cond, Bor, Option, Some, None, ap, arith, get_or, length, refl, subst, sym, true≢false, unwrap_or}
+use Rattle.std.proofs.Common.{◌≡◌, ◌≢◌, ◌∷◌, ◌++◌, ◌∙◌, ◌==◌, ◌||◌, ◌+◌, ◌⊎◌, inl, inr, ℕ, zero, suc, List}
+use Rattle.std.proofs.Common.{[], Bool, true, false, cond, Bor, Option, Some, None, ap, arith, get_or, length, refl, subst, sym, true≢false, unwrap_or}
 use Rattle.std.specs.Prelude.{All, Contains, nat_eq, slice_get}
 use Rattle.std.specs.List.{list_any}
 use Rattle.std.specs.Option.{option_copied}

@@ -1,5 +1,6 @@
 -- Bytes have one answer.
-use Rattle.std.proofs.Common.{◌≡◌, ◌∷◌, ◌++◌, ◌∙◌, ◌+◌, ◌<◌, ◌≤◌, ℕ, List, [], Option, Some, None, ap, append_assoc, append-nil, arith, length, map, refl, suc, subst, sym, ◌⊎◌, inl, inr, length-append}
+use Rattle.std.proofs.Common.{◌≡◌, ◌∷◌, ◌++◌, ◌∙◌, ◌+◌, ◌<◌, ◌≤◌, ℕ, List, [], Option, Some, None}
+use Rattle.std.proofs.Common.{ap, append_assoc, append-nil, arith, length, map, refl, suc, subst, sym, ◌⊎◌, inl, inr, length-append}
 use Rattle.std.specs.Prelude.{◌↔◌, Contains, Err, IfErr, IfOk, Ok, Result}
 use Rattle.std.specs.List.{flat_map}
 use Rattle.std.proofs.lemmas.List.{append_cancel_left}

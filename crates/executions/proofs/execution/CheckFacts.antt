@@ -403,7 +403,8 @@ module _ (s : Setting) (Known : Begun → Type 0) (In : Begun → ℕ → Type 0
     none_found asked records pass own (cases.skipped m n is r) =
         subst (λ (x : List Record). Goes from total (fallen_of its pass ∷ more) own x) r (plainly pass outcomes.Nothing (ap (λ (p : Pass). p.outcome) is) (λ o l. no_answer o rest l outcomes.Nothing outcomes.Nothing refl refl) own)
     none_found asked records pass own (cases.unencodable m w n is r) =
-        subst (λ (x : List Record). Goes from total (fallen_of its pass ∷ more) own x) r (plainly pass outcomes.Unencodable (ap (λ (p : Pass). p.outcome) is) (λ o l. no_answer o rest l outcomes.Unencodable outcomes.Unencodable refl refl) own)
+        subst (λ (x : List Record). Goes from total (fallen_of its pass ∷ more) own x) r
+        (plainly pass outcomes.Unencodable (ap (λ (p : Pass). p.outcome) is) (λ o l. no_answer o rest l outcomes.Unencodable outcomes.Unencodable refl refl) own)
     none_found asked records pass own (cases.watched judged later unmarked w encodable up left) =
         tries_insert (fallen_of its pass ∷ more) (try_order (slot_of s its)) records up.0 up.1 own up.2
         (λ o it. watched_at (asked + 1) up.0 up.1 judged later pass o (unmarked, encodable) it up.3 left)

@@ -39,7 +39,8 @@ use Rattle.litmus_body.proofs.CallLemmas.{call_is_read}
 use Rattle.litmus_body.proofs.SimpleComplete.{simple_is_read}
 use Rattle.litmus_body.proofs.SimpleSound.{register_accesses}
 use Rattle.litmus_body.proofs.Unrolled.{block_unrolls, body_unrolls, branch_unrolls, counted_unrolls, loop_reads, more_unrolls, statement_unrolls}
-use Rattle.litmus_body.proofs.statement_laws.Counts.{BlockFits, Fits, alone_count, alone_spent, behind_there, branch_spent, choice_spent, count_of, fits_first, fits_rest, kept_count, kept_spent, place, raced_count, raced_spent, scopes_behind, spent}
+use Rattle.litmus_body.proofs.statement_laws.Counts.{BlockFits, Fits, alone_count, alone_spent, behind_there, branch_spent, choice_spent, count_of}
+use Rattle.litmus_body.proofs.statement_laws.Counts.{fits_first, fits_rest, kept_count, kept_spent, place, raced_count, raced_spent, scopes_behind, spent}
 use Rattle.litmus_body.proofs.statement_laws.HeaderComplete.{count_there, declaration_there, follows_semicolon, free_there, given_there, header_there}
 use Rattle.litmus_body.proofs.statement_laws.HeaderSound.{header_symbols}
 use Rattle.litmus_body.proofs.statement_laws.Named.{Named, body_named, expression_named, numbered_named, statement_named}

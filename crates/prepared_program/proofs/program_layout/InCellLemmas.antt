@@ -1,5 +1,6 @@
 -- A variable that has bytes stands at a multiple of their number, and so lies in one cell.
-use Rattle.std.proofs.Common.{◌≡◌, ◌≢◌, ◌≤◌, ◌∙◌, ◌+◌, ◌*◌, ◌%◌, ◌++◌, ◌==◌, ◌||◌, ◌<◌, ◌⊎◌, inl, inr, get_or, ℕ, zero, suc, Bool, true, false, Contains, IsSomeAnd, List, [], ◌∷◌, Option, None, Some}
+use Rattle.std.proofs.Common.{◌≡◌, ◌≢◌, ◌≤◌, ◌∙◌, ◌+◌, ◌*◌, ◌%◌, ◌++◌, ◌==◌, ◌||◌, ◌<◌, ◌⊎◌}
+use Rattle.std.proofs.Common.{inl, inr, get_or, ℕ, zero, suc, Bool, true, false, Contains, IsSomeAnd, List, [], ◌∷◌, Option, None, Some}
 use Rattle.std.proofs.Common.{ap, arith, bytes_eq, cond, find, fold, option_map, refl, slice_get, subst, sym, length, if◌then◌else◌}
 use Rattle.std.proofs.lemmas.Bool.{cases_order, eqb-true}
 use Rattle.std.proofs.lemmas.List.Elements.{Contains-append_left, Contains-push}

@@ -1,5 +1,6 @@
 -- The place of a variable among those that are given.
-use Rattle.std.proofs.Common.{◌≡◌, ◌≤◌, ◌+◌, ◌*◌, ◌^◌, ℕ, Bool, true, false, List, [], ◌∷◌, IsSomeAnd, Option, None, Some, arith, bytes_eq, cond, find, length, option_map, refl, slice_get, subst, sym, unwrap_or, ap, ◌∙◌}
+use Rattle.std.proofs.Common.{◌≡◌, ◌≤◌, ◌+◌, ◌*◌, ◌^◌, ℕ, Bool, true, false, List, [], ◌∷◌, IsSomeAnd, Option, None}
+use Rattle.std.proofs.Common.{Some, arith, bytes_eq, cond, find, length, option_map, refl, slice_get, subst, sym, unwrap_or, ap, ◌∙◌}
 use Rattle.std.proofs.lemmas.Option.{same_Some, slice_get_within}
 use Rattle.access_types.specs.declared.history.Bytes.{Bytes}
 use Rattle.litmus_semantics.specs.Layout as layout

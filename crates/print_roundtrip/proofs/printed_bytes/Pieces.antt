@@ -1,5 +1,6 @@
 -- Signs, blanks and words, whatever follows.
-use Rattle.std.proofs.Common.{inl, inr, ◌≡◌, ◌≢◌, ◌∙◌, ◌⊎◌, ◌≤◌, ℕ, List, [], ◌∷◌, ◌++◌, Bool, true, false, length, get_or, refl, sym, ap, subst, append_assoc, arith, ◌==◌, ◌||◌, ◌&&◌, lit≤}
+use Rattle.std.proofs.Common.{inl, inr, ◌≡◌, ◌≢◌, ◌∙◌, ◌⊎◌, ◌≤◌, ℕ, List, [], ◌∷◌, ◌++◌, Bool, true}
+use Rattle.std.proofs.Common.{false, length, get_or, refl, sym, ap, subst, append_assoc, arith, ◌==◌, ◌||◌, ◌&&◌, lit≤}
 use Rattle.litmus_lex.specs.declared.bytes.Class.TheVariants.{Blank, NamePart, NameStart}
 use Rattle.litmus_lex.specs.declared.gap.Comment.{Comment}
 use Rattle.litmus_lex.specs.declared.gap.Comment.TheVariants.{Parens, Slashes, Line}

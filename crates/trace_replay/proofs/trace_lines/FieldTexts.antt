@@ -1,5 +1,6 @@
 -- The fields of a line, both ways: what is spelled is read, and what is read is spelled so.
-use Rattle.std.proofs.Common.{◌≡◌, ◌∙◌, ◌+◌, ◌*◌, ◌++◌, ◌^◌, ◌<◌, ◌&&◌, ◌∷◌, ℕ, zero, suc, List, [], Bool, true, false, Option, Some, None, ap, append-nil, append_assoc, arith, get_or, length, ltb-true, nat_lt, refl, subst, sym, not}
+use Rattle.std.proofs.Common.{◌≡◌, ◌∙◌, ◌+◌, ◌*◌, ◌++◌, ◌^◌, ◌<◌, ◌&&◌, ◌∷◌, ℕ, zero, suc, List, [], Bool, true}
+use Rattle.std.proofs.Common.{false, Option, Some, None, ap, append-nil, append_assoc, arith, get_or, length, ltb-true, nat_lt, refl, subst, sym, not}
 use Rattle.std.proofs.lemmas.Bool.{ne_eqb}
 use Rattle.std.proofs.lemmas.Bool.Decides.{nat_tests}
 use Rattle.std.proofs.lemmas.Fmt.{decimal-digits_value, decimal_digit, decimal_is_IsNumeral, first_decimal}

@@ -1,5 +1,6 @@
 -- Numbers in 16 hexadecimal digits, both ways.
-use Rattle.std.proofs.Common.{◌≡◌, ◌∙◌, ◌-◌, ◌+◌, ◌*◌, ◌++◌, ◌/◌, ◌%◌, ◌^◌, ◌<◌, ◌≤◌, ◌&&◌, ◌∷◌, ℕ, zero, suc, List, [], Bool, true, false, Option, Some, None, ap, append-nil, append_assoc, arith}
+use Rattle.std.proofs.Common.{◌≡◌, ◌∙◌, ◌-◌, ◌+◌, ◌*◌, ◌++◌, ◌/◌, ◌%◌, ◌^◌, ◌<◌, ◌≤◌, ◌&&◌}
+use Rattle.std.proofs.Common.{◌∷◌, ℕ, zero, suc, List, [], Bool, true, false, Option, Some, None, ap, append-nil, append_assoc, arith}
 use Rattle.std.proofs.Common.{drop, length, length-append, ltb-true, ltb-false, nat_lt, refl, length-take-le, replicate, subst, sym, take}
 use Rattle.std.proofs.Math.Nat.{sub-zero}
 use Rattle.std.proofs.lemmas.Bool.{ne_eqb}

@@ -1,5 +1,6 @@
 -- The text at the front of bytes, and what is behind it.
-use Rattle.std.proofs.Common.{◌≡◌, ◌≢◌, ◌∙◌, ◌+◌, ◌<◌, ◌≤◌, ℕ, List, [], ◌∷◌, ◌++◌, Bool, true, false, cond, Option, Some, None, refl, add-one, ap, arith, drop, drop-cons, eq-eqb, get_or, length, ◌==◌}
+use Rattle.std.proofs.Common.{◌≡◌, ◌≢◌, ◌∙◌, ◌+◌, ◌<◌, ◌≤◌, ℕ, List, [], ◌∷◌, ◌++◌, Bool, true}
+use Rattle.std.proofs.Common.{false, cond, Option, Some, None, refl, add-one, ap, arith, drop, drop-cons, eq-eqb, get_or, length, ◌==◌}
 use Rattle.std.proofs.lemmas.Bool.{eqb-true, ne_eqb}
 use Rattle.std.proofs.lemmas.List.{drop_all}
 use Rattle.trace_replay.specs.trace_lines.FieldReaders.{◌>>=◌, past}
