@@ -149,15 +149,13 @@ impl SearchProgress for System {
 }
 
 impl Desk for System {
-    ghost written = { λ _. None };
-
-    ghost failures = { λ system. system.output.failures };
-
-    ghost files = { λ _. None };
-
-    ghost told = { λ _. None };
-
-    ghost faults = { λ system. system.faults };
+    ghost state = { λ system. record {
+      written = None;
+      failures = system.output.failures;
+      files = None;
+      told = None;
+      faults = system.faults;
+    } };
 
     fn print(&mut self, text: &[u8]) -> Result<(), WriteError> {
         write_all(&mut self.output, text)

@@ -7,15 +7,16 @@ use Rattle.cli.specs.declared.request.Request.TheVariants.{Check}
 use Rattle.litmus_command.proofs.EndLemmas.{check_reads, ends_otherwise, ends_unless_several, on_left, on_right}
 use Rattle.litmus_command.proofs.OverwriteLemmas.{kept_ends, kept_files, kept_otherwise, kept_reads, no_check, same_path}
 use Rattle.litmus_command.proofs.ResultLemmas.{failures_are_known, known_above, known_below, known_so, tells_so}
-use Rattle.litmus_command.specs.Check.{CheckEnds, Whole, once_told}
-use Rattle.litmus_command.specs.Command.{IsDone, IsStopped, State, state_in, status_of}
+use Rattle.litmus_command.specs.Check.{CheckEnds}
+use Rattle.litmus_command.specs.Desks.{DeskState, once_told}
+use Rattle.litmus_command.specs.Command.{IsDone, IsStopped, OutputState, state_in, status_of}
 use Rattle.litmus_command.specs.Ends.{Fails, IsCarriedOut, IsDoneWith, IsNoCheck, Succeeds}
 use Rattle.litmus_command.specs.Overwrite.{IsKept, Overwrites}
 use Rattle.litmus_command.specs.declared.command.Failure.{Failure}
 use Rattle.litmus_command.specs.declared.complaint.Complaint.TheVariants as complaint
 
 -- what is done ends with one of three statuses
-module _ (request : Request) (status : ℕ) (before after : State) where
+module _ (request : Request) (status : ℕ) (before after : OutputState) where
   is_reported : IsDoneWith request status before after → status ≡ 2 → IsDone request true before after
   is_reported (inl done) is = done.1
   is_reported (inr (inl none)) is = absurd (let other = none.0 in omega (arith, is, other))
@@ -43,7 +44,7 @@ module _ (request : Request) (status : ℕ) (before after : State) where
   is_known (inr (inr stops)) = inr (inr (inr (inr (inr (inr stops.0)))))
 
 -- it was done
-pub carried_well : (request : Request) (status : ℕ) (before after : Whole) → IsNoCheck request → Succeeds request status before after
+pub carried_well : (request : Request) (status : ℕ) (before after : DeskState) → IsNoCheck request → Succeeds request status before after
     → IsCarriedOut request status before after
 carried_well request status before after plain well =
     let first = state_in before in
@@ -72,7 +73,7 @@ carried_well request status before after plain well =
     }
 
 -- it failed, and that was told
-pub carried_failure : (request : Request) (failure : Failure) (before after : Whole) → IsNoCheck request
+pub carried_failure : (request : Request) (failure : Failure) (before after : DeskState) → IsNoCheck request
     → Fails request (status_of failure) before after
     → IsCarriedOut request (status_of failure) before (once_told (complaint.Failure failure) after)
 carried_failure request failure before after plain fails =
@@ -100,7 +101,7 @@ carried_failure request failure before after plain fails =
     }
 
 -- a file that would be overwritten was kept
-pub carried_kept : (request : Request) (path : List ℕ) (status : ℕ) (before after : Whole) → Overwrites request path
+pub carried_kept : (request : Request) (path : List ℕ) (status : ℕ) (before after : DeskState) → Overwrites request path
     → IsKept path status before after → IsCarriedOut request status before after
 carried_kept request path status before after over kept =
     let no : (other : ℕ) → status ≡ other → (other ≡ 64 → ⊥) → (other ≡ 71 → ⊥) → ⊥ =
@@ -124,7 +125,7 @@ carried_kept request path status before after over kept =
     }
 
 -- files were checked
-pub carried_check : (request : CheckRequest) (status : ℕ) (before after : Whole) → KeepsCheckBounds request
+pub carried_check : (request : CheckRequest) (status : ℕ) (before after : DeskState) → KeepsCheckBounds request
     → CheckEnds request status before after → IsCarriedOut (Check request) status before after
 carried_check request status before after bounds ends =
     let alone = ends_unless_several request status before after bounds ends in

@@ -15,7 +15,8 @@ use Rattle.cli.specs.declared.request.CheckRequest.{CheckRequest}
 use Rattle.diagnostics.specs.check_output.Output.{IsMadeOf, last_line, unread_line}
 use Rattle.diagnostics.specs.declared.check_output.file.Comes.TheVariants as comes
 use Rattle.litmus_command.specs.Check.{AreGoneOver, AreLeft, CheckAsksFor, GoesOver, IsGoneOver, IsLeftOver, IsListFault, IsSeveral, IsToldOf, IsToldOfLost}
-use Rattle.litmus_command.specs.Check.{Whole, asked_of, list_complaint, once_told}
+use Rattle.litmus_command.specs.Check.{asked_of, list_complaint}
+use Rattle.litmus_command.specs.Desks.{DeskState, once_told}
 use Rattle.litmus_command.specs.StandardError.{heard}
 use Rattle.litmus_command.specs.declared.command.Failure.TheVariants as failure
 use Rattle.litmus_command.specs.declared.complaint.Complaint.TheVariants as complaint
@@ -34,11 +35,11 @@ on_err P (Ok x) holds = tt
 on_err P (Err e) holds = holds
 
 -- a desk of which little has changed
-abbrev whole : Option (List ℕ) → ℕ → Option (List FileEvent) → Option (List Complaint) → ℕ → Whole
+abbrev whole : Option (List ℕ) → ℕ → Option (List FileEvent) → Option (List Complaint) → ℕ → DeskState
 whole written failures files told faults =
     record { written = written; failures = failures; files = files; told = told; faults = faults }
 
-pub same_but_reads : (before after : Whole) → after.written ≡ before.written → after.failures ≡ before.failures → after.told ≡ before.told
+pub same_but_reads : (before after : DeskState) → after.written ≡ before.written → after.failures ≡ before.failures → after.told ≡ before.told
     → after ≡ record before { files = after.files; faults = after.faults }
 same_but_reads before after written failures told =
     ap (λ w. whole w after.failures after.files after.told after.faults) written
@@ -46,7 +47,7 @@ same_but_reads before after written failures told =
     ∙ ap (λ t. whole before.written before.failures after.files t after.faults) told)
 
 -- a file that gave a text was read, and then its complaint was told
-pub read_and_told : (before middle after : Whole) (event : FileEvent) → after ≡ record middle { told = after.told }
+pub read_and_told : (before middle after : DeskState) (event : FileEvent) → after ≡ record middle { told = after.told }
     → middle.written ≡ before.written → middle.failures ≡ before.failures → middle.files ≡ noted before.files event
     → middle.faults ≡ before.faults → after ≡ record before { files = noted before.files event; told = after.told }
 read_and_told before middle after event rest written failures files faults =
@@ -56,15 +57,15 @@ read_and_told before middle after event rest written failures files faults =
     ∙ ap (λ n. whole before.written before.failures (noted before.files event) after.told n) faults)))
 
 -- a file that can't be read was asked for, and then this was told
-pub lost_and_told : (before middle after : Whole) (said : Complaint) → after ≡ once_told said middle
+pub lost_and_told : (before middle after : DeskState) (said : Complaint) → after ≡ once_told said middle
     → middle.written ≡ before.written → middle.failures ≡ before.failures → middle.files ≡ before.files
     → after ≡ record before { told = after.told; faults = after.faults }
 lost_and_told before middle after said is written failures files =
     is ∙ (ap (λ w. whole w middle.failures middle.files (heard middle.told said) middle.faults) written
     ∙ (ap (λ n. whole before.written n middle.files (heard middle.told said) middle.faults) failures
     ∙ (ap (λ f. whole before.written before.failures f (heard middle.told said) middle.faults) files
-    ∙ (ap (λ t. whole before.written before.failures before.files t middle.faults) (sym (ap (λ (at : Whole). at.told) is))
-    ∙ ap (λ n. whole before.written before.failures before.files after.told n) (sym (ap (λ (at : Whole). at.faults) is))))))
+    ∙ (ap (λ t. whole before.written before.failures before.files t middle.faults) (sym (ap (λ (at : DeskState). at.told) is))
+    ∙ ap (λ n. whole before.written before.failures before.files after.told n) (sym (ap (λ (at : DeskState). at.faults) is))))))
 
 -- what was told of a file that the places don't suit
 pub told_misplaced : (files : Files) (name text : List ℕ) (check : Check) (line : Vec ℕ Global) (before after : Option (List Complaint))
@@ -101,25 +102,25 @@ is_there None none is there = absurd (let no : false ≡ true = is ∙ ap not th
 is_there (Some x) none is there = (x, refl)
 
 -- a file that has tables was read, and nothing was told
-pub read_and_left : (files : Files) (several : Bool) (found : Diagnosis) (before after : Whole) → has_tables found ≡ true
+pub read_and_left : (files : Files) (several : Bool) (found : Diagnosis) (before after : DeskState) → has_tables found ≡ true
     → IsGoneOver files found before after → IsLeftOver several before after
 read_and_left files several (Gave name text (Reads tables printed)) before after has gone = record {
-  files = inr (name, file_bytes, text, ap (λ (at : Whole). at.files) gone.0);
-  faults = inl (ap (λ (at : Whole). at.faults) gone.0);
-  rest = same_but_reads before after (ap (λ (at : Whole). at.written) gone.0) (ap (λ (at : Whole). at.failures) gone.0) gone.1;
+  files = inr (name, file_bytes, text, ap (λ (at : DeskState). at.files) gone.0);
+  faults = inl (ap (λ (at : DeskState). at.faults) gone.0);
+  rest = same_but_reads before after (ap (λ (at : DeskState). at.written) gone.0) (ap (λ (at : DeskState). at.failures) gone.0) gone.1;
 }
 read_and_left files several (Gave name text (Misplaced why)) before after has gone = absurd (cc)
 read_and_left files several (Gave name text (Refused error why)) before after has gone = absurd (cc)
 read_and_left files several (Lost name) before after has gone = absurd (cc)
 
-pub nothing_left : (several : Bool) (at : Whole) → IsLeftOver several at at
+pub nothing_left : (several : Bool) (at : DeskState) → IsLeftOver several at at
 nothing_left several at = record { files = inl refl; faults = inl refl; rest = refl }
 
 -- one file more is gone over
-pub more_gone_over : (files : Files) (founds : List Diagnosis) (found : Diagnosis) (before middle after : Whole)
+pub more_gone_over : (files : Files) (founds : List Diagnosis) (found : Diagnosis) (before middle after : DeskState)
     → AreGoneOver files founds before middle → IsGoneOver files found middle after → AreGoneOver files (founds ++ found ∷ []) before after
 more_gone_over files [] found before middle after none one =
-    (after, subst (λ (at : Whole). IsGoneOver files found at after) none one, refl)
+    (after, subst (λ (at : DeskState). IsGoneOver files found at after) none one, refl)
 more_gone_over files (first ∷ more) found before middle after all one =
     (all.0, all.1, more_gone_over files more found all.0 middle after all.2 one)
 
@@ -137,7 +138,7 @@ all_one P x holds (suc k) d lt = absurd (omega (arith, lt))
 -- so many files were gone over: what was found of them, what is printed of these, how many have tables, and their
 -- greatest status
 pub record SoFar (names : List (List ℕ)) (settings : Settings) (files : Files) (count : ℕ) (output : List ℕ) (read status : ℕ)
-    (before after : Whole) : Type 0 where
+    (before after : DeskState) : Type 0 where
   pub founds : List Diagnosis
   pub count_is : length founds ≡ count
   pub names_are : map name_of founds ≡ take count names
@@ -147,7 +148,7 @@ pub record SoFar (names : List (List ℕ)) (settings : Settings) (files : Files)
   pub read_is : read ≡ count_by has_tables founds
   pub status_is : status ≡ greatest_status founds
 
-pub none_so_far : (names : List (List ℕ)) (settings : Settings) (files : Files) (output : List ℕ) (before : Whole) → output ≡ []
+pub none_so_far : (names : List (List ℕ)) (settings : Settings) (files : Files) (output : List ℕ) (before : DeskState) → output ≡ []
     → SoFar names settings files 0 output 0 0 before before
 none_so_far names settings files output before empty = record {
   founds = [];
@@ -161,7 +162,7 @@ none_so_far names settings files output before empty = record {
 }
 
 pub one_more : (names : List (List ℕ)) (settings : Settings) (files : Files) (count : ℕ) (output : List ℕ) (read status : ℕ)
-    (before middle after : Whole) (found : Diagnosis) (more : List ℕ) (others greatest : ℕ)
+    (before middle after : DeskState) (found : Diagnosis) (more : List ℕ) (others greatest : ℕ)
     → SoFar names settings files count output read status before middle
     → take (count + 1) names ≡ take count names ++ name_of found ∷ [] → IsFound settings found → IsGoneOver files found middle after
     → more ≡ output ++ text_of files found → others ≡ read + count_by has_tables (found ∷ []) → greatest ≡ max status (status_of_one found)
@@ -185,7 +186,7 @@ is_missing None none is missing = refl
 is_missing (Some x) none is missing = absurd (let no : true ≡ false = is ∙ ap not missing in cc)
 
 -- so far the files were gone over as they are asked for
-pub goes_so_far : (request : CheckRequest) (settings : Settings) (files : Files) (count : ℕ) (output : List ℕ) (read status : ℕ) (before after : Whole)
+pub goes_so_far : (request : CheckRequest) (settings : Settings) (files : Files) (count : ℕ) (output : List ℕ) (read status : ℕ) (before after : DeskState)
     → CheckAsksFor request settings → files ≡ asked_of request
     → (far : SoFar (map (λ file. file.now) request.files.items) settings files count output read status before after)
     → GoesOver request far.founds before after
@@ -199,7 +200,7 @@ goes_so_far request settings files count output read status before after asks ar
 
 -- memory ran out over the next file, or, of several, over what is printed
 pub left_so_far : (request : CheckRequest) (settings : Settings) (files : Files) (count : ℕ) (output : List ℕ) (read status : ℕ)
-    (before middle after : Whole) → CheckAsksFor request settings → files ≡ asked_of request
+    (before middle after : DeskState) → CheckAsksFor request settings → files ≡ asked_of request
     → SoFar (map (λ file. file.now) request.files.items) settings files count output read status before middle
     → (count < length request.files.items) ⊎ IsSeveral request → IsLeftOver files.several middle after → AreLeft request before after
 left_so_far request settings files count output read status before middle after asks are far left over = record {

@@ -6,9 +6,9 @@ use Rattle.std.specs.Prelude.{IsErrAnd, IsErrOf}
 use Rattle.cli.specs.declared.request.Request.{Request}
 use Rattle.cli.specs.declared.request.Request.TheVariants.{Search}
 use Rattle.cli.specs.declared.request.SearchRequest.{SearchRequest}
-use Rattle.litmus_command.specs.Check.{Whole}
+use Rattle.litmus_command.specs.Desks.{DeskState}
 use Rattle.litmus_command.specs.Command.{DoesNotRead, DoesRead, IsCut, IsDone, IsGiven, IsGivenInPart, IsMisused, IsOfFile, IsRefusedOf, NothingIsWritten, Reads}
-use Rattle.litmus_command.specs.Command.{SearchIsDone, State, end_status_of, once_read, read_failure, state_in, status_of}
+use Rattle.litmus_command.specs.Command.{SearchIsDone, OutputState, end_status_of, once_read, read_failure, state_in, status_of}
 use Rattle.litmus_command.specs.Ends.{CommandEnds, Fails, IsDoneWith}
 use Rattle.litmus_command.specs.Files.{FileEvent, Gave, noted}
 use Rattle.litmus_command.specs.declared.command.Failure.{Failure}
@@ -18,13 +18,13 @@ use Rattle.litmus_command.specs.declared.desk.ReadFault.TheVariants as fault
 use Rattle.report_text.specs.Sink.{CountsFailure}
 
 -- a command that fails so ends so
-pub err_ends : (request : Request) (before after : Whole) (result : Result ℕ Failure) (failure : Failure)
+pub err_ends : (request : Request) (before after : DeskState) (result : Result ℕ Failure) (failure : Failure)
     → IsErrAnd result (λ found. found ≡ failure) → Fails request (status_of failure) before after → CommandEnds request result before after
 err_ends request before after (Ok status) failure is fails = absurd is
 err_ends request before after (Err found) failure is fails = subst (λ (f : Failure). Fails request (status_of f) before after) (sym is) fails
 
 -- no write failed
-fails_unwritten : (request : Request) (status : ℕ) (before after : Whole) → status ≢ 74 → NothingIsWritten (state_in before) (state_in after)
+fails_unwritten : (request : Request) (status : ℕ) (before after : DeskState) → status ≢ 74 → NothingIsWritten (state_in before) (state_in after)
     → (IsOfFile status → IsRefusedOf request status (state_in before) (state_in after))
     → (status ≡ 64 → IsMisused request (state_in before) (state_in after)) → (status ≡ 66 → DoesRead request)
     → Reads status before.faults after.faults → after.told ≡ before.told → Fails request status before after
@@ -45,7 +45,7 @@ of_no_file status other is one two (inl of) = one (sym is ∙ of)
 of_no_file status other is one two (inr of) = two (sym is ∙ of)
 
 -- nothing was read yet: the words are misused, or memory ran out
-pub fails_early : (request : Request) (status : ℕ) (at : Whole) → (status ≡ 64) ⊎ (status ≡ 71) → (status ≡ 64 → DoesNotRead request)
+pub fails_early : (request : Request) (status : ℕ) (at : DeskState) → (status ≡ 64) ⊎ (status ≡ 71) → (status ≡ 64 → DoesNotRead request)
     → Fails request status at at
 fails_early request status at (inl is) unread =
     fails_unwritten request status at at (λ no. omega (arith, is, no)) (record { written = refl; files = inl refl })
@@ -64,7 +64,7 @@ can_be_read : read_err fault.OutOfMemory ≡ read_err fault.CannotRead → ⊥
 can_be_read is = absurd (cc)
 
 -- the file can't be read, or there is no memory for it
-pub fails_unread : (request : Request) (why : ReadFault) (before after : Whole) → DoesRead request → after.written ≡ before.written
+pub fails_unread : (request : Request) (why : ReadFault) (before after : DeskState) → DoesRead request → after.written ≡ before.written
     → after.files ≡ before.files → after.told ≡ before.told
     → (IsErrOf (read_err why) fault.CannotRead → CountsFailure before.faults after.faults)
     → ((IsErrOf (read_err why) fault.CannotRead → ⊥) → after.faults ≡ before.faults)
@@ -79,14 +79,14 @@ fails_unread request fault.CannotRead before after reads written files told fail
     (λ _. reads) (record { fails = λ _. fails refl; works = λ other. absurd (other refl) }) told
 
 -- once the file gave this text
-abbrev pub once_gave : (file : List ℕ) (limit : ℕ) (text : List ℕ) → Whole → Whole
+abbrev pub once_gave : (file : List ℕ) (limit : ℕ) (text : List ℕ) → DeskState → DeskState
 once_gave file limit text before = record before { files = noted before.files (Gave file limit text) }
 
-abbrev whole : Option (List ℕ) → ℕ → Option (List FileEvent) → Option (List Complaint) → ℕ → Whole
+abbrev whole : Option (List ℕ) → ℕ → Option (List FileEvent) → Option (List Complaint) → ℕ → DeskState
 whole written failures files told faults =
     record { written = written; failures = failures; files = files; told = told; faults = faults }
 
-pub is_read_so : (before after : Whole) (file : List ℕ) (limit : ℕ) (text : List ℕ) → after.written ≡ before.written
+pub is_read_so : (before after : DeskState) (file : List ℕ) (limit : ℕ) (text : List ℕ) → after.written ≡ before.written
     → after.failures ≡ before.failures → after.files ≡ noted before.files (Gave file limit text) → after.told ≡ before.told
     → after.faults ≡ before.faults → after ≡ once_gave file limit text before
 is_read_so before after file limit text written failures files told faults =
@@ -96,7 +96,7 @@ is_read_so before after file limit text written failures files told faults =
     ∙ (ap (λ t. whole before.written before.failures (noted before.files (Gave file limit text)) t after.faults) told
     ∙ ap (λ n. whole before.written before.failures (noted before.files (Gave file limit text)) before.told n) faults)))
 
-module _ (request : Request) (before after : Whole) (file : List ℕ) (limit : ℕ) (text : List ℕ)
+module _ (request : Request) (before after : DeskState) (file : List ℕ) (limit : ℕ) (text : List ℕ)
     (is_read : after ≡ once_gave file limit text before) where
   -- what was read is refused, with a status that is no other failure's
   pub fails_of_file : (status : ℕ) → IsRefusedOf request status (state_in before) (state_in after) → DoesRead request → status ≢ 66 → status ≢ 74
@@ -104,23 +104,23 @@ module _ (request : Request) (before after : Whole) (file : List ℕ) (limit : �
   fails_of_file status refused reads readable other =
       fails_unwritten request status before after other
       (record {
-        written = ap (λ (at : Whole). at.written) is_read;
-        files = inr (file, limit, text, ap (λ (at : Whole). at.files) is_read);
+        written = ap (λ (at : DeskState). at.written) is_read;
+        files = inr (file, limit, text, ap (λ (at : DeskState). at.files) is_read);
       })
       (λ of. refused)
       (λ is. inr (inl (subst (λ (n : ℕ). IsRefusedOf request n (state_in before) (state_in after)) is refused)))
       (λ _. reads)
-      (record { fails = λ is. absurd (readable is); works = λ _. ap (λ (at : Whole). at.faults) is_read })
-      (ap (λ (at : Whole). at.told) is_read)
+      (record { fails = λ is. absurd (readable is); works = λ _. ap (λ (at : DeskState). at.faults) is_read })
+      (ap (λ (at : DeskState). at.told) is_read)
 
 -- it was done, and the status says whether there was a report
-pub done_with : (request : Request) (raced : Bool) (before after : State) → IsDone request raced before after
+pub done_with : (request : Request) (raced : Bool) (before after : OutputState) → IsDone request raced before after
     → IsDoneWith request (end_status_of raced false) before after
 done_with request true before after done = inl (refl, done)
 done_with request false before after done = inr (inl (refl, done))
 
 -- so it is of a search, which may have been stopped
-pub found_with : (request : SearchRequest) (raced stopped : Bool) (before after : State) → SearchIsDone request raced stopped before after
+pub found_with : (request : SearchRequest) (raced stopped : Bool) (before after : OutputState) → SearchIsDone request raced stopped before after
     → IsDoneWith (Search request) (end_status_of raced stopped) before after
 found_with request true stopped before after done = inl (refl, (stopped, done))
 found_with request false true before after done = inr (inr (refl, done))
@@ -128,7 +128,7 @@ found_with request false false before after done = inr (inl (refl, done))
 
 -- what is left was given, as far as that went
 module _ (request : Request) (raced stopped : Bool) (path : Option (List ℕ)) (output : List ℕ) (trace : Option (List ℕ))
-    (before middle after : Whole) (file : List ℕ) (limit : ℕ) (text : List ℕ) (is_read : middle ≡ once_gave file limit text before)
+    (before middle after : DeskState) (file : List ℕ) (limit : ℕ) (text : List ℕ) (is_read : middle ≡ once_gave file limit text before)
     (told : after.told ≡ middle.told) (faults : after.faults ≡ middle.faults)
     (done : IsGiven path output trace (once_read file limit text (state_in before)) (state_in after)
     → IsDoneWith request (end_status_of raced stopped) (state_in before) (state_in after))
@@ -143,25 +143,25 @@ module _ (request : Request) (raced stopped : Bool) (path : Option (List ℕ)) (
       → OnErr result (IsGivenInPart path output trace (state_in middle) (state_in after)) → CommandEnds request result before after
   ends_given (Ok status) is given failed part = record {
     done = subst (λ (n : ℕ). IsDoneWith request n (state_in before) (state_in after)) (sym is)
-        (done (subst (λ (at : State). IsGiven path output trace at (state_in after)) read given));
-    faults = faults ∙ ap (λ (at : Whole). at.faults) is_read;
-    told = told ∙ ap (λ (at : Whole). at.told) is_read;
+        (done (subst (λ (at : OutputState). IsGiven path output trace at (state_in after)) read given));
+    faults = faults ∙ ap (λ (at : DeskState). at.faults) is_read;
+    told = told ∙ ap (λ (at : DeskState). at.told) is_read;
   }
   ends_given (Err failure) is given failed part =
       let at = failed.0 in
       record {
         silent = λ other. absurd (other at);
-        failed = λ _. subst (λ (n : ℕ). CountsFailure n after.failures) (ap (λ (at : Whole). at.failures) is_read) failed.1;
-        cut = λ _. cut (subst (λ (at : State). IsGivenInPart path output trace at (state_in after)) read part);
+        failed = λ _. subst (λ (n : ℕ). CountsFailure n after.failures) (ap (λ (at : DeskState). at.failures) is_read) failed.1;
+        cut = λ _. cut (subst (λ (at : OutputState). IsGivenInPart path output trace at (state_in after)) read part);
         refused = λ of. absurd (of_no_file (status_of failure) 74 at (λ no. omega (arith, no)) (λ no. omega (arith, no)) of);
         misused = λ is. absurd (omega (arith, is, at));
         unread = λ is. absurd (omega (arith, is, at));
-        reads = record { fails = λ is. absurd (omega (arith, is, at)); works = λ _. faults ∙ ap (λ (at : Whole). at.faults) is_read };
-        told = told ∙ ap (λ (at : Whole). at.told) is_read;
+        reads = record { fails = λ is. absurd (omega (arith, is, at)); works = λ _. faults ∙ ap (λ (at : DeskState). at.faults) is_read };
+        told = told ∙ ap (λ (at : DeskState). at.told) is_read;
       }
 
 -- it failed to be written
-pub fails_to_write : (request : Request) (before after : Whole) → CountsFailure before.failures after.failures
+pub fails_to_write : (request : Request) (before after : DeskState) → CountsFailure before.failures after.failures
     → IsCut request (state_in before) (state_in after) → after.faults ≡ before.faults → after.told ≡ before.told
     → Fails request 74 before after
 fails_to_write request before after failed cut faults told = record {

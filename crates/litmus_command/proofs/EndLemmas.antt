@@ -9,7 +9,8 @@ use Rattle.diagnostics.specs.declared.check_output.file.Files.{Files}
 use Rattle.cli.specs.Bounds.{KeepsCheckBounds}
 use Rattle.cli.specs.declared.request.CheckRequest.{CheckRequest}
 use Rattle.litmus_command.specs.Check.{AreGoneOver, AreListsAtFault, CheckAsksFor, CheckEnds, Checked, Early, IsGoneOver, IsLeftOver, IsListFault, IsToldOfLost}
-use Rattle.litmus_command.specs.Check.{IsPrinted, IsSeveral, Left, Unread, Whole, asked_of, once_told}
+use Rattle.litmus_command.specs.Check.{IsPrinted, IsSeveral, Left, Unread, asked_of}
+use Rattle.litmus_command.specs.Desks.{DeskState, once_told}
 use Rattle.litmus_command.specs.Command.{EndsAs, IsOfNoOverwrite, Reads, StatusComplaint, complaint_status_of, state_in, status_of, text_status_of}
 use Rattle.litmus_command.specs.Files.{FileEvent, OnlyRead}
 use Rattle.litmus_command.specs.StandardError.{heard}
@@ -24,7 +25,7 @@ use Rattle.prepared_program.specs.declared.program_sites.settings.Settings.{Sett
 use Rattle.diagnostics.specs.declared.text_check.checked.Check.TheVariants as checks
 
 -- what can be said of the end of a check of one file
-pub record Ends (status : ℕ) (before after : Whole) : Type 0 where
+pub record Ends (status : ℕ) (before after : DeskState) : Type 0 where
   pub tells : StatusComplaint status before.told after.told
   pub reads : Reads status before.faults after.faults
   pub ends : EndsAs status (state_in before) (state_in after)
@@ -58,7 +59,7 @@ told_known status (inr (inr (inl is))) = inr (inr (inl (omega (arith, is), omega
 told_known status (inr (inr (inr is))) = inr (inr (inr (inr (inl is))))
 
 -- an end with a complaint, and nothing printed
-ends_told : (status : ℕ) (before after : Whole) (said : Complaint) → IsTold status → complaint_status_of said ≡ status
+ends_told : (status : ℕ) (before after : DeskState) (said : Complaint) → IsTold status → complaint_status_of said ≡ status
     → IsOfNoOverwrite said → after.told ≡ heard before.told said → Reads status before.faults after.faults → after.written ≡ before.written
     → OnlyRead before.files after.files → Ends status before after
 ends_told status before after said few is plain told reads written files =
@@ -83,7 +84,7 @@ reads_none : (status before after : ℕ) → (status ≡ 66 → ⊥) → after �
 reads_none status before after other same = record { fails = λ is. absurd (other is); works = λ _. same }
 
 -- an end where standard output failed
-ends_cut : (status : ℕ) (before after : Whole) (said : Complaint) → status ≡ 74 → complaint_status_of said ≡ 74
+ends_cut : (status : ℕ) (before after : DeskState) (said : Complaint) → status ≡ 74 → complaint_status_of said ≡ 74
     → IsOfNoOverwrite said → after.told ≡ heard before.told said → after.faults ≡ before.faults → CountsFailure before.failures after.failures → Ends status before after
 ends_cut status before after said is said_is plain told faults failed = record {
   tells = record {
@@ -100,7 +101,7 @@ ends_cut status before after said is said_is plain told faults failed = record {
 }
 
 -- an end without a complaint
-ends_well : (status : ℕ) (before after : Whole) → status ≡ 0 → after.told ≡ before.told → after.faults ≡ before.faults
+ends_well : (status : ℕ) (before after : DeskState) → status ≡ 0 → after.told ≡ before.told → after.faults ≡ before.faults
     → Ends status before after
 ends_well status before after is told faults = record {
   tells = record {
@@ -123,7 +124,7 @@ lost_alone true name before after one told = absurd (cc)
 lost_alone false name before after one told = told
 
 -- over one file no more reads failed
-faults_alone : (several : Bool) (middle stopped : Whole) → several ≡ false
+faults_alone : (several : Bool) (middle stopped : DeskState) → several ≡ false
     → (stopped.faults ≡ middle.faults) ⊎ ((several ≡ true) × CountsFailure middle.faults stopped.faults) → stopped.faults ≡ middle.faults
 faults_alone several middle stopped one (inl same) = same
 faults_alone several middle stopped one (inr many) = absurd (let is = many.0 in let no : false ≡ true = sym one ∙ is in cc)
@@ -137,16 +138,16 @@ fault_alone : (IsFault : List ℕ → Type 0) (error : Failure) (said : Complain
 fault_alone IsFault error said at_fault = subst IsOfNoOverwrite (sym at_fault.said_is) tt
 
 -- the end of the check of one file that has no tables: that was told, and nothing is printed
-told_one : (output : List ℕ) (status ends : ℕ) (before middle after : Whole) (said : Complaint) → IsTold status
+told_one : (output : List ℕ) (status ends : ℕ) (before middle after : DeskState) (said : Complaint) → IsTold status
     → complaint_status_of said ≡ status → IsOfNoOverwrite said → output ≡ [] → middle.told ≡ heard before.told said → Reads status before.faults middle.faults
     → middle.written ≡ before.written → OnlyRead before.files middle.files → IsPrinted output status ends middle after → Ends ends before after
 told_one output status ends before middle after said few is plain empty told reads written files (inl done) =
-    ends_told ends before after said (subst IsTold (sym done.0) few) (is ∙ sym done.0) plain (ap (λ (at : Whole). at.told) done.1 ∙ told)
+    ends_told ends before after said (subst IsTold (sym done.0) few) (is ∙ sym done.0) plain (ap (λ (at : DeskState). at.told) done.1 ∙ told)
     (subst (λ n. Reads n before.faults after.faults) (sym done.0)
-    (subst (λ n. Reads status before.faults n) (sym (ap (λ (at : Whole). at.faults) done.1)) reads))
-    (ap (λ (at : Whole). at.written) done.1 ∙ (ap (λ (text : List ℕ). appended middle.written text) empty
+    (subst (λ n. Reads status before.faults n) (sym (ap (λ (at : DeskState). at.faults) done.1)) reads))
+    (ap (λ (at : DeskState). at.written) done.1 ∙ (ap (λ (text : List ℕ). appended middle.written text) empty
     ∙ (nothing_more middle.written ∙ written)))
-    (subst (λ (f : Option (List FileEvent)). OnlyRead before.files f) (sym (ap (λ (at : Whole). at.files) done.1)) files)
+    (subst (λ (f : Option (List FileEvent)). OnlyRead before.files f) (sym (ap (λ (at : DeskState). at.files) done.1)) files)
 told_one output status ends before middle after said few is plain empty told reads written files (inr fails) =
     absurd (let some = fails.some in let none : length output ≡ 0 = ap (λ (text : List ℕ). length text) empty in omega (arith, some, none))
 
@@ -155,41 +156,41 @@ no_last_line : (several : Bool) (line : List ℕ) → several ≡ false → (if 
 no_last_line several line one = ap (λ (b : Bool). if b then line else []) one
 
 -- the end of the check of one file, of which this was found
-one_found : (files : Files) (settings : Settings) (found : Diagnosis) (output : List ℕ) (status ends : ℕ) (before middle after : Whole)
+one_found : (files : Files) (settings : Settings) (found : Diagnosis) (output : List ℕ) (status ends : ℕ) (before middle after : DeskState)
     → files.several ≡ false → IsFound settings found → IsGoneOver files found before middle → output ≡ output_of files (found ∷ [])
     → status ≡ greatest_status (found ∷ []) → IsPrinted output status ends middle after → Ends ends before after
 one_found files settings (Gave name text (checks.Reads tables printed)) output status ends before middle after one is_found gone output_is status_is (inl done) =
-    ends_well ends before after (done.0 ∙ status_is) (ap (λ (at : Whole). at.told) done.1 ∙ gone.1)
-    (ap (λ (at : Whole). at.faults) done.1 ∙ ap (λ (at : Whole). at.faults) gone.0)
+    ends_well ends before after (done.0 ∙ status_is) (ap (λ (at : DeskState). at.told) done.1 ∙ gone.1)
+    (ap (λ (at : DeskState). at.faults) done.1 ∙ ap (λ (at : DeskState). at.faults) gone.0)
 one_found files settings (Gave name text (checks.Reads tables printed)) output status ends before middle after one is_found gone output_is status_is (inr fails) =
     ends_cut ends before after (complaint.Failure failure.CannotWrite) fails.ends_is refl tt
-    (ap (λ (at : Whole). at.told) fails.told ∙ ap (λ (t : Option (List Complaint)). heard t (complaint.Failure failure.CannotWrite)) gone.1)
-    (ap (λ (at : Whole). at.faults) fails.told ∙ ap (λ (at : Whole). at.faults) gone.0)
-    (subst (λ n. CountsFailure n after.failures) (ap (λ (at : Whole). at.failures) gone.0) fails.failed)
+    (ap (λ (at : DeskState). at.told) fails.told ∙ ap (λ (t : Option (List Complaint)). heard t (complaint.Failure failure.CannotWrite)) gone.1)
+    (ap (λ (at : DeskState). at.faults) fails.told ∙ ap (λ (at : DeskState). at.faults) gone.0)
+    (subst (λ n. CountsFailure n after.failures) (ap (λ (at : DeskState). at.failures) gone.0) fails.failed)
 one_found files settings (Gave name text (checks.Misplaced why)) output status ends before middle after one is_found gone output_is status_is done =
     let said = complaint.Explained failure.BadPlace gone.1.lines in
     told_one output status ends before middle after said (inl status_is) (sym status_is) tt
     (output_is ∙ no_last_line files.several _ one) gone.1.told
     (reads_none status before.faults middle.faults (λ no. absurd (let is : 64 ≡ 66 = sym status_is ∙ no in omega (arith, is)))
-    (ap (λ (at : Whole). at.faults) gone.0))
-    (ap (λ (at : Whole). at.written) gone.0) (inr (name, file_bytes, text, ap (λ (at : Whole). at.files) gone.0)) done
+    (ap (λ (at : DeskState). at.faults) gone.0))
+    (ap (λ (at : DeskState). at.written) gone.0) (inr (name, file_bytes, text, ap (λ (at : DeskState). at.files) gone.0)) done
 one_found files settings (Gave name text (checks.Refused error why)) output status ends before middle after one is_found gone output_is status_is done =
     let said = complaint.Explained (failure.Engine (engine.Text error)) gone.1.lines in
     told_one output status ends before middle after said (inr (inl status_is))
     (refused_status error is_found.1.no_want ∙ sym status_is) tt
     (output_is ∙ no_last_line files.several _ one) gone.1.told
     (reads_none status before.faults middle.faults (λ no. absurd (let is : 65 ≡ 66 = sym status_is ∙ no in omega (arith, is)))
-    (ap (λ (at : Whole). at.faults) gone.0))
-    (ap (λ (at : Whole). at.written) gone.0) (inr (name, file_bytes, text, ap (λ (at : Whole). at.files) gone.0)) done
+    (ap (λ (at : DeskState). at.faults) gone.0))
+    (ap (λ (at : DeskState). at.written) gone.0) (inr (name, file_bytes, text, ap (λ (at : DeskState). at.files) gone.0)) done
 one_found files settings (Lost name) output status ends before middle after one is_found gone output_is status_is done =
     told_one output status ends before middle after (complaint.Failure failure.CannotRead) (inr (inr (inl status_is))) (sym status_is) tt
     (output_is ∙ no_last_line files.several _ one)
     (lost_alone files.several name before.told middle.told one gone.1.1)
     (record { fails = λ _. gone.1.0; works = λ other. absurd (other status_is) })
-    (ap (λ (at : Whole). at.written) gone.0) (inl (ap (λ (at : Whole). at.files) gone.0)) done
+    (ap (λ (at : DeskState). at.written) gone.0) (inl (ap (λ (at : DeskState). at.files) gone.0)) done
 
 -- all of one file were gone over
-one_checked : (request : CheckRequest) (founds : List Diagnosis) (settings : Settings) (output : List ℕ) (status ends : ℕ) (before middle after : Whole)
+one_checked : (request : CheckRequest) (founds : List Diagnosis) (settings : Settings) (output : List ℕ) (status ends : ℕ) (before middle after : DeskState)
     → length request.files.items ≡ 1 → length founds ≡ length request.files.items → All (IsFound settings) founds
     → AreGoneOver (asked_of request) founds before middle → output ≡ output_of (asked_of request) founds → status ≡ greatest_status founds
     → IsPrinted output status ends middle after → Ends ends before after
@@ -197,26 +198,26 @@ one_checked request [] settings output status ends before middle after one all a
     absurd (let no : 0 ≡ 1 = all ∙ one in omega (arith, no))
 one_checked request (found ∷ []) settings output status ends before middle after one all are_found gone output_is status_is done =
     one_found (asked_of request) settings found output status ends before middle after (ap (λ n. nat_lt 1 n) one)
-    (are_found 0 found (omega arith)) (subst (λ (at : Whole). IsGoneOver (asked_of request) found before at) (sym gone.2) gone.1) output_is
+    (are_found 0 found (omega arith)) (subst (λ (at : DeskState). IsGoneOver (asked_of request) found before at) (sym gone.2) gone.1) output_is
     status_is done
 one_checked request (found ∷ other ∷ more) settings output status ends before middle after one all are_found gone output_is status_is done =
     absurd (let no : length (found ∷ other ∷ more) ≡ 1 = all ∙ one in omega (arith, no))
 
 -- memory ran out over the one file
-one_left : (request : CheckRequest) (founds : List Diagnosis) (status : ℕ) (before middle stopped after : Whole)
+one_left : (request : CheckRequest) (founds : List Diagnosis) (status : ℕ) (before middle stopped after : DeskState)
     → length request.files.items ≡ 1 → (length founds < length request.files.items) ⊎ IsSeveral request
     → AreGoneOver (asked_of request) founds before middle → IsLeftOver (asked_of request).several middle stopped → status ≡ 71
     → after ≡ once_told (complaint.Failure failure.OutOfMemory) stopped → Ends status before after
 one_left request [] status before middle stopped after one left gone over is told =
     ends_told status before after (complaint.Failure failure.OutOfMemory) (inr (inr (inr is))) (sym is) tt
-    (ap (λ (at : Whole). at.told) told ∙ ap (λ (t : Option (List Complaint)). heard t (complaint.Failure failure.OutOfMemory))
-    (ap (λ (at : Whole). at.told) over.rest ∙ ap (λ (at : Whole). at.told) gone))
+    (ap (λ (at : DeskState). at.told) told ∙ ap (λ (t : Option (List Complaint)). heard t (complaint.Failure failure.OutOfMemory))
+    (ap (λ (at : DeskState). at.told) over.rest ∙ ap (λ (at : DeskState). at.told) gone))
     (reads_none status before.faults after.faults (λ no. absurd (omega (arith, is, no)))
-    (ap (λ (at : Whole). at.faults) told ∙ (faults_alone (asked_of request).several middle stopped (ap (λ n. nat_lt 1 n) one) over.faults
-    ∙ ap (λ (at : Whole). at.faults) gone)))
-    (ap (λ (at : Whole). at.written) told ∙ (ap (λ (at : Whole). at.written) over.rest ∙ ap (λ (at : Whole). at.written) gone))
-    (subst (λ (f : Option (List FileEvent)). OnlyRead f after.files) (ap (λ (at : Whole). at.files) gone)
-    (subst (λ (f : Option (List FileEvent)). OnlyRead middle.files f) (sym (ap (λ (at : Whole). at.files) told)) over.files))
+    (ap (λ (at : DeskState). at.faults) told ∙ (faults_alone (asked_of request).several middle stopped (ap (λ n. nat_lt 1 n) one) over.faults
+    ∙ ap (λ (at : DeskState). at.faults) gone)))
+    (ap (λ (at : DeskState). at.written) told ∙ (ap (λ (at : DeskState). at.written) over.rest ∙ ap (λ (at : DeskState). at.written) gone))
+    (subst (λ (f : Option (List FileEvent)). OnlyRead f after.files) (ap (λ (at : DeskState). at.files) gone)
+    (subst (λ (f : Option (List FileEvent)). OnlyRead middle.files f) (sym (ap (λ (at : DeskState). at.files) told)) over.files))
 one_left request (found ∷ more) status before middle stopped after one (inl less) gone over is told =
     absurd (omega (arith, one, less))
 one_left request (found ∷ more) status before middle stopped after one (inr many) gone over is told =
@@ -232,7 +233,7 @@ list_alone request said (inl schedule) = fault_alone _ failure.BadSchedule said 
 list_alone request said (inr place) = fault_alone _ failure.BadPlace said place.2
 
 -- how the check of one file ends
-pub one_ends : (request : CheckRequest) (status : ℕ) (before after : Whole) → length request.files.items ≡ 1
+pub one_ends : (request : CheckRequest) (status : ℕ) (before after : DeskState) → length request.files.items ≡ 1
     → CheckEnds request status before after → Ends status before after
 one_ends request status before after one (Checked it) =
     one_checked request it.checked.founds it.checked.goes.settings it.output it.status status before it.middle after one it.checked.all
@@ -243,19 +244,19 @@ one_ends request status before after one (Left it) =
 one_ends request status before after one (Unread it) =
     ends_told status before after it.said (inl it.status_is) (list_status request it.said it.at_fault ∙ sym it.status_is)
     (list_alone request it.said it.at_fault)
-    (ap (λ (at : Whole). at.told) it.told)
+    (ap (λ (at : DeskState). at.told) it.told)
     (reads_none status before.faults after.faults (λ no. absurd (let is = it.status_is in omega (arith, is, no)))
-    (ap (λ (at : Whole). at.faults) it.told))
-    (ap (λ (at : Whole). at.written) it.told) (inl (ap (λ (at : Whole). at.files) it.told))
+    (ap (λ (at : DeskState). at.faults) it.told))
+    (ap (λ (at : DeskState). at.written) it.told) (inl (ap (λ (at : DeskState). at.files) it.told))
 one_ends request status before after one (Early it) =
     ends_told status before after (complaint.Failure failure.OutOfMemory) (inr (inr (inr it.status_is))) (sym it.status_is) tt
-    (ap (λ (at : Whole). at.told) it.told)
+    (ap (λ (at : DeskState). at.told) it.told)
     (reads_none status before.faults after.faults (λ no. absurd (let is = it.status_is in omega (arith, is, no)))
-    (ap (λ (at : Whole). at.faults) it.told))
-    (ap (λ (at : Whole). at.written) it.told) (inl (ap (λ (at : Whole). at.files) it.told))
+    (ap (λ (at : DeskState). at.faults) it.told))
+    (ap (λ (at : DeskState). at.written) it.told) (inl (ap (λ (at : DeskState). at.files) it.told))
 
 -- there are several files, or the check ends as that of one
-pub ends_unless_several : (request : CheckRequest) (status : ℕ) (before after : Whole) → KeepsCheckBounds request
+pub ends_unless_several : (request : CheckRequest) (status : ℕ) (before after : DeskState) → KeepsCheckBounds request
     → CheckEnds request status before after → IsSeveral request ⊎ Ends status before after
 ends_unless_several request status before after bounds ends =
     let some = bounds.some in
@@ -287,7 +288,7 @@ greatest_of_files status [] few = few
 greatest_of_files status (found ∷ more) few =
     greatest_of_files (max status (status_of_one found)) more (greater_of_files status (status_of_one found) few (one_of_files found))
 
-printed_status : (output : List ℕ) (status ends : ℕ) (before after : Whole) → IsOfFiles status → IsPrinted output status ends before after
+printed_status : (output : List ℕ) (status ends : ℕ) (before after : DeskState) → IsOfFiles status → IsPrinted output status ends before after
     → (ends ≡ 0) ⊎ (((64 ≤ ends) × (ends ≤ 66)) ⊎ ((ends ≡ 71) ⊎ (ends ≡ 74)))
 printed_status output status ends before after (inl none) (inl done) = inl (done.0 ∙ none)
 printed_status output status ends before after (inr few) (inl done) =
@@ -295,7 +296,7 @@ printed_status output status ends before after (inr few) (inl done) =
 printed_status output status ends before after few (inr fails) = inr (inr (inr fails.ends_is))
 
 -- which statuses a check ends with
-pub check_status : (request : CheckRequest) (status : ℕ) (before after : Whole) → CheckEnds request status before after
+pub check_status : (request : CheckRequest) (status : ℕ) (before after : DeskState) → CheckEnds request status before after
     → (status ≡ 0) ⊎ (((64 ≤ status) × (status ≤ 66)) ⊎ ((status ≡ 71) ⊎ (status ≡ 74)))
 check_status request status before after (Checked it) =
     printed_status it.output it.status status it.middle after
@@ -305,7 +306,7 @@ check_status request status before after (Unread it) = let is = it.status_is in 
 check_status request status before after (Early it) = inr (inr (inl it.status_is))
 
 -- at 66 the lists that are asked for read
-pub check_reads : (request : CheckRequest) (status : ℕ) (before after : Whole) → CheckEnds request status before after → status ≡ 66
+pub check_reads : (request : CheckRequest) (status : ℕ) (before after : DeskState) → CheckEnds request status before after → status ≡ 66
     → (settings : Settings) × CheckAsksFor request settings
 check_reads request status before after (Checked it) is = (it.checked.goes.settings, it.checked.goes.asks)
 check_reads request status before after (Left it) is = (it.left.goes.settings, it.left.goes.asks)
@@ -322,7 +323,7 @@ on_left {A} {B} {C} follows (inl a) = inl (follows a)
 on_left {A} {B} {C} follows (inr c) = inr c
 
 -- no check ends so
-pub ends_otherwise : (request : CheckRequest) (status other : ℕ) (before after : Whole) → CheckEnds request status before after
+pub ends_otherwise : (request : CheckRequest) (status other : ℕ) (before after : DeskState) → CheckEnds request status before after
     → status ≡ other → (other ≡ 2) ⊎ (other ≡ 75) → ⊥
 ends_otherwise request status other before after ends is neither = elim (check_status request status before after ends) [
   | inl none ↦ omega (arith, is, neither, none)

@@ -2,26 +2,26 @@
 use Rattle.std.proofs.Common.{◌≡◌, ◌≤◌, ◌∙◌, ◌⊎◌, ℕ, List, ap, arith, inl, inr, sym}
 use Rattle.cli.specs.declared.request.Request.{Request}
 use Rattle.cli.specs.declared.request.Request.TheVariants as requests
-use Rattle.litmus_command.specs.Check.{Whole}
-use Rattle.litmus_command.specs.Command.{EndsAs, IsChecked, Reads, State, state_in}
+use Rattle.litmus_command.specs.Desks.{DeskState}
+use Rattle.litmus_command.specs.Command.{EndsAs, IsChecked, Reads, OutputState, state_in}
 use Rattle.litmus_command.specs.Overwrite.{IsKept, Overwrites}
 
 -- it has one of two statuses
-pub kept_status : (path : List ℕ) (status : ℕ) (before after : Whole) → IsKept path status before after → (status ≡ 64) ⊎ (status ≡ 71)
+pub kept_status : (path : List ℕ) (status : ℕ) (before after : DeskState) → IsKept path status before after → (status ≡ 64) ⊎ (status ≡ 71)
 kept_status path status before after (inl told) = inl told.status_is
 kept_status path status before after (inr out) = inr out.status_is
 
 -- nothing was read or written
-kept_state : (path : List ℕ) (status : ℕ) (before after : Whole) → IsKept path status before after → state_in after ≡ state_in before
+kept_state : (path : List ℕ) (status : ℕ) (before after : DeskState) → IsKept path status before after → state_in after ≡ state_in before
 kept_state path status before after (inl told) = ap state_in told.told
 kept_state path status before after (inr out) = ap state_in out.told
 
-kept_faults : (path : List ℕ) (status : ℕ) (before after : Whole) → IsKept path status before after → after.faults ≡ before.faults
-kept_faults path status before after (inl told) = ap (λ (at : Whole). at.faults) told.told
-kept_faults path status before after (inr out) = ap (λ (at : Whole). at.faults) out.told
+kept_faults : (path : List ℕ) (status : ℕ) (before after : DeskState) → IsKept path status before after → after.faults ≡ before.faults
+kept_faults path status before after (inl told) = ap (λ (at : DeskState). at.faults) told.told
+kept_faults path status before after (inr out) = ap (λ (at : DeskState). at.faults) out.told
 
-pub kept_files : (path : List ℕ) (status : ℕ) (before after : Whole) → IsKept path status before after → after.files ≡ before.files
-kept_files path status before after kept = ap (λ (at : State). at.files) (kept_state path status before after kept)
+pub kept_files : (path : List ℕ) (status : ℕ) (before after : DeskState) → IsKept path status before after → after.files ≡ before.files
+kept_files path status before after kept = ap (λ (at : OutputState). at.files) (kept_state path status before after kept)
 
 -- so it ends
 two_statuses : (status : ℕ) → (status ≡ 64) ⊎ (status ≡ 71) → (status ≡ 0) ⊎ (status ≡ 2) ⊎ ((64 ≤ status) × (status ≤ 66))
@@ -29,24 +29,24 @@ two_statuses : (status : ℕ) → (status ≡ 64) ⊎ (status ≡ 71) → (statu
 two_statuses status (inl is) = inr (inr (inl (omega (arith, is), omega (arith, is))))
 two_statuses status (inr is) = inr (inr (inr (inr (inl is))))
 
-pub kept_otherwise : (path : List ℕ) (status other : ℕ) (before after : Whole) → IsKept path status before after → status ≡ other
+pub kept_otherwise : (path : List ℕ) (status other : ℕ) (before after : DeskState) → IsKept path status before after → status ≡ other
     → (other ≡ 64 → ⊥) → (other ≡ 71 → ⊥) → ⊥
 kept_otherwise path status other before after kept is one two = elim (kept_status path status before after kept) [
   | inl first ↦ one (sym is ∙ first)
   | inr second ↦ two (sym is ∙ second)
 ]
 
-pub kept_ends : (path : List ℕ) (status : ℕ) (before after : Whole) → IsKept path status before after
+pub kept_ends : (path : List ℕ) (status : ℕ) (before after : DeskState) → IsKept path status before after
     → EndsAs status (state_in before) (state_in after)
 kept_ends path status before after kept =
     let same = kept_state path status before after kept in
     record {
-      silent = λ from to. record { written = ap (λ (at : State). at.written) same; files = inl (ap (λ (at : State). at.files) same) };
+      silent = λ from to. record { written = ap (λ (at : OutputState). at.written) same; files = inl (ap (λ (at : OutputState). at.files) same) };
       failed = λ is. absurd (kept_otherwise path status 74 before after kept is (λ no. omega (arith, no)) (λ no. omega (arith, no)));
       known = two_statuses status (kept_status path status before after kept);
     }
 
-pub kept_reads : (path : List ℕ) (status : ℕ) (before after : Whole) → IsKept path status before after
+pub kept_reads : (path : List ℕ) (status : ℕ) (before after : DeskState) → IsKept path status before after
     → Reads status before.faults after.faults
 kept_reads path status before after kept = record {
   fails = λ is. absurd (kept_otherwise path status 66 before after kept is (λ no. omega (arith, no)) (λ no. omega (arith, no)));
@@ -54,7 +54,7 @@ kept_reads path status before after kept = record {
 }
 
 -- no check has a file that is written
-pub no_check : (request : Request) (path : List ℕ) (status : ℕ) (before after : Whole) → Overwrites request path
+pub no_check : (request : Request) (path : List ℕ) (status : ℕ) (before after : DeskState) → Overwrites request path
     → IsChecked request status before after
 no_check (requests.Step request) path status before after over = tt
 no_check (requests.Run request) path status before after over = tt

@@ -9,7 +9,8 @@ use Rattle.cli.specs.declared.request.CheckRequest.{CheckRequest}
 use Rattle.cli.specs.declared.request.RunOptions.{RunOptions}
 use Rattle.diagnostics.specs.option_diagnostics.Places as places
 use Rattle.diagnostics.specs.option_diagnostics.Schedules as schedule_items
-use Rattle.litmus_command.specs.Files.{FileEvent, OnlyRead, noted}
+use Rattle.litmus_command.specs.Desks.{DeskState, once_told}
+use Rattle.litmus_command.specs.Files.{OnlyRead, noted}
 use Rattle.litmus_command.specs.Files as events
 use Rattle.litmus_command.specs.Lists.{SpellsNoPlaces, SpellsNoSchedule, SpellsSchedule}
 use Rattle.litmus_command.specs.Settings.{AskSettings}
@@ -27,25 +28,6 @@ use Rattle.run_output.specs.declared.error.EngineError.TheVariants as engine
 use Rattle.prepared_program.specs.step_schedule.Spelling as schedules
 use Rattle.prepared_program.specs.declared.step_schedule.schedule.Entry.{Entry}
 use Rattle.diagnostics.specs.declared.text_check.checked.Check.TheVariants.{Misplaced, Reads, Refused}
-
--- what standard output has taken, how often it has failed, what was done with files, what standard error was told, and
--- how often the read of a file has failed
-pub record Whole : Type 0 where
-  pub written : Option (List ℕ)
-  pub failures : ℕ
-  pub files : Option (List FileEvent)
-  pub told : Option (List Complaint)
-  pub faults : ℕ
-
--- that of a desk
-abbrev pub whole_of : {D : Type 0} → (D → Option (List ℕ)) → (D → ℕ) → (D → Option (List FileEvent)) → (D → Option (List Complaint)) → (D → ℕ)
-    → D → Whole
-whole_of written failures files told faults desk =
-    record { written = written desk; failures = failures desk; files = files desk; told = told desk; faults = faults desk }
-
--- once standard error was told this
-abbrev pub once_told : Complaint → Whole → Whole
-once_told said before = record before { told = heard before.told said }
 
 -- there are several files
 abbrev pub IsSeveral : CheckRequest → Type 0
@@ -96,7 +78,7 @@ IsToldOf files (Gave name text (Refused error why)) before after =
 IsToldOf files (Lost name) before after = IsToldOfLost files.several name before after
 
 -- a file was asked for, and this was found of it: it was read, or the read failed
-abbrev pub IsGoneOver : Files → Diagnosis → Whole → Whole → Type 0
+abbrev pub IsGoneOver : Files → Diagnosis → DeskState → DeskState → Type 0
 IsGoneOver files (Gave name text check) before after =
     (after ≡ record before { files = noted before.files (events.Gave name file_bytes text); told = after.told })
     × IsToldOf files (Gave name text check) before.told after.told
@@ -105,10 +87,10 @@ IsGoneOver files (Lost name) before after =
     × (CountsFailure before.faults after.faults × IsToldOf files (Lost name) before.told after.told)
 
 -- so it was with file after file
-abbrev pub AreGoneOver : Files → List Diagnosis → Whole → Whole → Type 0
+abbrev pub AreGoneOver : Files → List Diagnosis → DeskState → DeskState → Type 0
 AreGoneOver files [] before after = after ≡ before
 AreGoneOver files (found ∷ more) before after =
-    (middle : Whole) × IsGoneOver files found before middle × AreGoneOver files more middle after
+    (middle : DeskState) × IsGoneOver files found before middle × AreGoneOver files more middle after
 
 -- what came of a file of which this was found
 abbrev pub IsEndOf : Files → Diagnosis → FileEnd → Type 0
@@ -116,14 +98,14 @@ IsEndOf files found (ends.Read text) = (has_tables found ≡ true) × (text.item
 IsEndOf files found (ends.Told status) = (has_tables found ≡ false) × (status ≡ status_of_one found)
 
 -- memory ran out over a file, and nothing was told: it may have been read, or, of several, its read may have failed
-pub record IsLeftOver (several : Bool) (before after : Whole) : Type 0 where
+pub record IsLeftOver (several : Bool) (before after : DeskState) : Type 0 where
   pub files : OnlyRead before.files after.files
   pub faults : (after.faults ≡ before.faults) ⊎ ((several ≡ true) × CountsFailure before.faults after.faults)
   pub rest : after ≡ record before { files = after.files; faults = after.faults }
 
 -- the first files, as many as these, were gone over in their order, under the settings that are asked for, and this was
 -- found of them
-pub record GoesOver (request : CheckRequest) (founds : List Diagnosis) (before after : Whole) : Type 0 where
+pub record GoesOver (request : CheckRequest) (founds : List Diagnosis) (before after : DeskState) : Type 0 where
   pub settings : Settings
   pub asks : CheckAsksFor request settings
   pub names : map name_of founds ≡ take (length founds) (map (λ file. file.now) request.files.items)
@@ -132,7 +114,7 @@ pub record GoesOver (request : CheckRequest) (founds : List Diagnosis) (before a
 
 -- All files were gone over. This is printed of them: of each in order the tables, where it has some. The status is the
 -- greatest of those that they would have alone.
-pub record AreChecked (request : CheckRequest) (output : List ℕ) (status : ℕ) (before after : Whole) : Type 0 where
+pub record AreChecked (request : CheckRequest) (output : List ℕ) (status : ℕ) (before after : DeskState) : Type 0 where
   pub founds : List Diagnosis
   pub all : length founds ≡ length request.files.items
   pub goes : GoesOver request founds before after
@@ -140,7 +122,7 @@ pub record AreChecked (request : CheckRequest) (output : List ℕ) (status : ℕ
   pub status_is : status ≡ greatest_status founds
 
 -- standard output failed, and took only a beginning of this, which isn't empty
-pub record PrintFails (output : List ℕ) (ends : ℕ) (before after : Whole) : Type 0 where
+pub record PrintFails (output : List ℕ) (ends : ℕ) (before after : DeskState) : Type 0 where
   pub some : 0 < length output
   pub ends_is : ends ≡ 74
   pub begun : HoldsBeginning output before.written after.written
@@ -148,29 +130,29 @@ pub record PrintFails (output : List ℕ) (ends : ℕ) (before after : Whole) : 
   pub told : after ≡ record (once_told (complaint.Failure failure.CannotWrite) before) { written = after.written; failures = after.failures }
 
 -- this was printed, with this status, or standard output failed: so the program ends
-abbrev pub IsPrinted : (output : List ℕ) → (status ends : ℕ) → Whole → Whole → Type 0
+abbrev pub IsPrinted : (output : List ℕ) → (status ends : ℕ) → DeskState → DeskState → Type 0
 IsPrinted output status ends before after =
     ((ends ≡ status) × (after ≡ record before { written = appended before.written output })) ⊎ PrintFails output ends before after
 
 -- all files were gone over, and what is printed of them was printed, as far as standard output took it
-pub record FilesAreChecked (request : CheckRequest) (ends : ℕ) (before after : Whole) : Type 0 where
+pub record FilesAreChecked (request : CheckRequest) (ends : ℕ) (before after : DeskState) : Type 0 where
   pub output : List ℕ
   pub status : ℕ
-  pub middle : Whole
+  pub middle : DeskState
   pub checked : AreChecked request output status before middle
   pub printed : IsPrinted output status ends middle after
 
 -- memory ran out over a file, or over what is printed of several
-pub record AreLeft (request : CheckRequest) (before after : Whole) : Type 0 where
+pub record AreLeft (request : CheckRequest) (before after : DeskState) : Type 0 where
   pub founds : List Diagnosis
   pub left : (length founds < length request.files.items) ⊎ IsSeveral request
-  pub middle : Whole
+  pub middle : DeskState
   pub goes : GoesOver request founds before middle
   pub over : IsLeftOver (asked_of request).several middle after
 
 -- so it was, and nothing was printed
-pub record FilesAreLeft (request : CheckRequest) (status : ℕ) (before after : Whole) : Type 0 where
-  pub middle : Whole
+pub record FilesAreLeft (request : CheckRequest) (status : ℕ) (before after : DeskState) : Type 0 where
+  pub middle : DeskState
   pub left : AreLeft request before middle
   pub status_is : status ≡ 71
   pub told : after ≡ once_told (complaint.Failure failure.OutOfMemory) middle
@@ -194,19 +176,19 @@ AreListsAtFault request said =
     × IsListFault failure.BadPlace (places.IsFault request.places.now) said)
 
 -- the schedule doesn't read, or the place list doesn't: that was told, and no file was asked for
-pub record ListsDoNotRead (request : CheckRequest) (status : ℕ) (before after : Whole) : Type 0 where
+pub record ListsDoNotRead (request : CheckRequest) (status : ℕ) (before after : DeskState) : Type 0 where
   pub said : Complaint
   pub at_fault : AreListsAtFault request said
   pub status_is : status ≡ 64
   pub told : after ≡ once_told said before
 
 -- want of memory was told, with its status, and nothing else was done
-pub record IsOutOfMemory (status : ℕ) (before after : Whole) : Type 0 where
+pub record IsOutOfMemory (status : ℕ) (before after : DeskState) : Type 0 where
   pub status_is : status ≡ 71
   pub told : after ≡ once_told (complaint.Failure failure.OutOfMemory) before
 
 -- how `check` ends
-pub data CheckEnds (request : CheckRequest) (status : ℕ) (before after : Whole) : Type 0 where
+pub data CheckEnds (request : CheckRequest) (status : ℕ) (before after : DeskState) : Type 0 where
   Checked : FilesAreChecked request status before after → CheckEnds request status before after
   Left : FilesAreLeft request status before after → CheckEnds request status before after
   Unread : ListsDoNotRead request status before after → CheckEnds request status before after

@@ -44,7 +44,8 @@ use Rattle.trace_replay.specs.Answer as answers
 use Rattle.trace_replay.specs.declared.accepted.TraceError.{TraceError}
 use Rattle.trace_replay.specs.declared.accepted.TraceError.TheVariants as trace
 use Rattle.diagnostics.specs.text_check.Calls.{calls_text}
-use Rattle.litmus_command.specs.Check.{CheckAsksFor, CheckEnds, IsOutOfMemory, IsSeveral, Whole}
+use Rattle.litmus_command.specs.Check.{CheckAsksFor, CheckEnds, IsOutOfMemory, IsSeveral}
+use Rattle.litmus_command.specs.Desks.{DeskState}
 use Rattle.litmus_command.specs.Engine.{IsRefused, TextLeaves}
 use Rattle.litmus_command.specs.Files.{FileEvent, Gave, Has, OnlyRead, noted}
 use Rattle.litmus_command.specs.Replay.{IsLineOf}
@@ -125,18 +126,13 @@ read_failure fault.OutOfMemory = failure.OutOfMemory
 read_failure fault.CannotRead = failure.CannotRead
 
 -- what standard output has taken, how often the desk has failed, and what was done with files
-pub record State : Type 0 where
+pub record OutputState : Type 0 where
   pub written : Option (List ℕ)
   pub failures : ℕ
   pub files : Option (List FileEvent)
 
 -- that of a desk
-abbrev pub state_of : {D : Type 0} → (D → Option (List ℕ)) → (D → ℕ) → (D → Option (List FileEvent)) → D → State
-state_of written failures files desk =
-    record { written = written desk; failures = failures desk; files = files desk }
-
--- and that of which more is known
-abbrev pub state_in : Whole → State
+abbrev pub state_in : DeskState → OutputState
 state_in at = record { written = at.written; failures = at.failures; files = at.files }
 
 -- and this is the schedule, as the request's text spells it
@@ -210,19 +206,19 @@ pub record IsFound (request : SearchRequest) (stopped : Bool) (text : List ℕ) 
 
 -- What is left of runs was given: standard output took the output, and the trace was written, if it is asked for and
 -- there is one.
-pub record IsGiven (path : Option (List ℕ)) (output : List ℕ) (trace : Option (List ℕ)) (before after : State) : Type 0 where
+pub record IsGiven (path : Option (List ℕ)) (output : List ℕ) (trace : Option (List ℕ)) (before after : OutputState) : Type 0 where
   pub written : after.written ≡ appended before.written output
   pub files : after.files ≡ with_trace before.files path trace
 
 -- Not all of it could be given. There is a trace, and its file could not be written: standard output and all files have
 -- what they had. Or that was done, and standard output took but a beginning of the output.
-abbrev pub IsGivenInPart : (path : Option (List ℕ)) (output : List ℕ) (trace : Option (List ℕ)) (before after : State) → Type 0
+abbrev pub IsGivenInPart : (path : Option (List ℕ)) (output : List ℕ) (trace : Option (List ℕ)) (before after : OutputState) → Type 0
 IsGivenInPart path output trace before after =
     ((is_some trace ≡ true) × (after.written ≡ before.written) × (after.files ≡ before.files))
     ⊎ (HoldsBeginning output before.written after.written × (after.files ≡ with_trace before.files path trace))
 
 -- once the file of a name gave this text, of which at most so many bytes and one were asked for
-abbrev pub once_read : (file : List ℕ) (limit : ℕ) (text : List ℕ) → State → State
+abbrev pub once_read : (file : List ℕ) (limit : ℕ) (text : List ℕ) → OutputState → OutputState
 once_read file limit text before = record before { files = noted before.files (Gave file limit text) }
 
 abbrev pub trace_path : RunOptions → Option (List ℕ)
@@ -234,7 +230,7 @@ svg_path request = option_map (λ path. path.now) request.svg
 -- The file that is asked for was read, and was run, or drawn, as it is asked. What is left of that was given, which has
 -- a report or none: an output, and what goes to the file of this path, if there is one.
 pub record FileIsRun (file : List ℕ) (limit : ℕ) (path : Option (List ℕ)) (Left : List ℕ → Bool → List ℕ → Option (List ℕ) → Type 0)
-    (raced : Bool) (before after : State) : Type 0 where
+    (raced : Bool) (before after : OutputState) : Type 0 where
   pub text : List ℕ
   pub output : List ℕ
   pub trace : Option (List ℕ)
@@ -243,7 +239,7 @@ pub record FileIsRun (file : List ℕ) (limit : ℕ) (path : Option (List ℕ)) 
 
 -- and it could not all be given
 pub record FileIsRunInPart (file : List ℕ) (limit : ℕ) (path : Option (List ℕ))
-    (Left : List ℕ → Bool → List ℕ → Option (List ℕ) → Type 0) (before after : State) : Type 0 where
+    (Left : List ℕ → Bool → List ℕ → Option (List ℕ) → Type 0) (before after : OutputState) : Type 0 where
   pub text : List ℕ
   pub raced : Bool
   pub output : List ℕ
@@ -257,7 +253,7 @@ SpellsNone text = (program : tree.Program) → SpellsProgram text program → �
 
 -- The file that is asked for was read, and its text has no output, for a reason that ends with this status: 65 only
 -- where the text spells no program. Nothing was written.
-pub record FileIsRefused (file : List ℕ) (Refuses : List ℕ → EngineError → Type 0) (status : ℕ) (before after : State) : Type 0 where
+pub record FileIsRefused (file : List ℕ) (Refuses : List ℕ → EngineError → Type 0) (status : ℕ) (before after : OutputState) : Type 0 where
   pub text : List ℕ
   pub error : EngineError
   pub refused : Refuses text error
@@ -285,7 +281,7 @@ pub record SearchRefuses (request : SearchRequest) (text : List ℕ) (error : En
   pub refused : searched.IsRefused text settings error
 
 -- the file that is asked for was read, and is no true trace, for a reason that ends with this status
-pub record ReplayIsRefused (request : ReplayRequest) (status : ℕ) (before after : State) : Type 0 where
+pub record ReplayIsRefused (request : ReplayRequest) (status : ℕ) (before after : OutputState) : Type 0 where
   pub bytes : List ℕ
   pub error : TraceError
   pub refused : answers.IsRefused bytes error
@@ -294,19 +290,19 @@ pub record ReplayIsRefused (request : ReplayRequest) (status : ℕ) (before afte
 
 -- the file that is asked for gave these bytes, which are a true trace, and this is said of it: how many lines it has of
 -- each kind
-pub record IsSaid (request : ReplayRequest) (bytes line : List ℕ) (before after : State) : Type 0 where
+pub record IsSaid (request : ReplayRequest) (bytes line : List ℕ) (before after : OutputState) : Type 0 where
   pub accepted : IsLineOf bytes line
   pub files : after.files ≡ noted before.files (Gave request.trace.now size_limit bytes)
 
 -- the file that is asked for was read, and is a true trace; what is said of it was written
-pub record ReplayIsDone (request : ReplayRequest) (before after : State) : Type 0 where
+pub record ReplayIsDone (request : ReplayRequest) (before after : OutputState) : Type 0 where
   pub bytes : List ℕ
   pub line : List ℕ
   pub said : IsSaid request bytes line before after
   pub written : after.written ≡ appended before.written line
 
 -- standard output took but a beginning of it
-pub record ReplayIsCut (request : ReplayRequest) (before after : State) : Type 0 where
+pub record ReplayIsCut (request : ReplayRequest) (before after : OutputState) : Type 0 where
   pub bytes : List ℕ
   pub line : List ℕ
   pub said : IsSaid request bytes line before after
@@ -321,7 +317,7 @@ pub record IsShown (request : ShowRequest) (bytes : List ℕ) (raced : Bool) (ou
   pub unraced : raced ≡ false
 
 -- the file that is asked for was read, and is not drawn, for a reason that ends with this status
-pub record ShowIsRefused (request : ShowRequest) (status : ℕ) (before after : State) : Type 0 where
+pub record ShowIsRefused (request : ShowRequest) (status : ℕ) (before after : OutputState) : Type 0 where
   pub bytes : List ℕ
   pub error : PictureError
   pub undrawn : IsUndrawn bytes error
@@ -329,33 +325,33 @@ pub record ShowIsRefused (request : ShowRequest) (status : ℕ) (before after : 
   pub files : after.files ≡ noted before.files (Gave request.trace.now size_limit bytes)
 
 -- what a search was asked to find was found, with a report or without one, and others remain or none
-abbrev pub SearchIsDone : SearchRequest → (raced stopped : Bool) → State → State → Type 0
+abbrev pub SearchIsDone : SearchRequest → (raced stopped : Bool) → OutputState → OutputState → Type 0
 SearchIsDone request raced stopped before after = FileIsRun request.file.now file_bytes (trace_path request.options) (IsFound request stopped) raced before after
 
--- the status that ends what was done: whether there was a report, and whether a search was stopped at its limit
+-- the status that ends what was done: whether there was a report, and whether a search was stopped
 abbrev pub end_status_of : (raced stopped : Bool) → ℕ
 end_status_of true stopped = 2
 end_status_of false true = 75
 end_status_of false false = 0
 
 -- `check` ended so, whatever standard error was told and however often a read failed
-abbrev pub CheckIsEnded : CheckRequest → (status : ℕ) → State → State → Type 0
+abbrev pub CheckIsEnded : CheckRequest → (status : ℕ) → OutputState → OutputState → Type 0
 CheckIsEnded request status before after = (told later : Option (List Complaint)) × (faults more : ℕ) × CheckEnds request status
     (record { written = before.written; failures = before.failures; files = before.files; told = told; faults = faults })
     (record { written = after.written; failures = after.failures; files = after.files; told = later; faults = more })
 
 -- the calls that are read were written, and no file was touched
-pub record CallsAreGiven (before after : State) : Type 0 where
+pub record CallsAreGiven (before after : OutputState) : Type 0 where
   pub written : after.written ≡ appended before.written calls_text
   pub files : after.files ≡ before.files
 
 -- standard output took but a beginning of them
-pub record CallsAreCut (before after : State) : Type 0 where
+pub record CallsAreCut (before after : OutputState) : Type 0 where
   pub begun : HoldsBeginning calls_text before.written after.written
   pub files : after.files ≡ before.files
 
 -- what is asked was done, with a report or without one; without one in none of all lists, where it is a search
-abbrev pub IsDone : Request → Bool → State → State → Type 0
+abbrev pub IsDone : Request → Bool → OutputState → OutputState → Type 0
 IsDone (requests.Step request) raced before after =
     FileIsRun request.file.now file_bytes (trace_path request.options) (IsLeft request) raced before after
 IsDone (requests.Run request) raced before after = FileIsRun request.file.now file_bytes (trace_path request.options) (AreLeft request) raced before after
@@ -370,8 +366,8 @@ IsDone (requests.Check request) false before after = CheckIsEnded request 0 befo
 IsDone requests.Calls true before after = ⊥
 IsDone requests.Calls false before after = CallsAreGiven before after
 
--- a search that is asked for was stopped at its limit, with no report so far
-abbrev pub IsStopped : Request → State → State → Type 0
+-- a search that is asked for was stopped, with no report so far
+abbrev pub IsStopped : Request → OutputState → OutputState → Type 0
 IsStopped (requests.Step request) before after = ⊥
 IsStopped (requests.Run request) before after = ⊥
 IsStopped (requests.Search request) before after = SearchIsDone request false true before after
@@ -381,7 +377,7 @@ IsStopped (requests.Check request) before after = ⊥
 IsStopped requests.Calls before after = ⊥
 
 -- what is asked was done, and not all of it could be written
-abbrev pub IsCut : Request → State → State → Type 0
+abbrev pub IsCut : Request → OutputState → OutputState → Type 0
 IsCut (requests.Step request) before after = FileIsRunInPart request.file.now file_bytes (trace_path request.options) (IsLeft request) before after
 IsCut (requests.Run request) before after = FileIsRunInPart request.file.now file_bytes (trace_path request.options) (AreLeft request) before after
 IsCut (requests.Search request) before after =
@@ -393,7 +389,7 @@ IsCut (requests.Check request) before after = CheckIsEnded request 74 before aft
 IsCut requests.Calls before after = CallsAreCut before after
 
 -- what is asked was refused of the file that it is about
-abbrev pub IsRefusedOf : Request → (status : ℕ) → State → State → Type 0
+abbrev pub IsRefusedOf : Request → (status : ℕ) → OutputState → OutputState → Type 0
 IsRefusedOf (requests.Step request) status before after = FileIsRefused request.file.now (StepRefuses request) status before after
 IsRefusedOf (requests.Run request) status before after = FileIsRefused request.file.now (RunRefuses request) status before after
 IsRefusedOf (requests.Search request) status before after = FileIsRefused request.file.now (SearchRefuses request) status before after
@@ -414,7 +410,7 @@ DoesNotRead requests.Calls = ⊥
 
 -- Schedule or place list don't read, and no file was touched; or the file that is asked for was read, and they don't
 -- suit its program; or that file would be overwritten, and no file was touched.
-abbrev pub IsMisused : Request → State → State → Type 0
+abbrev pub IsMisused : Request → OutputState → OutputState → Type 0
 IsMisused request before after = (DoesNotRead request × (after.files ≡ before.files)) ⊎ IsRefusedOf request 64 before after
     ⊎ (((path : List ℕ) × Overwrites request path) × (after.files ≡ before.files))
 
@@ -444,7 +440,7 @@ abbrev pub IsToldApart : Request → Type 0
 IsToldApart request = IsOfSeveral request ⊎ ((path : List ℕ) × Overwrites request path)
 
 -- where it is a check: how it ended, with what standard error was told of each file
-abbrev pub IsChecked : Request → (status : ℕ) → Whole → Whole → Type 0
+abbrev pub IsChecked : Request → (status : ℕ) → DeskState → DeskState → Type 0
 IsChecked (requests.Step request) status before after = Unit {0}
 IsChecked (requests.Run request) status before after = Unit {0}
 IsChecked (requests.Search request) status before after = Unit {0}
@@ -493,38 +489,38 @@ abbrev pub AskForOne : (words : List (List ℕ)) → (Request → Type 0) → Ty
 AskForOne words Holds = (request : Request) × MayBeAsked request × Ask words request × Holds request
 
 -- the words ask for help, a text was written, and no file was touched
-pub record HelpIsGiven (words : List (List ℕ)) (before after : State) : Type 0 where
+pub record HelpIsGiven (words : List (List ℕ)) (before after : OutputState) : Type 0 where
   pub asked : AskForHelp words
   pub text : List ℕ
   pub written : after.written ≡ appended before.written text
   pub files : after.files ≡ before.files
 
 -- the words ask for help, and standard output took but a beginning of the text
-pub record HelpIsCut (words : List (List ℕ)) (before after : State) : Type 0 where
+pub record HelpIsCut (words : List (List ℕ)) (before after : OutputState) : Type 0 where
   pub asked : AskForHelp words
   pub text : List ℕ
   pub begun : HoldsBeginning text before.written after.written
   pub files : after.files ≡ before.files
 
 -- the words ask for the version, the line that says it was written, and no file was touched
-pub record VersionIsGiven (words : List (List ℕ)) (before after : State) : Type 0 where
+pub record VersionIsGiven (words : List (List ℕ)) (before after : OutputState) : Type 0 where
   pub asked : AskForVersion words
   pub written : after.written ≡ appended before.written version_line
   pub files : after.files ≡ before.files
 
 -- the words ask for the version, and standard output took but a beginning of that line
-pub record VersionIsCut (words : List (List ℕ)) (before after : State) : Type 0 where
+pub record VersionIsCut (words : List (List ℕ)) (before after : OutputState) : Type 0 where
   pub asked : AskForVersion words
   pub begun : HoldsBeginning version_line before.written after.written
   pub files : after.files ≡ before.files
 
 -- nothing was written: standard output has what it had, and one file was read at most
-pub record NothingIsWritten (before after : State) : Type 0 where
+pub record NothingIsWritten (before after : OutputState) : Type 0 where
   pub written : after.written ≡ before.written
   pub files : OnlyRead before.files after.files
 
 -- what each status from 64 to 74 says, and which statuses there are
-pub record EndsAs (status : ℕ) (before after : State) : Type 0 where
+pub record EndsAs (status : ℕ) (before after : OutputState) : Type 0 where
   -- from 64 to 71, nothing was written
   pub silent : 64 ≤ status → status ≤ 71 → NothingIsWritten before after
   -- standard output or the trace's file could not be written
@@ -534,7 +530,7 @@ pub record EndsAs (status : ℕ) (before after : State) : Type 0 where
       ⊎ (status ≡ 70) ⊎ (status ≡ 71) ⊎ (status ≡ 74) ⊎ (status ≡ 75)
 
 -- the words ask for help or the version, or are at fault: no file was read, and so much was told and written as the status says
-pub record AreAnswered (words : List (List ℕ)) (status : ℕ) (before after : Whole) : Type 0 where
+pub record AreAnswered (words : List (List ℕ)) (status : ℕ) (before after : DeskState) : Type 0 where
   pub kind : ErrorKind
   pub other : kind ≢ kinds.OutOfMemory
   pub may : MayFail words kind
@@ -544,6 +540,6 @@ pub record AreAnswered (words : List (List ℕ)) (status : ℕ) (before after : 
 
 -- The words ask for something of which this holds; or for help or the version, or they are at fault, and that was
 -- answered; or memory ran out over them, which was told, and nothing else was done.
-abbrev pub OfAsked : (words : List (List ℕ)) → (status : ℕ) → (before after : Whole) → (Request → Type 0) → Type 0
+abbrev pub OfAsked : (words : List (List ℕ)) → (status : ℕ) → (before after : DeskState) → (Request → Type 0) → Type 0
 OfAsked words status before after Holds =
     AskForOne words Holds ⊎ AreAnswered words status before after ⊎ IsOutOfMemory status before after

@@ -1,28 +1,28 @@
 -- How a command ends, and what its status says.
 use Rattle.std.specs.Prelude.{◌≡◌, ◌≢◌, ◌⊎◌, ℕ, List, Err, Ok, Result, false, true}
 use Rattle.cli.specs.declared.request.Request.{Request}
-use Rattle.litmus_command.specs.Check.{Whole}
+use Rattle.litmus_command.specs.Desks.{DeskState}
 use Rattle.litmus_command.specs.Command.{DoesRead, EndsAs, IsChecked, IsCut, IsDone, IsMisused, IsOfFile, IsOfSeveral, IsRefusedOf, IsStopped}
-use Rattle.litmus_command.specs.Command.{IsToldApart, NothingIsWritten, Reads, State, StatusComplaint, state_in, status_of}
+use Rattle.litmus_command.specs.Command.{IsToldApart, NothingIsWritten, Reads, OutputState, StatusComplaint, state_in, status_of}
 use Rattle.litmus_command.specs.Overwrite.{IsKept, Overwrites}
 use Rattle.litmus_command.specs.declared.command.Failure.{Failure}
 use Rattle.report_text.specs.Sink.{CountsFailure}
 
--- what is asked was done, with this status: with a report, without one, or as a search that was stopped at its limit
+-- what is asked was done, with this status: with a report, without one, or as a search that was stopped
 -- with none so far
-abbrev pub IsDoneWith : Request → (status : ℕ) → State → State → Type 0
+abbrev pub IsDoneWith : Request → (status : ℕ) → OutputState → OutputState → Type 0
 IsDoneWith request status before after =
     ((status ≡ 2) × IsDone request true before after) ⊎ ((status ≡ 0) × IsDone request false before after)
     ⊎ ((status ≡ 75) × IsStopped request before after)
 
 -- so it was, no read failed, and standard error was told nothing
-pub record Succeeds (request : Request) (status : ℕ) (before after : Whole) : Type 0 where
+pub record Succeeds (request : Request) (status : ℕ) (before after : DeskState) : Type 0 where
   pub done : IsDoneWith request status (state_in before) (state_in after)
   pub faults : after.faults ≡ before.faults
   pub told : after.told ≡ before.told
 
 -- what is asked failed, with this status, and standard error was told nothing so far
-pub record Fails (request : Request) (status : ℕ) (before after : Whole) : Type 0 where
+pub record Fails (request : Request) (status : ℕ) (before after : DeskState) : Type 0 where
   pub silent : status ≢ 74 → NothingIsWritten (state_in before) (state_in after)
   pub failed : status ≡ 74 → CountsFailure before.failures after.failures
   pub cut : status ≡ 74 → IsCut request (state_in before) (state_in after)
@@ -33,18 +33,18 @@ pub record Fails (request : Request) (status : ℕ) (before after : Whole) : Typ
   pub told : after.told ≡ before.told
 
 -- a command ends so: it is done, or it fails
-abbrev pub CommandEnds : Request → Result ℕ Failure → Whole → Whole → Type 0
+abbrev pub CommandEnds : Request → Result ℕ Failure → DeskState → DeskState → Type 0
 CommandEnds request (Ok status) before after = Succeeds request status before after
 CommandEnds request (Err failure) before after = Fails request (status_of failure) before after
 
 -- what is asked is no check, and nothing would be overwritten
 pub record IsNoCheck (request : Request) : Type 0 where
-  pub checks : (status : ℕ) (before after : Whole) → IsChecked request status before after
+  pub checks : (status : ℕ) (before after : DeskState) → IsChecked request status before after
   pub keeps : (path : List ℕ) → Overwrites request path → ⊥
 
 -- What is asked was carried out, and this is the status: what it says of what was written and of the files, what
 -- standard error was told, and whether a read failed.
-pub record IsCarriedOut (request : Request) (status : ℕ) (before after : Whole) : Type 0 where
+pub record IsCarriedOut (request : Request) (status : ℕ) (before after : DeskState) : Type 0 where
   pub reported : status ≡ 2 → IsDone request true (state_in before) (state_in after)
   pub unreported : status ≡ 0 → IsDone request false (state_in before) (state_in after)
   pub stopped : status ≡ 75 → IsStopped request (state_in before) (state_in after)

@@ -1,6 +1,7 @@
 pub mod Engine
 pub mod Files
 pub mod StandardError
+pub mod Desks
 pub mod Lists
 pub mod Settings
 pub mod Replay

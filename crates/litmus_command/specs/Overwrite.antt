@@ -5,7 +5,8 @@ use Rattle.std.specs.Option.{option_map}
 use Rattle.diagnostics.specs.declared.check_output.told.Lines.{Lines}
 use Rattle.cli.specs.declared.request.Request.{Request}
 use Rattle.cli.specs.declared.request.Request.TheVariants as requests
-use Rattle.litmus_command.specs.Check.{IsOutOfMemory, Whole, once_told}
+use Rattle.litmus_command.specs.Check.{IsOutOfMemory}
+use Rattle.litmus_command.specs.Desks.{DeskState, once_told}
 use Rattle.litmus_command.specs.declared.complaint.Complaint.TheVariants as complaint
 use Rattle.program_table.specs.text_pieces.Shown.{shown}
 
@@ -29,12 +30,12 @@ unfoldable pub overwrite_line : (path : List ℕ) → List ℕ
 overwrite_line path = concat (shown path ∷ codes " would overwrite its input\n" ∷ [])
 
 -- so it was told of this path, with its status, and nothing else was done
-pub record OverwriteIsTold (path : List ℕ) (status : ℕ) (before after : Whole) : Type 0 where
+pub record OverwriteIsTold (path : List ℕ) (status : ℕ) (before after : DeskState) : Type 0 where
   pub lines : Lines
   pub text_is : lines.bytes.items ≡ overwrite_line path
   pub status_is : status ≡ 64
   pub told : after ≡ once_told (complaint.Overwrites lines) before
 
 -- the file of this path was kept: so it was told, or memory ran out over that
-abbrev pub IsKept : (path : List ℕ) → (status : ℕ) → Whole → Whole → Type 0
+abbrev pub IsKept : (path : List ℕ) → (status : ℕ) → DeskState → DeskState → Type 0
 IsKept path status before after = OverwriteIsTold path status before after ⊎ IsOutOfMemory status before after

@@ -7,7 +7,8 @@ ghost use Rattle.diagnostics.specs.declared.check_output.file.Files.{Files};
 ghost use Rattle.cli.specs.Bounds.{KeepsCheckBounds};
 ghost use Rattle.litmus_command.specs.Check as spec;
 ghost use Rattle.litmus_command.specs.Check.{AreChecked, AreLeft, AreListsAtFault, CheckAsksFor, CheckEnds, IsEndOf, IsGoneOver, IsLeftOver, IsPrinted, IsToldOf};
-ghost use Rattle.litmus_command.specs.Check.{once_told, options_of, whole_of};
+ghost use Rattle.litmus_command.specs.Check.{options_of};
+ghost use Rattle.litmus_command.specs.Desks.{once_told};
 ghost use Rattle.litmus_command.specs.Command.{complaint_status_of};
 ghost use Rattle.litmus_command.specs.Ends.{CommandEnds};
 ghost use Rattle.litmus_command.specs.StandardError.{heard};
@@ -95,8 +96,7 @@ fn settings_asked(alloc: Global, request: &CheckRequest<'_>) -> Result<Settings,
 /// Tells standard error, and answers the status that this comes with.
 pub(crate) fn tell<D: Desk>(complaint: Complaint, desk: &mut D) -> u8
     ensures status { result ≡ complaint_status_of complaint }
-    ensures told { whole_of D.written D.failures D.files D.told D.faults desk.new
-        ≡ once_told complaint (whole_of D.written D.failures D.files D.told D.faults desk.old) }
+    ensures told { D.state desk.new ≡ once_told complaint (D.state desk.old) }
 {
     let status = complaint.status();
     desk.complain(complaint);
@@ -108,9 +108,8 @@ fn tell_file<D: Desk>(comes: Comes, desk: &mut D) -> FileEnd
     ensures ends { (files : Files) (settings : Settings) (name text : List ℕ) (check : Check) → IsMadeOf files name check comes
         → IsCheckOf name text settings check → IsEndOf files (Gave name text check) result }
     ensures told { (files : Files) (name text : List ℕ) (check : Check) → IsMadeOf files name check comes
-        → IsToldOf files (Gave name text check) (D.told desk.old) (D.told desk.new) }
-    ensures rest { whole_of D.written D.failures D.files D.told D.faults desk.new
-        ≡ record (whole_of D.written D.failures D.files D.told D.faults desk.old) { told = D.told desk.new } }
+        → IsToldOf files (Gave name text check) (D.state desk.old).told (D.state desk.new).told }
+    ensures rest { D.state desk.new ≡ record (D.state desk.old) { told = (D.state desk.new).told } }
 {
     match comes {
         Comes::Read(text) => FileEnd::Read(text),
@@ -148,10 +147,8 @@ fn check_file<D: Desk>(
 ) -> Result<FileEnd, AllocError>
     requires { (3 ≤ settings.now.slots) × (settings.now.slots ≤ 1024) }
     ensures found { IfOk result (λ end. (found : Diagnosis) × (name_of found ≡ name.now) × IsFound settings.now found
-        × IsEndOf files found end × IsGoneOver files found (whole_of D.written D.failures D.files D.told D.faults desk.old)
-        (whole_of D.written D.failures D.files D.told D.faults desk.new)) }
-    ensures over { OnErr result (IsLeftOver files.several (whole_of D.written D.failures D.files D.told D.faults desk.old)
-        (whole_of D.written D.failures D.files D.told D.faults desk.new)) }
+        × IsEndOf files found end × IsGoneOver files found (D.state desk.old) (D.state desk.new)) }
+    ensures over { OnErr result (IsLeftOver files.several (D.state desk.old) (D.state desk.new)) }
 {
     match desk.read_file(alloc, name, FILE_BYTES) {
         Ok(text) => {
@@ -176,9 +173,8 @@ fn check_files<D: Desk>(
     requires bounds { KeepsCheckBounds request.now }
     requires asks { CheckAsksFor request.now settings.now }
     ensures checked { IfOk result (λ checked. AreChecked request.now checked.output.items checked.status
-        (whole_of D.written D.failures D.files D.told D.faults desk.old) (whole_of D.written D.failures D.files D.told D.faults desk.new)) }
-    ensures left { OnErr result (AreLeft request.now (whole_of D.written D.failures D.files D.told D.faults desk.old)
-        (whole_of D.written D.failures D.files D.told D.faults desk.new)) }
+        (D.state desk.old) (D.state desk.new)) }
+    ensures left { OnErr result (AreLeft request.now (D.state desk.old) (D.state desk.new)) }
 {
     let files = Files {
         several: request.files.len() > 1,
@@ -205,8 +201,7 @@ fn check_files<D: Desk>(
 
 /// Prints what is printed of the files, and answers the status that the program ends with.
 fn print_checked<D: Desk>(checked: &Checked, desk: &mut D) -> u8
-    ensures { IsPrinted checked.now.output.items checked.now.status result
-        (whole_of D.written D.failures D.files D.told D.faults desk.old) (whole_of D.written D.failures D.files D.told D.faults desk.new) }
+    ensures { IsPrinted checked.now.output.items checked.now.status result (D.state desk.old) (D.state desk.new) }
 {
     // Of one file that isn't read there is nothing to print, and no failure to be had of that.
     if checked.output.is_empty() {
@@ -222,8 +217,7 @@ fn print_checked<D: Desk>(checked: &Checked, desk: &mut D) -> u8
 /// they would have alone.
 pub(crate) fn carry_check<D: Desk>(alloc: Global, request: &CheckRequest<'_>, desk: &mut D) -> u8
     requires { KeepsCheckBounds request.now }
-    ensures { CheckEnds request.now result (whole_of D.written D.failures D.files D.told D.faults desk.old)
-        (whole_of D.written D.failures D.files D.told D.faults desk.new) }
+    ensures { CheckEnds request.now result (D.state desk.old) (D.state desk.new) }
 {
     let settings = match settings_asked(alloc, request) {
         Ok(settings) => settings,
@@ -237,8 +231,7 @@ pub(crate) fn carry_check<D: Desk>(alloc: Global, request: &CheckRequest<'_>, de
 
 /// Prints the calls that are read.
 pub(crate) fn list_calls<D: Desk>(desk: &mut D) -> Result<u8, Failure>
-    ensures { CommandEnds Request.Calls result (whole_of D.written D.failures D.files D.told D.faults desk.old)
-        (whole_of D.written D.failures D.files D.told D.faults desk.new) }
+    ensures { CommandEnds Request.Calls result (D.state desk.old) (D.state desk.new) }
 {
     match desk.print(calls().as_bytes()) {
         Ok(()) => Ok(NO_REPORT),

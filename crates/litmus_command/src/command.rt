@@ -5,11 +5,12 @@ ghost use Rattle.cli.specs.Bounds.{KeepsBounds, KeepsRunBounds, KeepsSearchBound
 ghost use Rattle.cli.specs.Words.{AskForHelp, AskForVersion, MayFail};
 ghost use Rattle.cli.specs.declared.request.Request as spec;
 ghost use Rattle.clap.specs.Words.{kind_of};
-ghost use Rattle.litmus_command.specs.Check.{IsOutOfMemory, Whole, once_told, whole_of};
+ghost use Rattle.litmus_command.specs.Check.{IsOutOfMemory};
+ghost use Rattle.litmus_command.specs.Desks.{DeskState, once_told};
 ghost use Rattle.litmus_command.specs.Command.{AskForOne, AskSettings, AsksFor, EndsAs, HelpIsCut, HelpIsGiven, IsCut, IsDone, IsGiven, IsGivenInPart};
 ghost use Rattle.litmus_command.specs.Command.{IsChecked, IsOfFile, IsOfSeveral, IsRefusedOf, IsStopped, IsToldApart, OfAsked};
 ghost use Rattle.litmus_command.specs.Command.{DoesNotRead, DoesRead, IsFault, IsMisused, Reads, SpellsNoPlaces, StatusComplaint, UsageIsTold, VersionIsCut, VersionIsGiven};
-ghost use Rattle.litmus_command.specs.Command.{end_status_of, engine_status_of, picture_status_of, read_failure, run_status_of, settings_of, state_of};
+ghost use Rattle.litmus_command.specs.Command.{end_status_of, engine_status_of, picture_status_of, read_failure, run_status_of, settings_of, state_in};
 ghost use Rattle.litmus_command.specs.Command.{status_of, text_status_of, times_of, trace_status_of, with_trace};
 ghost use Rattle.litmus_command.specs.Ends.{CommandEnds, IsCarriedOut, IsNoCheck};
 ghost use Rattle.litmus_command.specs.Overwrite.{IsKept, Overwrites};
@@ -73,7 +74,7 @@ pub const OUT_OF_MEMORY: u8 = 71;
 /// Output can't be written.
 const UNWRITABLE: u8 = 74;
 
-/// A search was stopped at its limit, and there was no report so far.
+/// A search was stopped, and there was no report so far.
 const STOPPED: u8 = 75;
 
 /// Why the program does not end well. Its text goes to standard error.
@@ -219,8 +220,8 @@ fn picture_status(error: PictureError) -> u8
 /// 0: no report, a trace that is accepted or drawn, files that read where they are checked, help, or the version. 2: a
 /// report. 64: usage, a file that would be written over its input, a schedule that doesn't read or names a task that
 /// isn't there, or a place that doesn't read or doesn't suit. 65: the file is refused. 66: it can't be read. 70: a task
-/// is stuck. 71: out of memory, or a thread couldn't be started. 74: output can't be written. 75: a search was stopped at
-/// its limit, and tells of no report. Of several files that are checked the greatest status counts. At 64 to 71 nothing
+/// is stuck. 71: out of memory, or a thread couldn't be started. 74: output can't be written. 75: a search was stopped,
+/// at its limit or after its seconds, and tells of no report. Of several files that are checked the greatest status counts. At 64 to 71 nothing
 /// goes to standard output, but for what is printed of several files that are checked, and no file is written. At 74
 /// standard output and all files have what they had, or standard output has a beginning of what should stand there.
 pub fn command<R: Threads + Wait + Sync, S: AsStr, D: Desk>(
@@ -230,51 +231,40 @@ pub fn command<R: Threads + Wait + Sync, S: AsStr, D: Desk>(
     desk: &mut D,
 ) -> u8
     ensures reported { result ≡ 2 → AskForOne (map S.text words.now) (λ request.
-        IsDone request true (state_of D.written D.failures D.files desk.old)
-        (state_of D.written D.failures D.files desk.new)) }
+        IsDone request true (state_in (D.state desk.old)) (state_in (D.state desk.new))) }
     ensures unreported { result ≡ 0 → AskForOne (map S.text words.now) (λ request.
-        IsDone request false (state_of D.written D.failures D.files desk.old)
-        (state_of D.written D.failures D.files desk.new))
-        ⊎ HelpIsGiven (map S.text words.now) (state_of D.written D.failures D.files desk.old)
-        (state_of D.written D.failures D.files desk.new)
-        ⊎ VersionIsGiven (map S.text words.now) (state_of D.written D.failures D.files desk.old)
-        (state_of D.written D.failures D.files desk.new) }
+        IsDone request false (state_in (D.state desk.old)) (state_in (D.state desk.new)))
+        ⊎ HelpIsGiven (map S.text words.now) (state_in (D.state desk.old)) (state_in (D.state desk.new))
+        ⊎ VersionIsGiven (map S.text words.now) (state_in (D.state desk.old)) (state_in (D.state desk.new)) }
     ensures stopped { result ≡ 75 → AskForOne (map S.text words.now) (λ request.
-        IsStopped request (state_of D.written D.failures D.files desk.old)
-        (state_of D.written D.failures D.files desk.new)) }
+        IsStopped request (state_in (D.state desk.old)) (state_in (D.state desk.new))) }
     ensures unwritten { result ≡ 74 → AskForOne (map S.text words.now) (λ request.
-        IsCut request (state_of D.written D.failures D.files desk.old)
-        (state_of D.written D.failures D.files desk.new))
-        ⊎ HelpIsCut (map S.text words.now) (state_of D.written D.failures D.files desk.old)
-        (state_of D.written D.failures D.files desk.new)
-        ⊎ VersionIsCut (map S.text words.now) (state_of D.written D.failures D.files desk.old)
-        (state_of D.written D.failures D.files desk.new) }
+        IsCut request (state_in (D.state desk.old)) (state_in (D.state desk.new)))
+        ⊎ HelpIsCut (map S.text words.now) (state_in (D.state desk.old)) (state_in (D.state desk.new))
+        ⊎ VersionIsCut (map S.text words.now) (state_in (D.state desk.old)) (state_in (D.state desk.new)) }
     ensures refused { IsOfFile result → AskForOne (map S.text words.now) (λ request.
-        IsRefusedOf request result (state_of D.written D.failures D.files desk.old)
-        (state_of D.written D.failures D.files desk.new)) }
+        IsRefusedOf request result (state_in (D.state desk.old)) (state_in (D.state desk.new))) }
     ensures misused { result ≡ 64 → AskForOne (map S.text words.now) (λ request.
-        IsMisused request (state_of D.written D.failures D.files desk.old)
-        (state_of D.written D.failures D.files desk.new))
-        ⊎ UsageIsTold (map S.text words.now) (D.told desk.old) (D.told desk.new) }
+        IsMisused request (state_in (D.state desk.old)) (state_in (D.state desk.new)))
+        ⊎ UsageIsTold (map S.text words.now) (D.state desk.old).told (D.state desk.new).told }
     ensures unread { result ≡ 66 → AskForOne (map S.text words.now) DoesRead }
 
     // What `check` found of each file, in order, is what `check_text` says of its text. So much was told and printed,
     // and the status follows.
-    ensures checks { OfAsked (map S.text words.now) result (whole_of D.written D.failures D.files D.told D.faults desk.old)
-        (whole_of D.written D.failures D.files D.told D.faults desk.new) (λ request. IsChecked request result
-        (whole_of D.written D.failures D.files D.told D.faults desk.old) (whole_of D.written D.failures D.files D.told D.faults desk.new)) }
+    ensures checks { OfAsked (map S.text words.now) result (D.state desk.old)
+        (D.state desk.new) (λ request. IsChecked request result (D.state desk.old) (D.state desk.new)) }
 
     // A file that would be written over its input is named, and nothing else is done. `misused` and `tells` say that
     // this is said of no other.
-    ensures keeps { OfAsked (map S.text words.now) result (whole_of D.written D.failures D.files D.told D.faults desk.old)
-        (whole_of D.written D.failures D.files D.told D.faults desk.new) (λ request. (path : List ℕ) → Overwrites request path → IsKept path result
-        (whole_of D.written D.failures D.files D.told D.faults desk.old) (whole_of D.written D.failures D.files D.told D.faults desk.new)) }
+    ensures keeps { OfAsked (map S.text words.now) result (D.state desk.old)
+        (D.state desk.new) (λ request. (path : List ℕ) → Overwrites request path → IsKept path result
+        (D.state desk.old) (D.state desk.new)) }
 
     // Only of a check of several files more was read and told, and something printed with a status from 64 to 66.
-    ensures reads { AskForOne (map S.text words.now) IsOfSeveral ⊎ Reads result (D.faults desk.old) (D.faults desk.new) }
-    ensures tells { AskForOne (map S.text words.now) IsToldApart ⊎ StatusComplaint result (D.told desk.old) (D.told desk.new) }
-    ensures ends { AskForOne (map S.text words.now) IsOfSeveral ⊎ EndsAs result (state_of D.written D.failures D.files desk.old)
-        (state_of D.written D.failures D.files desk.new) }
+    ensures reads { AskForOne (map S.text words.now) IsOfSeveral ⊎ Reads result (D.state desk.old).faults (D.state desk.new).faults }
+    ensures tells { AskForOne (map S.text words.now) IsToldApart ⊎ StatusComplaint result (D.state desk.old).told (D.state desk.new).told }
+    ensures ends { AskForOne (map S.text words.now) IsOfSeveral ⊎ EndsAs result (state_in (D.state desk.old))
+        (state_in (D.state desk.new)) }
 {
     match asked(alloc, words) {
         Ok(request) => carry_out(rt, alloc, &request, desk),
@@ -290,8 +280,7 @@ pub fn carry_out<R: Threads + Wait + Sync, D: Desk>(
     desk: &mut D,
 ) -> u8
     requires { MayBeAsked request.now }
-    ensures { IsCarriedOut request.now result (whole_of D.written D.failures D.files D.told D.faults desk.old)
-        (whole_of D.written D.failures D.files D.told D.faults desk.new) }
+    ensures { IsCarriedOut request.now result (D.state desk.old) (D.state desk.new) }
 {
     // That a file would be lost comes before anything else that is wrong with what is asked.
     if let Some(path) = overwritten(request) {
@@ -339,9 +328,9 @@ fn advise_check<D: Desk>(failure: Failure, file: Option<&str>, desk: &D) {
 /// Ends what was asked, of the litmus file of this name if it is of one: where it failed, standard error is told why.
 /// The status that the program ends with.
 fn finish<D: Desk>(done: Result<u8, Failure>, file: Option<&str>, desk: &mut D) -> u8
-    ensures { (request : spec.Request) (before : Whole) → IsNoCheck request
-        → CommandEnds request done before (whole_of D.written D.failures D.files D.told D.faults desk.old)
-        → IsCarriedOut request result before (whole_of D.written D.failures D.files D.told D.faults desk.new) }
+    ensures { (request : spec.Request) (before : DeskState) → IsNoCheck request
+        → CommandEnds request done before (D.state desk.old)
+        → IsCarriedOut request result before (D.state desk.new) }
 {
     match done {
         Ok(status) => status,
@@ -357,11 +346,10 @@ fn finish<D: Desk>(done: Result<u8, Failure>, file: Option<&str>, desk: &mut D) 
 fn fail<D: Desk>(failure: Failure, desk: &mut D) -> u8
     ensures status { result ≡ status_of failure }
     ensures known { ((64 ≤ result) × (result ≤ 66)) ⊎ ((result ≡ 70) ⊎ ((result ≡ 71) ⊎ (result ≡ 74))) }
-    ensures stays { state_of D.written D.failures D.files desk.new ≡ state_of D.written D.failures D.files desk.old }
-    ensures told { D.told desk.new ≡ heard (D.told desk.old) (Complaint.Failure failure) }
-    ensures faults { D.faults desk.new ≡ D.faults desk.old }
-    ensures whole { whole_of D.written D.failures D.files D.told D.faults desk.new
-        ≡ once_told (Complaint.Failure failure) (whole_of D.written D.failures D.files D.told D.faults desk.old) }
+    ensures stays { state_in (D.state desk.new) ≡ state_in (D.state desk.old) }
+    ensures told { (D.state desk.new).told ≡ heard (D.state desk.old).told (Complaint.Failure failure) }
+    ensures faults { (D.state desk.new).faults ≡ (D.state desk.old).faults }
+    ensures whole { D.state desk.new ≡ once_told (Complaint.Failure failure) (D.state desk.old) }
 {
     desk.complain(Complaint::Failure(failure));
     failure.status()
@@ -418,16 +406,16 @@ fn keep_trace<D: Desk>(
     trace: &Option<Vec<u8>>,
     desk: &mut D,
 ) -> Result<(), Failure>
-    ensures files { OnOk result (D.files desk.new ≡ with_trace (D.files desk.old) (option_map (λ path. path.now) path.entry)
+    ensures files { OnOk result ((D.state desk.new).files ≡ with_trace (D.state desk.old).files (option_map (λ path. path.now) path.entry)
         (option_map (λ bytes. bytes.items) trace.now)) }
-    ensures written { D.written desk.new ≡ D.written desk.old }
+    ensures written { (D.state desk.new).written ≡ (D.state desk.old).written }
     ensures failed { IfErr result (λ failure.
-        (status_of failure ≡ 74) × CountsFailure (D.failures desk.old) (D.failures desk.new)) }
-    ensures works { OnOk result (D.failures desk.new ≡ D.failures desk.old) }
+        (status_of failure ≡ 74) × CountsFailure (D.state desk.old).failures (D.state desk.new).failures) }
+    ensures works { OnOk result ((D.state desk.new).failures ≡ (D.state desk.old).failures) }
     ensures there { OnErr result (is_some trace.now ≡ true) }
-    ensures kept { OnErr result (D.files desk.new ≡ D.files desk.old) }
-    ensures told { D.told desk.new ≡ D.told desk.old }
-    ensures faults { D.faults desk.new ≡ D.faults desk.old }
+    ensures kept { OnErr result ((D.state desk.new).files ≡ (D.state desk.old).files) }
+    ensures told { (D.state desk.new).told ≡ (D.state desk.old).told }
+    ensures faults { (D.state desk.new).faults ≡ (D.state desk.old).faults }
 {
     match path {
         None => Ok(()),
@@ -441,14 +429,14 @@ fn keep_trace<D: Desk>(
     }
 }
 
-/// The status that ends what was done: whether there was a report, and whether a search was stopped at its limit.
+/// The status that ends what was done: whether there was a report, and whether a search was stopped.
 fn end_status(raced: bool, stopped: bool) -> u8
     ensures { result ≡ end_status_of raced stopped }
 {
     if raced {
         REPORTED
     } else if stopped {
-        // Without a report at the limit it is open whether there is one: neither status would be true.
+        // Without a report so far it is open whether there is one: neither status would be true.
         STOPPED
     } else {
         NO_REPORT
@@ -465,15 +453,15 @@ fn emit<D: Desk>(
 ) -> Result<u8, Failure>
     ensures status { IfOk result (λ status. status ≡ end_status_of written.now.raced stopped) }
     ensures given { OnOk result (IsGiven (option_map (λ path. path.now) path.entry) written.now.output.items
-        (option_map (λ bytes. bytes.items) written.now.trace) (state_of D.written D.failures D.files desk.old)
-        (state_of D.written D.failures D.files desk.new)) }
+        (option_map (λ bytes. bytes.items) written.now.trace) (state_in (D.state desk.old))
+        (state_in (D.state desk.new))) }
     ensures failed { IfErr result (λ failure.
-        (status_of failure ≡ 74) × CountsFailure (D.failures desk.old) (D.failures desk.new)) }
+        (status_of failure ≡ 74) × CountsFailure (D.state desk.old).failures (D.state desk.new).failures) }
     ensures part { OnErr result (IsGivenInPart (option_map (λ path. path.now) path.entry) written.now.output.items
-        (option_map (λ bytes. bytes.items) written.now.trace) (state_of D.written D.failures D.files desk.old)
-        (state_of D.written D.failures D.files desk.new)) }
-    ensures told { D.told desk.new ≡ D.told desk.old }
-    ensures faults { D.faults desk.new ≡ D.faults desk.old }
+        (option_map (λ bytes. bytes.items) written.now.trace) (state_in (D.state desk.old))
+        (state_in (D.state desk.new))) }
+    ensures told { (D.state desk.new).told ≡ (D.state desk.old).told }
+    ensures faults { (D.state desk.new).faults ≡ (D.state desk.old).faults }
 {
     // The trace comes first: where its file can't be written, that is known before standard output has anything.
     keep_trace(path, &written.trace, desk)?;
@@ -486,8 +474,7 @@ fn emit<D: Desk>(
 /// Steps a file, and gives what is left of that.
 fn step<D: Desk>(alloc: Global, request: &StepRequest<'_>, desk: &mut D) -> Result<u8, Failure>
     requires { KeepsBounds request.now.options }
-    ensures { CommandEnds (Request.Step request.now) result (whole_of D.written D.failures D.files D.told D.faults desk.old)
-        (whole_of D.written D.failures D.files D.told D.faults desk.new) }
+    ensures { CommandEnds (Request.Step request.now) result (D.state desk.old) (D.state desk.new) }
 {
     let (settings, schedule) = asked_for(alloc, request)?;
     let text = desk.read_file(alloc, request.file, FILE_BYTES)?;
@@ -525,8 +512,7 @@ fn run<R: Threads + Wait + Sync, D: Desk>(
     desk: &mut D,
 ) -> Result<u8, Failure>
     requires { KeepsRunBounds request.now }
-    ensures { CommandEnds (Request.Run request.now) result (whole_of D.written D.failures D.files D.told D.faults desk.old)
-        (whole_of D.written D.failures D.files D.told D.faults desk.new) }
+    ensures { CommandEnds (Request.Run request.now) result (D.state desk.old) (D.state desk.new) }
 {
     let settings = settings_for(alloc, &request.options)?;
     let text = desk.read_file(alloc, request.file, FILE_BYTES)?;
@@ -545,8 +531,7 @@ fn search<R: Threads + Sync, D: Desk>(
     desk: &mut D,
 ) -> Result<u8, Failure>
     requires { KeepsSearchBounds request.now }
-    ensures { CommandEnds (Request.Search request.now) result (whole_of D.written D.failures D.files D.told D.faults desk.old)
-        (whole_of D.written D.failures D.files D.told D.faults desk.new) }
+    ensures { CommandEnds (Request.Search request.now) result (D.state desk.old) (D.state desk.new) }
 {
     let settings = settings_for(alloc, &request.options)?;
     let text = desk.read_file(alloc, request.file, FILE_BYTES)?;
@@ -556,8 +541,7 @@ fn search<R: Threads + Sync, D: Desk>(
 
 /// Checks a trace, and writes what is said of one that is accepted. No report is told of.
 fn replay<D: Desk>(alloc: Global, request: &ReplayRequest<'_>, desk: &mut D) -> Result<u8, Failure>
-    ensures { CommandEnds (Request.Replay request.now) result (whole_of D.written D.failures D.files D.told D.faults desk.old)
-        (whole_of D.written D.failures D.files D.told D.faults desk.new) }
+    ensures { CommandEnds (Request.Replay request.now) result (D.state desk.old) (D.state desk.new) }
 {
     let bytes = desk.read_file(alloc, request.trace, SIZE_LIMIT)?;
     let line = replayed(alloc, &bytes)?;
@@ -580,8 +564,7 @@ fn style_for<D: Desk>(request: &ShowRequest<'_>, desk: &D) -> Style
 
 /// Draws a trace, and gives what is left of that. A report that the trace tells of doesn't count as one here.
 fn show<D: Desk>(alloc: Global, request: &ShowRequest<'_>, desk: &mut D) -> Result<u8, Failure>
-    ensures { CommandEnds (Request.Show request.now) result (whole_of D.written D.failures D.files D.told D.faults desk.old)
-        (whole_of D.written D.failures D.files D.told D.faults desk.new) }
+    ensures { CommandEnds (Request.Show request.now) result (D.state desk.old) (D.state desk.new) }
 {
     let bytes = desk.read_file(alloc, request.trace, SIZE_LIMIT)?;
     let style = style_for(request, &*desk);
@@ -592,26 +575,21 @@ fn show<D: Desk>(alloc: Global, request: &ShowRequest<'_>, desk: &mut D) -> Resu
 /// Help and the version go to standard output, and what is wrong with the words to standard error.
 fn explain<D: Desk>(alloc: Global, error: clap::Error, desk: &mut D) -> u8
     ensures answered { (words : List (List ℕ)) → MayFail words (kind_of error) → result ≡ 0
-        → HelpIsGiven words (state_of D.written D.failures D.files desk.old)
-        (state_of D.written D.failures D.files desk.new)
-        ⊎ VersionIsGiven words (state_of D.written D.failures D.files desk.old)
-        (state_of D.written D.failures D.files desk.new) }
+        → HelpIsGiven words (state_in (D.state desk.old)) (state_in (D.state desk.new))
+        ⊎ VersionIsGiven words (state_in (D.state desk.old)) (state_in (D.state desk.new)) }
     ensures unreported { result ≢ 2 }
     ensures unstopped { result ≢ 75 }
     ensures of_words { ¬ IsOfFile result }
     ensures unwritten { (words : List (List ℕ)) → MayFail words (kind_of error) → result ≡ 74
-        → HelpIsCut words (state_of D.written D.failures D.files desk.old)
-        (state_of D.written D.failures D.files desk.new)
-        ⊎ VersionIsCut words (state_of D.written D.failures D.files desk.old)
-        (state_of D.written D.failures D.files desk.new) }
-    ensures usage { result ≡ 64 → IsFault (kind_of error) × (D.told desk.new ≡ heard (D.told desk.old) (Complaint.Usage error)) }
+        → HelpIsCut words (state_in (D.state desk.old)) (state_in (D.state desk.new))
+        ⊎ VersionIsCut words (state_in (D.state desk.old)) (state_in (D.state desk.new)) }
+    ensures usage { result ≡ 64 → IsFault (kind_of error) × ((D.state desk.new).told ≡ heard (D.state desk.old).told (Complaint.Usage error)) }
     ensures readable { result ≢ 66 }
     ensures memory { (kind_of error ≢ ErrorKind.OutOfMemory) ⊎ IsOutOfMemory result
-        (whole_of D.written D.failures D.files D.told D.faults desk.old) (whole_of D.written D.failures D.files D.told D.faults desk.new) }
-    ensures faults { D.faults desk.new ≡ D.faults desk.old }
-    ensures tells { StatusComplaint result (D.told desk.old) (D.told desk.new) }
-    ensures ends { EndsAs result (state_of D.written D.failures D.files desk.old)
-        (state_of D.written D.failures D.files desk.new) }
+        (D.state desk.old) (D.state desk.new) }
+    ensures faults { (D.state desk.new).faults ≡ (D.state desk.old).faults }
+    ensures tells { StatusComplaint result (D.state desk.old).told (D.state desk.new).told }
+    ensures ends { EndsAs result (state_in (D.state desk.old)) (state_in (D.state desk.new)) }
 {
     match error.kind() {
         ErrorKind::OutOfMemory => fail(Failure::OutOfMemory, desk),
@@ -627,20 +605,17 @@ fn explain<D: Desk>(alloc: Global, error: clap::Error, desk: &mut D) -> u8
 /// Writes the text of help.
 fn help<D: Desk>(alloc: Global, help: clap::Error, desk: &mut D) -> u8
     ensures help { (words : List (List ℕ)) → AskForHelp words → result ≡ 0
-        → HelpIsGiven words (state_of D.written D.failures D.files desk.old)
-        (state_of D.written D.failures D.files desk.new) }
+        → HelpIsGiven words (state_in (D.state desk.old)) (state_in (D.state desk.new)) }
     ensures unreported { result ≢ 2 }
     ensures unstopped { result ≢ 75 }
     ensures of_words { ¬ IsOfFile result }
     ensures unwritten { (words : List (List ℕ)) → AskForHelp words → result ≡ 74
-        → HelpIsCut words (state_of D.written D.failures D.files desk.old)
-        (state_of D.written D.failures D.files desk.new) }
+        → HelpIsCut words (state_in (D.state desk.old)) (state_in (D.state desk.new)) }
     ensures usage { result ≢ 64 }
     ensures readable { result ≢ 66 }
-    ensures faults { D.faults desk.new ≡ D.faults desk.old }
-    ensures tells { StatusComplaint result (D.told desk.old) (D.told desk.new) }
-    ensures ends { EndsAs result (state_of D.written D.failures D.files desk.old)
-        (state_of D.written D.failures D.files desk.new) }
+    ensures faults { (D.state desk.new).faults ≡ (D.state desk.old).faults }
+    ensures tells { StatusComplaint result (D.state desk.old).told (D.state desk.new).told }
+    ensures ends { EndsAs result (state_in (D.state desk.old)) (state_in (D.state desk.new)) }
 {
     let Ok(text) = help.to_string(alloc) else {
         return fail(Failure::OutOfMemory, desk);
@@ -654,20 +629,17 @@ fn help<D: Desk>(alloc: Global, help: clap::Error, desk: &mut D) -> u8
 /// Writes the line that says the version: our own, since no clause of `clap` says what the text of its error is.
 fn version<D: Desk>(alloc: Global, desk: &mut D) -> u8
     ensures version { (words : List (List ℕ)) → AskForVersion words → result ≡ 0
-        → VersionIsGiven words (state_of D.written D.failures D.files desk.old)
-        (state_of D.written D.failures D.files desk.new) }
+        → VersionIsGiven words (state_in (D.state desk.old)) (state_in (D.state desk.new)) }
     ensures unreported { result ≢ 2 }
     ensures unstopped { result ≢ 75 }
     ensures of_words { ¬ IsOfFile result }
     ensures unwritten { (words : List (List ℕ)) → AskForVersion words → result ≡ 74
-        → VersionIsCut words (state_of D.written D.failures D.files desk.old)
-        (state_of D.written D.failures D.files desk.new) }
+        → VersionIsCut words (state_in (D.state desk.old)) (state_in (D.state desk.new)) }
     ensures usage { result ≢ 64 }
     ensures readable { result ≢ 66 }
-    ensures faults { D.faults desk.new ≡ D.faults desk.old }
-    ensures tells { StatusComplaint result (D.told desk.old) (D.told desk.new) }
-    ensures ends { EndsAs result (state_of D.written D.failures D.files desk.old)
-        (state_of D.written D.failures D.files desk.new) }
+    ensures faults { (D.state desk.new).faults ≡ (D.state desk.old).faults }
+    ensures tells { StatusComplaint result (D.state desk.old).told (D.state desk.new).told }
+    ensures ends { EndsAs result (state_in (D.state desk.old)) (state_in (D.state desk.new)) }
 {
     let Ok(line) = version_line(alloc) else {
         return fail(Failure::OutOfMemory, desk);

@@ -2,7 +2,6 @@
 
 ghost use Rattle.std.specs.Prelude.{◌≡◌, ℕ, List, IfNone, IfOk, IfSome};
 ghost use Rattle.std.specs.Option.{option_map};
-ghost use Rattle.litmus_command.specs.Check.{whole_of};
 ghost use Rattle.litmus_command.specs.Overwrite as spec;
 ghost use Rattle.litmus_command.specs.Overwrite.{AreSamePath, IsKept, Overwrites};
 
@@ -52,8 +51,7 @@ fn overwrite_line(alloc: Global, path: &str) -> Result<Vec<u8>, AllocError>
 /// Tells that the file of this path would be overwritten, and answers the status that this comes with.
 /// Nothing else is done.
 pub(crate) fn refuse_overwrite<D: Desk>(alloc: Global, path: &str, desk: &mut D) -> u8
-    ensures { IsKept path.now result (whole_of D.written D.failures D.files D.told D.faults desk.old)
-        (whole_of D.written D.failures D.files D.told D.faults desk.new) }
+    ensures { IsKept path.now result (D.state desk.old) (D.state desk.new) }
 {
     match overwrite_line(alloc, path) {
         Ok(bytes) => tell(Complaint::Overwrites(Lines { bytes }), desk),

@@ -2,7 +2,8 @@
 use Rattle.std.proofs.Common.{◌≡◌, ◌∙◌, ℕ, List, Err, Option, ap, inl, inr, refl, subst, sym}
 use Rattle.diagnostics.specs.check_output.Diagnosis.{Gave, Lost}
 use Rattle.litmus_command.proofs.CheckLemmas.{lost_and_told, on_err, read_and_told, same_but_reads}
-use Rattle.litmus_command.specs.Check.{IsLeftOver, IsToldOf, IsToldOfLost, Whole, once_told, whole_of}
+use Rattle.litmus_command.specs.Check.{IsLeftOver, IsToldOf, IsToldOfLost}
+use Rattle.litmus_command.specs.Desks.{DeskState, once_told}
 use Rattle.litmus_command.specs.StandardError.{heard}
 use Rattle.report_text.specs.Sink.{CountsFailure}
 use Rattle.litmus_command.specs.Files as events
@@ -13,7 +14,7 @@ use Rattle.litmus_command.proofs.check.check_file.Goals as goal
 
 pub returns-in_err-complaint-in-Err-CannotRead-clause-over : goal.returns-in_err-complaint-in-Err-CannotRead-clause-over
 returns-in_err-complaint-in-Err-CannotRead-clause-over g c =
-    let seen = whole_of g.D.Desk.written g.D.Desk.failures g.D.Desk.files g.D.Desk.told g.D.Desk.faults in
+    let seen = g.D.Desk.state in
     let reads = c.in-Err-CannotRead.ensures in
     on_err (IsLeftOver c.args.files.several (seen c.args.desk.now) (seen c.read_file.new.self))
     c.from_residual-in_err-complaint-in-Err-CannotRead.result (record {
@@ -24,7 +25,7 @@ returns-in_err-complaint-in-Err-CannotRead-clause-over g c =
 
 pub returns-in_ok-comes-in-Ok-clause-found : goal.returns-in_ok-comes-in-Ok-clause-found
 returns-in_ok-comes-in-Ok-clause-found g c =
-    let seen = whole_of g.D.Desk.written g.D.Desk.failures g.D.Desk.files g.D.Desk.told g.D.Desk.faults in
+    let seen = g.D.Desk.state in
     let before = seen c.args.desk.now in
     let middle = seen c.read_file.new.self in
     let after = seen c.tell_file.new.desk in
@@ -51,7 +52,7 @@ returns-in_ok-comes-in-Ok-clause-found g c =
 
 pub returns-in_ok-complaint-in-Err-CannotRead-clause-found : goal.returns-in_ok-complaint-in-Err-CannotRead-clause-found
 returns-in_ok-complaint-in-Err-CannotRead-clause-found g c =
-    let seen = whole_of g.D.Desk.written g.D.Desk.failures g.D.Desk.files g.D.Desk.told g.D.Desk.faults in
+    let seen = g.D.Desk.state in
     let before = seen c.args.desk.now in
     let middle = seen c.read_file.new.self in
     let after = seen c.tell.new.desk in
@@ -62,7 +63,7 @@ returns-in_ok-complaint-in-Err-CannotRead-clause-found g c =
     let several = c.args.files.several in
     let name = c.args.name.now in
     let is_told : after.told ≡ heard before.told complaint =
-    ap (λ (at : Whole). at.told) told ∙ ap (λ (t : Option (List Complaint)). heard t complaint) reads.told in (
+    ap (λ (at : DeskState). at.told) told ∙ ap (λ (t : Option (List Complaint)). heard t complaint) reads.told in (
       Lost name,
       refl,
       tt,
@@ -70,7 +71,7 @@ returns-in_ok-complaint-in-Err-CannotRead-clause-found g c =
       (
         lost_and_told before middle after complaint told reads.written reads.failures reads.refused,
         (
-          subst (λ n. CountsFailure before.faults n) (sym (ap (λ (at : Whole). at.faults) told))
+          subst (λ n. CountsFailure before.faults n) (sym (ap (λ (at : DeskState). at.faults) told))
               (reads.failed (ap Err c.in-Err-CannotRead.field-0-is)),
           subst (λ (t : Option (List Complaint)). IsToldOfLost several name before.told t) (sym is_told) (said.told before.told),
         ),

@@ -6,7 +6,7 @@ use Rattle.diagnostics.specs.check_output.Diagnosis.{has_tables, name_of, output
 use Rattle.diagnostics.specs.declared.check_output.file.Files.{Files}
 use Rattle.litmus_command.proofs.CheckLemmas.{SoFar, counts_none, counts_one, goes_so_far, left_so_far, max_with_none, next_name, nothing_left}
 use Rattle.litmus_command.proofs.CheckLemmas.{on_err, one_more, output_of_one, output_of_several, plus_none, read_and_left, status_of_read, text_of_none}
-use Rattle.litmus_command.specs.Check.{AreLeft, IsEndOf, asked_of, whole_of}
+use Rattle.litmus_command.specs.Check.{AreLeft, IsEndOf, asked_of}
 use Rattle.litmus_command.specs.declared.check.FileEnd.{FileEnd}
 use Rattle.litmus_command.specs.declared.check.FileEnd.TheVariants as ends
 use Rattle.litmus_command.proofs.check.check_files.Goals as goal
@@ -15,7 +15,7 @@ use Rattle.litmus_command.proofs.check.check_files.Goals.{else-files, then-files
 
 pub returns-in_err-text-clause-left : goal.returns-in_err-text-clause-left
 returns-in_err-text-clause-left g c =
-    let seen = whole_of g.D.Desk.written g.D.Desk.failures g.D.Desk.files g.D.Desk.told g.D.Desk.faults in
+    let seen = g.D.Desk.state in
     let request = c.args.request.now in
     let files : Files = record { several = nat_lt 1 c.len.result; print = request.print } in
     let are : files ≡ asked_of request = search rules in
@@ -27,7 +27,7 @@ returns-in_err-text-clause-left g c =
 
 pub returns-in_err-extend_from_slice-in-Read-clause-left : goal.returns-in_err-extend_from_slice-in-Read-clause-left
 returns-in_err-extend_from_slice-in-Read-clause-left g c =
-    let seen = whole_of g.D.Desk.written g.D.Desk.failures g.D.Desk.files g.D.Desk.told g.D.Desk.faults in
+    let seen = g.D.Desk.state in
     let request = c.args.request.now in
     let files : Files = record { several = nat_lt 1 c.len.result; print = request.print } in
     let are : files ≡ asked_of request = search rules in
@@ -44,7 +44,7 @@ returns-in_err-extend_from_slice-in-Read-clause-left g c =
 
 pub loop-name-preserved : goal.loop-name-preserved
 loop-name-preserved g c =
-    let seen = whole_of g.D.Desk.written g.D.Desk.failures g.D.Desk.files g.D.Desk.told g.D.Desk.faults in
+    let seen = g.D.Desk.state in
     let request = c.args.request.now in
     let names = map (λ (file : Bor (List ℕ)). file.now) request.files.items in
     let files : Files = record { several = nat_lt 1 c.len.result; print = request.print } in
@@ -83,7 +83,7 @@ loop-name-preserved g c =
 
 pub returns-in_err-line-clause-left : goal.returns-in_err-line-clause-left
 returns-in_err-line-clause-left g c =
-    let seen = whole_of g.D.Desk.written g.D.Desk.failures g.D.Desk.files g.D.Desk.told g.D.Desk.faults in
+    let seen = g.D.Desk.state in
     let request = c.args.request.now in
     let files : Files = record { several = nat_lt 1 c.len.result; print = request.print } in
     let are : files ≡ asked_of request = search rules in
@@ -95,7 +95,7 @@ returns-in_err-line-clause-left g c =
 
 pub returns-in_err-extend_from_slice-clause-left : goal.returns-in_err-extend_from_slice-clause-left
 returns-in_err-extend_from_slice-clause-left g c =
-    let seen = whole_of g.D.Desk.written g.D.Desk.failures g.D.Desk.files g.D.Desk.told g.D.Desk.faults in
+    let seen = g.D.Desk.state in
     let request = c.args.request.now in
     let files : Files = record { several = nat_lt 1 c.len.result; print = request.print } in
     let are : files ≡ asked_of request = search rules in
@@ -107,7 +107,7 @@ returns-in_err-extend_from_slice-clause-left g c =
 
 pub returns-clause-checked : goal.returns-clause-checked
 returns-clause-checked g c =
-    let seen = whole_of g.D.Desk.written g.D.Desk.failures g.D.Desk.files g.D.Desk.told g.D.Desk.faults in
+    let seen = g.D.Desk.state in
     let request = c.args.request.now in
     let files : Files = record { several = nat_lt 1 c.len.result; print = request.print } in
     let are : files ≡ asked_of request = search rules in

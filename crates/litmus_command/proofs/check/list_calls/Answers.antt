@@ -11,7 +11,7 @@ returns-in-Ok g c = record {
     refl,
     record {
       written = c.in-Ok.ensures.writes.holds
-          ∙ ap (λ (text : List ℕ). appended (g.D.Desk.written c.args.desk.now) text) (c.as_bytes.ensures.value ∙ c.calls.ensures);
+          ∙ ap (λ (text : List ℕ). appended (g.D.Desk.state c.args.desk.now).written text) (c.as_bytes.ensures.value ∙ c.calls.ensures);
       files = c.print.ensures.files;
     },
   ));
@@ -23,7 +23,7 @@ pub returns-in-Err : goal.returns-in-Err
 returns-in-Err g c =
     fails_to_write Calls _ _ c.in-Err.ensures.writes.counted
     (record {
-      begun = subst (λ (text : List ℕ). HoldsBeginning text (g.D.Desk.written c.args.desk.now) (g.D.Desk.written c.print.new.self))
+      begun = subst (λ (text : List ℕ). HoldsBeginning text (g.D.Desk.state c.args.desk.now).written (g.D.Desk.state c.print.new.self).written)
           (c.as_bytes.ensures.value ∙ c.calls.ensures) c.in-Err.ensures.writes.begun;
       files = c.print.ensures.files;
     })

@@ -5,7 +5,7 @@ use Rattle.cli.specs.declared.request.Request.{Request}
 use Rattle.cli.specs.declared.request.Request.TheVariants.{Calls, Replay, Run, Search, Show, Step}
 use Rattle.litmus_command.proofs.CarryLemmas.{carried_check, carried_kept}
 use Rattle.litmus_command.proofs.command.carry_out.Goals as goal
-use Rattle.litmus_command.specs.Check.{Whole, whole_of}
+use Rattle.litmus_command.specs.Desks.{DeskState}
 use Rattle.litmus_command.specs.Ends.{IsCarriedOut, IsNoCheck}
 use Rattle.litmus_command.specs.Overwrite.{Overwrites}
 
@@ -15,8 +15,8 @@ returns-in-Some g c = carried_kept c.args.request.now c.in-Some.path.now _ _ _ c
 
 pub returns-in-Step : goal.returns-in-Step
 returns-in-Step g c =
-    let seen = whole_of g.D.Desk.written g.D.Desk.failures g.D.Desk.files g.D.Desk.told g.D.Desk.faults in
-    let before : Whole = seen c.args.desk.now in
+    let seen = g.D.Desk.state in
+    let before : DeskState = seen c.args.desk.now in
     let plain : IsNoCheck (Step c.in-Step.request) = record {
       checks = λ status first last. tt;
       keeps = λ path over. c.in_default.ensures.other path (subst (λ (request : Request). Overwrites request path) (sym c.in-Step.is) over);
@@ -26,8 +26,8 @@ returns-in-Step g c =
 
 pub returns-in-Run : goal.returns-in-Run
 returns-in-Run g c =
-    let seen = whole_of g.D.Desk.written g.D.Desk.failures g.D.Desk.files g.D.Desk.told g.D.Desk.faults in
-    let before : Whole = seen c.args.desk.now in
+    let seen = g.D.Desk.state in
+    let before : DeskState = seen c.args.desk.now in
     let plain : IsNoCheck (Run c.in-Run.request) = record {
       checks = λ status first last. tt;
       keeps = λ path over. c.in_default.ensures.other path (subst (λ (request : Request). Overwrites request path) (sym c.in-Run.is) over);
@@ -37,8 +37,8 @@ returns-in-Run g c =
 
 pub returns-in-Search : goal.returns-in-Search
 returns-in-Search g c =
-    let seen = whole_of g.D.Desk.written g.D.Desk.failures g.D.Desk.files g.D.Desk.told g.D.Desk.faults in
-    let before : Whole = seen c.args.desk.now in
+    let seen = g.D.Desk.state in
+    let before : DeskState = seen c.args.desk.now in
     let plain : IsNoCheck (Search c.in-Search.request) = record {
       checks = λ status first last. tt;
       keeps = λ path over. c.in_default.ensures.other path (subst (λ (request : Request). Overwrites request path) (sym c.in-Search.is) over);
@@ -48,8 +48,8 @@ returns-in-Search g c =
 
 pub returns-in-Replay : goal.returns-in-Replay
 returns-in-Replay g c =
-    let seen = whole_of g.D.Desk.written g.D.Desk.failures g.D.Desk.files g.D.Desk.told g.D.Desk.faults in
-    let before : Whole = seen c.args.desk.now in
+    let seen = g.D.Desk.state in
+    let before : DeskState = seen c.args.desk.now in
     let plain : IsNoCheck (Replay c.in-Replay.request) = record {
       checks = λ status first last. tt;
       keeps = λ path over. c.in_default.ensures.other path (subst (λ (request : Request). Overwrites request path) (sym c.in-Replay.is) over);
@@ -59,8 +59,8 @@ returns-in-Replay g c =
 
 pub returns-in-Show : goal.returns-in-Show
 returns-in-Show g c =
-    let seen = whole_of g.D.Desk.written g.D.Desk.failures g.D.Desk.files g.D.Desk.told g.D.Desk.faults in
-    let before : Whole = seen c.args.desk.now in
+    let seen = g.D.Desk.state in
+    let before : DeskState = seen c.args.desk.now in
     let plain : IsNoCheck (Show c.in-Show.request) = record {
       checks = λ status first last. tt;
       keeps = λ path over. c.in_default.ensures.other path (subst (λ (request : Request). Overwrites request path) (sym c.in-Show.is) over);
@@ -70,8 +70,8 @@ returns-in-Show g c =
 
 pub returns-in-Calls : goal.returns-in-Calls
 returns-in-Calls g c =
-    let seen = whole_of g.D.Desk.written g.D.Desk.failures g.D.Desk.files g.D.Desk.told g.D.Desk.faults in
-    let before : Whole = seen c.args.desk.now in
+    let seen = g.D.Desk.state in
+    let before : DeskState = seen c.args.desk.now in
     let plain : IsNoCheck Calls = record {
       checks = λ status first last. tt;
       keeps = λ path over. c.in_default.ensures.other path (subst (λ (request : Request). Overwrites request path) (sym c.in-Calls.is) over);
@@ -81,7 +81,7 @@ returns-in-Calls g c =
 
 pub returns-in-Check : goal.returns-in-Check
 returns-in-Check g c =
-    let seen = whole_of g.D.Desk.written g.D.Desk.failures g.D.Desk.files g.D.Desk.told g.D.Desk.faults in
+    let seen = g.D.Desk.state in
     let bounds = subst (λ (request : Request). MayBeAsked request) c.in-Check.is c.requires in
     subst (λ (request : Request). IsCarriedOut request c.carry_check.result (seen c.args.desk.now) (seen c.carry_check.new.desk)) (sym c.in-Check.is)
     (carried_check c.in-Check.request c.carry_check.result _ _ bounds c.carry_check.ensures)

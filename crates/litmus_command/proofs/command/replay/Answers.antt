@@ -4,7 +4,7 @@ use Rattle.cli.specs.declared.request.Request.TheVariants.{Replay}
 use Rattle.litmus_command.proofs.CommandLemmas.{err_ends, fails_of_file, fails_to_write, fails_unread, is_read_so}
 use Rattle.litmus_command.proofs.ResultLemmas.{replays_no_read, replays_no_sink}
 use Rattle.litmus_command.proofs.command.replay.Goals as goal
-use Rattle.litmus_command.specs.Check.{Whole, whole_of}
+use Rattle.litmus_command.specs.Desks.{DeskState}
 use Rattle.litmus_command.specs.Command.{read_failure, status_of}
 use Rattle.litmus_command.specs.declared.command.Failure.TheVariants.{Trace}
 use Rattle.litmus_command.specs.declared.desk.ReadFault.TheVariants as fault
@@ -21,10 +21,10 @@ returns-in_err-bytes g c =
 
 pub returns-in_err-line : goal.returns-in_err-line
 returns-in_err-line g c =
-    let seen = whole_of g.D.Desk.written g.D.Desk.failures g.D.Desk.files g.D.Desk.told g.D.Desk.faults in
+    let seen = g.D.Desk.state in
     let request = c.args.request.now in
-    let before : Whole = seen c.args.desk.now in
-    let middle : Whole = seen c.read_file.new.self in
+    let before : DeskState = seen c.args.desk.now in
+    let middle : DeskState = seen c.read_file.new.self in
     let error = c.in_err-line.field-0.0 in
     let text = c.in_ok-bytes.bytes.items in
     let read = is_read_so before middle request.trace.now size_limit text c.read_file.ensures.written
@@ -44,7 +44,7 @@ returns-in_err-line g c =
 -- what is said of the trace, as it is printed
 pub returns-in-Ok : goal.returns-in-Ok
 returns-in-Ok g c =
-    let before = g.D.Desk.written c.args.desk.now in
+    let before = (g.D.Desk.state c.args.desk.now).written in
     let works = c.in_ok-bytes.ensures.works (λ h. let no : Ok c.in_ok-bytes.bytes ≡ Err fault.CannotRead = h in cc) in
     record {
       done = inr (inl (
@@ -68,12 +68,12 @@ returns-in-Ok g c =
 pub returns : goal.returns
 returns g c =
     let works = c.in_ok-bytes.ensures.works (λ h. let no : Ok c.in_ok-bytes.bytes ≡ Err fault.CannotRead = h in cc) in
-    let begun : HoldsBeginning c.in_ok-line.line.items (g.D.Desk.written c.args.desk.now) (g.D.Desk.written c.print.new.self) =
-    subst (λ (text : List ℕ). HoldsBeginning text (g.D.Desk.written c.args.desk.now) (g.D.Desk.written c.print.new.self)) c.deref-2.ensures.value
-    (subst (λ (taken : Option (List ℕ)). HoldsBeginning c.deref-2.result.now taken (g.D.Desk.written c.print.new.self)) c.read_file.ensures.written
+    let begun : HoldsBeginning c.in_ok-line.line.items (g.D.Desk.state c.args.desk.now).written (g.D.Desk.state c.print.new.self).written =
+    subst (λ (text : List ℕ). HoldsBeginning text (g.D.Desk.state c.args.desk.now).written (g.D.Desk.state c.print.new.self).written) c.deref-2.ensures.value
+    (subst (λ (taken : Option (List ℕ)). HoldsBeginning c.deref-2.result.now taken (g.D.Desk.state c.print.new.self).written) c.read_file.ensures.written
     c.in-Err.ensures.writes.begun) in
     fails_to_write (Replay c.args.request.now) _ _
-    (subst (λ (n : ℕ). CountsFailure n (g.D.Desk.failures c.print.new.self)) c.read_file.ensures.failures c.in-Err.ensures.writes.counted)
+    (subst (λ (n : ℕ). CountsFailure n (g.D.Desk.state c.print.new.self).failures) c.read_file.ensures.failures c.in-Err.ensures.writes.counted)
     (record {
       bytes = c.in_ok-bytes.bytes.items;
       line = c.in_ok-line.line.items;

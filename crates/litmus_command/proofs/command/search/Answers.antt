@@ -6,7 +6,7 @@ use Rattle.cli.specs.declared.request.SearchRequest.{SearchRequest}
 use Rattle.litmus_command.proofs.CommandLemmas.{ends_given, err_ends, fails_early, fails_of_file, fails_unread, found_with, is_read_so}
 use Rattle.litmus_command.proofs.ResultLemmas.{engine_no_read, spells_none_searched, writes_no_sink}
 use Rattle.litmus_command.proofs.command.search.Goals as goal
-use Rattle.litmus_command.specs.Check.{Whole, whole_of}
+use Rattle.litmus_command.specs.Desks.{DeskState}
 use Rattle.litmus_command.specs.Command.{IsFound, IsSearchedFor, read_failure, state_in, status_of, trace_path}
 use Rattle.litmus_command.specs.declared.command.Failure.TheVariants.{Engine}
 use Rattle.litmus_command.specs.declared.desk.ReadFault.TheVariants as fault
@@ -34,10 +34,10 @@ returns-in_err-text g c =
 
 pub returns-in_err-found : goal.returns-in_err-found
 returns-in_err-found g c =
-    let seen = whole_of g.D.Desk.written g.D.Desk.failures g.D.Desk.files g.D.Desk.told g.D.Desk.faults in
+    let seen = g.D.Desk.state in
     let request = c.args.request.now in
-    let before : Whole = seen c.args.desk.now in
-    let middle : Whole = seen c.read_file.new.self in
+    let before : DeskState = seen c.args.desk.now in
+    let middle : DeskState = seen c.read_file.new.self in
     let error = c.in_err-found.field-0.0 in
     let text = c.in_ok-text.text.items in
     let refused = subst (λ text. IsRefused text c.in_ok-settings.settings error) c.deref.ensures.value c.in_err-found.ensures.refused in
@@ -58,11 +58,11 @@ returns-in_err-found g c =
 
 pub returns : goal.returns
 returns g c =
-    let seen = whole_of g.D.Desk.written g.D.Desk.failures g.D.Desk.files g.D.Desk.told g.D.Desk.faults in
+    let seen = g.D.Desk.state in
     let request = c.args.request.now in
-    let before : Whole = seen c.args.desk.now in
-    let middle : Whole = seen c.read_file.new.self in
-    let after : Whole = seen c.emit.new.desk in
+    let before : DeskState = seen c.args.desk.now in
+    let middle : DeskState = seen c.read_file.new.self in
+    let after : DeskState = seen c.emit.new.desk in
     let written = c.in_ok-found.found.written in
     let output = written.output.items in
     let trace = option_map (λ bytes. bytes.items) written.trace in

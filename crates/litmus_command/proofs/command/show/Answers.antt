@@ -5,7 +5,7 @@ use Rattle.cli.specs.declared.request.Request.TheVariants.{Show}
 use Rattle.litmus_command.proofs.CommandLemmas.{done_with, ends_given, err_ends, fails_of_file, fails_unread, is_read_so}
 use Rattle.litmus_command.proofs.ResultLemmas.{draws_no_read, draws_no_sink}
 use Rattle.litmus_command.proofs.command.show.Goals as goal
-use Rattle.litmus_command.specs.Check.{Whole, whole_of}
+use Rattle.litmus_command.specs.Desks.{DeskState}
 use Rattle.litmus_command.specs.Command.{IsShown, read_failure, state_in, status_of, svg_path}
 use Rattle.litmus_command.specs.Show.{IsDrawn}
 use Rattle.litmus_command.specs.declared.command.Failure.TheVariants.{Picture}
@@ -28,10 +28,10 @@ returns-in_err-bytes g c =
 
 pub returns-in_err-written : goal.returns-in_err-written
 returns-in_err-written g c =
-    let seen = whole_of g.D.Desk.written g.D.Desk.failures g.D.Desk.files g.D.Desk.told g.D.Desk.faults in
+    let seen = g.D.Desk.state in
     let request = c.args.request.now in
-    let before : Whole = seen c.args.desk.now in
-    let middle : Whole = seen c.read_file.new.self in
+    let before : DeskState = seen c.args.desk.now in
+    let middle : DeskState = seen c.read_file.new.self in
     let error = c.in_err-written.field-0.0 in
     let text = c.in_ok-bytes.bytes.items in
     let read = is_read_so before middle request.trace.now size_limit text c.read_file.ensures.written
@@ -50,11 +50,11 @@ returns-in_err-written g c =
 
 pub returns : goal.returns
 returns g c =
-    let seen = whole_of g.D.Desk.written g.D.Desk.failures g.D.Desk.files g.D.Desk.told g.D.Desk.faults in
+    let seen = g.D.Desk.state in
     let request = c.args.request.now in
-    let before : Whole = seen c.args.desk.now in
-    let middle : Whole = seen c.read_file.new.self in
-    let after : Whole = seen c.emit.new.desk in
+    let before : DeskState = seen c.args.desk.now in
+    let middle : DeskState = seen c.read_file.new.self in
+    let after : DeskState = seen c.emit.new.desk in
     let written = c.in_ok-written.written in
     let output = written.output.items in
     let trace = option_map (λ bytes. bytes.items) written.trace in
