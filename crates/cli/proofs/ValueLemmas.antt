@@ -10,7 +10,7 @@ use Rattle.clap.specs.Words.{ReadsOne, Row, Text, first_of, first_value, is_simp
 use Rattle.clap.specs.declared.parser.matches.Found.{Found}
 use Rattle.clap.proofs.WalkLemmas.{first_value-rows, one_text-rows, raw_values-rows}
 use Rattle.cli.specs.Bounds.{KeepsPreemptions}
-use Rattle.cli.specs.Words.{AreSizes, Ask, AskSwitches, IsAskedBy, IsAskedOf, IsFlag, IsNumber, program_app, words_of}
+use Rattle.cli.specs.Words.{AreSizes, Ask, AskSwitches, IsAskedBy, IsAskedOf, IsFlag, IsNumber, IsNumberIfGiven, program_app, words_of}
 use Rattle.cli.specs.declared.request.Request.{Request}
 use Rattle.cli.specs.declared.request.Request.TheVariants as requests
 use Rattle.cli.specs.declared.request.Switches.{Switches}
@@ -74,6 +74,20 @@ not_missing {X} result some none = let no : false ≡ true = sym (ap (λ (o : Op
 pub is_there : {X : Type 0} (result : Option X) → ((x : X) → result ≡ Some x → ⊥) → is_some result ≡ true → ⊥
 is_there None other some = absurd (let no : false ≡ true = some in cc)
 is_there (Some x) other some = other x refl
+
+-- an option that has no value is not given
+pub none_read : (found : Found) (option : Text) (result : Option (Bor Text))
+    → option_map (λ text. text.now) result ≡ first_value found option → result ≡ None → first_of option (rows_of found) ≡ None
+none_read found option result is none =
+    text_read found option result is ∙ ap (option_map (λ (text : Bor Text). text.now)) none
+
+-- of one that has a value a number is asked for, if it may be asked for
+pub number_asked : (found : Found) (option : Text) (result : Option (Bor Text)) (text : Bor Text) (given : Option ℕ)
+    → option_map (λ text. text.now) result ≡ first_value found option → result ≡ Some text → (P : ℕ → Type 0) → IfSome given P
+    → IsNumberIfGiven (rows_of found) option given → (number : ℕ) × P number × IsNumber (rows_of found) option number
+number_asked found option result text None is some P keeps asks =
+    absurd (no_none text.now (sym (some_read found option result text is some) ∙ asks))
+number_asked found option result text (Some number) is some P keeps asks = (number, keeps, asks)
 
 -- a number that an option's value spells is read, and no other
 pub number_there : {E : Type 0} (gives : List ℕ → Result ℕ E → Type 0)

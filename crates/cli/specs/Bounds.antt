@@ -1,5 +1,5 @@
 -- Within which bounds the numbers of options are.
-use Rattle.std.specs.Prelude.{◌<◌, ◌≤◌, length}
+use Rattle.std.specs.Prelude.{◌<◌, ◌≤◌, IfSome, length}
 use Rattle.cli.specs.declared.request.CheckRequest.{CheckRequest}
 use Rattle.cli.specs.declared.request.RunOptions.{RunOptions}
 use Rattle.cli.specs.declared.request.Request.{Request}
@@ -31,11 +31,13 @@ abbrev pub KeepsPreemptions : Switches → Type 0
 KeepsPreemptions (switches.AtMost number) = number ≤ 16
 KeepsPreemptions switches.All = Unit {0}
 
--- and so many preemptions, in from 1 to 1,000,000,000 schedules, or states, by 1 to 64 threads
+-- and so many preemptions, in from 1 to 1,000,000,000 schedules, or states, and 1 to 1,000,000 seconds, if these are
+-- bounded, by 1 to 64 threads
 pub record KeepsSearchBounds (request : SearchRequest) : Type 0 where
   pub switches : KeepsPreemptions request.switches
   pub limit : 1 ≤ request.limit
   pub limit_to : request.limit ≤ 1000000000
+  pub seconds : IfSome request.seconds (λ seconds. (1 ≤ seconds) × (seconds ≤ 1000000))
   pub jobs : 1 ≤ request.jobs
   pub jobs_to : request.jobs ≤ 64
   pub options : KeepsBounds request.options

@@ -47,6 +47,10 @@ default_rule name text = record (text_rule name) { defaults = text ∷ [] }
 abbrev pub number_rule : Text → (low high : ℕ) → (text : Text) → Rule
 number_rule name low high text = record (default_rule name text) { parser = Some (values.Unsigned low high) }
 
+-- one that has none where it isn't given
+abbrev pub free_number_rule : Text → (low high : ℕ) → Rule
+free_number_rule name low high = record (text_rule name) { parser = Some (values.Unsigned low high) }
+
 -- an option that stands alone
 abbrev pub flag_rule : Text → Rule
 flag_rule name = record (new_rule name) { long = Some name; action = Some SetTrue }
@@ -88,14 +92,16 @@ run_app sizes =
     (flag_rule (codes "stop-at-first")))
     (flag_rule (codes "keep-going"))) sizes
 
--- `search`, with its file, how many preemptions a schedule has at most, after how many schedules or states the search
--- stops, how many threads share the work, and those options; what `--switches` takes is said below
+-- `search`, with its file, how many preemptions a schedule has at most, after how many schedules or states and after how
+-- many seconds the search stops, how many threads share the work, and those options; what `--switches` takes is said
+-- below
 abbrev pub search_app : Bor (List (Bor Text)) → App
 search_app sizes =
-    with_options (with_rule (with_rule (with_rule (with_rule (new_app (codes "search"))
+    with_options (with_rule (with_rule (with_rule (with_rule (with_rule (new_app (codes "search"))
     (word_rule (codes "FILE")))
     (default_rule (codes "switches") (codes "2")))
     (number_rule (codes "limit") 1 1000000000 (codes "1000000")))
+    (free_number_rule (codes "seconds") 1 1000000))
     (number_rule (codes "jobs") 1 64 (codes "1"))) sizes
 
 -- `replay`, with its file
@@ -158,6 +164,11 @@ pub record IsNumber (values : List Row) (option : Text) (number : ℕ) : Type 0 
   pub spelled : digits_value 10 (without_leading_plus text) ≡ number
   pub fits : number < 2 ^ 64
 
+-- the number of an option, if it is given
+abbrev pub IsNumberIfGiven : List Row → (option : Text) → Option ℕ → Type 0
+IsNumberIfGiven values option None = first_of option values ≡ None
+IsNumberIfGiven values option (Some number) = IsNumber values option number
+
 -- whether an option that stands alone is set
 pub record IsFlag (values : List Row) (option : Text) (set : Bool) : Type 0 where
   pub on : one_of option values ≡ Some (codes "true") → set ≡ true
@@ -216,6 +227,7 @@ pub record AskSearch (values : List Row) (request : SearchRequest) : Type 0 wher
   pub file : first_of (codes "FILE") values ≡ Some request.file.now
   pub switches : AskSwitches values request.switches
   pub limit : IsNumber values (codes "limit") request.limit
+  pub seconds : IsNumberIfGiven values (codes "seconds") request.seconds
   pub jobs : IsNumber values (codes "jobs") request.jobs
   pub options : AskOptions values request.options
 

@@ -199,9 +199,9 @@ pub const AFTER_SEARCH: &str = "\
     \n\
     Exit status: 0 no report under any of these schedules; 2 a report; 64 usage, or a place list\n\
     that doesn't read or doesn't suit the file; 65 the file is refused; 66 it can't be read; 71\n\
-    out of memory; 74 output can't be written; 75 no report, but the search stopped at --limit.\n\
-    From 64 to 74 standard error says why, and up to 71 nothing goes to standard output or to the\n\
-    trace's file.";
+    out of memory; 74 output can't be written; 75 no report, but the search stopped at --limit\n\
+    or --seconds. From 64 to 74 standard error says why, and up to 71 nothing goes to standard\n\
+    output or to the trace's file.";
 
 /// What `--switches` says.
 pub const SWITCHES: &str = "How many switches a schedule has at most, 0 to 16, or all for no bound";
@@ -210,9 +210,13 @@ pub const SWITCHES: &str = "How many switches a schedule has at most, 0 to 16, o
 pub const LIMIT: &str =
     "After how many schedules, or states with all, the search stops, 1 to 1000000000";
 
+/// What `--seconds` says.
+pub const SECONDS: &str =
+    "After how many seconds the search stops, 1 to 1000000, if they are to be bounded";
+
 /// What `--jobs` of `search` says.
 pub const SEARCH_JOBS: &str =
-    "How many threads share the work, 1 to 64; the output is the same, and with all one works";
+    "How many threads share the work, 1 to 64; with all or --seconds one works";
 
 /// What `show` does.
 pub const SHOW: &str = "Draws a trace: which access was in progress when, who watched, who took it";

@@ -1,10 +1,10 @@
 //! What the words ask for.
 
-ghost use Rattle.std.specs.Prelude.{◌≡◌, ◌≢◌, ◌↔◌, ◌≤◌, ◌<◌, ℕ, IfErr, IfOk, IfSome, IsSome, IsTrue, Some, [], codes, length, map, true};
+ghost use Rattle.std.specs.Prelude.{◌≡◌, ◌≢◌, ◌↔◌, ◌≤◌, ◌<◌, ℕ, IfErr, IfOk, IfSome, IsSome, IsTrue, Option, Some, [], codes, length, map, true};
 ghost use Rattle.cli.specs.Bounds.{KeepsBounds, KeepsCheckBounds, KeepsRunBounds, KeepsSearchBounds, KeepsPreemptions, MayBeAsked};
 ghost use Rattle.cli.specs.Words.{AreSizes, Ask, AskCheck, AskOptions, AskRun, AskSearch, AskShow, AskStep, AskSwitches};
-ghost use Rattle.cli.specs.Words.{IsArg, IsAskedBy, IsAskedOf, IsGiven, IsLayout, IsNumber, IsProgram, MayFail, words_of};
-ghost use Rattle.cli.specs.Words.{check_app, default_rule, flag_rule, name_rule, number_rule, replay_app, run_app, search_app, show_app, step_app};
+ghost use Rattle.cli.specs.Words.{IsArg, IsAskedBy, IsAskedOf, IsGiven, IsLayout, IsNumber, IsNumberIfGiven, IsProgram, MayFail, words_of};
+ghost use Rattle.cli.specs.Words.{check_app, default_rule, flag_rule, free_number_rule, name_rule, number_rule, replay_app, run_app, search_app, show_app, step_app};
 ghost use Rattle.cli.specs.Words.{text_rule, with_options, word_rule, words_rule};
 ghost use Rattle.clap.specs.Words.{App, Rule, app_of, first_of, found_of, kind_of, new_app, rows_of, subcommand_rows_of, with_rule, with_subcommand};
 
@@ -31,6 +31,9 @@ const AT_MOST: (u64, u64) = (0, 16);
 
 /// The fewest and the most schedules that a search may go through, or states.
 const LIMIT: (u64, u64) = (1, 1_000_000_000);
+
+/// After how many seconds a search stops.
+const SECONDS: (u64, u64) = (1, 1_000_000);
 
 /// The fewest and the most page slots.
 const SLOTS: (u64, u64) = (3, 1024);
@@ -130,7 +133,10 @@ pub struct SearchRequest<'a> {
     /// After how many schedules the search stops, though others remain: after how many states, where all schedules are
     /// searched.
     pub limit: u64,
-    /// How many threads share the work. Where all schedules are searched, one works, whatever this is.
+    /// After how many seconds it stops, if these are bounded.
+    pub seconds: Option<u64>,
+    /// How many threads share the work. Where all schedules are searched, or the seconds are bounded, one works,
+    /// whatever this is.
     pub jobs: u64,
     /// What `step` could be given as well.
     pub options: RunOptions<'a>,
@@ -362,6 +368,7 @@ fn search_request<'a>(search: &ArgMatches<'a>) -> Option<SearchRequest<'a>>
         file: search.get_str("FILE")?,
         switches: switches_asked(search)?,
         limit: number(search, "limit", LIMIT)?,
+        seconds: number_if_given(search, "seconds", SECONDS)?,
         jobs: number(search, "jobs", JOBS)?,
         options: options(search)?,
     })
@@ -421,6 +428,23 @@ fn number(matches: &ArgMatches<'_>, option: &str, bounds: (u64, u64)) -> Option<
 {
     let number = matches.get_one::<u64>(option)?;
     (bounds.0 <= number && number <= bounds.1).then_some(number)
+}
+
+/// The number of an option, within its bounds, if it is given.
+fn number_if_given(
+    matches: &ArgMatches<'_>,
+    option: &str,
+    bounds: (u64, u64),
+) -> Option<Option<u64>>
+    ensures within { IfSome result (λ given. IfSome given (λ number. (bounds.0 ≤ number) × (number ≤ bounds.1))) }
+    ensures asked { IfSome result (IsNumberIfGiven (rows_of (found_of matches.now)) option.now) }
+    ensures complete { (given : Option ℕ) → IfSome given (λ number. (bounds.0 ≤ number) × (number ≤ bounds.1))
+        → IsNumberIfGiven (rows_of (found_of matches.now)) option.now given → IsSome result }
+{
+    match matches.get_str(option) {
+        None => Some(None),
+        Some(_) => Some(Some(number(matches, option, bounds)?)),
+    }
 }
 
 /// How many bits a watch word is to have.
@@ -578,6 +602,8 @@ fn search_command<'a>(
     let command = with_argument(command, switches);
     let limit = number_option(alloc, "limit", help::LIMIT, LIMIT, "1000000");
     let command = with_argument(command, limit);
+    let seconds = free_number_option(alloc, "seconds", help::SECONDS, SECONDS);
+    let command = with_argument(command, seconds);
     let jobs = number_option(alloc, "jobs", help::SEARCH_JOBS, JOBS, "1");
     let command = with_argument(command, jobs);
     with_shared(alloc, command, sizes)
@@ -660,6 +686,18 @@ fn number_option<'a>(
     text_option(alloc, name, "N", help)
         .value_parser(ValueParser::Unsigned(bounds.0, bounds.1))
         .default_value(default)
+}
+
+/// An option that takes a number within bounds, and has none where it isn't given.
+fn free_number_option<'a>(
+    alloc: Global,
+    name: &'a str,
+    help: &'a str,
+    bounds: (u64, u64),
+) -> Arg<'a>
+    ensures { IsArg (free_number_rule name.entry.now bounds.0 bounds.1) result }
+{
+    text_option(alloc, name, "N", help).value_parser(ValueParser::Unsigned(bounds.0, bounds.1))
 }
 
 /// An option that stands alone.

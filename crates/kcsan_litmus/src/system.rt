@@ -13,6 +13,7 @@ use report_text::{Sink, SinkFault, WriteError, write_all};
 use std::alloc::Global;
 use std::fs::File;
 use std::io::{IsTerminal, Read};
+use std::time::Instant;
 
 /// An open file, which can't say what it will give.
 #[derive(Drop)]
@@ -74,14 +75,29 @@ pub struct System {
     output: Output,
     /// How often the read of a file has failed.
     faults: u64,
+    /// When it was made, if the clock could be read.
+    start: Option<Instant>,
 }
 
 impl System {
     /// The desk of a process that has written nothing.
     pub fn new(rt: HostRuntime) -> System {
+        let start = Instant::now(&rt).ok();
         System {
             output: Output { rt, failures: 0 },
             faults: 0,
+            start,
+        }
+    }
+
+    /// How many milliseconds have gone by since then: none where the clock can't be read.
+    fn milliseconds(&self) -> u128 {
+        let Some(start) = &self.start else {
+            return 0;
+        };
+        match start.elapsed(&self.output.rt) {
+            Ok(time) => time.as_millis(),
+            Err(_) => 0,
         }
     }
 
@@ -117,27 +133,31 @@ impl Progress for System {
     }
 }
 
-/// After so many schedules, or states, the line of progress is written again.
-const SEARCHED: u64 = 10_000;
+/// After so many schedules the line of progress is written again.
+const SCHEDULES: u64 = 10_000;
 
-impl System {
-    /// Where standard error is a terminal, a line there counts what a search goes over. What is written next goes over
-    /// it.
-    fn count(&self, searched: u64, what: &str) {
-        let rt = &self.output.rt;
-        if searched.is_multiple_of(SEARCHED) && rt.stderr().is_terminal() {
-            let _ = rt.eprint(format_args!("searched {searched} {what}\x1b[K\r"));
-        }
-    }
-}
+/// After so many states it is.
+const STATES: u64 = 10_000;
 
 impl SearchProgress for System {
+    /// Where standard error is a terminal, a line there counts the schedules. What is written next goes over it.
     fn searched(&self, schedules: u64) {
-        self.count(schedules, "schedules");
+        let rt = &self.output.rt;
+        if schedules.is_multiple_of(SCHEDULES) && rt.stderr().is_terminal() {
+            let _ = rt.eprint(format_args!("searched {schedules} schedules\x1b[K\r"));
+        }
     }
 
-    fn visited(&self, states: u64) {
-        self.count(states, "states");
+    /// So it counts the states, with how many of them a second, and how many are left to go on from.
+    fn visited(&self, states: u64, left: u64) {
+        let rt = &self.output.rt;
+        if states.is_multiple_of(STATES) && rt.stderr().is_terminal() {
+            let time = self.milliseconds().max(1);
+            let rate = u128::from(states) * 1000 / time;
+            let _ = rt.eprint(format_args!(
+                "searched {states} states, {rate} a second, {left} left\x1b[K\r"
+            ));
+        }
     }
 
     fn search_over(&self) {
@@ -145,6 +165,11 @@ impl SearchProgress for System {
         if rt.stderr().is_terminal() {
             let _ = rt.eprint("\x1b[K");
         }
+    }
+
+    fn seconds(&self) -> u64 {
+        let seconds = self.milliseconds() / 1000;
+        u64::try_from(seconds).unwrap_or(u64::MAX)
     }
 }
 

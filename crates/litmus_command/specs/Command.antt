@@ -179,13 +179,14 @@ abbrev pub wanted_of : SearchRequest → (most : ℕ) → Wanted
 wanted_of request most = record {
   switches = most;
   limit = request.limit;
+  seconds = request.seconds;
   traced = is_some request.options.trace;
   jobs = request.jobs;
 }
 
 -- and of one of all schedules
 abbrev pub all_wanted_of : SearchRequest → AllWanted
-all_wanted_of request = record { limit = request.limit; traced = is_some request.options.trace }
+all_wanted_of request = record { limit = request.limit; seconds = request.seconds; traced = is_some request.options.trace }
 
 -- a search of a text, over schedules with at most so many preemptions or over all, leaves this of what is asked for
 abbrev pub IsSearchedFor : SearchRequest → Switches → (text : List ℕ) → Settings → (raced stopped : Bool) → (output : List ℕ) →

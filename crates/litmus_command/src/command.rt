@@ -221,9 +221,10 @@ fn picture_status(error: PictureError) -> u8
 /// report. 64: usage, a file that would be written over its input, a schedule that doesn't read or names a task that
 /// isn't there, or a place that doesn't read or doesn't suit. 65: the file is refused. 66: it can't be read. 70: a task
 /// is stuck. 71: out of memory, or a thread couldn't be started. 74: output can't be written. 75: a search was stopped,
-/// at its limit or after its seconds, and tells of no report. Of several files that are checked the greatest status counts. At 64 to 71 nothing
-/// goes to standard output, but for what is printed of several files that are checked, and no file is written. At 74
-/// standard output and all files have what they had, or standard output has a beginning of what should stand there.
+/// at its limit or after its seconds, and tells of no report. Of several files that are checked the greatest status
+/// counts. At 64 to 71 nothing goes to standard output, but for what is printed of several files that are checked, and
+/// no file is written. At 74 standard output and all files have what they had, or standard output has a beginning of
+/// what should stand there.
 pub fn command<R: Threads + Wait + Sync, S: AsStr, D: Desk>(
     rt: &R,
     alloc: Global,

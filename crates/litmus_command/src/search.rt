@@ -21,6 +21,7 @@ fn wanted_for(request: &SearchRequest<'_>, most: u64) -> Wanted
     Wanted {
         switches: most,
         limit: request.limit,
+        seconds: request.seconds,
         traced: request.options.trace.is_some(),
         jobs: request.jobs,
     }
@@ -32,6 +33,7 @@ fn all_wanted_for(request: &SearchRequest<'_>) -> AllWanted
 {
     AllWanted {
         limit: request.limit,
+        seconds: request.seconds,
         traced: request.options.trace.is_some(),
     }
 }

@@ -8,7 +8,7 @@ pub mod state_findings;
 pub mod text;
 
 pub use findings::Findings;
-pub use progress::SearchProgress;
-pub use search_text::{Asked, Entry, MemorySink, Sink, Visited, WriteError};
+pub use progress::{SearchProgress, seconds_gone};
+pub use search_text::{Asked, Entry, MemorySink, Sink, Stopped, Visited, WriteError};
 pub use state_findings::StateFindings;
 pub use text::SearchText;

@@ -7,6 +7,6 @@ use run_output::Written;
 pub struct SearchText {
     /// What is written of what was searched, whether there is a report, and the trace that is kept, if it is wanted.
     pub written: Written,
-    /// The search was stopped at its limit, and more remains.
+    /// The search was stopped, at its limit or because its time was up.
     pub stopped: bool,
 }

@@ -10,6 +10,7 @@ use Rattle.std.specs.Cmp.Lexicographic.{same_text}
 use Rattle.report_text.specs.Groups.{first_seen, is_text, one_more}
 use Rattle.search_text.proofs.SightingLemmas.{count_on, counted_more, seen_on, sightings_on}
 use Rattle.search_text.proofs.TextLists.{any_fold}
+use Rattle.search_text.specs.declared.stopped.Stopped.{Stopped}
 use Rattle.search_text.specs.SearchFindings.{Finds, Searched, ends_so, fails, has, is_deadlocked, is_none, meets, option_again, resting, sightings_in, state_in, states_of, texts_of_all, times_in}
 use Rattle.search_text.specs.Seen.{sighted}
 use Rattle.search_text.specs.Texts.{End}
@@ -72,12 +73,12 @@ reports_kept lists found finds =
     ∙ ap not (some_kept (texts_of_all lists))
 
 -- what is found is what is written
-pub text_found_is : (name : List ℕ) (switches : ℕ) (stopped : Bool) (lists : List Searched) (found : SearchFindings) → Finds lists found
+pub text_found_is : (name : List ℕ) (switches : ℕ) (stopped : Stopped) (lists : List Searched) (found : SearchFindings) → Finds lists found
     → text_found name switches stopped found ≡ search_text name switches stopped lists
 text_found_is name switches stopped lists found finds =
     rw (finds.reports, finds.stuck, finds.states, finds.searched, finds.held, finds.failed)
 
-pub text_of_both_is : (name : List ℕ) (stopped : Bool) (visited : ℕ) (reports ends : List Searched) (reported ended : SearchFindings)
+pub text_of_both_is : (name : List ℕ) (stopped : Stopped) (visited : ℕ) (reports ends : List Searched) (reported ended : SearchFindings)
     → Finds reports reported → Finds ends ended
     → text_of_both name stopped visited reported ended ≡ states_search_text name stopped visited reports ends
 text_of_both_is name stopped visited reports ends reported ended first second =

@@ -6,4 +6,5 @@ pub mod Seen
 pub mod Texts
 pub mod SearchFindings
 pub mod Joined
+pub mod Stops
 pub mod Write

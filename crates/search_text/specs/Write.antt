@@ -3,6 +3,8 @@ use Rattle.std.specs.Prelude.{◌++◌, ◌==◌, ◌∷◌, [], ℕ, Bool, List
 use Rattle.std.specs.Fmt.{decimal}
 use Rattle.std.specs.List.{flat_map}
 use Rattle.access_types.specs.ReportText.{line}
+use Rattle.search_text.specs.declared.stopped.Stopped.{Stopped}
+use Rattle.search_text.specs.declared.stopped.Stopped.TheVariants.{AfterSeconds, AtLimit, No}
 use Rattle.search_text.specs.SearchFindings.{Searched, fails, is_deadlocked, meets, resting, seen_in, sightings_in, states_of}
 use Rattle.search_text.specs.Schedules.{schedule_text}
 use Rattle.search_text.specs.Times.{Sighting, Times}
@@ -35,9 +37,14 @@ searched_line searched switches =
 unfoldable pub stopped_line : ℕ → List ℕ
 stopped_line searched = line (codes "stopped after " ++ decimal searched ++ codes " schedules: others remain")
 
-abbrev pub stopped_text : (stopped : Bool) → ℕ → List ℕ
-stopped_text true searched = stopped_line searched
-stopped_text false searched = []
+-- the search was stopped after so many seconds
+unfoldable pub out_of_time_line : ℕ → List ℕ
+out_of_time_line seconds = line (codes "stopped after " ++ decimal seconds ++ codes " seconds: others remain")
+
+abbrev pub stopped_text : Stopped → (searched : ℕ) → List ℕ
+stopped_text No searched = []
+stopped_text AtLimit searched = stopped_line searched
+stopped_text (AfterSeconds seconds) searched = out_of_time_line seconds
 
 -- how many final states there are
 unfoldable pub states_line : ℕ → List ℕ
@@ -59,7 +66,7 @@ abbrev pub observation_line : List ℕ → (held failed : ℕ) → List ℕ
 observation_line name held failed = codes "Observation " ++ (name ++ observed held failed)
 
 -- how many schedules were searched, of those with at most so many preemptions, and that others remain, if they do
-abbrev pub bounds_text : (searched switches : ℕ) → (stopped : Bool) → List ℕ
+abbrev pub bounds_text : (searched switches : ℕ) → (stopped : Stopped) → List ℕ
 bounds_text searched switches stopped = searched_line searched switches ++ stopped_text stopped searched
 
 -- how whole lists end: how many final states there are, each of them, and in how many the proposition of the condition
@@ -71,18 +78,18 @@ endings_text name states held failed =
 -- What a search over the schedules of the test of this name writes, with at most so many preemptions, stopped at its
 -- limit or not: each distinct report and in how many lists it was seen; in how many not all tasks ended; how many lists
 -- were searched; and how the others end.
-abbrev pub found_text : (name : List ℕ) → (switches : ℕ) → (stopped : Bool) → (reports : List Sighting) → (stuck : Option Times)
+abbrev pub found_text : (name : List ℕ) → (switches : ℕ) → (stopped : Stopped) → (reports : List Sighting) → (stuck : Option Times)
     → (states : List Sighting) → (searched held failed : ℕ) → List ℕ
 found_text name switches stopped reports stuck states searched held failed =
     flat_map sighting_text reports
     ++ (stuck_text stuck ++ (bounds_text searched switches stopped ++ endings_text name states held failed))
 
-abbrev pub text_found : (name : List ℕ) → (switches : ℕ) → (stopped : Bool) → SearchFindings → List ℕ
+abbrev pub text_found : (name : List ℕ) → (switches : ℕ) → (stopped : Stopped) → SearchFindings → List ℕ
 text_found name switches stopped found =
     found_text name switches stopped found.reports found.stuck found.states found.searched found.held found.failed
 
 -- so it is of these lists
-abbrev pub search_text : (name : List ℕ) → (switches : ℕ) → (stopped : Bool) → List Searched → List ℕ
+abbrev pub search_text : (name : List ℕ) → (switches : ℕ) → (stopped : Stopped) → List Searched → List ℕ
 search_text name switches stopped lists =
     found_text name switches stopped (sightings_in (λ one. one.texts) lists) (seen_in is_deadlocked lists) (sightings_in states_of lists)
     (resting (length lists)) (resting (count_by meets lists)) (resting (count_by fails lists))
@@ -95,12 +102,13 @@ visited_line visited = line (codes "searched " ++ decimal visited ++ codes " sta
 unfoldable pub stopped_at_line : ℕ → List ℕ
 stopped_at_line visited = line (codes "stopped after " ++ decimal visited ++ codes " states: others remain")
 
-abbrev pub stopped_at_text : (stopped : Bool) → ℕ → List ℕ
-stopped_at_text true visited = stopped_at_line visited
-stopped_at_text false visited = []
+abbrev pub stopped_at_text : Stopped → (visited : ℕ) → List ℕ
+stopped_at_text No visited = []
+stopped_at_text AtLimit visited = stopped_at_line visited
+stopped_at_text (AfterSeconds seconds) visited = out_of_time_line seconds
 
 -- how many states were searched, and that others remain, if they do
-abbrev pub visited_text : (visited : ℕ) → (stopped : Bool) → List ℕ
+abbrev pub visited_text : (visited : ℕ) → (stopped : Stopped) → List ℕ
 visited_text visited stopped = visited_line visited ++ stopped_at_text stopped visited
 
 -- the schedule of the first list in which something was seen
@@ -120,17 +128,17 @@ deadlock_text (Some times) = codes "stuck, " ++ first_line times.1
 -- the schedule of the first list in which it was seen; that of the first after which not all tasks have ended; how many
 -- states were searched; and how the others end. No lists are counted: which of the lists that lead to a state is
 -- visited says nothing.
-abbrev pub states_text : (name : List ℕ) → (stopped : Bool) → (visited : ℕ) → (reports : List Sighting) → (stuck : Option Times)
+abbrev pub states_text : (name : List ℕ) → (stopped : Stopped) → (visited : ℕ) → (reports : List Sighting) → (stuck : Option Times)
     → (states : List Sighting) → (held failed : ℕ) → List ℕ
 states_text name stopped visited reports stuck states held failed =
     flat_map first_text reports ++ (deadlock_text stuck ++ (visited_text visited stopped ++ endings_text name states held failed))
 
-abbrev pub text_of_both : (name : List ℕ) → (stopped : Bool) → (visited : ℕ) → (reported ended : SearchFindings) → List ℕ
+abbrev pub text_of_both : (name : List ℕ) → (stopped : Stopped) → (visited : ℕ) → (reported ended : SearchFindings) → List ℕ
 text_of_both name stopped visited reported ended =
     states_text name stopped visited reported.reports ended.stuck ended.states ended.held ended.failed
 
 -- so it is where at the last step of some of these lists reports fall, and others end
-abbrev pub states_search_text : (name : List ℕ) → (stopped : Bool) → (visited : ℕ) → (reported ended : List Searched) → List ℕ
+abbrev pub states_search_text : (name : List ℕ) → (stopped : Stopped) → (visited : ℕ) → (reported ended : List Searched) → List ℕ
 states_search_text name stopped visited reported ended =
     states_text name stopped visited (sightings_in (λ one. one.texts) reported) (seen_in is_deadlocked ended)
     (sightings_in states_of ended) (resting (count_by meets ended)) (resting (count_by fails ended))

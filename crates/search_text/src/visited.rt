@@ -10,17 +10,18 @@ ghost use Rattle.search_text.specs.Write.{stopped_at_text, text_of_both, visited
 use crate::found::SearchFindings;
 use crate::schedules::write_schedule;
 use crate::seen::{Seen, Sightings};
+use crate::stopped::{Stopped, write_out_of_time};
 use crate::write::write_ending;
 use prepared_program::step_schedule::Entry;
 use report_text::pieces::{Piece, write_pieces};
 use report_text::{Sink, WriteError, write_all};
 
-/// How many states were searched: all of them, or as many as there may be at most.
+/// How many states were searched: all of them, or those that were visited before the search was stopped.
 #[derive(Clone, Copy, PartialEq, Eq)]
 pub struct Visited {
     pub states: u64,
-    /// The search was stopped at its limit, and other states remain.
-    pub stopped: bool,
+    /// Whether it was.
+    pub stopped: Stopped,
 }
 
 /// Writes the schedule of the first list in which something was seen.
@@ -100,13 +101,14 @@ fn write_stopped_at_line<K: Sink>(sink: &mut K, states: u64) -> Result<(), Write
     )
 }
 
-/// Writes that the search was stopped after so many states, if it was.
-fn write_stopped_at<K: Sink>(sink: &mut K, stopped: bool, states: u64) -> Result<(), WriteError>
+/// Writes that the search was stopped after so many states, or because its time was up, if it was.
+fn write_stopped_at<K: Sink>(sink: &mut K, stopped: Stopped, states: u64) -> Result<(), WriteError>
     ensures { Writes K.written K.failures result (stopped_at_text stopped states) sink.old sink.new }
 {
     match stopped {
-        true => write_stopped_at_line(sink, states),
-        false => Ok(()),
+        Stopped::No => Ok(()),
+        Stopped::AtLimit => write_stopped_at_line(sink, states),
+        Stopped::AfterSeconds(seconds) => write_out_of_time(sink, seconds),
     }
 }
 

@@ -11,17 +11,18 @@ ghost use Rattle.search_text.specs.Write.{states_line, stopped_line, stopped_tex
 use crate::found::SearchFindings;
 use crate::schedules::write_schedule;
 use crate::seen::{Seen, Sightings};
+use crate::stopped::{Stopped, write_out_of_time};
 use prepared_program::step_schedule::Entry;
 use report_text::pieces::{Piece, write_pieces};
 use report_text::{Sink, WriteError, write_all};
 
-/// Which schedules were searched: those with at most so many preemptions, all of them or as many as there may be at
-/// most.
+/// Which schedules were searched: those with at most so many preemptions, all of them or those that were searched before
+/// the search was stopped.
 #[derive(Clone, Copy, PartialEq, Eq)]
 pub struct Asked {
     pub switches: u64,
-    /// The search was stopped at its limit, and other schedules remain.
-    pub stopped: bool,
+    /// Whether it was.
+    pub stopped: Stopped,
 }
 
 /// Writes in how many schedules something was, behind this word.
@@ -147,13 +148,14 @@ fn write_stopped_line<K: Sink>(sink: &mut K, searched: u64) -> Result<(), WriteE
     )
 }
 
-/// Writes that the search was stopped after so many schedules, if it was.
-fn write_stopped<K: Sink>(sink: &mut K, stopped: bool, searched: u64) -> Result<(), WriteError>
+/// Writes that the search was stopped after so many schedules, or because its time was up, if it was.
+fn write_stopped<K: Sink>(sink: &mut K, stopped: Stopped, searched: u64) -> Result<(), WriteError>
     ensures { Writes K.written K.failures result (stopped_text stopped searched) sink.old sink.new }
 {
     match stopped {
-        true => write_stopped_line(sink, searched),
-        false => Ok(()),
+        Stopped::No => Ok(()),
+        Stopped::AtLimit => write_stopped_line(sink, searched),
+        Stopped::AfterSeconds(seconds) => write_out_of_time(sink, seconds),
     }
 }
 

@@ -226,6 +226,7 @@ fn search(switches: Switches, limit: u64, jobs: u64, options: RunOptions<'_>) ->
         file: "t",
         switches,
         limit,
+        seconds: None,
         jobs,
         options,
     })
@@ -290,6 +291,26 @@ fn searches_are_asked_for(rt: HostRuntime) -> Result<(), Fail> {
             },
         ),
     )
+}
+
+#[test]
+fn searches_with_bounded_seconds_are_asked_for(rt: HostRuntime) -> Result<(), Fail> {
+    for (word, seconds) in [("1", 1), ("1000000", 1_000_000)] {
+        ask(
+            &rt,
+            rt.alloc(),
+            &["k", "search", "t", "--seconds", word],
+            Request::Search(SearchRequest {
+                file: "t",
+                switches: Switches::AtMost(2),
+                limit: 1_000_000,
+                seconds: Some(seconds),
+                jobs: 1,
+                options: OPTIONS,
+            }),
+        )?;
+    }
+    Ok(())
 }
 
 #[test]
@@ -410,6 +431,9 @@ fn other_searches_make_no_sense(rt: HostRuntime) {
         ["k", "search", "t", "--switches", "18446744073709551616"].as_slice(),
         ["k", "search", "t", "--limit", "0"].as_slice(),
         ["k", "search", "t", "--limit", "1000000001"].as_slice(),
+        ["k", "search", "t", "--seconds", "0"].as_slice(),
+        ["k", "search", "t", "--seconds", "1000001"].as_slice(),
+        ["k", "search", "t", "--seconds", "1.5"].as_slice(),
         ["k", "search", "t", "--jobs", "0"].as_slice(),
         ["k", "search", "t", "--jobs", "65"].as_slice(),
         ["k", "search", "t", "--slots", "2"].as_slice(),

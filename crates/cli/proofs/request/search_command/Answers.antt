@@ -6,5 +6,6 @@ returns c =
     let e1 = c.with_argument-command.ensures _ _ c.named.ensures c.file.ensures in
     let e2 = c.with_argument-command-2.ensures _ _ e1 c.default_option-switches.ensures in
     let e3 = c.with_argument-command-3.ensures _ _ e2 c.number_option-limit.ensures in
-    let e4 = c.with_argument-command-4.ensures _ _ e3 c.number_option-jobs.ensures in
-    c.with_shared.ensures _ e4
+    let e4 = c.with_argument-command-4.ensures _ _ e3 c.free_number_option-seconds.ensures in
+    let e5 = c.with_argument-command-5.ensures _ _ e4 c.number_option-jobs.ensures in
+    c.with_shared.ensures _ e5

@@ -9,6 +9,7 @@ returns-clause-asked c = record {
   file = some_read (found_of c.args.search.now) (codes "FILE") c.get_str.result _ c.get_str.ensures c.in_ok-get_str.was;
   switches = c.in_ok-switches_asked.ensures.asked;
   limit = c.in_ok-number.ensures.asked;
+  seconds = c.in_ok-number_if_given.ensures.asked;
   jobs = c.in_ok-number-2.ensures.asked;
   options = c.in_ok-options.ensures.asked;
 }
@@ -27,3 +28,8 @@ pub returns-in_err-number-2-clause-complete : goal.returns-in_err-number-2-claus
 returns-in_err-number-2-clause-complete c = λ request bounds asks.
     absurd (not_missing c.number-2.result (c.number-2.ensures.complete request.jobs bounds.jobs bounds.jobs_to asks.jobs)
     c.in_err-number-2.was)
+
+pub returns-in_err-number_if_given-clause-complete : goal.returns-in_err-number_if_given-clause-complete
+returns-in_err-number_if_given-clause-complete c = λ request bounds asks.
+    absurd (not_missing c.number_if_given.result (c.number_if_given.ensures.complete request.seconds bounds.seconds asks.seconds)
+    c.in_err-number_if_given.was)
