@@ -6,13 +6,13 @@ use Rattle.litmus_syntax.specs.Limits.{BlockScopes, BlockTurns, ExpressionTyped,
 use Rattle.litmus_syntax.specs.Sites.{expression_has_access}
 use Rattle.litmus_syntax.specs.Tree.{Block, Expression, Statement}
 use Rattle.litmus_syntax.specs.Tree as tree
-use Rattle.litmus_syntax.specs.declared.limits.Place.{Place}
+use Rattle.litmus_syntax.specs.declared.limits.Enclosing.{Enclosing}
 use Rattle.litmus_syntax.specs.declared.limits.Scope.{Scope}
 use Rattle.litmus_syntax.specs.declared.limits.Tally.{Tally}
 use Rattle.litmus_syntax.specs.declared.statement.Statement as coded
 use Rattle.litmus_syntax.specs.Views.{block_of, statement_of}
 
-pub none_kept : (scope : Scope) (place : Place) (old : Tally) → BlockIsKept scope place old old tree.empty
+pub none_kept : (scope : Scope) (place : Enclosing) (old : Tally) → BlockIsKept scope place old old tree.empty
 none_kept scope place old = record {
   adds = record { statements = omega arith; repeats = omega arith; rises = omega arith };
   turns = tt;
@@ -20,7 +20,7 @@ none_kept scope place old = record {
   typed = tt;
 }
 
-pub first_kept : (scope : Scope) (place behind : Place) (old middle new : Tally) (s : Statement) (rest : Block)
+pub first_kept : (scope : Scope) (place behind : Enclosing) (old middle new : Tally) (s : Statement) (rest : Block)
     → StatementIsKept scope place old middle s
     → behind.turns ≡ place.turns → behind.scopes ≡ place.scopes + scopes_of s
     → BlockIsKept scope behind middle new rest
@@ -44,11 +44,11 @@ first_kept scope place behind old middle new s rest here turns scopes later =
     }
 
 -- a condition is counted
-abbrev pub Conditioned : Place → Tally → Tally → Expression → Type 0
+abbrev pub Conditioned : Enclosing → Tally → Tally → Expression → Type 0
 Conditioned place old new e =
     Adds old new 1 (if expression_has_access e then place.turns else 0) (place.turns * expression_rises e)
 
-pub if_kept : (scope : Scope) (place : Place) (old middle new : Tally) (e : Expression) (body : Block)
+pub if_kept : (scope : Scope) (place : Enclosing) (old middle new : Tally) (e : Expression) (body : Block)
     → Conditioned place old middle e → ExpressionTyped (IsVariable scope.variables.now) scope.registers e
     → BlockIsKept scope place middle new body
     → StatementIsKept scope place old new (tree.if_block e body)
@@ -66,7 +66,7 @@ if_kept scope place old middle new e body here typed later =
       typed = (typed, later.typed);
     }
 
-pub if_else_kept : (scope : Scope) (place : Place) (old middle next new : Tally) (e : Expression) (body otherwise : Block)
+pub if_else_kept : (scope : Scope) (place : Enclosing) (old middle next new : Tally) (e : Expression) (body otherwise : Block)
     → Conditioned place old middle e → ExpressionTyped (IsVariable scope.variables.now) scope.registers e
     → BlockIsKept scope place middle next body → BlockIsKept scope place next new otherwise
     → StatementIsKept scope place old new (tree.if_else e body otherwise)
@@ -87,7 +87,7 @@ if_else_kept scope place old middle next new e body otherwise here typed later o
       typed = (typed, (later.typed, other.typed));
     }
 
-pub for_kept : (scope : Scope) (place inside : Place) (old middle new : Tally) (register turns : ℕ) (body : Block)
+pub for_kept : (scope : Scope) (place inside : Enclosing) (old middle new : Tally) (register turns : ℕ) (body : Block)
     → turns ≤ 256 → inside.turns ≡ place.turns * turns → inside.scopes ≡ place.scopes
     → Adds old middle 1 0 (place.turns * 0) → register < scope.registers
     → BlockIsKept scope inside middle new body

@@ -265,16 +265,16 @@ fn rises_of(call: Call) -> u64
 
 /// What stands round a place of a text: how often the loops repeat it, and the scoped assertions in force.
 #[derive(Clone, Copy)]
-struct Place {
+struct Enclosing {
     turns: u64,
     scopes: usize,
     ghost repeated: { turns ≤ 256 },
     ghost asserted: { scopes ≤ 8 },
 }
 
-impl Place {
+impl Enclosing {
     /// The place behind a call. None: too many scoped assertions are in force.
-    fn behind_call(self, call: Call) -> Option<Place>
+    fn behind_call(self, call: Call) -> Option<Enclosing>
         ensures turns { IfSome result (λ place. place.turns ≡ self.turns) }
         ensures scopes { IfSome result (λ place. place.scopes ≡ self.scopes + call_scopes call) }
     {
@@ -283,7 +283,7 @@ impl Place {
                 if self.scopes == SCOPED {
                     return None;
                 }
-                Some(Place {
+                Some(Enclosing {
                     turns: self.turns,
                     scopes: self.scopes + 1,
                 })
@@ -293,7 +293,7 @@ impl Place {
     }
 
     /// The place behind a statement.
-    fn behind(self, statement: &Statement) -> Option<Place>
+    fn behind(self, statement: &Statement) -> Option<Enclosing>
         ensures turns { IfSome result (λ place. place.turns ≡ self.turns) }
         ensures scopes { IfSome result (λ place. place.scopes ≡ self.scopes + scopes_of (statement_of statement.now)) }
     {
@@ -304,7 +304,7 @@ impl Place {
     }
 
     /// The place in a loop. None: the loops round it have too many turns.
-    fn inside(self, turns: u64) -> Option<Place>
+    fn inside(self, turns: u64) -> Option<Enclosing>
         ensures few { IfSome result (λ _. turns ≤ 256) }
         ensures turns { IfSome result (λ place. place.turns ≡ self.turns * turns) }
         ensures scopes { IfSome result (λ place. place.scopes ≡ self.scopes) }
@@ -312,7 +312,7 @@ impl Place {
         if turns > TURNS || self.turns * turns > TURNS {
             return None;
         }
-        Some(Place {
+        Some(Enclosing {
             turns: self.turns * turns,
             scopes: self.scopes,
         })
@@ -336,7 +336,7 @@ impl Tally {
 
     /// Counts a statement at a place that makes an access or not and raises a count so often in a turn. Whether the
     /// limits are kept.
-    fn add(&mut self, place: Place, has_access: bool, rises: u64) -> bool
+    fn add(&mut self, place: Enclosing, has_access: bool, rises: u64) -> bool
         requires { rises ≤ 65537 }
         ensures { IsTrue result → Adds self.old self.new 1 (if has_access then place.turns else 0) (place.turns * rises) }
     {
@@ -355,7 +355,7 @@ impl Tally {
     }
 
     /// Counts a statement that holds no other.
-    fn add_simple(&mut self, scope: &Scope<'_>, place: Place, statement: &Statement) -> bool
+    fn add_simple(&mut self, scope: &Scope<'_>, place: Enclosing, statement: &Statement) -> bool
         ensures { IsTrue result → StatementIsKept scope.now place self.old self.new (statement_of statement.now) }
     {
         let (is_typed, rises) = match statement {
@@ -381,7 +381,7 @@ impl Tally {
 
     /// Counts a statement and all that stands in it.
     #[cycle(kept)]
-    fn add_statement(&mut self, scope: &Scope<'_>, place: Place, statement: &Statement) -> bool
+    fn add_statement(&mut self, scope: &Scope<'_>, place: Enclosing, statement: &Statement) -> bool
         ensures { IsTrue result → StatementIsKept scope.now place self.old self.new (statement_of statement.now) }
     {
         match statement {
@@ -426,7 +426,7 @@ impl Tally {
 
     /// Counts the statements of a block.
     #[cycle(kept)]
-    fn add_block(&mut self, scope: &Scope<'_>, place: Place, block: &[Statement]) -> bool
+    fn add_block(&mut self, scope: &Scope<'_>, place: Enclosing, block: &[Statement]) -> bool
         ensures { IsTrue result → BlockIsKept scope.now place self.old self.new (block_of block.now) }
     {
         let mut place = place;
@@ -443,7 +443,7 @@ impl Tally {
     }
 
     /// Counts the statement that a condition begins.
-    fn add_condition(&mut self, scope: &Scope<'_>, place: Place, condition: &Expression) -> bool
+    fn add_condition(&mut self, scope: &Scope<'_>, place: Enclosing, condition: &Expression) -> bool
         ensures adds { IsTrue result → Adds self.old self.new 1
             (if expression_has_access (expression_of condition.now) then place.turns else 0) (place.turns * expression_rises (expression_of condition.now)) }
         ensures typed { IsTrue result → ExpressionTyped (IsVariable scope.now.variables.now) scope.now.registers (expression_of condition.now) }
@@ -470,7 +470,7 @@ impl Task {
             repeats: 0,
             rises: 0,
         };
-        let place = Place {
+        let place = Enclosing {
             turns: 1,
             scopes: 0,
         };

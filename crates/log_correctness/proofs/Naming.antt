@@ -105,7 +105,8 @@ module _ (s : Setting) (a : Access) where
       let got = on_flag first.answer _ h.2 in
       by_answer got.0 (λ again. tries_named word indices later place rest again on (first ∷ own)) got.2
     where
-      by_answer : (accepted : Bool) → (TriesInsert s.task word indices later place rest → Named (back later (first ∷ own))) → MatchBool accepted ((place ≡ Some index) × (rest ≡ later)) (TriesInsert s.task word indices later place rest)
+      by_answer : (accepted : Bool) → (TriesInsert s.task word indices later place rest → Named (back later (first ∷ own)))
+          → MatchBool accepted ((place ≡ Some index) × (rest ≡ later)) (TriesInsert s.task word indices later place rest)
           → Named (back later (first ∷ own))
       by_answer true goes_again stood = subst (λ (r : List Record). Named (back r (first ∷ own))) stood.1 (on (first ∷ own))
       by_answer false goes_again again = goes_again again

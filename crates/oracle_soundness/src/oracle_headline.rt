@@ -12,4 +12,4 @@ pub mod told;
 pub mod totals;
 
 pub use headline::holds;
-pub use told::{Armed, Came, Told};
+pub use told::{Armed, Came, ToldExecution};

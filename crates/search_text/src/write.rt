@@ -16,8 +16,8 @@ use prepared_program::step_schedule::Entry;
 use report_text::pieces::{Piece, write_pieces};
 use report_text::{Sink, WriteError, write_all};
 
-/// Which schedules were searched: those with at most so many preemptions, all of them or those that were searched before
-/// the search was stopped.
+/// Which schedules were searched: those with at most so many preemptions, all of them or those that were searched
+/// before the search was stopped.
 #[derive(Clone, Copy, PartialEq, Eq)]
 pub struct Asked {
     pub switches: u64,

@@ -19,7 +19,7 @@ pub(crate) struct Loop<'a> {
 
 /// A turn of a loop, by its number from 0.
 #[derive(Clone, Copy)]
-pub(crate) struct Turn<'a> {
+pub(crate) struct LoopTurn<'a> {
     pub(crate) of: Loop<'a>,
     pub(crate) number: u64,
     ghost under_way: { number < of.turns },
@@ -31,7 +31,7 @@ pub(crate) enum AtEnd<'a> {
     /// The statements after it.
     Leaves,
     /// The next turn of its loop after this one, if there is one.
-    Repeats(Turn<'a>),
+    Repeats(LoopTurn<'a>),
 }
 
 /// A block that a task stands in.

@@ -3,7 +3,7 @@
 use crate::lists::play;
 use crate::refusal::Refusal;
 use crate::row::{Row, number};
-use oracle_soundness::oracle_headline::{Came, Told};
+use oracle_soundness::oracle_headline::{Came, ToldExecution};
 use setup_access::Outcome;
 use slot_table::{Answer, Record, Step};
 use std::alloc::Global;
@@ -33,7 +33,7 @@ enum Bend {
 }
 
 /// The list of a row, with these bends.
-pub fn bent(alloc: Global, row: Option<&Row>, bends: &str) -> Result<Told, Refusal> {
+pub fn bent(alloc: Global, row: Option<&Row>, bends: &str) -> Result<ToldExecution, Refusal> {
     let row = row.ok_or(Refusal::NoList)?;
     let mut told = play(alloc, &row.program, row.order.as_slice())?;
     for text in bends.split(',') {
@@ -86,7 +86,7 @@ fn more_of(text: &str) -> Option<Bend> {
 }
 
 /// Makes a bend.
-fn make(told: &mut Told, bend: Bend) -> Result<(), Refusal> {
+fn make(told: &mut ToldExecution, bend: Bend) -> Result<(), Refusal> {
     match bend {
         Bend::OutcomeAgain => outcome_again(told)?,
         Bend::OutcomeMissing => outcome_missing(told)?,
@@ -102,7 +102,7 @@ fn make(told: &mut Told, bend: Bend) -> Result<(), Refusal> {
 }
 
 /// The last outcome is told once more.
-fn outcome_again(told: &mut Told) -> Result<(), Refusal> {
+fn outcome_again(told: &mut ToldExecution) -> Result<(), Refusal> {
     let last = told.outcomes.last().copied();
     let last = last.ok_or(Refusal::NothingToBend)?;
     told.outcomes.push(last)?;
@@ -110,7 +110,7 @@ fn outcome_again(told: &mut Told) -> Result<(), Refusal> {
 }
 
 /// The last outcome isn't told.
-fn outcome_missing(told: &mut Told) -> Result<(), Refusal> {
+fn outcome_missing(told: &mut ToldExecution) -> Result<(), Refusal> {
     let Some(others) = told.outcomes.len().checked_sub(1) else {
         return Err(Refusal::NothingToBend);
     };
@@ -119,7 +119,7 @@ fn outcome_missing(told: &mut Told) -> Result<(), Refusal> {
 }
 
 /// The first access is told to have been discarded.
-fn discard(told: &mut Told, reason: Reason) -> Result<(), Refusal> {
+fn discard(told: &mut ToldExecution, reason: Reason) -> Result<(), Refusal> {
     let first = told.accesses.first().copied();
     let access = first.ok_or(Refusal::NothingToBend)?;
     told.outcomes.push(Came {
@@ -140,7 +140,7 @@ fn look_for_clears(records: &mut [Record]) {
 }
 
 /// A record is there twice.
-fn step_again(told: &mut Told, place: usize) -> Result<(), Refusal> {
+fn step_again(told: &mut ToldExecution, place: usize) -> Result<(), Refusal> {
     let Some(record) = told.records.get(place).copied() else {
         return Err(Refusal::NothingToBend);
     };
@@ -149,7 +149,7 @@ fn step_again(told: &mut Told, place: usize) -> Result<(), Refusal> {
 }
 
 /// One more step at the end, which nobody made.
-fn step_more(told: &mut Told, step: Step, answer: Answer) -> Result<(), Refusal> {
+fn step_more(told: &mut ToldExecution, step: Step, answer: Answer) -> Result<(), Refusal> {
     told.records.insert(
         0,
         Record {

@@ -6,7 +6,7 @@ use crate::refusal::Refusal;
 use access_types::{Access, Bytes, Happening, Mark, Moment, Sites, ticket};
 use oracle_soundness::oracle_headline::armings::last_arming;
 use oracle_soundness::oracle_headline::meetings::in_hand;
-use oracle_soundness::oracle_headline::{Armed, Came, Told};
+use oracle_soundness::oracle_headline::{Armed, Came, ToldExecution};
 use setup_access::{Checker, Rules};
 use slot_table::{Answer, Board, PlainBoard, Record, Shape, Step};
 use std::alloc::{AllocError, Global};
@@ -479,7 +479,7 @@ fn have_ended(program: &Program, tasks: &[Task]) -> bool {
 }
 
 /// What the list tells.
-fn told_of(alloc: Global, program: &Program, going: Going) -> Result<Told, Refusal> {
+fn told_of(alloc: Global, program: &Program, going: Going) -> Result<ToldExecution, Refusal> {
     let Going {
         accesses,
         list,
@@ -493,7 +493,7 @@ fn told_of(alloc: Global, program: &Program, going: Going) -> Result<Told, Refus
         outcomes,
         ..
     } = list;
-    Ok(Told {
+    Ok(ToldExecution {
         atomic: program.rules.plain_writes_atomic,
         accesses,
         records,
@@ -520,7 +520,7 @@ fn go_on_by(
 }
 
 /// The list that the tasks make in this order, and what it tells.
-pub fn play(alloc: Global, program: &Program, order: &[u32]) -> Result<Told, Refusal> {
+pub fn play(alloc: Global, program: &Program, order: &[u32]) -> Result<ToldExecution, Refusal> {
     let mut going = start(alloc, program)?;
     go_on_by(alloc, program, &mut going, order)?;
     told_of(alloc, program, going)
@@ -528,7 +528,11 @@ pub fn play(alloc: Global, program: &Program, order: &[u32]) -> Result<Told, Ref
 
 /// The list that two tasks make in this order, and then each as long as it has a step, the first before the second,
 /// and what it tells. The order is then that of the whole list.
-pub fn play_out(alloc: Global, program: &Program, order: &mut Vec<u32>) -> Result<Told, Refusal> {
+pub fn play_out(
+    alloc: Global,
+    program: &Program,
+    order: &mut Vec<u32>,
+) -> Result<ToldExecution, Refusal> {
     let mut going = start(alloc, program)?;
     go_on_by(alloc, program, &mut going, order.as_slice())?;
     for _ in 0..1000 {

@@ -11,7 +11,7 @@ mod trial;
 mod wanted;
 
 use bend::bent;
-use oracle_soundness::oracle_headline::Told;
+use oracle_soundness::oracle_headline::ToldExecution;
 use oracle_soundness::oracle_headline::meetings::setters_heard;
 use orders::in_every_order;
 use refusal::Refusal;
@@ -65,7 +65,7 @@ fn outcome(alloc: Global, list: &mut Option<Row>, row: &str) -> Result<String, R
 }
 
 /// Of how many meetings setters have heard.
-fn meetings(alloc: Global, told: &Told) -> Result<String, Refusal> {
+fn meetings(alloc: Global, told: &ToldExecution) -> Result<String, Refusal> {
     let heard = setters_heard(alloc, told.records.as_slice())?.len();
     Ok(format!(in alloc; "{heard}")?)
 }

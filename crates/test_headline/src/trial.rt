@@ -3,7 +3,7 @@
 use crate::lists::{Program, play};
 use crate::refusal::Refusal;
 use crate::row::Row;
-use oracle_soundness::oracle_headline::{Told, holds};
+use oracle_soundness::oracle_headline::{ToldExecution, holds};
 use setup_access::Outcome;
 use std::alloc::Global;
 
@@ -16,7 +16,7 @@ pub struct Reports {
 }
 
 /// Those that are told.
-pub fn reports_of(told: &Told) -> Reports {
+pub fn reports_of(told: &ToldExecution) -> Reports {
     let mut seen = Reports {
         two_sided: 0,
         unknown: 0,
@@ -78,7 +78,7 @@ pub fn in_one_order(alloc: Global, row: &Row) -> Result<String, Refusal> {
 }
 
 /// Whether the headline holds.
-pub fn verdict(alloc: Global, told: &Told) -> Result<String, Refusal> {
+pub fn verdict(alloc: Global, told: &ToldExecution) -> Result<String, Refusal> {
     let word = if holds(alloc, told)? {
         "holds"
     } else {

@@ -8,7 +8,7 @@ use Rattle.access_types.specs.Ticket.{ticket_number}
 use Rattle.access_types.specs.declared.history.Moment.{Moment}
 use Rattle.oracle_soundness.specs.declared.oracle_headline.told.Armed.{Armed}
 use Rattle.oracle_soundness.specs.declared.oracle_headline.told.Came.{Came}
-use Rattle.oracle_soundness.specs.declared.oracle_headline.told.Told.{Told}
+use Rattle.oracle_soundness.specs.declared.oracle_headline.told.ToldExecution.{ToldExecution}
 use Rattle.setup_access.specs.declared.outcome.Outcome.{Outcome}
 use Rattle.setup_access.specs.declared.outcome.Outcome.TheVariants as outcomes
 use Rattle.slot.specs.Pair.{Halves}
@@ -36,11 +36,11 @@ pub record Account : Type 0 where
   pub ended : Bool
 
 -- how many moments were told by so many steps
-abbrev pub moments_by : Told → ℕ → ℕ
+abbrev pub moments_by : ToldExecution → ℕ → ℕ
 moments_by told count = slice_index_or told.moments.items count 0
 
 -- what is told, where memory is 0 at first
-abbrev pub account_of : Told → Account
+abbrev pub account_of : ToldExecution → Account
 account_of told = record {
   atomic = told.atomic;
   initial = λ _. 0;

@@ -4,7 +4,7 @@ ghost use Rattle.std.specs.Prelude.{◌≡◌, All, IsTrue, count_by};
 ghost use Rattle.oracle_soundness.specs.oracle_headline.Tried.{Answered, IsAnswered, account_of, answers};
 
 use crate::oracle_headline::meetings::Meeting;
-use crate::oracle_headline::told::{Came, Told};
+use crate::oracle_headline::told::{Came, ToldExecution};
 use setup_access::Outcome;
 
 /// What came is a report of two sides or a named discard, for the arming.
@@ -19,7 +19,7 @@ fn answers(index: usize, number: usize, came: &Came) -> bool
 }
 
 /// How many answers the arming has.
-fn answers_to(told: &Told, index: usize, number: usize) -> usize
+fn answers_to(told: &ToldExecution, index: usize, number: usize) -> usize
     ensures { result ≡ count_by (answers index number) told.now.outcomes.items }
 {
     let outcomes = told.outcomes.as_slice().iter();
@@ -27,21 +27,21 @@ fn answers_to(told: &Told, index: usize, number: usize) -> usize
 }
 
 /// It has one.
-pub fn is_answered(told: &Told, index: usize, number: usize) -> bool
+pub fn is_answered(told: &ToldExecution, index: usize, number: usize) -> bool
     ensures { IsTrue result → Answered (account_of told.now) index number }
 {
     answers_to(told, index, number) == 1
 }
 
 /// The meeting's arming has one answer.
-fn is_answered_met(told: &Told, met: &Meeting) -> bool
+fn is_answered_met(told: &ToldExecution, met: &Meeting) -> bool
     ensures { IsTrue result → IsAnswered (account_of told.now) met.now }
 {
     is_answered(told, met.index, met.number)
 }
 
 /// Each of these meetings has one answer.
-pub fn all_answered(told: &Told, met: &[Meeting]) -> bool
+pub fn all_answered(told: &ToldExecution, met: &[Meeting]) -> bool
     ensures { IsTrue result → All (IsAnswered (account_of told.now)) met.now }
 {
     for meeting in met {

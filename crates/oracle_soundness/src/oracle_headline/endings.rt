@@ -8,7 +8,7 @@ ghost use Rattle.slot_table.specs.Hearings.{IsArming, IsTaking};
 use crate::oracle_definitions::in_progress;
 use crate::oracle_headline::answers::is_answered;
 use crate::oracle_headline::armings::last_arming;
-use crate::oracle_headline::told::{Armed, Told};
+use crate::oracle_headline::told::{Armed, ToldExecution};
 use access_types::{Access, Happening, Moment};
 use slot_table::{Answer, Record, Step};
 
@@ -24,7 +24,7 @@ fn was_going(history: &[Moment], access: &Access, count: usize) -> bool
 }
 
 /// How many moments were told by so many steps.
-fn moments_by(told: &Told, count: usize) -> usize
+fn moments_by(told: &ToldExecution, count: usize) -> usize
     ensures { result ≡ moments_by told.now count }
 {
     match told.moments.as_slice().get(count) {
@@ -58,7 +58,7 @@ fn has_ended(history: &[Moment], task: u32, count: usize) -> bool
 }
 
 /// An access of the record's task that was in progress as it was made has ended.
-fn ended_since(told: &Told, made: &Record, earlier: &[Record]) -> bool
+fn ended_since(told: &ToldExecution, made: &Record, earlier: &[Record]) -> bool
     ensures { IsTrue result
         ↔ HasEnded told.now.history.items made.now.task (moments_by told.now (length earlier.now)) }
 {
@@ -78,7 +78,7 @@ fn is_arming(made: &Record, earlier: &[Record], index: usize, number: usize) -> 
 
 /// The record is the arming with this number at the index, made for an access that has ended since.
 fn is_ended_arming(
-    told: &Told,
+    told: &ToldExecution,
     made: &Record,
     earlier: &[Record],
     index: usize,
@@ -92,7 +92,7 @@ fn is_ended_arming(
 }
 
 /// One of the records is the arming with this number at the index, made for an access that has ended since.
-fn was_armed(told: &Told, mut records: &[Record], index: usize, number: usize) -> bool
+fn was_armed(told: &ToldExecution, mut records: &[Record], index: usize, number: usize) -> bool
     ensures { WasArmed (account_of told.now) index number records.entry.now → IsTrue result }
 {
     while let [latest, earlier @ ..] = records {
@@ -121,7 +121,7 @@ fn taking(latest: &Record, earlier: &[Record]) -> Option<Armed>
 }
 
 /// What the record takes has one answer, if both accesses have ended since.
-fn is_answered_if_ended(told: &Told, latest: &Record, earlier: &[Record]) -> bool
+fn is_answered_if_ended(told: &ToldExecution, latest: &Record, earlier: &[Record]) -> bool
     ensures { IsTrue result → (index number finder word : ℕ)
         → IsTaking index number finder word latest.now earlier.now
         → HasEnded told.now.history.items latest.now.task (moments_by told.now (length earlier.now))
@@ -141,7 +141,7 @@ fn is_answered_if_ended(told: &Told, latest: &Record, earlier: &[Record]) -> boo
 }
 
 /// Each of these takings whose two accesses have ended has one answer.
-pub fn takings_answered(told: &Told, mut records: &[Record]) -> bool
+pub fn takings_answered(told: &ToldExecution, mut records: &[Record]) -> bool
     ensures { IsTrue result → TakingsAnswered (account_of told.now) records.entry.now }
 {
     while let [latest, earlier @ ..] = records {

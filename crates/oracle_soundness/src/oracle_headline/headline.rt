@@ -10,7 +10,7 @@ use crate::oracle_headline::armings::taken_once;
 use crate::oracle_headline::changes::changed;
 use crate::oracle_headline::endings::takings_answered;
 use crate::oracle_headline::meetings::{Meeting, setters_heard, was_told};
-use crate::oracle_headline::told::{Came, Told};
+use crate::oracle_headline::told::{Came, ToldExecution};
 use crate::oracle_headline::totals::law_totals_agree;
 use access_types::{Access, ValueChange, ticket};
 use setup_access::Outcome;
@@ -21,7 +21,13 @@ use std::alloc::{AllocError, Global};
 pub type Answer = Result<bool, AllocError>;
 
 /// The pair names the access that was checked and this finder, which told of the arming, and the two race.
-fn races_with(alloc: Global, told: &Told, came: &Came, pair: Pair, finder: &Access) -> Answer
+fn races_with(
+    alloc: Global,
+    told: &ToldExecution,
+    came: &Came,
+    pair: Pair,
+    finder: &Access,
+) -> Answer
     ensures { IfOk result (λ yes. IsTrue yes → NamesRaceWith (account_of told.now) came.now pair finder.now) }
 {
     let Some(arming) = came.arming else {
@@ -50,7 +56,7 @@ fn races_with(alloc: Global, told: &Told, came: &Came, pair: Pair, finder: &Acce
 }
 
 /// The pair names a true race of the access that was checked.
-fn names_race(alloc: Global, told: &Told, came: &Came, pair: Pair) -> Answer
+fn names_race(alloc: Global, told: &ToldExecution, came: &Came, pair: Pair) -> Answer
     ensures { IfOk result (λ yes. IsTrue yes → NamesRace (account_of told.now) came.now pair) }
 {
     for finder in told.accesses.as_slice() {
@@ -62,7 +68,7 @@ fn names_race(alloc: Global, told: &Told, came: &Came, pair: Pair) -> Answer
 }
 
 /// What came is true, if it is a report.
-fn is_true(alloc: Global, told: &Told, came: &Came) -> Answer
+fn is_true(alloc: Global, told: &ToldExecution, came: &Came) -> Answer
     ensures { IfOk result (λ yes. IsTrue yes → IsTrueOf (account_of told.now) came.now) }
 {
     match came.outcome {
@@ -76,7 +82,7 @@ fn is_true(alloc: Global, told: &Told, came: &Came) -> Answer
 }
 
 /// All reports are true.
-fn all_true(alloc: Global, told: &Told) -> Answer
+fn all_true(alloc: Global, told: &ToldExecution) -> Answer
     ensures { IfOk result (λ yes. IsTrue yes → All (IsTrueOf (account_of told.now)) told.now.outcomes.items) }
 {
     for came in told.outcomes.as_slice() {
@@ -88,14 +94,14 @@ fn all_true(alloc: Global, told: &Told) -> Answer
 }
 
 /// Once all tasks have ended the totals agree.
-fn ends_agreed(told: &Told) -> bool
+fn ends_agreed(told: &ToldExecution) -> bool
     ensures { IsTrue result → IsTrue told.now.ended → Totals told.now.records.items told.now.outcomes.items }
 {
     !told.ended || law_totals_agree(told)
 }
 
 /// Whether the headline holds of what is told. Then each meeting of which a setter has heard has one answer as well.
-pub fn holds(alloc: Global, told: &Told) -> Answer
+pub fn holds(alloc: Global, told: &ToldExecution) -> Answer
     ensures headline { IfOk result (λ yes. IsTrue yes → HasHeadline (account_of told.now)) }
     ensures heard { IfOk result (λ yes. IsTrue yes → All (IsAnswered (account_of told.now)) (setters_heard told.now.records.items)) }
 {

@@ -21,7 +21,7 @@ pub struct Came {
 
 /// A list of steps, the latest first, and what is told of it: the moments and the outcomes. Memory is 0 at first.
 #[derive(Drop)]
-pub struct Told {
+pub struct ToldExecution {
     /// Plain writes are assumed to be made in one piece.
     pub atomic: bool,
     /// The accesses of the program.

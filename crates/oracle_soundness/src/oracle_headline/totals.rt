@@ -5,7 +5,7 @@ ghost use Rattle.oracle_soundness.specs.oracle_headline.Tried as spec;
 ghost use Rattle.oracle_soundness.specs.oracle_headline.Tried.{came_so, made_so};
 ghost use Rattle.task_log.specs.Counters as counted;
 
-use crate::oracle_headline::told::{Came, Told};
+use crate::oracle_headline::told::{Came, ToldExecution};
 use setup_access::Outcome;
 use slot_table::{Answer, Record, Step};
 use value_filter::Reason;
@@ -173,7 +173,7 @@ fn answered(outcomes: &[Came]) -> u128
 }
 
 /// The totals agree.
-pub fn law_totals_agree(told: &Told) -> bool
+pub fn law_totals_agree(told: &ToldExecution) -> bool
     ensures { IsTrue result → spec.Totals told.now.records.items told.now.outcomes.items }
 {
     let (records, outcomes) = (told.records.as_slice(), told.outcomes.as_slice());

@@ -64,8 +64,19 @@ spawn_with-requires-send-F g c κs within =
     ∷ (shr_slice_field (record { mir = named 11; lft = κs.1.1.1.1.1.1.1.1.1.1.1.0 }) (param 1 g.row.S) tt).row
     ∷ (shr_slice_field (record { mir = named 12; lft = κs.1.1.1.1.1.1.1.1.1.1.1.1.0 }) (param 2 g.row.G) tt).row
     ∷ [] in
-    let all : AllSend rows =
-    (shr_send _ _ _ program_shared, (shr_send _ _ _ settings.the_sync, (shr_send _ _ _ prepared.the_sync, (shr_slice_send _ _ _ table.the_sync, (start.the_send, (shr_send _ _ _ c.requires.sync.0, (global.the_send, (shr_slice_send _ _ _ c.requires.sync.1, (shr_slice_send _ _ _ c.requires.sync.2, tt))))))))) in
+    let all : AllSend rows = (
+      shr_send _ _ _ program_shared,
+      (
+        shr_send _ _ _ settings.the_sync,
+        (
+          shr_send _ _ _ prepared.the_sync,
+          (
+            shr_slice_send _ _ _ table.the_sync,
+            (start.the_send, (shr_send _ _ _ c.requires.sync.0, (global.the_send, (shr_slice_send _ _ _ c.requires.sync.1, (shr_slice_send _ _ _ c.requires.sync.2, tt))))),
+          ),
+        ),
+      ),
+    ) in
     param_send 2 (lts.arg-7-2 g.row.R g.row.S g.row.G g.R.laws g.S.laws g.G.laws g.R.Threads-dict g.R.Wait-dict g.S.Stall-dict g.G.Gate-dict κs)
     (arg_send _ yes _ (closure_send (type_at _ rows) all))
 
