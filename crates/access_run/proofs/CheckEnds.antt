@@ -263,7 +263,7 @@ module _ (s : Setting) (scopes : List Begun) where
       let own = pass_ends s (λ settled now records. (all : Passes) × RoleLeft s scopes role settled now records all) (λ settled now. let more = role_ends role settled now in (more.0, (more.1, more.2)))
       begun pass asked in
       (own.0, record { outcomes = own.1.outcomes ++ own.4.0.outcomes; asked = own.4.0.asked }, (own.1, own.2, own.4.0, own.3, own.4.1, refl))
-  stage_ends stages.End asked = (made s.task steps.Clock (answers.Word 0) ∷ [], none_asked asked, (refl, (refl, refl, refl)))
+  stage_ends (stages.End scope) asked = (made s.task steps.Clock (answers.Word 0) ∷ [], none_asked asked, (refl, (refl, refl, refl)))
 
 -- what leads to a checker can be completed
 pub check_ends : (s : Setting) (scopes : List Begun) (doing : Doing) (asked : ℕ) (records : List Record) (checker : Checker) → Leads s scopes doing asked records checker

@@ -3,4 +3,5 @@ pub mod Access
 pub mod WrittenOrder
 pub mod Waits
 pub mod TaskObserved
+pub mod InProgress
 pub mod text_bounds

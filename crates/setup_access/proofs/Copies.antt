@@ -4,7 +4,7 @@ use Rattle.slot_table.specs.declared.records.Record.{Record}
 use Rattle.slot_table.specs.declared.step.Step.{Step}
 use Rattle.task_context.specs.Context.{Context}
 use Rattle.setup_access.specs.Check.{Fallen, Passes}
-use Rattle.setup_access.specs.Checker.{Does, Doing, StageLeft}
+use Rattle.setup_access.specs.Checker.{Does, Doing, StageLeft, StandsAt}
 use Rattle.setup_access.specs.Copies.{IsCopy}
 use Rattle.setup_access.specs.Fallen.{followed}
 use Rattle.setup_access.specs.Kept.{setting_with}
@@ -79,6 +79,7 @@ module _ (checker copy : Checker) (same : IsCopy checker copy) where
     fallen = leads.fallen;
     outcomes = same.outcomes ∙ leads.outcomes;
     falls = leads.falls;
+    stands = subst (StandsAt doing records) (sym same.stage) leads.stands;
     left = subst (λ (stage : CheckStage). Left s scopes doing asked records leads.now leads.fallen stage) (sym same.stage) leads.left;
   }
 

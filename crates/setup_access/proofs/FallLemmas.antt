@@ -506,7 +506,7 @@ module _ (s : Setting) where
       let first = pass_come begun pass asked records h.0 h.1 h.3 in
       let others = fall_back records h.1 h.2.outcomes first.1 (role_come scopes role h.0.settled h.0.asked h.1 h.2 h.4) in
       subst (λ (p : Passes). AllFallIn s records p.outcomes) (sym h.5) (fall_both records h.0.outcomes h.2.outcomes first.0 others)
-  stage_come scopes stages.End asked records passes h = subst (λ (p : Passes). AllFallIn s records p.outcomes) (sym h.0) tt
+  stage_come scopes (stages.End scope) asked records passes h = subst (λ (p : Passes). AllFallIn s records p.outcomes) (sym h.0) tt
 
   -- a try, and a load of the pair by a finder
   pub tried_falls : (a : Access) (found : Watchpoint) (taken : Bool) (result : Taking) → result ≡ (if taken then takings.Going (founds.HearSetter found.index 0) else takings.Over Lost)

@@ -13,7 +13,7 @@ use Rattle.slot_table.specs.declared.step.Step.TheVariants.{Clock}
 use Rattle.task_context.specs.Context.{Context}
 use Rattle.task_context.specs.History.{LeadsTo}
 use Rattle.setup_access.specs.Check.{ChecksBegun, Fallen, Passes}
-use Rattle.setup_access.specs.Checker.{Does, Doing, RoleLeft, StageLeft, ToRoleLeft, last_of}
+use Rattle.setup_access.specs.Checker.{Checks, Closes, Does, Doing, HasBegun, IsClosing, RoleLeft, StageLeft, StandsAt, ToRoleLeft, last_of}
 use Rattle.setup_access.specs.Due.{extended}
 use Rattle.setup_access.specs.Fallen.{followed, outcomes_in}
 use Rattle.setup_access.specs.FallsAt.{AllFallIn, GivesAt}
@@ -34,6 +34,7 @@ use Rattle.setup_access.specs.declared.pass.Pass.{Pass}
 use Rattle.setup_access.specs.declared.pass.Transition.{Transition}
 use Rattle.setup_access.specs.declared.setting.Setting as code
 use Rattle.setup_access.specs.declared.stage.Role.{Role}
+use Rattle.setup_access.specs.declared.stage.Role.TheVariants as roles
 use Rattle.setup_access.specs.declared.stage.CheckStage.{CheckStage}
 use Rattle.setup_access.specs.declared.stage.CheckStage.TheVariants as stages
 use Rattle.setup_access.proofs.FallLemmas.{falls_extended, falls_followed}
@@ -90,13 +91,22 @@ outcomes_extended : (begun : Begun) (later : List Record) (fallen : List Fallen)
 outcomes_extended begun later fallen None = refl
 outcomes_extended begun later fallen (Some outcome) = outcomes_more fallen (record { access = begun.access; outcome = outcome; later = later })
 
+-- a record later an access has begun, and a scope that closes is still this one
+stands_on : (doing : Doing) (records : List Record) (first : Record) (then now : CheckStage) → StandsAt doing records then
+    → HasBegun now → ((scope : Begun) → IsClosing scope then → IsClosing scope now) → StandsAt doing (records ++ first ∷ []) now
+stands_on (Checks begun) [] first then now stands has closes = has
+stands_on (Checks begun) (one ∷ others) first then now stands has closes = has
+stands_on (Closes scope silenced) records first then now stands has closes = closes scope stands
+
 -- one record more
 pub leads_on : (s : Setting) (scopes : List Begun) (doing : Doing) (asked : ℕ) (records : List Record) (old new : Checker) (first : Record) (leads : Leads s scopes doing asked records old) (now : ℕ)
     → new.setting ≡ old.setting → new.scopes.items ≡ old.scopes.items → new.last ≡ old.last → Samples s now new.sampler
+    → HasBegun new.stage → ((scope : Begun) → IsClosing scope old.stage → IsClosing scope new.stage)
     → stage_wait new.stage ≡ capped (wait_on (wait_after records) first.step first.answer) → (fallen : List Fallen) → new.outcomes ≡ outcomes_in fallen → AllFallIn s (records ++ first ∷ []) fallen
     → ((later : List Record) (passes : Passes) → Still s scopes old.stage leads.now (followed (first ∷ later) leads.fallen) (first ∷ later) passes ↔ Still s scopes new.stage now (followed later fallen) later passes)
     → Leads s scopes doing asked (records ++ first ∷ []) new
-leads_on s scopes doing asked records old new first leads now same_setting same_scopes same_last samples waits fallen outcomes falls step = record {
+leads_on s scopes doing asked records old new first leads now same_setting same_scopes same_last samples has closes waits fallen outcomes falls step = record {
+  stands = stands_on doing records first old.stage new.stage leads.stands has closes;
   falls = falls;
   fallen = fallen;
   outcomes = outcomes;
@@ -115,10 +125,11 @@ leads_on s scopes doing asked records old new first leads now same_setting same_
 -- from the beginning
 pub leads_first : (s : Setting) (scopes : List Begun) (doing : Doing) (asked : ℕ) (checker : Checker)
     → setting_with checker.setting s.sites ≡ s → checker.scopes.items ≡ scopes → AreOwn s scopes → Samples s asked checker.sampler → checker.outcomes ≡ []
-    → checker.last ≡ last_of doing → stage_wait checker.stage ≡ None
+    → checker.last ≡ last_of doing → StandsAt doing [] checker.stage → stage_wait checker.stage ≡ None
     → ((records : List Record) (passes : Passes) → Does s scopes doing asked records passes ↔ StageLeft s scopes checker.stage asked records passes)
     → Leads s scopes doing asked [] checker
-leads_first s scopes doing asked checker setting in_force own samples none last waits does = record {
+leads_first s scopes doing asked checker setting in_force own samples none last stands waits does = record {
+  stands = stands;
   setting = setting;
   in_force = in_force;
   own = own;
@@ -225,17 +236,18 @@ on_word answers.Done P is = absurd is
 module _ (s : Setting) (sites : AccessMap) (scopes : List Begun) (doing : Doing) (asked : ℕ) (records : List Record) (old new : Checker) (step : Step) (answer : Answer) where
   -- the stamp of a begin was drawn
   pub begin_on : (begun : Begun) → s.sites ≡ sites → Leads s scopes doing asked records old → old.stage ≡ stages.Begin begun → Says old step
-      → new.setting ≡ old.setting → new.scopes.items ≡ old.scopes.items → new.last ≡ old.last → new.outcomes ≡ old.outcomes → IsWord answer → stage_wait new.stage ≡ None
+      → new.setting ≡ old.setting → new.scopes.items ≡ old.scopes.items → new.last ≡ old.last → new.outcomes ≡ old.outcomes → IsWord answer → HasBegun new.stage → stage_wait new.stage ≡ None
       → ((in_force : List Begun) (then : ℕ) → Samples (setting_with old.setting sites) then old.sampler → (now : ℕ) × Samples (setting_with old.setting sites) now new.sampler
       × ((left : List Record) (passes : Passes) → ChecksBegun (setting_with old.setting sites) in_force begun then left passes [] ↔ StageLeft (setting_with old.setting sites) in_force new.stage now left passes))
       → Leads s scopes doing asked (records ++ made s.task step answer ∷ []) new
-  begin_on begun same_sites leads stage says same_setting same_scopes same_last same_outcomes word waits began =
+  begin_on begun same_sites leads stage says same_setting same_scopes same_last same_outcomes word has waits began =
       let s_is : setting_with old.setting sites ≡ s = ap (λ (x : AccessMap). setting_with old.setting x) (sym same_sites) ∙ leads.setting in
       let here : Began s = subst Began s_is began in
       let goes = here scopes leads.now leads.samples in
       let step_is : step ≡ Clock = some_is step Clock (subst (λ x. stage_step s x ≡ Some step) stage (said s old step leads.setting says)) in
       rw step_is
-      (leads_on s scopes doing asked records old new (made s.task Clock answer) leads goes.0 same_setting same_scopes same_last goes.1 waits (followed (made s.task Clock answer ∷ []) leads.fallen)
+      (leads_on s scopes doing asked records old new (made s.task Clock answer) leads goes.0 same_setting same_scopes same_last goes.1
+      has (λ scope closes. absurd (subst (IsClosing scope) stage closes)) waits (followed (made s.task Clock answer ∷ []) leads.fallen)
       (same_outcomes ∙ (leads.outcomes ∙ sym (outcomes_followed (made s.task Clock answer ∷ []) leads.fallen)))
       (falls_followed s records (made s.task Clock answer ∷ []) leads.fallen leads.falls)
       (λ later passes. rw (stage, followed_twice (made s.task Clock answer) later leads.fallen) (
@@ -257,8 +269,9 @@ module _ (s : Setting) (sites : AccessMap) (scopes : List Begun) (doing : Doing)
       (made (setting_with old.setting sites).task (pass_step (setting_with old.setting sites) begun pass) answer ∷ later) given rest
       ↔ TurnLeft (setting_with old.setting sites) begun turn now later given rest))
       → ((t : Setting) (now : ℕ) (left : List Record) (passes : Passes) → ToRoleLeft t old.scopes.items turn.to role begun now left passes ↔ StageLeft t old.scopes.items new.stage now left passes)
+      → HasBegun new.stage → (role ≡ roles.Closing → IsClosing begun new.stage)
       → Leads s scopes doing asked (records ++ made s.task step answer ∷ []) new
-  check_on role begun pass turn same_sites leads stage says same_setting same_scopes same_last outcomes counts waits gives answered after_turn =
+  check_on role begun pass turn same_sites leads stage says same_setting same_scopes same_last outcomes counts waits gives answered after_turn has closing =
       let s_is : setting_with old.setting sites ≡ s = ap (λ (x : AccessMap). setting_with old.setting x) (sym same_sites) ∙ leads.setting in
       let here : Answered s = subst Answered s_is answered in
       let goes = here leads.now leads.samples in
@@ -271,8 +284,10 @@ module _ (s : Setting) (sites : AccessMap) (scopes : List Begun) (doing : Doing)
       waits ∙ counted (wait_after records) (sym (ap stage_wait stage) ∙ leads.waits) in
       let turned : (t : Setting) (now : ℕ) (left : List Record) (passes : Passes) → ToRoleLeft t scopes turn.to role begun now left passes ↔ StageLeft t scopes new.stage now left passes =
       subst (λ (x : List Begun). (t : Setting) (now : ℕ) (left : List Record) (passes : Passes) → ToRoleLeft t x turn.to role begun now left passes ↔ StageLeft t x new.stage now left passes) leads.in_force after_turn in
+      let closes : (scope : Begun) → IsClosing scope old.stage → IsClosing scope new.stage =
+      λ scope h. let is = subst (IsClosing scope) stage h in subst (λ b. IsClosing b new.stage) is.1 (closing is.0) in
       rw step_is
-      (leads_on s scopes doing asked records old new (made s.task (pass_step s begun pass) answer) leads goes.0 same_setting same_scopes same_last goes.1 waited
+      (leads_on s scopes doing asked records old new (made s.task (pass_step s begun pass) answer) leads goes.0 same_setting same_scopes same_last goes.1 has closes waited
       (extended (followed (made s.task (pass_step s begun pass) answer ∷ []) leads.fallen) (falls_before begun [] turn.outcome))
       (outcomes ∙ (ap (λ (o : List Outcome). extended o turn.outcome) (leads.outcomes ∙ sym (outcomes_followed (made s.task (pass_step s begun pass) answer ∷ []) leads.fallen))
       ∙ sym (outcomes_extended begun [] (followed (made s.task (pass_step s begun pass) answer ∷ []) leads.fallen) turn.outcome)))
@@ -291,14 +306,15 @@ module _ (s : Setting) (sites : AccessMap) (scopes : List Begun) (doing : Doing)
           × ((given : Given) (later rest : List Record) → PassLeft t begun pass then (made t.task (pass_step t begun pass) answer ∷ later) given rest ↔ TurnLeft t begun turn now later given rest)
 
   -- the stamp of an end was drawn
-  pub end_on : Leads s scopes doing asked records old → old.stage ≡ stages.End → Says old step
+  pub end_on : (scope : Begun) → Leads s scopes doing asked records old → old.stage ≡ stages.End scope → Says old step
       → new.setting ≡ old.setting → new.scopes.items ≡ old.scopes.items → new.last ≡ old.last → new.outcomes ≡ old.outcomes → new.sampler ≡ old.sampler → new.stage ≡ stages.Rest → IsWord answer
       → Leads s scopes doing asked (records ++ made s.task step answer ∷ []) new
-  end_on leads stage says same_setting same_scopes same_last same_outcomes same_sampler rests word =
+  end_on scope leads stage says same_setting same_scopes same_last same_outcomes same_sampler rests word =
       let step_is : step ≡ Clock = some_is step Clock (subst (λ x. stage_step s x ≡ Some step) stage (said s old step leads.setting says)) in
       rw step_is
       (leads_on s scopes doing asked records old new (made s.task Clock answer) leads leads.now same_setting same_scopes same_last
-      (subst (λ x. Samples s leads.now x) (sym same_sampler) leads.samples) (ap stage_wait rests) (followed (made s.task Clock answer ∷ []) leads.fallen)
+      (subst (λ x. Samples s leads.now x) (sym same_sampler) leads.samples)
+      (rw rests tt) (λ closed h. rw rests tt) (ap stage_wait rests) (followed (made s.task Clock answer ∷ []) leads.fallen)
       (same_outcomes ∙ (leads.outcomes ∙ sym (outcomes_followed (made s.task Clock answer ∷ []) leads.fallen)))
       (falls_followed s records (made s.task Clock answer ∷ []) leads.fallen leads.falls)
       (λ later passes. rw (stage, rests, followed_twice (made s.task Clock answer) later leads.fallen) (

@@ -113,8 +113,8 @@ stage_goes s scopes (stages.Begin begun) now (first ∷ later) more step h is =
     subst (λ x. GoOn s.task x (first ∷ later)) (known_step Clock step is) (h.0, h.1, word_kind first.answer _ h.2)
 stage_goes s scopes (stages.Check role begun pass) now records more step h is =
     subst (λ x. GoOn s.task x records) (known_step (pass_step s begun pass) step is) (pass_goes s begun pass now records h.0 h.1 h.3)
-stage_goes s scopes stages.End now [] more step h is = h.1
-stage_goes s scopes stages.End now (first ∷ later) more step h is =
+stage_goes s scopes (stages.End scope) now [] more step h is = h.1
+stage_goes s scopes (stages.End scope) now (first ∷ later) more step h is =
     subst (λ x. GoOn s.task x (first ∷ later)) (known_step Clock step is) (h.1.0, h.1.1, word_kind first.answer _ h.1.2)
 
 -- whatever completes the records goes on with the step that the checker says
@@ -157,7 +157,7 @@ rests_where_done s scopes doing asked records checker leads done stage is = by_s
     at_rest stages.Rest there none = there
     at_rest (stages.Begin begun) there none = absurd (let no : stage_step s (stages.Begin begun) ≡ None = subst (λ x. stage_step s x ≡ None) there none in cc)
     at_rest (stages.Check role begun pass) there none = absurd (let no : stage_step s (stages.Check role begun pass) ≡ None = subst (λ x. stage_step s x ≡ None) there none in cc)
-    at_rest stages.End there none = absurd (let no : stage_step s stages.End ≡ None = subst (λ x. stage_step s x ≡ None) there none in cc)
+    at_rest (stages.End scope) there none = absurd (let no : stage_step s (stages.End scope) ≡ None = subst (λ x. stage_step s x ≡ None) there none in cc)
 
     by_step : (says : Option Step) → stage_step s checker.stage ≡ says → checker.stage ≡ stages.Rest
     by_step None says = at_rest stage is says
@@ -179,7 +179,7 @@ over_where_none s scopes doing asked records checker stage leads is going = (res
     rest_over stages.Rest there none = inl (let complete = complete_at_rest s scopes doing asked records checker leads there in (_, complete.does))
     rest_over (stages.Begin begun) there none = absurd (let no : true ≡ false = none in cc)
     rest_over (stages.Check role begun pass) there none = absurd (let no : true ≡ false = none in cc)
-    rest_over stages.End there none = absurd (let no : true ≡ false = none in cc)
+    rest_over (stages.End scope) there none = absurd (let no : true ≡ false = none in cc)
 
     over_rest : IsCheckOver s scopes doing asked records → IsNone (stage_step s stage)
     over_rest (inl done) =

@@ -110,7 +110,7 @@ known outcomes asked = record { outcomes = outcomes; asked = asked }
 
 module _ (s : Setting) (begun : Begun) (silenced : Bool) (scopes : List Begun) (asked : ℕ) (records : List Record) (passes : Passes) where
   -- the close of a silenced assertion is its end alone
-  pub closing_silenced : begun.silenced || silenced ≡ true → (ChecksLast s begun silenced asked records passes [] ↔ StageLeft s scopes stages.End asked records passes)
+  pub closing_silenced : begun.silenced || silenced ≡ true → (ChecksLast s begun silenced asked records passes [] ↔ StageLeft s scopes (stages.End begun) asked records passes)
   closing_silenced quiet = rw quiet (
     λ h. (h.1.0, subst (λ r. MakesWord s.task Clock (λ stamp after. [] ≡ after) r) h.1.1 h.2),
     λ h. (records, (h.0, refl), h.1),

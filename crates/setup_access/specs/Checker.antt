@@ -1,5 +1,5 @@
 -- What a task does with its checker, and the records and outcomes that each stage has left.
-use Rattle.std.specs.Prelude.{◌≡◌, ◌+◌, ◌-◌, ◌++◌, ℕ, List, [], Bool, Option, None, Some, drop}
+use Rattle.std.specs.Prelude.{◌≡◌, ◌+◌, ◌-◌, ◌++◌, ℕ, List, [], ◌∷◌, Bool, Option, None, Some, drop}
 use Rattle.slot_table.specs.declared.records.Record.{Record}
 use Rattle.slot_table.specs.declared.step.Step.TheVariants.{Clock}
 use Rattle.setup_access.specs.Check.{Check, ChecksStamped, Close, Passes, Rechecks, left_to_check}
@@ -45,7 +45,7 @@ StageLeft s scopes (stages.Check role begun pass) asked records passes =
     (given : Given) × (later : List Record) × (more : Passes) × PassLeft s begun pass asked records given later
     × RoleLeft s scopes role given.settled given.asked later more
     × (passes ≡ record { outcomes = given.outcomes ++ more.outcomes; asked = more.asked })
-StageLeft s scopes stages.End asked records passes =
+StageLeft s scopes (stages.End scope) asked records passes =
     (passes ≡ record { outcomes = []; asked = asked }) × MakesWord s.task Clock (λ stamp after. [] ≡ after) records
 
 -- what is left where a check of an access leads, and what follows on it
@@ -66,4 +66,25 @@ abbrev pub stage_due : CheckStage → ℕ
 stage_due stages.Rest = 0
 stage_due (stages.Begin begun) = 9
 stage_due (stages.Check role begun pass) = pass_due pass + role_due role
-stage_due stages.End = 0
+stage_due (stages.End scope) = 0
+
+-- the access has begun: the stamp of its begin isn't to be drawn
+abbrev pub HasBegun : CheckStage → Type 0
+HasBegun stages.Rest = Unit {0}
+HasBegun (stages.Begin begun) = ⊥
+HasBegun (stages.Check role begun pass) = Unit {0}
+HasBegun (stages.End scope) = Unit {0}
+
+-- the scope of this assertion closes, or is closed: what is checked, and what ends, is the assertion with what was
+-- decided at its begin
+abbrev pub IsClosing : Begun → CheckStage → Type 0
+IsClosing scope stages.Rest = Unit {0}
+IsClosing scope (stages.Begin begun) = ⊥
+IsClosing scope (stages.Check role begun pass) = (role ≡ roles.Closing) × (begun ≡ scope)
+IsClosing scope (stages.End begun) = begun ≡ scope
+
+-- after these records of what is done: an access has begun where there is one, and a scope that closes is this one
+abbrev pub StandsAt : Doing → List Record → CheckStage → Type 0
+StandsAt (Checks begun) [] stage = stage ≡ stages.Begin begun
+StandsAt (Checks begun) (first ∷ later) stage = HasBegun stage
+StandsAt (Closes scope silenced) records stage = IsClosing scope stage

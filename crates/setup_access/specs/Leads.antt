@@ -6,7 +6,7 @@ use Rattle.slot_table.specs.declared.records.Record.{Record}
 use Rattle.slot_table.specs.declared.step.Step.{Step}
 use Rattle.slot_table.specs.declared.step.Step.TheVariants.{Clock}
 use Rattle.setup_access.specs.Check.{Fallen, Passes}
-use Rattle.setup_access.specs.Checker.{Does, Doing, StageLeft, last_of}
+use Rattle.setup_access.specs.Checker.{Does, Doing, StageLeft, StandsAt, last_of}
 use Rattle.setup_access.specs.Fallen.{followed, outcomes_in}
 use Rattle.setup_access.specs.FallsAt.{AllFallIn}
 use Rattle.setup_access.specs.Kept.{setting_with}
@@ -25,7 +25,7 @@ abbrev pub stage_step : Setting → CheckStage → Option Step
 stage_step s stages.Rest = None
 stage_step s (stages.Begin begun) = Some Clock
 stage_step s (stages.Check role begun pass) = Some (pass_step s begun pass)
-stage_step s stages.End = Some Clock
+stage_step s (stages.End scope) = Some Clock
 
 -- the checker is before this step
 abbrev pub Says : Checker → Step → Type 0
@@ -42,13 +42,14 @@ pub record Rests (s : Setting) (scopes : List Begun) (asked : ℕ) (last : Optio
   pub stage : checker.stage ≡ stages.Rest
 
 -- what is done leads, by these records so far, to the checker: whatever completes the records completes what the
--- checker has left, after the outcomes that have fallen, which it has; and it has counted the failed tries of their
--- last wait
+-- checker has left, after the outcomes that have fallen, which it has; it has counted the failed tries of their last
+-- wait; and it knows whether its access has begun, and which scope it closes
 pub record Leads (s : Setting) (scopes : List Begun) (doing : Doing) (asked : ℕ) (records : List Record) (checker : Checker) : Type 0 where
   pub setting : setting_with checker.setting s.sites ≡ s
   pub in_force : checker.scopes.items ≡ scopes
   pub own : AreOwn s scopes
   pub last : checker.last ≡ last_of doing
+  pub stands : StandsAt doing records checker.stage
   pub now : ℕ
   pub samples : Samples s now checker.sampler
   pub waits : stage_wait checker.stage ≡ capped (wait_after records)

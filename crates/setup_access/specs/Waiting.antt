@@ -58,7 +58,7 @@ abbrev pub stage_wait : CheckStage → Option Wait
 stage_wait stages.Rest = None
 stage_wait (stages.Begin begun) = None
 stage_wait (stages.Check role begun pass) = pass_wait pass
-stage_wait stages.End = None
+stage_wait (stages.End scope) = None
 
 -- its failed tries
 abbrev pub tries_of : Option Wait → Option ℕ

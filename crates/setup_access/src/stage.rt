@@ -3,7 +3,8 @@
 ghost use Rattle.std.specs.Prelude.{◌≡◌, ◌+◌, ◌-◌, ◌≤◌, ◌↔◌, ℕ, List, [], None, drop, length};
 ghost use Rattle.slot_table.specs.declared.records.Record.{Record};
 ghost use Rattle.setup_access.specs.Check.{ChecksBegun, ChecksLast, Passes, Rechecks};
-ghost use Rattle.setup_access.specs.Checker.{RoleLeft, StageLeft, ToRoleLeft, role_due, stage_due};
+ghost use Rattle.setup_access.specs.Checker.{HasBegun, IsClosing, RoleLeft, StageLeft, ToRoleLeft};
+ghost use Rattle.setup_access.specs.Checker.{role_due, stage_due};
 ghost use Rattle.setup_access.specs.Due.{to_due};
 ghost use Rattle.setup_access.specs.Kept.{setting_with};
 ghost use Rattle.setup_access.specs.PassLeft.{Samples};
@@ -42,8 +43,8 @@ pub enum CheckStage {
         begun: Begun,
         pass: Pass,
     },
-    /// Draw the stamp of the end of a scope.
-    End,
+    /// Draw the stamp of the end of this scoped assertion, whose scope closes.
+    End(Begun),
 }
 
 /// The check of an access from its look-up on: it has made no step yet.
@@ -67,6 +68,7 @@ pub(crate) fn began(
 ) -> CheckStage
     ensures fits { stage_due result ≤ 9 }
     ensures waits { stage_wait result ≡ None }
+    ensures begun { HasBegun result }
     ensures left { (scopes : List Begun) (asked : ℕ) → let s = setting_with setting.now sites.now in Samples s asked sampler.old → (asked_now : ℕ) × Samples s asked_now sampler.new
         × ((records : List Record) (passes : Passes) → ChecksBegun s scopes begun asked records passes [] ↔ StageLeft s scopes result asked_now records passes) }
 {
@@ -81,15 +83,17 @@ pub(crate) fn began(
 }
 
 /// A scope ends: its assertion is checked a last time, unless it or its task by now is silenced. What breaks it
-/// after its task's last access within the scope meets this check alone.
+/// after its task's last access within the scope meets this check alone. The check has the assertion with what was
+/// decided at its begin: there is one only where neither the assertion nor its task is silenced.
 pub(crate) fn closing(begun: Begun, silenced: bool) -> CheckStage
     ensures fits { stage_due result ≤ 9 }
     ensures waits { stage_wait result ≡ None }
+    ensures closes { IsClosing begun result }
     ensures left { (s : spec.Setting) (scopes : List Begun) (asked : ℕ) (records : List Record) (passes : Passes) →
         ChecksLast s begun silenced asked records passes [] ↔ StageLeft s scopes result asked records passes }
 {
     if begun.silenced || silenced {
-        return CheckStage::End;
+        return CheckStage::End(begun);
     }
     check_of(Role::Closing, begun)
 }
@@ -98,23 +102,27 @@ pub(crate) fn after_turn(to: Next, role: Role, begun: Begun, scopes: &[Begun]) -
     requires { length scopes.now ≤ 8 }
     ensures fits { stage_due result ≤ to_due to + role_due role }
     ensures waits { stage_wait result ≡ to_wait to }
+    ensures begun { HasBegun result }
+    ensures closes { role ≡ Role.Closing → IsClosing begun result }
     ensures left { (s : spec.Setting) (asked : ℕ) (records : List Record) (passes : Passes) →
         ToRoleLeft s scopes.now to role begun asked records passes ↔ StageLeft s scopes.now result asked records passes }
 {
     match to {
         Next::Going(pass) => CheckStage::Check { role, begun, pass },
-        Next::Settled => after_check(role, true, scopes),
-        Next::Unsettled => after_check(role, false, scopes),
+        Next::Settled => after_check(role, begun, true, scopes),
+        Next::Unsettled => after_check(role, begun, false, scopes),
     }
 }
 
 /// What follows on a check of an access that is over. One that found a watchpoint or stalled for its own has
 /// done enough here. After another, also where no index was free or no word stands for it, the scoped
 /// assertions have their turn: one after the other, whatever each finds, since each is a claim apart.
-fn after_check(role: Role, is_settled: bool, scopes: &[Begun]) -> CheckStage
+fn after_check(role: Role, begun: Begun, is_settled: bool, scopes: &[Begun]) -> CheckStage
     requires { length scopes.now ≤ 8 }
     ensures fits { stage_due result ≤ role_due role }
     ensures waits { stage_wait result ≡ None }
+    ensures begun { HasBegun result }
+    ensures closes { role ≡ Role.Closing → IsClosing begun result }
     ensures left { (s : spec.Setting) (asked : ℕ) (records : List Record) (passes : Passes) →
         RoleLeft s scopes.now role is_settled asked records passes ↔ StageLeft s scopes.now result asked records passes }
 {
@@ -123,7 +131,7 @@ fn after_check(role: Role, is_settled: bool, scopes: &[Begun]) -> CheckStage
         Role::Access => check_scoped_accesses(scopes, 0),
         // Goes on to the next one: KCSAN's kcsan_check_scoped_accesses() too avoids that its checks start others.
         Role::Scope(number) => check_scoped_accesses(scopes, number.saturating_add(1)),
-        Role::Closing => CheckStage::End,
+        Role::Closing => CheckStage::End(begun),
     }
 }
 
@@ -132,6 +140,7 @@ fn check_scoped_accesses(scopes: &[Begun], from: usize) -> CheckStage
     requires { length scopes.now ≤ 8 }
     ensures fits { stage_due result ≤ 8 - from }
     ensures waits { stage_wait result ≡ None }
+    ensures begun { HasBegun result }
     ensures left { (s : spec.Setting) (asked : ℕ) (records : List Record) (passes : Passes) →
         Rechecks s (drop from scopes.now) asked records passes [] ↔ StageLeft s scopes.now result asked records passes }
 {

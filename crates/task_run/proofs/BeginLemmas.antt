@@ -284,6 +284,8 @@ module _ (s : Setting) (site : ℕ) (plan : Plan) (a : access.Access) (old off :
               begins.1,
               λ done. done.2.check.2,
               ap (λ (b : Begun). Some b) (begins_one s now a decided begun (decides_it now there mine) now_begins),
+              subst (λ (n : ℕ). a.rep ≡ count_by (begins_at n) now.progress.did) (sym at_site)
+                  (ap (λ (x : access.Access). x.rep) (a_now before later stands)),
             );
           }
 
@@ -401,6 +403,8 @@ begins_opening s kind variable site a machine progress checker begun scope in_li
             nothing_checked (checks_of s) before.scopes begun before.asked,
             ap (λ (b : Begun). Some b) (begins_one s before a decided begun (decides_it before stands own) now_begins),
             ap (λ (x : access.Access). is_scoped x.kind) (planned before stands) ∙ scope,
+            subst (λ (n : ℕ). a.rep ≡ count_by (begins_at n) before.progress.did) (sym (ap (λ (x : access.Access). x.site) (planned before stands)))
+                (ap (λ (x : access.Access). x.rep) (planned before stands)),
           );
         }
 

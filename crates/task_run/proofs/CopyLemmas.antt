@@ -120,6 +120,7 @@ module _ (machine copy : Machine) (is : IsCopy machine copy) (s : Setting) where
     accesses_lead machine.checker copy.checker is.checker (checks_of s) before.scopes h.2 before.asked operation mine h.0 h.7,
     h.8,
     is.begins ∙ h.9,
+    h.10,
   )
   is_in (opens a) before mine stage h = (
     h.0,
@@ -130,6 +131,7 @@ module _ (machine copy : Machine) (is : IsCopy machine copy) (s : Setting) where
     h.5,
     is.begins ∙ h.6,
     h.7,
+    h.8,
   )
   is_in closes before mine stage h = (
     h.0,
@@ -164,6 +166,8 @@ copies_lead run copy is stage s registers body records leads = record {
   now = leads.now;
   told = leads.told;
   scopes = leads.scopes;
+  accesses = leads.accesses;
+  repeats = leads.repeats;
   agrees = λ later. subst (λ (x : TaskStage). Agrees s leads.part (leads.now later) leads.mine copy.machine x) (sym stage)
       (copies_agree run.machine copy.machine is s leads.part (leads.now later) leads.mine run.stage (leads.agrees later));
   left = λ later end. subst (λ (Left : Steps). StepsOfBlock s 0 body (at_first registers) (records ++ later) end []

@@ -80,7 +80,7 @@ stage_says checker (checking.Check role begun pass) is going =
       λ sites. subst (λ (x : check_stages.CheckStage). checks.stage_step (setting_with checker.setting sites) x ≡ Some step) (sym is)
           (ap Some (same_step checker.setting begun pass sites (map_of []))),
     )
-stage_says checker checking.End is going =
+stage_says checker (checking.End scope) is going =
     (Clock, λ sites. subst (λ (x : check_stages.CheckStage). checks.stage_step (setting_with checker.setting sites) x ≡ Some Clock) (sym is) refl)
 
 module _ (s : settings.Setting) (scopes : List Begun) (doing : Doing) (asked : ℕ) (records : List Record) (checker : Checker)

@@ -3,6 +3,7 @@ use Rattle.std.proofs.Common.{◌≡◌, ◌↔◌, ◌∙◌, ◌++◌, ◌∷�
 use Rattle.std.proofs.lemmas.List.{append-nil}
 use Rattle.litmus_syntax.specs.Tree.{Block}
 use Rattle.slot_table.specs.declared.records.Record.{Record}
+use Rattle.task_run.proofs.AccessesLemmas.{AreTold, accesses_on}
 use Rattle.task_run.proofs.ScopeLemmas.{scopes_on}
 use Rattle.task_run.proofs.ToldLemmas.{told_on}
 use Rattle.task_run.proofs.WaitLemmas.{IsNoWait, ends_in_no_wait}
@@ -53,6 +54,8 @@ module _ (s : Setting) (registers : ℕ) (body : Block) (records : List Record) 
       now = leads.now;
       told = leads.told;
       scopes = leads.scopes;
+      accesses = leads.accesses;
+      repeats = leads.repeats;
       agrees = agrees;
       left = λ later end. subst (λ (w : Walk). StepsOfBlock s 0 body (at_first registers) ((records ++ made ∷ []) ++ later) end []
           ↔ PartLeft s part w (leads.now ((leads.mine ++ made ∷ []) ++ later)) ((leads.mine ++ made ∷ []) ++ later) end [])
@@ -62,19 +65,27 @@ module _ (s : Setting) (registers : ℕ) (body : Block) (records : List Record) 
     -- the part is over, and the next begins: from these standings on, what was left after the part is left of the text
     pub next_part : IsNoWait made → (new : TaskRun) (walk : Walk) (next : List Record → Standing)
         → ((later : List Record) → IsTold registers later (next later)) → ((later : List Record) → ScopesAreTold (next later))
+        → ((later : List Record) → AreTold s (leads.earlier ++ (leads.mine ++ made ∷ [])) (next later))
         → ((later : List Record) (end : Standing)
         → PartLeft s part old.machine.walk (leads.now ((leads.mine ++ made ∷ []) ++ later)) ((leads.mine ++ made ∷ []) ++ later) end []
         ↔ WalkLeft s walk (next later) later end [])
         → Begins s (WalkLeft s walk) next new.machine new.stage → Leads s registers body (records ++ made ∷ []) new
-    next_part none new walk next told scopes over begins = record {
-      part = begins.0;
-      earlier = records ++ made ∷ [];
-      waits = ends_in_no_wait records made none;
-      mine = [];
-      spelled = sym (append-nil (records ++ made ∷ []));
-      now = begins.1;
-      told = λ later. told_on registers (begins.4 later) (told later);
-      scopes = λ later. scopes_on (begins.4 later) (scopes later);
-      agrees = begins.2;
-      left = λ later end. through (left_on later end) (through (over later end) (begins.3 later end));
-    }
+    next_part none new walk next told scopes accesses over begins =
+        let spelled : leads.earlier ++ (leads.mine ++ made ∷ []) ≡ records ++ made ∷ [] =
+        sym (ap (λ (x : List Record). x ++ made ∷ []) leads.spelled ∙ append_assoc leads.earlier leads.mine (made ∷ [])) in
+        let here : (later : List Record) → AreTold s (records ++ made ∷ []) (begins.1 later) =
+        λ later. accesses_on s (records ++ made ∷ []) (begins.4 later)
+        (subst (λ (r : List Record). AreTold s r (next later)) spelled (accesses later)) in record {
+          part = begins.0;
+          earlier = records ++ made ∷ [];
+          waits = ends_in_no_wait records made none;
+          mine = [];
+          spelled = sym (append-nil (records ++ made ∷ []));
+          now = begins.1;
+          told = λ later. told_on registers (begins.4 later) (told later);
+          scopes = λ later. scopes_on (begins.4 later) (scopes later);
+          accesses = λ later. (here later).0;
+          repeats = λ later. (here later).1;
+          agrees = begins.2;
+          left = λ later end. through (left_on later end) (through (over later end) (begins.3 later end));
+        }

@@ -6,6 +6,14 @@ pub mod PartLemmas
 pub mod EndLemmas
 pub mod ToldLemmas
 pub mod ScopeLemmas
+pub mod InProgressLemmas
+pub mod ClockLemmas
+pub mod AccessesLemmas
+pub mod PartNotOver
+pub mod TextPoints
+pub mod PartPoints
+pub mod MachineInProgress
+pub mod KeyAccesses
 pub mod FollowLemmas
 pub mod BeginLemmas
 pub mod PlanLemmas

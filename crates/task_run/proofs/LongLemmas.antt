@@ -146,7 +146,7 @@ stage_loads checking.Rest wait is = absurd (let no : None ≡ Some wait = is in 
 stage_loads (checking.Begin begun) wait is = absurd (let no : None ≡ Some wait = is in cc)
 stage_loads (checking.Check role begun pass) wait is =
     let loads = pass_loads pass wait is in (loads.0, λ s. ap (λ (step : Step). Some step) (loads.1 s begun))
-stage_loads checking.End wait is = absurd (let no : None ≡ Some wait = is in cc)
+stage_loads (checking.End scope) wait is = absurd (let no : None ≡ Some wait = is in cc)
 
 -- so many failed tries of a wait stand in the records
 abbrev pub CheckWaits : Checker → ℕ → List Record → Type 0

@@ -37,6 +37,7 @@ use Rattle.task_plan.specs.Views.{follow_of}
 use Rattle.task_plan.specs.declared.follow.Then.{Then}
 use Rattle.task_run.proofs.LeadsLemmas.{agrees_in}
 use Rattle.task_run.proofs.EndLemmas.{begins_one, lock_only, one_answer}
+use Rattle.task_run.proofs.AccessesLemmas.{accesses_on, first_accesses}
 use Rattle.task_run.proofs.ScopeLemmas.{first_scopes, scopes_on}
 use Rattle.task_run.proofs.ToldLemmas.{first_told, told_on}
 use Rattle.task_run.proofs.TriesLemmas.{access_tried, all_onto, check_tried, lock_tried, onto}
@@ -270,6 +271,8 @@ starts s registers body machine new stands same goes =
       now = begins.1;
       told = λ later. told_on registers (begins.4 later) (first_told registers later);
       scopes = λ later. scopes_on (begins.4 later) (first_scopes registers);
+      accesses = λ later. (accesses_on s [] (begins.4 later) (first_accesses s registers)).0;
+      repeats = λ later. (accesses_on s [] (begins.4 later) (first_accesses s registers)).1;
       agrees = begins.2;
       left = λ later end. through (same (at_first registers) later end []) (begins.3 later end);
     }

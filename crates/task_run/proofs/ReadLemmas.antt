@@ -23,11 +23,11 @@ abbrev HasRead : Effect → Type 0
 HasRead effect = (old : ℕ) × (effect.read ≡ Some old)
 
 -- whichever of two cases it is
-either : (b : Bool) (P Q R : Type 0) → MatchBool b P Q → (P → R) → (Q → R) → R
+pub either : (b : Bool) (P Q R : Type 0) → MatchBool b P Q → (P → R) → (Q → R) → R
 either true P Q R h first second = first h
 either false P Q R h first second = second h
 
-on_exchange : (answer : Answer) (P : Type 0) (Q : ℕ → Type 0) (R : Type 0) → OnExchange answer P Q → (P → R) → ((word : ℕ) → Q word → R) → R
+pub on_exchange : (answer : Answer) (P : Type 0) (Q : ℕ → Type 0) (R : Type 0) → OnExchange answer P Q → (P → R) → ((word : ℕ) → Q word → R) → R
 on_exchange (answers.Flag true) P Q R h accepted refused = accepted h
 on_exchange (answers.Flag false) P Q R h accepted refused = absurd h
 on_exchange (answers.Word word) P Q R h accepted refused = refused word h

@@ -36,6 +36,9 @@ use Rattle.task_plan.specs.Keeps.{Keeps}
 use Rattle.task_plan.specs.Views.{follow_of}
 use Rattle.task_plan.specs.declared.follow.Then.{Then}
 use Rattle.task_plan.specs.declared.progress.Progress.{Progress}
+use Rattle.program_order.specs.InProgress.{clock_steps}
+use Rattle.task_run.proofs.AccessesLemmas.{AreTold, access_accesses, accesses_on, closing_accesses, done_accesses, opening_accesses}
+use Rattle.task_run.proofs.ClockLemmas.{check_clocks, close_clocks, end_clocks, lock_clocks, operates_clocks, store_clocks}
 use Rattle.task_run.proofs.AnswerLemmas.{OtherChecker, access_over, access_stands, begun_before, check_goes, check_whole, close_goes, close_whole, closing_over, counts_kept, lock_over, of_kept, opening_over, stands_locked, walk_kept}
 use Rattle.task_run.proofs.CountsLemmas.{counts_silent, history_of}
 use Rattle.task_run.proofs.EndLemmas.{after_access, after_closing, after_opening, passes_of}
@@ -99,6 +102,10 @@ module _ (s : Setting) (registers : ℕ) (body : Block) (records : List Record) 
   abbrev at_begin : List Record → Standing
   at_begin later = leads.now (mine ++ later)
 
+  -- what is told of the accesses there
+  told_now : (later : List Record) → AreTold s leads.earlier (leads.now later)
+  told_now later = (leads.accesses later, leads.repeats later)
+
   module _ (wait next_wait : LockWait) (variable : ℕ) (is : old.stage ≡ stages.Locking wait variable)
       (leads_on : (lock : ℕ) (so_far : List Record) → LockLeads s.text.task lock so_far wait → LockLeads s.text.task lock (so_far ++ made ∷ []) next_wait) where
     lock_part : leads.part ≡ locks variable
@@ -135,6 +142,8 @@ module _ (s : Setting) (registers : ℕ) (body : Block) (records : List Record) 
         (taken_no_wait s.text.task (lock_number s variable) leads.mine made (taken (lock_number s variable) mine (lock_leads []))) new old.machine.walk next
         (λ later. done_told registers mine (at_begin later) later (happenings.Lock variable) (leads.told (mine ++ later)))
         (λ later. done_scopes (at_begin later) (next later) (happenings.Lock variable ∷ []) refl refl (refl, tt) (leads.scopes (mine ++ later)))
+        (λ later. done_accesses s leads.earlier mine (at_begin later) (next later) (happenings.Lock variable ∷ []) refl refl (refl, tt)
+        (lock_clocks s.text.task (lock_number s variable) mine [] (taken (lock_number s variable) mine (lock_leads []))) (told_now (mine ++ later)))
         (λ later end. let a = lock_agrees (mine ++ later) in
         lock_over s (at_begin later) variable mine old.machine.walk a.is_in.2
         (taken (lock_number s variable) mine (lock_leads (mine ++ later))) later end)
@@ -181,6 +190,7 @@ module _ (s : Setting) (registers : ℕ) (body : Block) (records : List Record) 
             access_leads later,
             going (leads.now later).scopes a.is_in.2 (leads.now later).asked making.1 mine (access_leads later),
             begun_before a.is_in.2 leads.mine made machine.begins none_begins,
+            a.is_in.10,
           );
         })
 
@@ -214,6 +224,17 @@ module _ (s : Setting) (registers : ℕ) (body : Block) (records : List Record) 
         let made : Standing = operated making.0 making.1 began ((complete later).makes.checked ++ later) effect ((complete later).makes.done ++ later) in
         scopes_on (over.3 later) (access_scopes making.0 making.1 (at_begin later) began made (next later) ((complete later).makes.checked ++ later) effect
         ((complete later).makes.done ++ later) refl refl refl refl refl (leads.scopes (mine ++ later))))
+        (λ later. let began : Standing = doing (at_begin later) (drop 1 (mine ++ later)) (happenings.Begin making.0 ∷ []) in
+        let made : Standing = operated making.0 making.1 began ((complete later).makes.checked ++ later) effect ((complete later).makes.done ++ later) in
+        let makes_it = (complete later).makes in
+        let begun = (access_agrees (mine ++ later)).is_in.2 in
+        let check_one = check_clocks (checks_of s) (at_begin later).scopes begun (at_begin later).asked mine _ makes_it.checked makes_it.check in
+        let quiet = operates_clocks (checks_of s) begun.access making.1 makes_it.checked effect makes_it.done makes_it.operates in
+        let last = end_clocks s.text.task makes_it.done [] makes_it.ends in
+        let two : clock_steps mine ≡ 2 = omega (arith, check_one, quiet, last) in
+        accesses_on s (leads.earlier ++ mine) (over.3 later) (access_accesses s leads.earlier mine making.0 making.1 (at_begin later) began made (next later)
+        ((complete later).makes.checked ++ later) effect ((complete later).makes.done ++ later) refl refl refl refl refl
+        (access_agrees (mine ++ later)).is_in.10 two (told_now (mine ++ later))))
         (λ later end. let a = access_agrees (mine ++ later) in
         through (subst (λ (w : Walk). PartLeft s (makes making.0 making.1 (follow_of kept)) w (at_begin later) (mine ++ later) end []
         ↔ FollowLeft s machine.walk (follow_of kept) effect (next later) later end []) (walk_kept s old.machine machine other)
@@ -247,6 +268,9 @@ module _ (s : Setting) (registers : ℕ) (body : Block) (records : List Record) 
         next_part s registers body records old leads (unlocks variable) unlock_part made none new old.machine.walk next
         (λ later. done_told registers mine (at_begin later) later (happenings.Unlock variable) (leads.told (mine ++ later)))
         (λ later. done_scopes (at_begin later) (next later) (happenings.Unlock variable ∷ []) refl refl (refl, tt) (leads.scopes (mine ++ later)))
+        (λ later. done_accesses s leads.earlier mine (at_begin later) (next later) (happenings.Unlock variable ∷ []) refl refl (refl, tt)
+        (ap (λ (m : List Record). clock_steps (m ++ made ∷ [])) (unlock_agrees []).is_in.1
+        ∙ store_clocks made (lock_number s variable) (step (at_begin []) (stands []))) (told_now (mine ++ later)))
         (λ later end. subst (λ (r : List Record). PartLeft s (unlocks variable) old.machine.walk (at_begin later) r end []
         ↔ WalkLeft s old.machine.walk (next later) later end []) (sym (only later)) (
           λ h. subst (λ (l : List Record). WalkLeft s old.machine.walk (doing (at_begin later) l (happenings.Unlock variable ∷ [])) l end []) h.1.2.1 h.2,
@@ -294,6 +318,7 @@ module _ (s : Setting) (registers : ℕ) (body : Block) (records : List Record) 
                 (going (leads.now later).scopes (Checks a.is_in.0) (leads.now later).asked mine (opening_leads later)),
             begun_before a.is_in.0 leads.mine made machine.begins none_begins,
             a.is_in.7,
+            a.is_in.8,
           );
         })
 
@@ -343,6 +368,9 @@ module _ (s : Setting) (registers : ℕ) (body : Block) (records : List Record) 
         (complete later).now (leads.told (mine ++ later)))
         (λ later. let a = opening_agrees (mine ++ later) in
         opening_scopes opening.0 a.is_in.0 (at_begin later) (next later) a.is_in.7 a.is_in.2.access refl refl (leads.scopes (mine ++ later)))
+        (λ later. let a = opening_agrees (mine ++ later) in
+        opening_accesses s leads.earlier mine opening.0 a.is_in.0 (at_begin later) (next later) refl refl a.is_in.2 a.is_in.8
+        (check_clocks (checks_of s) (at_begin later).scopes a.is_in.0 (at_begin later).asked mine _ [] (whole later).0) (told_now (mine ++ later)))
         (λ later end. let a = opening_agrees (mine ++ later) in
         subst (λ (w : Walk). PartLeft s (opens opening.0) w (at_begin later) (mine ++ later) end [] ↔ WalkLeft s machine.walk (next later) later end [])
         (walk_kept s old.machine machine other)
@@ -431,6 +459,9 @@ module _ (s : Setting) (registers : ℕ) (body : Block) (records : List Record) 
         closing_told registers a.is_in.1.access a.is_in.0 (at_begin later) mine later (complete later).fallen (complete later).now (leads.told (mine ++ later)))
         (λ later. let a = closing_agrees (mine ++ later) in
         closing_scopes a.is_in.0 a.is_in.1 (at_begin later) (next later) a.is_in.4 refl refl (leads.scopes (mine ++ later)))
+        (λ later. let a = closing_agrees (mine ++ later) in
+        closing_accesses s leads.earlier mine a.is_in.0 a.is_in.1 (at_begin later) (next later) a.is_in.4 refl refl
+        (close_clocks (checks_of s) a.is_in.1 a.is_in.2 (at_begin later).asked mine _ [] (whole later).0) (told_now (mine ++ later)))
         (λ later end. let a = closing_agrees (mine ++ later) in
         subst (λ (w : Walk). PartLeft s closes w (at_begin later) (mine ++ later) end [] ↔ WalkLeft s machine.walk (next later) later end [])
         (walk_kept s old.machine machine other)

@@ -14,12 +14,27 @@ use Rattle.access_run.specs.declared.memory_operation.operation.Operation.TheVar
 use Rattle.setup_access.specs.declared.begun.Begun.{Begun}
 use Rattle.slot_table.specs.declared.records.Record.{Record}
 use Rattle.task_run.specs.Stops.{AreScoped, ScopesAreTold}
-use Rattle.task_run.specs.Position.{Computes, nothing, one_more}
+use Rattle.task_run.specs.Position.{AreOfNoBound, Computes, nothing, one_more}
 use Rattle.program_order.proofs.text_bounds.Scopes as bounds
-use Rattle.program_order.specs.text_bounds.Scopes.{AreOfNoScope, in_force, is_scoped}
+use Rattle.program_order.specs.text_bounds.Scopes.{AreOfNoScope, in_force, is_of_scope, is_scoped}
 use Rattle.program_order.specs.Access.{operated}
+use Rattle.program_order.specs.InProgress.{is_bound}
 use Rattle.program_order.specs.Standing.{Standing, coming, counting}
 use Rattle.program_order.specs.WrittenOrder.{at_first}
+
+-- what begins and ends no access begins and ends no scoped assertion
+of_no_scope : (happening : Happening) → is_bound happening ≡ false → is_of_scope happening ≡ false
+of_no_scope (happenings.Begin a) none = absurd (let no : true ≡ false = none in cc)
+of_no_scope (happenings.End a) none = absurd (let no : true ≡ false = none in cc)
+of_no_scope (happenings.Read bytes value) none = refl
+of_no_scope (happenings.Write bytes value) none = refl
+of_no_scope (happenings.Lock lock) none = refl
+of_no_scope (happenings.Unlock lock) none = refl
+of_no_scope (happenings.Mark mark) none = refl
+
+of_no_scopes : (does : List Happening) → AreOfNoBound does → AreOfNoScope does
+of_no_scopes [] none = tt
+of_no_scopes (happening ∷ later) none = (of_no_scope happening none.0, of_no_scopes later none.1)
 
 -- the task did more, and no scoped assertion began or ended
 scopes_still : (before after : Standing) (does : List Happening) → after.scopes ≡ before.scopes → in_force after.progress.did ≡ in_force before.progress.did
@@ -43,7 +58,7 @@ computed later before false progress does same none told =
 pub scopes_on : {later : List Record} {before after : Standing} → Computes later before after → ScopesAreTold before → ScopesAreTold after
 scopes_on nothing told = told
 scopes_on {later = later} (one_more between ends_nothing progress does same none so_far) told =
-    computed later between ends_nothing progress does same none (scopes_on so_far told)
+    computed later between ends_nothing progress does same (of_no_scopes does none) (scopes_on so_far told)
 
 -- an operation begins and ends none
 read_none : (a : access.Access) (read : Option ℕ) → AreOfNoScope (read_moments a read)

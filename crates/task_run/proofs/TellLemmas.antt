@@ -57,6 +57,8 @@ keeping s registers body records run news leads = record {
   waits = leads.waits;
   told = leads.told;
   scopes = leads.scopes;
+  accesses = leads.accesses;
+  repeats = leads.repeats;
   agrees = leads.agrees;
   left = leads.left;
 }

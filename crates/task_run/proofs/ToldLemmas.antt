@@ -19,22 +19,21 @@ use Rattle.setup_access.specs.declared.begun.Begun.{Begun}
 use Rattle.slot_table.specs.declared.records.Record.{Record}
 use Rattle.task_plan.specs.Follow.{Follow, assigned, condition, goes_on, loaded_by, marks_next, nobody, so_often, to_register}
 use Rattle.task_run.specs.Part.{before_access}
-use Rattle.task_run.specs.Position.{AllFellFrom, AllFrom, Computes, IsTold, last_of, nothing, one_more}
-use Rattle.program_order.specs.text_bounds.Scopes.{AreOfNoScope}
+use Rattle.task_run.specs.Position.{AreOfNoBound, AllFellFrom, AllFrom, Computes, IsTold, last_of, nothing, one_more}
 use Rattle.program_order.specs.Access.{operated}
 use Rattle.program_order.specs.Standing.{Point, Standing, coming, counting, doing, registered}
 use Rattle.program_order.specs.WrittenOrder.{at_first, first_point}
 
 -- what is computed at once
-pub does_more : (later : List Record) (before between : Standing) (does : List Happening) → AreOfNoScope does → Computes later before between
+pub does_more : (later : List Record) (before between : Standing) (does : List Happening) → AreOfNoBound does → Computes later before between
     → Computes later before (doing between later does)
 does_more later before between does none so_far = one_more between false (meaning.doing between.progress does) does refl none so_far
 
-pub does_now : (later : List Record) (before : Standing) (does : List Happening) → AreOfNoScope does → Computes later before (doing before later does)
+pub does_now : (later : List Record) (before : Standing) (does : List Happening) → AreOfNoBound does → Computes later before (doing before later does)
 does_now later before does none = does_more later before before does none nothing
 
--- marks begin and end no scoped assertion
-of_marks : (count : ℕ) (m : Mark) → AreOfNoScope (replicate count (happenings.Mark m))
+-- marks begin and end no access
+pub of_marks : (count : ℕ) (m : Mark) → AreOfNoBound (replicate count (happenings.Mark m))
 of_marks zero m = tt
 of_marks (suc count) m = (refl, of_marks count m)
 
@@ -45,7 +44,7 @@ marks_more later before between count m so_far = does_more later before between 
 pub marks_now : (later : List Record) (before : Standing) (count : ℕ) (m : Mark) → Computes later before (doing before later (replicate count (happenings.Mark m)))
 marks_now later before count m = marks_more later before before count m nothing
 
-pub counts_more : (later : List Record) (before : Standing) (ends_nothing : Bool) (does : List Happening) → AreOfNoScope does
+pub counts_more : (later : List Record) (before : Standing) (ends_nothing : Bool) (does : List Happening) → AreOfNoBound does
     → Computes later before (doing (counting ends_nothing before) later does)
 counts_more later before true does none = one_more before true (meaning.doing before.progress does) does refl none nothing
 counts_more later before false does none = does_now later before does none
@@ -76,7 +75,7 @@ points_both : (count : ℕ) (one other : List Point) → AllFrom count one → A
 points_both count [] other first second = second
 points_both count (point ∷ points) other first second = (first.0, points_both count points other first.1 second)
 
-fewer_points : (count few : ℕ) (points : List Point) → few ≤ count → AllFrom count points → AllFrom few points
+pub fewer_points : (count few : ℕ) (points : List Point) → few ≤ count → AllFrom count points → AllFrom few points
 fewer_points count few [] less all = tt
 fewer_points count few (point ∷ points) less all = let more = all.0 in (omega (arith, less, more), fewer_points count few points less all.1)
 

@@ -225,7 +225,7 @@ stage_waits : (s : settings.Setting) (stage : check_stages.CheckStage) (index : 
 stage_waits s checking.Rest index is = absurd (let no : None ≡ Some (PairLoad index) = is in cc)
 stage_waits s (checking.Begin begun) index is = absurd (let no : Clock ≡ PairLoad index = one_some Clock (PairLoad index) is in cc)
 stage_waits s (checking.Check role begun pass) index is = pair_waits s begun pass index (one_some (pass_step s begun pass) (PairLoad index) is)
-stage_waits s checking.End index is = absurd (let no : Clock ≡ PairLoad index = one_some Clock (PairLoad index) is in cc)
+stage_waits s (checking.End scope) index is = absurd (let no : Clock ≡ PairLoad index = one_some Clock (PairLoad index) is in cc)
 
 too_many : (wait : Option Wait) (here : Wait) (turns index : ℕ) (records : List Record) → Some here ≡ capped wait → FewLoads wait records
     → turns ≤ failed_tries (PairLoad index) records → IsSomeAnd wait (λ w. turns ≤ w.tries)

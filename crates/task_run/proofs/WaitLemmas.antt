@@ -110,7 +110,7 @@ stage_of_check : (s : settings.Setting) (stage : check_stages.CheckStage) (step 
 stage_of_check s checking.Rest step is = absurd (let no : None ≡ Some step = is in cc)
 stage_of_check s (checking.Begin begun) step is = subst IsOfCheck (one_some Clock step is) tt
 stage_of_check s (checking.Check role begun pass) step is = subst IsOfCheck (one_some (pass_step s begun pass) step is) (pass_of_check s begun pass)
-stage_of_check s checking.End step is = subst IsOfCheck (one_some Clock step is) tt
+stage_of_check s (checking.End scope) step is = subst IsOfCheck (one_some Clock step is) tt
 
 pub check_says : (checker : Checker) (step : Step) → checks.Says checker step → IsOfCheck step
 check_says checker step says = stage_of_check (setting_with checker.setting (map_of [])) checker.stage step (says (map_of []))

@@ -17,6 +17,7 @@ use Rattle.setup_access.specs.Leads as checks
 use Rattle.setup_access.specs.declared.begun.Begun.{Begun}
 use Rattle.slot_table.specs.declared.records.Record.{Record}
 use Rattle.task_plan.specs.Follow.{Follow, loaded_by}
+use Rattle.task_run.specs.Accesses.{IsNewAt}
 use Rattle.task_run.specs.Part.{Part, PartLeft, closes, locks, makes, opens, over, stops, unlocks}
 use Rattle.task_run.specs.Stands.{Counts, IsOf, RestsAt, SameToEnd}
 use Rattle.task_run.specs.Stops.{PassesWith}
@@ -69,12 +70,12 @@ IsIn s (makes a operation follow) before mine machine stage =
     × (follow_of kept ≡ follow) × IsFit follow operation × BeginsNow s before a begun
     × AccessLeads (checks_of s) before.scopes begun before.asked operation mine access machine.checker
     × (¬ AccessIsDone (checks_of s) before.scopes begun before.asked operation mine)
-    × (machine.begins ≡ begins_now begun mine)
+    × (machine.begins ≡ begins_now begun mine) × IsNewAt a before
 IsIn s (opens a) before mine machine stage =
     (begun : Begun) × (stage ≡ stages.Opening) × BeginsNow s before a begun × (length before.scopes < 8)
     × checks.Leads (checks_of s) before.scopes (Checks begun) before.asked mine machine.checker
     × NoneWhole (Check (checks_of s) before.scopes begun before.asked) mine
-    × (machine.begins ≡ begins_now begun mine) × (is_scoped a.kind ≡ true)
+    × (machine.begins ≡ begins_now begun mine) × (is_scoped a.kind ≡ true) × IsNewAt a before
 IsIn s closes before mine machine stage =
     (scopes : List Begun) × (newest : Begun) × (silenced : Bool) × (stage ≡ stages.Closing)
     × (before.scopes ≡ scopes ++ newest ∷ []) × (IsTrue silenced ↔ IsDisabled s before)

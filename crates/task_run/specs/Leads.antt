@@ -10,12 +10,14 @@ use Rattle.slot_table.specs.declared.records.Record.{Record}
 use Rattle.slot_table.specs.declared.step.Answer.{Answer}
 use Rattle.slot_table.specs.declared.step.Step.{Step}
 use Rattle.slot_table.specs.declared.step.Step.TheVariants.{LockTry}
+use Rattle.task_run.specs.Accesses.{RepeatsAreTold}
 use Rattle.task_run.specs.Agrees.{Agrees}
 use Rattle.task_run.specs.Part.{Part, PartLeft, closes, locks, makes, opens, over, stops, unlocks}
 use Rattle.task_run.specs.Says.{Says}
 use Rattle.task_run.specs.Stops.{ScopesAreTold}
 use Rattle.task_run.specs.Position.{IsTold}
 use Rattle.task_run.specs.declared.run.TaskRun.{TaskRun}
+use Rattle.program_order.specs.InProgress.{AccessesAreTold}
 use Rattle.program_order.specs.Standing.{BeginsNow, Setting, Standing, checks_of, lock_number}
 use Rattle.program_order.specs.Waits.{failed_tries}
 use Rattle.program_order.specs.WrittenOrder.{StepsOfBlock, at_first}
@@ -27,7 +29,8 @@ EndInNoWait records = (lock task : ℕ) → failed_tries (LockTry lock task) (re
 -- The records so far, of a task with so many registers, lead to the machine: it is in a part of the
 -- text, by the last of the records, and whatever completes the records completes the part and what is
 -- left of the text. Where the task stood when the part began is told by the records that were to come
--- then, since a standing counts these. A wait for a lock is all of one part.
+-- then, since a standing counts these. So are its accesses in progress: each step of the clock before the part began or
+-- ended one. A wait for a lock is all of one part.
 pub record Leads (s : Setting) (registers : ℕ) (body : Block) (records : List Record) (run : TaskRun) :
     Type 0 where
   pub part : Part
@@ -38,6 +41,8 @@ pub record Leads (s : Setting) (registers : ℕ) (body : Block) (records : List 
   pub now : List Record → Standing
   pub told : (later : List Record) → IsTold registers later (now later)
   pub scopes : (later : List Record) → ScopesAreTold (now later)
+  pub accesses : (later : List Record) → AccessesAreTold s earlier (now later)
+  pub repeats : (later : List Record) → RepeatsAreTold (now later)
   pub agrees : (later : List Record) → Agrees s part (now later) mine run.machine run.stage
   pub left : (later : List Record) (end : Standing)
       → StepsOfBlock s 0 body (at_first registers) (records ++ later) end []

@@ -3,6 +3,7 @@ pub mod Plans
 pub mod Stands
 pub mod Position
 pub mod Stops
+pub mod Accesses
 pub mod Agrees
 pub mod Follows
 pub mod Due

@@ -1,19 +1,24 @@
 -- Where a task stands is told by its own way.
-use Rattle.std.specs.Prelude.{◌≡◌, ◌≤◌, ◌++◌, ℕ, Bool, List, [], ◌∷◌, length}
+use Rattle.std.specs.Prelude.{◌≡◌, ◌≤◌, ◌++◌, ℕ, Bool, false, List, [], ◌∷◌, length}
 use Rattle.access_types.specs.declared.history.Happening.{Happening}
 use Rattle.litmus_semantics.specs.Task.{Progress}
 use Rattle.setup_access.specs.Check.{Fallen}
 use Rattle.slot_table.specs.declared.records.Record.{Record}
-use Rattle.program_order.specs.text_bounds.Scopes.{AreOfNoScope}
+use Rattle.program_order.specs.InProgress.{is_bound}
 use Rattle.program_order.specs.Standing.{Point, Standing, coming, counting}
 use Rattle.program_order.specs.WrittenOrder.{first_point}
 
--- what a task computes with these records still to come, from where it stood to where it stands then: no scoped
--- assertion begins or ends in it
+-- no access begins or ends in what a task did
+abbrev pub AreOfNoBound : List Happening → Type 0
+AreOfNoBound [] = Unit {0}
+AreOfNoBound (happening ∷ later) = (is_bound happening ≡ false) × AreOfNoBound later
+
+-- what a task computes with these records still to come, from where it stood to where it stands then: no access begins
+-- or ends in it
 pub data Computes (later : List Record) (before : Standing) : Standing → Type 0 where
   nothing : Computes later before before
   one_more : (between : Standing) (ends_nothing : Bool) (progress : Progress) (does : List Happening)
-      → progress.did ≡ between.progress.did ++ does → AreOfNoScope does → Computes later before between
+      → progress.did ≡ between.progress.did ++ does → AreOfNoBound does → Computes later before between
       → Computes later before (coming (counting ends_nothing between) later progress)
 
 -- the same, whichever records are to come

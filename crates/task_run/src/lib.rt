@@ -14,6 +14,7 @@ pub mod run;
 mod stage;
 
 pub use laws::{
+    law_machines_of_one_key_tell_the_same_accesses, law_machines_tell_accesses_in_progress,
     law_no_task_stops, law_one_step_is_next, law_too_long_a_wait_is_told_by_the_records,
 };
 pub use run::TaskRun;

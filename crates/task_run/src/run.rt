@@ -38,6 +38,7 @@ impl<'a> TaskRun<'a> {
     ghost use Rattle.prepared_program.specs.program_sites.Prepared.{IsPrepared, IsReady, sites_in};
     ghost use Rattle.prepared_program.specs.program_sites.Sites.{AreSitesOf};
     ghost use Rattle.prepared_program.specs.declared.program_sites.settings.Settings.{Settings};
+    ghost use Rattle.task_run.specs.Accesses.{begun_in, in_progress_of};
     ghost use Rattle.task_run.specs.First.{setting_of};
     ghost use Rattle.slot_table.specs.Answer.{Answers};
     ghost use Rattle.slot_table.specs.declared.records.Record.{Record};
@@ -365,6 +366,33 @@ impl<'a> TaskRun<'a> {
             → (later : List Record) → result.now ≡ (stands_at leads later).progress.registers }
     {
         self.machine.progress.registers()
+    }
+
+    /// The accesses of the task that are in progress, with what was decided of each as it began: the scoped assertions
+    /// in force, the oldest first, and then the access or the assertion of the part of the text that the task is in.
+    pub fn in_progress(&self, alloc: Global) -> Result<Vec<Begun>, AllocError>
+        ensures { IfOk result (λ accesses. accesses.items ≡ in_progress_of self.now) }
+    {
+        let mut accesses = self.machine.checker.scoped().to_vec(alloc)?;
+        if let Some(begun) = self.begun_now() {
+            accesses.push(begun)?;
+        }
+        Ok(accesses)
+    }
+
+    /// What the task has begun in the part of its text that it is in, or closes there.
+    fn begun_now(&self) -> Option<Begun>
+        ensures { result ≡ begun_in self.now.machine.checker self.now.stage }
+    {
+        match &self.stage {
+            TaskStage::Making(_, _) => self.machine.checker.begun(),
+            TaskStage::Opening => self.machine.checker.begun(),
+            TaskStage::Closing => self.machine.checker.closing(),
+            TaskStage::Locking(_, _) => None,
+            TaskStage::Unlocking(_) => None,
+            TaskStage::Over => None,
+            TaskStage::Stopped => None,
+        }
     }
 
     /// How many of its calls had nothing to end, up to the largest number that there is.
