@@ -8,4 +8,5 @@ pub mod DoneOnlyGrows
 pub mod Intervals
 pub mod Histories
 pub mod OwnMarks
+pub mod AccessesBeginOnce
 pub mod Tried

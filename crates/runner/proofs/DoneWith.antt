@@ -4,7 +4,7 @@ use Rattle.std.proofs.lemmas.List.{length-append}
 use Rattle.access_types.specs.declared.history.Happening.{Happening}
 use Rattle.litmus_syntax.specs.Tree.{Block}
 use Rattle.soundness.proofs.RecordsDoEvents.{done_with}
-use Rattle.soundness.proofs.AccessesBeginOnce.{begin_once}
+use Rattle.executions.proofs.execution.AccessesBeginOnce.{begin_once}
 use Rattle.soundness.proofs.TextTells.{whole_tells}
 use Rattle.soundness.specs.Events.{DoesEvent, IsEvent}
 use Rattle.slot_table.specs.declared.records.Record.{Record}

@@ -7,7 +7,6 @@ pub mod Takings
 pub mod Endings
 pub mod Makers
 pub mod Opens
-pub mod AccessesBeginOnce
 pub mod PointsTell
 pub mod Watched
 pub mod TextTells
@@ -34,3 +33,7 @@ pub mod Heard
 pub mod Bags
 pub mod Answered
 pub mod Agree
+pub mod Bounds
+pub mod OwnDecisions
+pub mod DecidedBegins
+pub mod InProgress

@@ -15,7 +15,7 @@ use Rattle.executions.proofs.execution.OwnLasts.{own_latest}
 use Rattle.soundness.specs.Events.{AreMarks, DoesEvent, EachDoesItsEvent, IsEvent}
 use Rattle.soundness.proofs.PointsTell as tells
 use Rattle.setup_access.specs.Check.{Fallen}
-use Rattle.soundness.proofs.AccessesBeginOnce.{begin_once}
+use Rattle.executions.proofs.execution.AccessesBeginOnce.{begin_once}
 use Rattle.soundness.proofs.PointsTell.{MadeFor, PointsTell, goes_on, made_anyway, stays, stops}
 use Rattle.soundness.proofs.TextTells.{whole_tells}
 

@@ -33,7 +33,7 @@ use Rattle.executions.proofs.execution.OwnLasts.{own_latest}
 use Rattle.soundness.specs.Finds.{is_telling}
 use Rattle.soundness.specs.Watches.{IfVerdict, IsOfWatch, IsWatch, is_verdict}
 use Rattle.soundness.proofs.RecordsDoEvents.{told_whole}
-use Rattle.soundness.proofs.AccessesBeginOnce.{there}
+use Rattle.executions.proofs.execution.AccessesBeginOnce.{there}
 use Rattle.soundness.proofs.Opens.{has_split}
 use Rattle.soundness.proofs.PointsTell as tells
 use Rattle.soundness.proofs.PointsTell.{FallsOf, FallsSo, IsPart, IsSomeFind, PointsTell, goes_on}

@@ -14,3 +14,4 @@ pub mod Reported
 pub mod HeldReads
 pub mod Ended
 pub mod Totals
+pub mod InProgress

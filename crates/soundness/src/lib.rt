@@ -3,6 +3,7 @@
 #![tactic(auto)]
 
 pub mod histories;
+pub mod in_progress;
 pub mod laws;
 pub mod totals;
 pub mod verdicts;

@@ -198,7 +198,7 @@ module _ (run : Run) (records : List Record) (list : Execution run records) wher
       )
 
   -- what is told by earlier records is the front of what is told by all
-  told_more : (later earlier : List Record) → (more : History) × (history_by list (later ++ earlier) ≡ history_by list earlier ++ more)
+  pub told_more : (later earlier : List Record) → (more : History) × (history_by list (later ++ earlier) ≡ history_by list earlier ++ more)
   told_more [] earlier = ([], sym (append-nil (history_by list earlier)))
   told_more (latest ∷ later) earlier =
       let its : History = moments_of latest.task (did_next (list.tasks latest.task) (made_by latest.task (later ++ earlier))) in

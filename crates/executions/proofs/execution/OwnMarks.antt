@@ -22,12 +22,12 @@ use Rattle.executions.proofs.execution.Histories.{of_both}
 abbrev pub own_of : ℕ → History → History
 own_of task history = moments_of task (happenings_of task history)
 
-own_both : (task : ℕ) (first second : History) → own_of task (first ++ second) ≡ own_of task first ++ own_of task second
+pub own_both : (task : ℕ) (first second : History) → own_of task (first ++ second) ≡ own_of task first ++ own_of task second
 own_both task first second =
     ap (λ (d : List Happening). moments_of task d) (of_both task first second)
     ∙ map-append (λ (happening : Happening). record { task = task; happening = happening }) (happenings_of task first) (happenings_of task second)
 
-own_head : (task : ℕ) (first : Moment) (later : History) → first.task ≡ task
+pub own_head : (task : ℕ) (first : Moment) (later : History) → first.task ≡ task
     → own_of task (first ∷ later) ≡ record { task = task; happening = first.happening } ∷ own_of task later
 own_head task first later is = rw (eq-eqb first.task task is) refl
 
@@ -41,7 +41,7 @@ marks_same task (first ∷ later) = elim (eqb_tells first.task task) [
 count_cons : {X : Type 0} (p : X → Bool) (x : X) (xs : List X) → count_by p (x ∷ xs) ≡ cond (p x) 1 0 + count_by p xs
 count_cons p x xs = sum_by-cons (λ g. cond (p g) 1 0) x xs
 
-countable_same : (plain : Bool) (task : ℕ) (history : History)
+pub countable_same : (plain : Bool) (task : ℕ) (history : History)
     → count_by (begins_countable plain task) (own_of task history) ≡ count_by (begins_countable plain task) history
 countable_same plain task [] = refl
 countable_same plain task (first ∷ later) =
