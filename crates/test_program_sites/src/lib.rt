@@ -1,8 +1,10 @@
 //! What a program has before any task of it runs, tried on rows that were worked out by hand: its names and lists, the
-//! values of its expressions and the sites of its texts, where its variables stand, and the accesses that it can make.
-//! Nothing stands on this crate.
+//! values of its expressions and the sites of its texts, where its variables stand, the accesses that it can make, and
+//! which of its sites conflict. Nothing stands on this crate.
 #![tactic(auto)]
 
+#[cfg(test)]
+mod conflicts;
 #[cfg(test)]
 mod layouts;
 #[cfg(test)]

@@ -42,14 +42,14 @@ const BYTES: &str = "C bytes\n{}\nP0(int *x) { int r0; r0 = *x; }\nP1(char *c) {
     exists (0:r0=1)\n";
 
 /// The program that a text spells.
-fn parsed(alloc: Global, text: &str) -> Result<Program, ParseError>
+pub(crate) fn parsed(alloc: Global, text: &str) -> Result<Program, ParseError>
     ensures { IfOk result (λ program. KeepsLimits (program_of program)) }
 {
     parse(alloc, text.as_bytes())
 }
 
 /// A place of a variable whose name is one letter.
-fn placed(alloc: Global, letter: &str, addr: u64) -> Result<Place, AllocError> {
+pub(crate) fn placed(alloc: Global, letter: &str, addr: u64) -> Result<Place, AllocError> {
     let mut text = String::new(alloc);
     text.push_str(letter)?;
     Ok(Place {

@@ -1,0 +1,2 @@
+pub mod InProgress
+pub mod AtEnds

@@ -1,0 +1,4 @@
+mod AddsLemmas
+mod PairLemmas
+mod RunLemmas
+mod SiteLemmas

@@ -1,0 +1,5 @@
+pub mod Lists
+pub mod Pairs
+pub mod Placed
+pub mod Shown
+pub mod Verdicts
