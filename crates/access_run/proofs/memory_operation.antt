@@ -8,3 +8,4 @@ pub mod LockLemmas
 pub mod Fronts
 pub mod FrameLemmas
 pub mod Compared
+pub mod ReadLemmas

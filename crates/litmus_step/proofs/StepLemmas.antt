@@ -1,13 +1,10 @@
 -- One record more of a task leads on.
-use Rattle.std.proofs.Common.{◌≡◌, ◌≢◌, ◌<◌, ◌≤◌, ◌+◌, ◌++◌, ◌∙◌, ◌∷◌, [], ℕ, zero, suc, List, Some, All, ap, arith, inl, inr, length}
+use Rattle.std.proofs.Common.{◌≡◌, ◌≢◌, ◌<◌, ◌≤◌, ◌+◌, ◌++◌, ◌∙◌, ◌∷◌, [], ℕ, zero, suc, List, Some, ap, arith, inl, inr, length}
 use Rattle.std.proofs.Common.{refl, reverse, set, slice_get, subst, sym}
 use Rattle.std.proofs.lemmas.Bool.{eq-eqb, ne_eqb}
 use Rattle.std.proofs.lemmas.Bool.Decides.{eqb_tells}
 use Rattle.std.proofs.lemmas.List.{length-set, reverse-append, reverse-reverse}
 use Rattle.std.proofs.lemmas.Option.{slice_get_within}
-use Rattle.litmus_syntax.specs.Limits.{TaskKeepsLimits}
-use Rattle.litmus_syntax.specs.Tree.{Task}
-use Rattle.access_run.specs.memory_operation.Leads.{GoesOn}
 use Rattle.executions.specs.execution.Run.{Run, first_words, idle, task_of, task_setting}
 use Rattle.executions.specs.execution.Execution.{InWrittenOrder, Execution}
 use Rattle.setup_access.specs.Parts.{made}
@@ -18,8 +15,9 @@ use Rattle.slot_table.specs.Words.{Words}
 use Rattle.slot_table.specs.declared.records.Record.{Record}
 use Rattle.slot_table.specs.declared.step.Answer.{Answer}
 use Rattle.slot_table.specs.declared.step.Step.{Step}
-use Rattle.task_laws.specs.Fits.{ArePlaced}
-use Rattle.litmus_step.proofs.NameLemmas.{after_as_many, answered, last_of_all, names_as_many, some_answer}
+use Rattle.context_bound.proofs.completeness.NextRecords.{AnAnswerLeadsOn, StepsNameWords}
+use Rattle.context_bound.proofs.completeness.Words.{after_as_many, answered, last_of_all, names_as_many}
+use Rattle.litmus_step.proofs.NameLemmas.{some_answer}
 use Rattle.access_types.specs.declared.report.Report.{Report}
 use Rattle.litmus_step.specs.Kept.{AreKept}
 use Rattle.litmus_step.specs.Leads.{AreAtPoints, GoesOnWith, LeadsTask, LeadsToAll, MakesNextIn}
@@ -29,23 +27,8 @@ use Rattle.task_plan.specs.Counts.{up_to_last}
 use Rattle.task_run.specs.Leads as task_run
 use Rattle.task_run.specs.Leads.{LeadsOn}
 use Rattle.task_run.specs.declared.run.TaskRun.{TaskRun}
-use Rattle.program_order.specs.Standing.{Setting}
 use Rattle.program_order.specs.Waits.{OnlyStep, WithinTurns}
-use Rattle.program_order.specs.WrittenOrder.{SpellsAll, WrittenOrder}
-
--- what is answered leads on
-abbrev pub AnAnswerLeadsOn : Type 0
-AnAnswerLeadsOn = (s : Setting) (task : Task) (records : List Record) (step : Step) (answer : Answer)
-    → ArePlaced s → TaskKeepsLimits s.text.variables task → Answers step answer
-    → WrittenOrder s (length task.registers) task.body records
-    → ((later : List Record) → SpellsAll s (length task.registers) task.body (records ++ later) → GoesOn s.text.task step later)
-    → WrittenOrder s (length task.registers) task.body (records ++ made s.text.task step answer ∷ [])
-
--- steps name words
-abbrev pub StepsNameWords : Type 0
-StepsNameWords = (run : Run) (task : ℕ) (records : List Record) → 0 < run.rules.slots
-    → WrittenOrder (task_setting run task) (length (task_of run task).registers) (task_of run task).body records
-    → All (λ (r : Record). Names (first_words run) r.step) records
+use Rattle.program_order.specs.WrittenOrder.{WrittenOrder}
 
 pub own_first : (task : ℕ) (first : Record) (records : List Record) → first.task ≡ task
     → records_of task (first ∷ records) ≡ first ∷ records_of task records

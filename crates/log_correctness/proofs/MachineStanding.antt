@@ -9,7 +9,7 @@ use Rattle.access_run.specs.declared.memory_operation.effect.Effect.{Effect}
 use Rattle.access_run.specs.declared.memory_operation.operation.Operation.{Operation}
 use Rattle.log_correctness.proofs.Afters.{After, follow_left, walk_left}
 use Rattle.slot_table.specs.declared.records.Record.{Record}
-use Rattle.log_correctness.proofs.PartNotOver.{Goes, part_goes}
+use Rattle.task_run.proofs.PartNotOver.{Goes, part_goes}
 use Rattle.log_correctness.proofs.PointsTold.{AllBelow, AreAs, IsAs, as_by, from_fewer, operated_adds, past}
 use Rattle.task_run.specs.Agrees.{IsIn}
 use Rattle.task_run.specs.Leads.{Leads, stands_at}

@@ -14,7 +14,7 @@ use Rattle.executions.specs.execution.Run.{Run, first_words, idle, task_of, task
 use Rattle.executions.specs.execution.Execution.{InWrittenOrder}
 use Rattle.log_correctness.proofs.MachineMatchesRecords.{says_what_is_noted}
 use Rattle.log_correctness.specs.Noted.{AreNoted, IsNoted}
-use Rattle.runner.proofs.DoneWith.{does_last}
+use Rattle.soundness.proofs.DoneWith.{does_last}
 use Rattle.runner.specs.Led.{IsLed}
 use Rattle.runner.specs.Machine.{SaysBegin}
 use Rattle.setup_access.specs.Parts.{made}

@@ -1,4 +1,3 @@
-pub mod DoneWith
 pub mod LedLemmas
 pub mod SeatedLemmas
 pub mod ColumnLemmas

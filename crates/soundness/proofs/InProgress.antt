@@ -26,7 +26,7 @@ use Rattle.program_order.specs.InProgress.{IsInProgressAs, is_bound, moments_by}
 use Rattle.program_order.specs.Standing.{Setting}
 use Rattle.program_order.specs.TaskObserved.{did_by, did_next}
 use Rattle.soundness.specs.Events.{AreMarks, DoesEvent, EachDoesItsEvent}
-use Rattle.soundness.specs.InProgress.{BothGo, GoesAs, IsDecidedIn}
+use Rattle.soundness.specs.InProgress.{AreBothInProgress, IsInProgressAfter, IsDecidedIn}
 use Rattle.soundness.proofs.Bounds.{BoundsSo, NoneBound, event_bounds, marks_unbound, none_both}
 use Rattle.soundness.proofs.Bounds as bounds
 use Rattle.soundness.proofs.DecidedBegins.{DecidedNow, begun_so, decided_at, decided_so}
@@ -165,7 +165,7 @@ module _ (run : Run) (records : List Record) (list : Execution run records) wher
       ]
 
   -- a task did the same by any reading of these records
-  did_same : (task : ℕ) (later earlier : List Record) → records ≡ later ++ earlier → (written : InWrittenOrder run task (records_of task earlier))
+  pub did_same : (task : ℕ) (later earlier : List Record) → records ≡ later ++ earlier → (written : InWrittenOrder run task (records_of task earlier))
       → did_by (list.tasks task) (made_by task earlier) ≡ did_by written (made_by task earlier)
   did_same task later earlier is written =
       let own : List Record = reverse (records_of task earlier) in
@@ -176,7 +176,7 @@ module _ (run : Run) (records : List Record) (list : Execution run records) wher
       ap (λ (p : meaning.Progress). p.did) (alike.stands (made_by task earlier) (omega (arith, long))).progress
 
   -- what is so at the end is so in the history
-  module _ (one : Begun) (goes : GoesAs run records one) where
+  module _ (one : Begun) (goes : IsInProgressAfter run records one) where
     abbrev task : ℕ
     task = one.access.task
 
@@ -204,13 +204,13 @@ module _ (run : Run) (records : List Record) (list : Execution run records) wher
         (sym (of_task run records list task below_at_end records)) (record { marked = at_end.marked; silenced = at_end.silenced }))
 
   -- what is in progress at the end of a beginning was decided as it began
-  record Decided (later earlier : List Record) (a : Access) : Type 0 where
-    one : Begun
-    access : one.access ≡ a
-    goes : GoesAs run earlier one
-    decided : IsDecidedIn run.rules.plain_writes_atomic (history_of list) a one
+  pub record Decided (later earlier : List Record) (a : Access) : Type 0 where
+    pub one : Begun
+    pub access : one.access ≡ a
+    pub goes : IsInProgressAfter run earlier one
+    pub decided : IsDecidedIn run.rules.plain_writes_atomic (history_of list) a one
 
-  decided_by : (later earlier : List Record) → records ≡ later ++ earlier → (a : Access) → a.task < length run.program.tasks
+  pub decided_by : (later earlier : List Record) → records ≡ later ++ earlier → (a : Access) → a.task < length run.program.tasks
       → IsOpen (did_by (list.tasks a.task) (made_by a.task earlier)) a → Decided later earlier a
   decided_by later earlier is a below goes =
       let task : ℕ = a.task in
@@ -292,7 +292,7 @@ module _ (run : Run) (records : List Record) (list : Execution run records) wher
   pub both_go : ((task : ℕ) → AreMarks (did_by (list.tasks task) 0)) → EachDoesItsEvent list records
       → All (λ (m : Moment). m.task < length run.program.tasks) (history_of list)
       → (first second : Access) (moment : ℕ) → InProgress (history_of list) first moment → InProgress (history_of list) second moment
-      → BothGo list first second
+      → AreBothInProgress list first second
   both_go marks each tasks first second moment one_goes other_goes =
       let moments : History = take moment (history_of list) in
       let at : EndsAt moments = ends_at marks [] records refl each moment in

@@ -37,3 +37,4 @@ pub mod Bounds
 pub mod OwnDecisions
 pub mod DecidedBegins
 pub mod InProgress
+pub mod DoneWith

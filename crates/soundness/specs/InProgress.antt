@@ -15,8 +15,8 @@ use Rattle.program_order.specs.TaskObserved.{did_by}
 
 -- After these records of a run the access is in progress, with what was decided of it as it began, by any reading of
 -- its task's records.
-abbrev pub GoesAs : Run → List Record → Begun → Type 0
-GoesAs run records begun =
+abbrev pub IsInProgressAfter : Run → List Record → Begun → Type 0
+IsInProgressAfter run records begun =
     let task = begun.access.task in
     (written : InWrittenOrder run task (records_of task records))
     → IsInProgressAs (task_setting run task) (did_by written (made_by task records)) begun
@@ -28,7 +28,7 @@ pub record IsDecidedIn (plain_writes_atomic : Bool) (history : History) (a : Acc
 
 -- Both accesses are in progress at the end of one beginning of an execution, with the same decided of them as in the
 -- history that the whole execution tells.
-pub record BothGo {run : Run} {records : List Record} (list : Execution run records) (first second : Access) :
+pub record AreBothInProgress {run : Run} {records : List Record} (list : Execution run records) (first second : Access) :
     Type 0 where
   pub later : List Record
   pub earlier : List Record
@@ -37,7 +37,7 @@ pub record BothGo {run : Run} {records : List Record} (list : Execution run reco
   pub other : Begun
   pub first_is : one.access ≡ first
   pub second_is : other.access ≡ second
-  pub first_goes : GoesAs run earlier one
-  pub second_goes : GoesAs run earlier other
+  pub first_goes : IsInProgressAfter run earlier one
+  pub second_goes : IsInProgressAfter run earlier other
   pub first_decided : IsDecidedIn run.rules.plain_writes_atomic (history_of list) first one
   pub second_decided : IsDecidedIn run.rules.plain_writes_atomic (history_of list) second other

@@ -14,7 +14,7 @@ ghost use Rattle.program_order.specs.InProgress.{bounds_of, clock_steps};
 ghost use Rattle.program_order.specs.Standing.{Setting};
 ghost use Rattle.program_order.specs.TaskObserved.{did_by};
 ghost use Rattle.program_order.specs.WrittenOrder.{WrittenOrder};
-ghost use Rattle.soundness.specs.InProgress.{BothGo, GoesAs, IsDecidedIn};
+ghost use Rattle.soundness.specs.InProgress.{AreBothInProgress, IsInProgressAfter, IsDecidedIn};
 
 use crate::histories::law_executions_tell_runs_of_the_program;
 use crate::verdicts::law_records_tell_their_events;
@@ -38,7 +38,7 @@ pub fn law_what_is_in_progress_is_so_at_an_end()
     ensures { (run : Run) (records : List Record) → (list : Execution run records)
         → (first second : Access) (moment : ℕ) → first.task ≢ second.task
         → InProgress (history_of list) first moment → InProgress (history_of list) second moment
-        → BothGo list first second }
+        → AreBothInProgress list first second }
 {
     law_records_tell_their_events();
     law_executions_tell_runs_of_the_program();
@@ -49,9 +49,9 @@ pub fn law_what_is_in_progress_is_so_at_an_end()
 /// and whether it is silenced, is so in the history.
 pub fn law_what_is_in_progress_at_an_end_is_so()
     ensures goes { (run : Run) (records : List Record) → (list : Execution run records)
-        → (begun : Begun) → GoesAs run records begun
+        → (begun : Begun) → IsInProgressAfter run records begun
         → InProgress (history_of list) begun.access (length (history_of list)) }
     ensures decided { (run : Run) (records : List Record) → (list : Execution run records)
-        → (begun : Begun) → GoesAs run records begun
+        → (begun : Begun) → IsInProgressAfter run records begun
         → IsDecidedIn run.rules.plain_writes_atomic (history_of list) begun.access begun }
 {}

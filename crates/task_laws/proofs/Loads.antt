@@ -18,7 +18,8 @@ use Rattle.access_run.specs.declared.memory_operation.operation.Operation.{Opera
 use Rattle.setup_access.specs.Check.{Fallen}
 use Rattle.setup_access.specs.OwnAccesses.{AreOwn}
 use Rattle.slot_table.specs.declared.records.Record.{Record}
-use Rattle.task_laws.proofs.ReadLemmas.{HasRead, fetch_reads, operation_reads}
+use Rattle.access_run.proofs.memory_operation.ReadLemmas.{HasRead, operation_reads}
+use Rattle.task_laws.proofs.ReadLemmas.{fetch_reads}
 use Rattle.task_laws.proofs.Statements.{doing_at, few_at, in_range, load_bytes, no_mask, own_access}
 use Rattle.task_laws.specs.Begins.{one_at, own_begins}
 use Rattle.task_laws.specs.StandingButWay.{Core, begun_at, core_of, standing}

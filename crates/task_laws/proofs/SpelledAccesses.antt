@@ -11,7 +11,7 @@ use Rattle.access_types.specs.declared.history.Happening.{Happening}
 use Rattle.access_types.specs.declared.history.Happening.TheVariants as happenings
 use Rattle.litmus_semantics.specs.Task.{begins_at}
 use Rattle.access_run.specs.memory_operation.Effects.{moments_of, nothing, read_moments, write_moments}
-use Rattle.access_run.specs.memory_operation.Operations.{Operates}
+use Rattle.access_run.specs.memory_operation.Operations.{Operates, Reads}
 use Rattle.access_run.specs.declared.memory_operation.effect.Effect.{Effect}
 use Rattle.access_run.specs.declared.memory_operation.operation.Operation.{Operation}
 use Rattle.access_run.specs.declared.memory_operation.operation.Operation.TheVariants as operations
@@ -25,7 +25,7 @@ use Rattle.slot_table.specs.declared.records.Record.{Record}
 use Rattle.slot_table.specs.declared.step.Answer.TheVariants as answers
 use Rattle.slot_table.specs.declared.step.Step.TheVariants.{Clock}
 use Rattle.task_laws.proofs.Decided.{begins_now}
-use Rattle.task_laws.proofs.ReadLemmas.{HasRead, Reads, operation_reads}
+use Rattle.access_run.proofs.memory_operation.ReadLemmas.{HasRead, operation_reads}
 use Rattle.task_laws.specs.Begins.{one_at}
 use Rattle.task_laws.specs.StandingButWay.{Core, begun_at, standing}
 use Rattle.task_plan.proofs.KeepsLemmas.{begun_still}

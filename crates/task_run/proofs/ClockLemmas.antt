@@ -24,7 +24,7 @@ use Rattle.slot_table.specs.declared.records.Record.{Record}
 use Rattle.slot_table.specs.declared.step.Step.{Step}
 use Rattle.slot_table.specs.declared.step.Step.TheVariants.{CellExchange, CellLoad, Clear, Clock, Consume, Insert, Load, LockStore, LockTry, Name, PairLoad}
 use Rattle.slot_table.specs.declared.step.Step.TheVariants.{Remove, Tell, TryConsume}
-use Rattle.task_run.proofs.ReadLemmas.{either, on_exchange}
+use Rattle.access_run.proofs.memory_operation.ReadLemmas.{either, on_exchange}
 
 pub clocks_both : (first later : List Record) → clock_steps (first ++ later) ≡ clock_steps first + clock_steps later
 clocks_both first later = sum_by-append (λ (r : Record). cond (is_clock r.step) 1 0) first later

@@ -31,7 +31,6 @@ pub mod LongLemmas
 pub mod NextLemmas
 pub mod StuckLemmas
 pub mod GoingLemmas
-pub mod ReadLemmas
 pub mod TellLemmas
 pub mod FellLemmas
 pub mod ComeLemmas

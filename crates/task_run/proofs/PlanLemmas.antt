@@ -21,7 +21,8 @@ use Rattle.task_run.proofs.EndLemmas.{one_answer}
 use Rattle.task_run.proofs.FollowLemmas.{begins_as, ends_standing}
 use Rattle.task_run.proofs.PartLemmas.{assigned_left, bits_left, check_left, condition_left, load_left, only_left, register_left}
 use Rattle.task_run.proofs.ToldLemmas.{counts_more}
-use Rattle.task_run.specs.Agrees.{IsFit, Reads}
+use Rattle.access_run.specs.memory_operation.Operations.{Reads}
+use Rattle.task_run.specs.Agrees.{IsFit}
 use Rattle.task_run.specs.Due.{ConditionDue, PartBegins, StatementDue}
 use Rattle.task_run.specs.Part.{disabled}
 use Rattle.task_run.specs.Plans.{LoadLeft, PlanLeft}

@@ -43,7 +43,7 @@ use Rattle.task_run.proofs.AnswerLemmas.{OtherChecker, access_over, access_stand
 use Rattle.task_run.proofs.CountsLemmas.{counts_silent, history_of}
 use Rattle.task_run.proofs.EndLemmas.{after_access, after_closing, after_opening, passes_of}
 use Rattle.task_run.proofs.LeadsLemmas.{agrees_in, inside, next_part}
-use Rattle.task_run.proofs.ReadLemmas.{operation_reads}
+use Rattle.access_run.proofs.memory_operation.ReadLemmas.{operation_reads}
 use Rattle.task_run.proofs.ScopeLemmas.{access_scopes, closing_scopes, done_scopes, opening_scopes, scopes_on}
 use Rattle.task_run.proofs.StageLemmas.{in_closing, in_locking, in_making, in_opening, in_unlocking}
 use Rattle.task_run.proofs.ToldLemmas.{access_told, closing_told, done_told, opening_told, told_on}

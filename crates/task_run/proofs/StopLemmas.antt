@@ -219,7 +219,8 @@ module _ (s : Setting) (walk : Walk) (site : ℕ) (plan : Plan) (before : Standi
   plan_cell =
       let off = off_before plan.follow before later in
       subst (λ (a : access.Access). HasCell (checks_of s) a plan.operation)
-      (sym (planned_still s plan site off.0 before (before_access plan.follow before later) later off.2)) (operated_cell plan.operation (checks_of s) (planned_access s (before_access plan.follow before later) plan site) h.3.checked h.0 h.3.done h.3.operates)
+      (sym (planned_still s plan site off.0 before (before_access plan.follow before later) later off.2))
+      (operated_cell plan.operation (checks_of s) (planned_access s (before_access plan.follow before later) plan site) h.3.checked h.0 h.3.done h.3.operates)
 
   plan_grows : Begins (before_access plan.follow before later).progress.did end.progress.did
   plan_grows = begins_on _ _ _ (makes_grow s (before_access plan.follow before later) _ plan.operation later h.0 h.1 h.2 h.3)

@@ -1,5 +1,6 @@
 -- A task that is in a part of its text, by the records of the part so far.
 use Rattle.std.specs.Prelude.{◌≡◌, ◌↔◌, ◌++◌, ◌<◌, Bool, IsTrue, List, [], ◌∷◌, Option, None, Some, length, true}
+use Rattle.access_run.specs.memory_operation.Operations.{Reads}
 use Rattle.access_run.specs.Leads.{AccessIsDone, AccessLeads}
 use Rattle.access_run.specs.Whole.{NoneWhole}
 use Rattle.access_run.specs.declared.access.AccessRun.{AccessRun}
@@ -8,9 +9,7 @@ use Rattle.litmus_semantics.specs.Task.{has_lock}
 use Rattle.access_run.specs.memory_operation.LockLeads.{LockLeads}
 use Rattle.access_run.specs.memory_operation.Locks.{TakesLock}
 use Rattle.access_run.specs.declared.memory_operation.lock.LockWait.{LockWait}
-use Rattle.access_run.specs.declared.memory_operation.operation.Change.TheVariants as changes
 use Rattle.access_run.specs.declared.memory_operation.operation.Operation.{Operation}
-use Rattle.access_run.specs.declared.memory_operation.operation.Operation.TheVariants as operations
 use Rattle.setup_access.specs.Check.{Check, Close}
 use Rattle.setup_access.specs.Checker.{Checks, Closes}
 use Rattle.setup_access.specs.Leads as checks
@@ -41,13 +40,6 @@ in_part (stops due) before = before
 in_part closes before = before
 in_part (locks variable) before = before
 in_part (unlocks variable) before = before
-
--- the operation of a load
-abbrev pub Reads : Option Operation → Type 0
-Reads (Some operations.Load) = Unit {0}
-Reads (Some (operations.Change (changes.Exchange value))) = Unit {0}
-Reads (Some (operations.Change (changes.CompareExchange expected replacement))) = Unit {0}
-Reads operation = ⊥
 
 -- only where the bytes are read is a value taken
 abbrev pub IsFit : Follow → Option Operation → Type 0

@@ -86,3 +86,13 @@ Operates s a None records effect rest = (effect ≡ nothing) × (rest ≡ record
 Operates s a (Some operation) records effect rest =
     (source : Source) × (source_of s a ≡ Some source)
     × OperatesIn s.task a source operation records effect rest
+
+-- the operation of a load
+abbrev pub Reads : Option Operation → Type 0
+Reads None = ⊥
+Reads (Some operations.Load) = Unit {0}
+Reads (Some (operations.Add amount)) = ⊥
+Reads (Some (operations.Change (changes.Write value))) = ⊥
+Reads (Some (operations.Change (changes.Exchange value))) = Unit {0}
+Reads (Some (operations.Change (changes.AtomicAdd amount))) = ⊥
+Reads (Some (operations.Change (changes.CompareExchange expected replacement))) = Unit {0}

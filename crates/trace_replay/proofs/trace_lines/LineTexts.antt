@@ -360,9 +360,11 @@ arm_ends : (bytes t1 t2 t3 t4 t5 t6 t7 t8 t9 rest : List ℕ) (setter number ind
     → ◌≡◌ {A = Line × List ℕ} (lines.Arm (record { setter = setter; number = number; index = index; watch_word = word; outcome = outcome }), rest) found → IsLineAt (codes "arm " ++ bytes) found.0 found.1
 unfolding spell_arm
 arm_ends bytes t1 t2 t3 t4 t5 t6 t7 t8 t9 rest setter number index word outcome found e1 e2 e3 e4 e5 e6 e7 e8 e9 e10 same =
-    let chain = chained (name_in setter) e1.0 (chained (codes " ") e2 (chained (decimal number) e3.0 (chained (codes " ") e4 (chained (decimal index) e5.0 (chained (codes " ") e6 (chained (hex_field word) e7.0 (chained (codes " ") e8 (chained (outcome_words outcome) e9.0 e10)))))))) in
+    let chain = chained (name_in setter) e1.0 (chained (codes " ") e2 (chained (decimal number) e3.0 (chained (codes " ") e4 (chained (decimal index) e5.0
+    (chained (codes " ") e6 (chained (hex_field word) e7.0 (chained (codes " ") e8 (chained (outcome_words outcome) e9.0 e10)))))))) in
     let whole : codes "arm " ++ bytes ≡ line_text (lines.Arm (record { setter = setter; number = number; index = index; watch_word = word; outcome = outcome })) ++ rest = ap (λ xs. codes "arm " ++ xs) chain ∙ simp append_assoc in
-    let here : IsLineAt (codes "arm " ++ bytes) (lines.Arm (record { setter = setter; number = number; index = index; watch_word = word; outcome = outcome })) rest = record { plain = record { setter = e1.1; number = e3.1; index = e5.1; watch_word = e7.1; finder = e9.1 }; spelled = whole } in
+    let here : IsLineAt (codes "arm " ++ bytes) (lines.Arm (record { setter = setter; number = number; index = index; watch_word = word; outcome = outcome })) rest =
+    record { plain = record { setter = e1.1; number = e3.1; index = e5.1; watch_word = e7.1; finder = e9.1 }; spelled = whole } in
     subst (λ (f : Line × List ℕ). IsLineAt (codes "arm " ++ bytes) f.0 f.1) same here
 
 arm_spelled : (bytes : List ℕ) (found : Line × List ℕ) → arm_at bytes ≡ Some found → IsLineAt (codes "arm " ++ bytes) found.0 found.1
@@ -379,7 +381,8 @@ arm_spelled bytes found e =
     bind_then (outcome_at x8) _ found e (λ x9 p9 e.
     bind_then (past (codes "\n") x9.1) _ found e (λ x10 p10 e.
     arm_ends bytes x1.1 x2 x3.1 x4 x5.1 x6 x7.1 x8 x9.1 x10 x1.0 x3.0 x5.0 x7.0 x9.0 found
-    (ticket_spelled bytes x1 p1) (past_is (codes " ") x1.1 x2 p2) (decimal_spelled x2 x3 p3) (past_is (codes " ") x3.1 x4 p4) (decimal_spelled x4 x5 p5) (past_is (codes " ") x5.1 x6 p6) (hex_spelled x6 x7 p7) (past_is (codes " ") x7.1 x8 p8) (outcome_spelled x8 x9 p9) (past_is (codes "\n") x9.1 x10 p10)
+    (ticket_spelled bytes x1 p1) (past_is (codes " ") x1.1 x2 p2) (decimal_spelled x2 x3 p3) (past_is (codes " ") x3.1 x4 p4) (decimal_spelled x4 x5 p5) (past_is (codes " ") x5.1 x6 p6)
+    (hex_spelled x6 x7 p7) (past_is (codes " ") x7.1 x8 p8) (outcome_spelled x8 x9 p9) (past_is (codes "\n") x9.1 x10 p10)
     (same_given (lines.Arm (record { setter = x1.0; number = x3.0; index = x5.0; watch_word = x7.0; outcome = x9.0 }), x10) found e)))))))))))
 
 take_ends : (bytes t1 t2 t3 t4 t5 rest : List ℕ) (finder index setter : ℕ) (found : Line × List ℕ)

@@ -1,8 +1,8 @@
--- In the run of a task's machine the operation of a load reads a value.
+-- The operation of a load reads a value.
 use Rattle.std.proofs.Common.{◌≡◌, ◌∙◌, ℕ, Bool, true, false, List, [], ◌∷◌, MatchBool, None, Option, Some, ap, refl}
 use Rattle.access_types.specs.Access.{Access}
 use Rattle.access_run.specs.memory_operation.Effects.{changed}
-use Rattle.access_run.specs.memory_operation.Operations.{Ends, Exchanges, OnExchange, Operates}
+use Rattle.access_run.specs.memory_operation.Operations.{Ends, Exchanges, OnExchange, Operates, Reads}
 use Rattle.access_run.specs.memory_operation.Values.{is_wanted}
 use Rattle.access_run.specs.declared.memory_operation.effect.Effect.{Effect}
 use Rattle.access_run.specs.declared.memory_operation.operation.Change.{Change}
@@ -17,9 +17,8 @@ use Rattle.slot_table.specs.declared.records.Record.{Record}
 use Rattle.slot_table.specs.declared.step.Answer.{Answer}
 use Rattle.slot_table.specs.declared.step.Answer.TheVariants as answers
 use Rattle.slot_table.specs.declared.step.Step.{Step}
-use Rattle.task_run.specs.Agrees.{Reads}
 
-abbrev HasRead : Effect → Type 0
+abbrev pub HasRead : Effect → Type 0
 HasRead effect = (old : ℕ) × (effect.read ≡ Some old)
 
 -- whichever of two cases it is
