@@ -15,7 +15,7 @@ use Rattle.slot_table.specs.Words.{Words}
 use Rattle.slot_table.specs.declared.records.Record.{Record}
 use Rattle.slot_table.specs.declared.step.Answer.{Answer}
 use Rattle.slot_table.specs.declared.step.Step.{Step}
-use Rattle.context_bound.proofs.completeness.NextRecords.{AnAnswerLeadsOn, StepsNameWords}
+pub use Rattle.context_bound.proofs.completeness.NextRecords.{AnAnswerLeadsOn, StepsNameWords}
 use Rattle.context_bound.proofs.completeness.Words.{after_as_many, answered, last_of_all, names_as_many}
 use Rattle.litmus_step.proofs.NameLemmas.{some_answer}
 use Rattle.access_types.specs.declared.report.Report.{Report}

@@ -3,7 +3,8 @@ use Rattle.std.proofs.Common.{◌≡◌, ◌<◌, ◌≤◌, ◌++◌, ◌∙◌
 use Rattle.std.proofs.lemmas.List.{reverse-reverse}
 use Rattle.std.specs.Option.{option_to_list}
 use Rattle.access_types.specs.declared.report.Report.{Report}
-use Rattle.litmus_step.proofs.NameLemmas.{last_of_all, some_answer}
+use Rattle.context_bound.proofs.completeness.Words.{last_of_all}
+use Rattle.litmus_step.proofs.NameLemmas.{some_answer}
 use Rattle.litmus_step.proofs.StepLemmas.{AnAnswerLeadsOn, StepsNameWords, reversed}
 use Rattle.litmus_step.specs.Kept.{Added, IsNotedIn, accesses_kept, watches_kept}
 use Rattle.litmus_step.proofs.KeptLemmas.{more_reports}
