@@ -1,6 +1,6 @@
 -- What an execution shows of a pair of sites: accesses at both that are in progress at one moment, that race, that are
 -- marked or silenced, reports of the two, and takings between them.
-use Rattle.std.specs.Prelude.{◌≡◌, ◌⊎◌, ℕ, suc, Contains, IsTrue, List, None, Option, Some, slice_get}
+use Rattle.std.specs.Prelude.{◌≡◌, ◌⊎◌, ℕ, suc, Contains, IsTrue, List, None, Option, Some, reverse, slice_get}
 use Rattle.access_types.specs.Access.{Access}
 use Rattle.access_types.specs.History.{InProgress, content}
 use Rattle.access_types.specs.Marked.{CountedAsMarked, Silenced}
@@ -8,30 +8,23 @@ use Rattle.access_types.specs.Kind.{is_scoped}
 use Rattle.access_types.specs.Race.{Differ, TrueRace, bytes_of}
 use Rattle.access_types.specs.Ticket.{ticket_number}
 use Rattle.access_types.specs.declared.history.Happening.{Happening}
-use Rattle.access_types.specs.declared.history.Happening.TheVariants.{Read, Write}
+use Rattle.access_types.specs.declared.history.Happening.TheVariants.{Write}
 use Rattle.access_types.specs.declared.history.Moment.{Moment}
 use Rattle.access_types.specs.declared.report.Report.TheVariants as reports
 use Rattle.access_types.specs.declared.report.ValueChange.{ValueChange}
-use Rattle.executions.specs.execution.Answers.{AnswersTaking}
 use Rattle.executions.specs.execution.Execution.{Execution}
 use Rattle.executions.specs.execution.Observed.{OutcomeAt, history_of, outcomes_of}
 use Rattle.executions.specs.execution.Reports.{reports_of}
 use Rattle.executions.specs.execution.Run.{Run}
 use Rattle.litmus_semantics.specs.Layout.{memory_at_first}
 use Rattle.setup_access.specs.declared.outcome.Outcome.TheVariants as outcomes
-use Rattle.slot_table.specs.Meetings.{finders_told}
 use Rattle.slot_table.specs.declared.records.Record.{Record}
+use Rattle.slot_table.specs.declared.step.Answer.TheVariants.{Halves}
 use Rattle.slot_table.specs.declared.step.Step.TheVariants.{Name}
 use Rattle.value_filter.specs.declared.verdict.Reason.{Reason}
 use Rattle.races.specs.Pairs.{AreOf, IsAt}
 use Rattle.races.specs.declared.pair.SiteName.{SiteName}
 use Rattle.races.specs.declared.pair.SitePair.{SitePair}
-
--- a read or a write of these bytes
-abbrev pub IsOwnOperation : Access → Happening → Type 0
-IsOwnOperation a (Read bytes value) = bytes ≡ bytes_of a
-IsOwnOperation a (Write bytes value) = bytes ≡ bytes_of a
-IsOwnOperation a happening = ⊥
 
 -- what an execution of a run may show
 abbrev pub Fact : Run → Type 1
@@ -68,21 +61,16 @@ pub record AreTrueRace (run : Run) (pair : SitePair) (records : List Record) (li
   pub are : AreOf run pair first second
   pub race : TrueRace run.rules.plain_writes_atomic (history_of list) first second
 
--- the moment is a read or a write of an access's bytes by its task
-abbrev pub OfAccess : Access → Moment → Type 0
-OfAccess a moment = (moment.task ≡ a.task) × IsOwnOperation a moment.happening
-
--- An access at the site reads or writes its bytes. While an access is in progress its task does nothing but what the
--- access does; so it is not with a scoped assertion, which does nothing itself.
-pub record Operates (run : Run) (at : SiteName) (records : List Record) (list : Execution run records) : Type 0 where
+-- An access at the site writes its bytes. While an access is in progress its task does nothing but what the access does;
+-- so it is not with a scoped assertion, which does nothing itself.
+pub record Writes (run : Run) (at : SiteName) (records : List Record) (list : Execution run records) : Type 0 where
   pub access : Access
   pub is : IsAt run at access
   pub own : ¬ IsTrue (is_scoped access.kind)
   pub place : ℕ
+  pub value : ℕ
   pub goes : InProgress (history_of list) access place
-  pub moment : Moment
-  pub there : slice_get (history_of list) place ≡ Some moment
-  pub operates : OfAccess access moment
+  pub writes : slice_get (history_of list) place ≡ Some (record { task = access.task; happening = Write (bytes_of access) value })
 
 -- While both are in progress the other access changes, by a write, a bit of the mask in the bytes of the assertion.
 pub record ChangesBits {run : Run} {records : List Record} (list : Execution run records) (assertion other : Access) (mask : ℕ) : Type 0 where
@@ -96,16 +84,16 @@ pub record ChangesBits {run : Run} {records : List Record} (list : Execution run
       let memory = memory_at_first run.places run.program.variables in
       Differ (Some mask) (content memory (history_of list) place (bytes_of assertion)) (content memory (history_of list) (suc place) (bytes_of assertion))
 
--- The accesses at the site touch no memory in any execution, as with kcsan_check_write() and assertions. Such an access
--- stands for one that may change any bit.
-abbrev pub OperatesNever : Run → SiteName → Type 0
-OperatesNever run at = ¬ SomeShows run (Operates run at)
+-- The accesses at the site write in no execution, as with kcsan_check_write(). Such an access stands for one that may
+-- change any bit.
+abbrev pub WritesNever : Run → SiteName → Type 0
+WritesNever run at = ¬ SomeShows run (Writes run at)
 
 -- Where the access is an assertion with a mask, the other changes a bit of it. ASSERT_EXCLUSIVE_BITS() beside a write of
 -- other bits is no race.
 abbrev pub BreaksMask : {run : Run} {records : List Record} → Execution run records → Access → SiteName → Access → Option ℕ → Type 0
 BreaksMask list assertion at other None = Unit {0}
-BreaksMask {run = run} list assertion at other (Some mask) = ChangesBits list assertion other mask ⊎ OperatesNever run at
+BreaksMask {run = run} list assertion at other (Some mask) = ChangesBits list assertion other mask ⊎ WritesNever run at
 
 -- two accesses at the sites are a true race, and a mask of either is broken by the other
 pub record AreRace (run : Run) (pair : SitePair) (records : List Record) (list : Execution run records) : Type 0 where
@@ -133,23 +121,27 @@ pub record IsOriginIn (run : Run) (pair : SitePair) (records : List Record) (lis
   pub new : ℕ
   pub reported : Contains (reports_of list) (reports.Unknown (ticket_number access) old new)
 
--- a taking of a watchpoint of the one by the other was dropped, for this reason
+-- A watchpoint of the one was taken by the other, and its setter drops that for this reason: at the record that answers it
+-- the tickets of both.
 pub record IsDroppedIn (run : Run) (pair : SitePair) (reason : Reason) (records : List Record) (list : Execution run records) : Type 0 where
+  pub setter : Access
+  pub finder : Access
+  pub sides : AreSides run pair setter finder
   pub came : OutcomeAt
   pub told : Contains (outcomes_of list) came
   pub dropped : came.outcome ≡ outcomes.Dropped reason
-  pub answer : AnswersTaking list came
-  pub sides : AreSides run pair came.access answer.finder
+  pub latest : Record
+  pub there : slice_get (reverse records) came.at ≡ Some latest
+  pub heard : latest.answer ≡ Halves (ticket_number setter) (ticket_number finder)
 
--- a watchpoint of the one is taken by the other, who tells its ticket
+-- a watchpoint of the one is taken by the other, who tells its setter by whom
 pub record IsTakenIn (run : Run) (pair : SitePair) (records : List Record) (list : Execution run records) : Type 0 where
   pub setter : Access
   pub finder : Access
   pub sides : AreSides run pair setter finder
-  pub index : ℕ
-  pub number : ℕ
-  pub told : Contains (finders_told records)
-      (record { index = index; number = number; setter = ticket_number setter; finder = ticket_number finder })
+  pub came : OutcomeAt
+  pub told : Contains (outcomes_of list) came
+  pub taken : came.outcome ≡ outcomes.Told (record { setter = ticket_number setter; finder = ticket_number finder })
 
 -- a watchpoint is armed for an access at one of the sites, which names itself
 pub record IsArmedIn (run : Run) (pair : SitePair) (records : List Record) (list : Execution run records) : Type 0 where

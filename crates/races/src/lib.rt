@@ -9,4 +9,4 @@ pub mod verdict;
 pub use conflicts::conflicting_pairs;
 pub use pair::{SiteName, SitePair};
 pub use placed::{PlacedSite, placed_sites};
-pub use verdict::{HowMarked, Missed, NoRace, PairVerdict};
+pub use verdict::{HowMarked, MissedWhy, NoRaceWhy, PairFound, Verdict};

@@ -1,42 +1,59 @@
 //! What is said of a pair of sites.
 
+use crate::pair::SitePair;
+use prepared_program::step_schedule::Entry;
+
 /// The verdict on a pair of sites whose accesses conflict.
 #[derive(Clone, Copy, Debug, PartialEq, Eq)]
-pub enum PairVerdict {
+pub enum Verdict {
     /// KCSAN reports the two in some execution.
     Reported,
     /// They race in some execution, and KCSAN reports them in none.
-    Missed,
+    Missed(MissedWhy),
+    /// They race in some execution, and the search was stopped before KCSAN reported them.
+    Race(MissedWhy),
     /// They are in progress at one moment of some execution, and race in none.
-    NoRace,
+    NoRace(NoRaceWhy),
     /// They are never in progress at one moment.
     Apart,
+    /// The search was stopped before this was settled.
+    NotSettled,
 }
 
-/// Why accesses that are in progress at one moment are no race.
+/// Why accesses that are in progress at one moment are no race: each that some execution shows.
 #[derive(Clone, Copy, Debug, PartialEq, Eq)]
-pub enum NoRace {
+pub struct NoRaceWhy {
     /// Both count as marked.
-    BothMarked,
+    pub both_marked: bool,
     /// One of them is silenced.
-    Silenced,
+    pub silenced: bool,
     /// One is an assertion with a mask, and no write of the other changes a bit of it.
-    OtherBits,
+    pub other_bits: bool,
 }
 
-/// Why KCSAN doesn't report a race.
+/// Why KCSAN doesn't report a race: each that some execution shows.
 #[derive(Clone, Copy, Debug, PartialEq, Eq)]
-pub enum Missed {
+pub struct MissedWhy {
     /// A watchpoint of the one was taken by the other, and the value was the same.
-    SameValue,
+    pub same_value: bool,
     /// A watchpoint of the one was taken by the other, and no bit of the mask changed.
-    Masked,
+    pub masked: bool,
     /// One of them is named by a report of unknown origin.
-    Origin,
-    /// No watchpoint of the one is ever taken by the other.
-    NeverTaken,
-    /// No watchpoint is ever set up for either.
-    NeverArmed,
+    pub origin: bool,
+    /// None of these is, and no watchpoint of the one is ever taken by the other.
+    pub never_taken: bool,
+    /// None of these is, and no watchpoint is ever set up for either.
+    pub never_armed: bool,
+}
+
+/// What is said of a pair of sites whose accesses conflict.
+#[derive(Debug, Drop, PartialEq, Eq)]
+pub struct PairFound {
+    pub pair: SitePair,
+    pub verdict: Verdict,
+    /// A schedule that shows it, up to the step that does: the first of those with the fewest preemptions. None where
+    /// the accesses are never in progress at one moment.
+    pub schedule: Option<Vec<Entry>>,
 }
 
 /// How an access counts as marked.

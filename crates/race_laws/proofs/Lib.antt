@@ -1,9 +1,0 @@
-pub mod InProgress
-pub mod AtEnds
-pub mod Sampled
-pub mod AtPoints
-pub mod WritesAt
-pub mod WritesToo
-pub mod Masked
-pub mod Changes
-pub mod Races

@@ -1,0 +1,4 @@
+pub mod BareLemmas
+pub mod MissedLemmas
+pub mod ShownLemmas
+pub mod VerdictLemmas

@@ -1,0 +1,6 @@
+pub mod PairShown
+pub mod Judged
+pub mod Firsts
+pub mod Bare
+pub mod Watched
+pub mod Searched
