@@ -1,6 +1,7 @@
 -- Within which bounds the numbers of options are.
 use Rattle.std.specs.Prelude.{◌<◌, ◌≤◌, IfSome, length}
 use Rattle.cli.specs.declared.request.CheckRequest.{CheckRequest}
+use Rattle.cli.specs.declared.request.RacesRequest.{RacesRequest}
 use Rattle.cli.specs.declared.request.RunOptions.{RunOptions}
 use Rattle.cli.specs.declared.request.Request.{Request}
 use Rattle.cli.specs.declared.request.Request.TheVariants as requests
@@ -42,6 +43,15 @@ pub record KeepsSearchBounds (request : SearchRequest) : Type 0 where
   pub jobs_to : request.jobs ≤ 64
   pub options : KeepsBounds request.options
 
+-- one file at least, and from 1 to 1,000,000,000 states, or schedules, of each, and 1 to 1,000,000 seconds, if these
+-- are bounded
+pub record KeepsRacesBounds (request : RacesRequest) : Type 0 where
+  pub some : 0 < length request.files.items
+  pub limit : 1 ≤ request.limit
+  pub limit_to : request.limit ≤ 1000000000
+  pub seconds : IfSome request.seconds (λ seconds. (1 ≤ seconds) × (seconds ≤ 1000000))
+  pub options : KeepsBounds request.options
+
 -- one file at least, and from 3 to 1,024 page slots
 pub record KeepsCheckBounds (request : CheckRequest) : Type 0 where
   pub some : 0 < length request.files.items
@@ -53,6 +63,7 @@ abbrev pub MayBeAsked : Request → Type 0
 MayBeAsked (requests.Step request) = KeepsBounds request.options
 MayBeAsked (requests.Run request) = KeepsRunBounds request
 MayBeAsked (requests.Search request) = KeepsSearchBounds request
+MayBeAsked (requests.Races request) = KeepsRacesBounds request
 MayBeAsked (requests.Replay request) = Unit {0}
 MayBeAsked (requests.Show request) = Unit {0}
 MayBeAsked (requests.Check request) = KeepsCheckBounds request

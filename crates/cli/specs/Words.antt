@@ -14,6 +14,9 @@ use Rattle.clap.specs.declared.error.kind.ErrorKind.TheVariants as kinds
 use Rattle.clap.specs.declared.builder.value_parser.ValueParser.TheVariants as values
 use Rattle.cli.specs.Bounds.{MayBeAsked}
 use Rattle.cli.specs.declared.request.CheckRequest.{CheckRequest}
+use Rattle.cli.specs.declared.request.RacesFormat.{RacesFormat}
+use Rattle.cli.specs.declared.request.RacesFormat.TheVariants as race_formats
+use Rattle.cli.specs.declared.request.RacesRequest.{RacesRequest}
 use Rattle.cli.specs.declared.request.RunOptions.{RunOptions}
 use Rattle.cli.specs.declared.request.ReplayRequest.{ReplayRequest}
 use Rattle.cli.specs.declared.request.Request.{Request}
@@ -34,6 +37,10 @@ word_rule name = record (new_rule name) { required = true; action = Some Set }
 -- words of which there may be several, or none
 abbrev pub words_rule : Text → Rule
 words_rule name = record (new_rule name) { action = Some Append }
+
+-- words of which there is one at least
+abbrev pub some_words_rule : Text → Rule
+some_words_rule name = record (words_rule name) { required = true }
 
 -- an option that takes a text
 abbrev pub text_rule : Text → Rule
@@ -59,12 +66,10 @@ flag_rule name = record (new_rule name) { long = Some name; action = Some SetTru
 abbrev pub name_rule : Text → Bor (List (Bor Text)) → (text : Text) → Rule
 name_rule name names text = record (default_rule name text) { parser = Some (values.Names names) }
 
--- a command, also with the options that `step`, `run` and `search` all have; its `--word` takes one of these names
-abbrev pub with_options : App → Bor (List (Bor Text)) → App
-with_options app sizes =
-    with_rule (with_rule (with_rule (with_rule (with_rule (with_rule (with_rule (with_rule (with_rule app
-    (default_rule (codes "place") []))
-    (text_rule (codes "trace")))
+-- a command, also with the settings of a run but for the places; its `--word` takes one of these names
+abbrev pub with_settings : App → Bor (List (Bor Text)) → App
+with_settings app sizes =
+    with_rule (with_rule (with_rule (with_rule (with_rule (with_rule (with_rule app
     (number_rule (codes "slots") 3 1024 (codes "64")))
     (number_rule (codes "skip") 0 1000000 (codes "0")))
     (flag_rule (codes "randomize")))
@@ -72,6 +77,13 @@ with_options app sizes =
     (flag_rule (codes "strict")))
     (name_rule (codes "word") sizes (codes "64")))
     (number_rule (codes "turns") 1 1000000000 (codes "1000000"))
+
+-- a command, also with the options that `step`, `run` and `search` all have: the places, the trace and those settings
+abbrev pub with_options : App → Bor (List (Bor Text)) → App
+with_options app sizes =
+    with_settings (with_rule (with_rule app
+    (default_rule (codes "place") []))
+    (text_rule (codes "trace"))) sizes
 
 -- `step`, with its file, its schedule and those options
 abbrev pub step_app : Bor (List (Bor Text)) → App
@@ -104,6 +116,17 @@ search_app sizes =
     (free_number_rule (codes "seconds") 1 1000000))
     (number_rule (codes "jobs") 1 64 (codes "1"))) sizes
 
+-- `races`, with its files, after how many states or schedules and after how many seconds a search stops, how races are
+-- printed, the places and those settings; its `--format` takes one of these names
+abbrev pub races_app : (sizes formats : Bor (List (Bor Text))) → App
+races_app sizes formats =
+    with_settings (with_rule (with_rule (with_rule (with_rule (with_rule (new_app (codes "races"))
+    (some_words_rule (codes "FILE")))
+    (number_rule (codes "limit") 1 1000000000 (codes "1000000")))
+    (free_number_rule (codes "seconds") 1 1000000))
+    (name_rule (codes "format") formats (codes "text")))
+    (default_rule (codes "place") [])) sizes
+
 -- `replay`, with its file
 abbrev pub replay_app : App
 replay_app = with_rule (new_app (codes "replay")) (word_rule (codes "TRACE"))
@@ -129,11 +152,12 @@ check_app sizes =
     (name_rule (codes "word") sizes (codes "64"))
 
 -- the program, which has a version, and one of whose commands has to be named
-abbrev pub program_app : Bor (List (Bor Text)) → App
-program_app sizes =
-    with_subcommand (with_subcommand (with_subcommand (with_subcommand (with_subcommand (with_subcommand
+abbrev pub program_app : (sizes formats : Bor (List (Bor Text))) → App
+program_app sizes formats =
+    with_subcommand (with_subcommand (with_subcommand (with_subcommand (with_subcommand (with_subcommand (with_subcommand
     (on_top (λ shape. record shape { has_version = true; subcommand_required = true }) (new_app (codes "kcsan_litmus")))
-    (step_app sizes).top) (run_app sizes).top) (search_app sizes).top) replay_app.top) show_app.top) (check_app sizes).top
+    (step_app sizes).top) (run_app sizes).top) (search_app sizes).top) (races_app sizes formats).top) replay_app.top) show_app.top)
+    (check_app sizes).top
 
 -- an argument goes by a rule, and is of its own command alone
 pub record IsArg (rule : Rule) (arg : Arg) : Type 0 where
@@ -144,17 +168,26 @@ pub record IsArg (rule : Rule) (arg : Arg) : Type 0 where
 abbrev pub AreSizes : Bor (List (Bor Text)) → Type 0
 AreSizes sizes = map (λ size. size.now) sizes.now ≡ codes "64" ∷ codes "32" ∷ []
 
+-- these are the names that `--format` takes
+abbrev pub AreFormats : Bor (List (Bor Text)) → Type 0
+AreFormats formats = map (λ format. format.now) formats.now ≡ codes "text" ∷ codes "json" ∷ []
+
 -- a command is the whole program
 pub record IsProgram (command : Command) : Type 0 where
   pub sizes : Bor (List (Bor Text))
   pub sizes_are : AreSizes sizes
-  pub is : app_of command ≡ program_app sizes
+  pub formats : Bor (List (Bor Text))
+  pub formats_are : AreFormats formats
+  pub is : app_of command ≡ program_app sizes formats
 
--- the words call this command, by its name, with these values of its options and words; `--word` takes 64 or 32
+-- the words call this command, by its name, with these values of its options and words; `--word` takes 64 or
+-- 32, and `--format` text or json
 pub record IsCall (words : List Text) (name : Text) (values : List Row) : Type 0 where
   pub sizes : Bor (List (Bor Text))
   pub sizes_are : AreSizes sizes
-  pub called : subcommand_of (program_app sizes) words ≡ Some (name, values)
+  pub formats : Bor (List (Bor Text))
+  pub formats_are : AreFormats formats
+  pub called : subcommand_of (program_app sizes formats) words ≡ Some (name, values)
 
 -- the value of an option is a number of 64 bits, in decimal digits
 pub record IsNumber (values : List Row) (option : Text) (number : ℕ) : Type 0 where
@@ -189,10 +222,15 @@ pub record IsLayout (values : List Row) (option : Text) (layout : Layout) : Type
   pub given : first_of option values ≡ Some bits
   pub is : layout ≡ (if bytes_eq bits (codes "32") then layouts.W32 else layouts.W64)
 
--- the values ask for this of what `step`, `run` and `search` all have
-pub record AskOptions (values : List Row) (options : RunOptions) : Type 0 where
+-- how races are printed, by the value of an option: as text, but for json
+pub record IsFormat (values : List Row) (option : Text) (format : RacesFormat) : Type 0 where
+  pub name : Text
+  pub given : first_of option values ≡ Some name
+  pub is : format ≡ (if bytes_eq name (codes "json") then race_formats.Json else race_formats.Text)
+
+-- the values ask for this of what `step`, `run`, `search` and `races` all have
+pub record AskSettings (values : List Row) (options : RunOptions) : Type 0 where
   pub places : first_of (codes "place") values ≡ Some options.places.now
-  pub trace : first_of (codes "trace") values ≡ option_map (λ path. path.now) options.trace
   pub slots : IsNumber values (codes "slots") options.slots
   pub skip : IsNumber values (codes "skip") options.skip
   pub randomize : IsFlag values (codes "randomize") options.randomize
@@ -200,6 +238,11 @@ pub record AskOptions (values : List Row) (options : RunOptions) : Type 0 where
   pub strict : IsFlag values (codes "strict") options.strict
   pub layout : IsLayout values (codes "word") options.layout
   pub turns : IsNumber values (codes "turns") options.turns
+
+-- the values ask for this of what `step`, `run` and `search` all have
+pub record AskOptions (values : List Row) (options : RunOptions) : Type 0 where
+  pub settings : AskSettings values options
+  pub trace : first_of (codes "trace") values ≡ option_map (λ path. path.now) options.trace
 
 -- the values of `step` ask for this
 pub record AskStep (values : List Row) (request : StepRequest) : Type 0 where
@@ -231,6 +274,15 @@ pub record AskSearch (values : List Row) (request : SearchRequest) : Type 0 wher
   pub jobs : IsNumber values (codes "jobs") request.jobs
   pub options : AskOptions values request.options
 
+-- the values of `races` ask for this
+pub record AskRaces (values : List Row) (request : RacesRequest) : Type 0 where
+  pub files : map (λ file. file.now) request.files.items ≡ words_of (codes "FILE") values
+  pub limit : IsNumber values (codes "limit") request.limit
+  pub seconds : IsNumberIfGiven values (codes "seconds") request.seconds
+  pub format : IsFormat values (codes "format") request.format
+  pub settings : AskSettings values request.options
+  pub untraced : request.options.trace ≡ None
+
 -- the values of `replay` ask for this
 abbrev pub AskReplay : List Row → ReplayRequest → Type 0
 AskReplay values request = first_of (codes "TRACE") values ≡ Some request.trace.now
@@ -261,6 +313,7 @@ abbrev pub IsAskedBy : Text → List Row → Request → Type 0
 IsAskedBy name values (requests.Step request) = (name ≡ codes "step") × AskStep values request
 IsAskedBy name values (requests.Run request) = (name ≡ codes "run") × AskRun values request
 IsAskedBy name values (requests.Search request) = (name ≡ codes "search") × AskSearch values request
+IsAskedBy name values (requests.Races request) = (name ≡ codes "races") × AskRaces values request
 IsAskedBy name values (requests.Replay request) = (name ≡ codes "replay") × AskReplay values request
 IsAskedBy name values (requests.Show request) = (name ≡ codes "show") × AskShow values request
 IsAskedBy name values (requests.Check request) = (name ≡ codes "check") × AskCheck values request
@@ -282,7 +335,9 @@ pub record Ask (words : List Text) (request : Request) : Type 0 where
 pub record IsSaidOf (words : List Text) (kind : ErrorKind) : Type 0 where
   pub sizes : Bor (List (Bor Text))
   pub sizes_are : AreSizes sizes
-  pub said : IsAmong kind (fault_of (program_app sizes) words)
+  pub formats : Bor (List (Bor Text))
+  pub formats_are : AreFormats formats
+  pub said : IsAmong kind (fault_of (program_app sizes formats) words)
 
 -- the words ask for help
 abbrev pub AskForHelp : List Text → Type 0
@@ -297,8 +352,10 @@ AskForVersion words = IsSaidOf words kinds.DisplayVersion
 pub record AskForNothing (words : List Text) : Type 0 where
   pub sizes : Bor (List (Bor Text))
   pub sizes_are : AreSizes sizes
-  pub sound : fault_of (program_app sizes) words ≡ []
-  pub nothing : (request : Request) → MayBeAsked request → IsAskedOf (subcommand_of (program_app sizes) words) request → ⊥
+  pub formats : Bor (List (Bor Text))
+  pub formats_are : AreFormats formats
+  pub sound : fault_of (program_app sizes formats) words ≡ []
+  pub nothing : (request : Request) → MayBeAsked request → IsAskedOf (subcommand_of (program_app sizes formats) words) request → ⊥
 
 -- This may be said in place of a request: that memory ran out, what is to be said of the words, or, where nothing is
 -- and yet they ask for nothing, that a value doesn't do. So it is said of no words that name a command that none is

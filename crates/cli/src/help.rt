@@ -218,6 +218,56 @@ pub const SECONDS: &str =
 pub const SEARCH_JOBS: &str =
     "How many threads share the work, 1 to 64; with all or --seconds one works";
 
+/// What `races` does.
+pub const RACES: &str =
+    "Says which accesses of litmus programs race, whether KCSAN can report that, and why not";
+
+/// What follows the options of `races`.
+pub const AFTER_RACES: &str = "\
+    Two accesses of different tasks conflict where they have a byte in common, and one of them\n\
+    writes or asserts that no other access is there. Of each such pair a verdict says what the\n\
+    executions of the program show: that KCSAN reports the two; that they race, and KCSAN reports\n\
+    them in no execution; that they are in progress at one moment, and never race; or that they\n\
+    never are in progress at one moment. Reasons say why two never race or are never reported: that\n\
+    both count as marked, or that the value was the same wherever a watchpoint was hit, and so on.\n\
+    A verdict is on the program under these settings.\n\
+    \n\
+    For this all states of the program are visited, first without watchpoints, and then with them\n\
+    if schedules with few switches don't report each race. Where the search of a file is stopped at\n\
+    --limit or --seconds, pairs may have no verdict yet. While it goes on, a line on standard error\n\
+    counts, where that is a terminal. For example\n\
+    \n\
+    \x20\x20\x20\x20kcsan_litmus races race.litmus\n\
+    \n\
+    says that the two accesses of race.litmus race, with a schedule under which 'kcsan_litmus step'\n\
+    reports them, and\n\
+    \n\
+    \x20\x20\x20\x20kcsan_litmus races --format json first.litmus second.litmus\n\
+    \n\
+    writes one line of JSON for each file. As text, with several files each has its pairs under its\n\
+    name, and the last line counts the files. Files that are refused or can't be read are passed\n\
+    over, and standard error says so of each.\n\
+    \n\
+    'kcsan_litmus step --help' says what a schedule and a place list are.\n\
+    \n\
+    Exit status: 0 no race in any file; 2 a race, reported or missed; 64 usage, or a place list that\n\
+    doesn't read or doesn't suit a file; 65 a file is refused; 66 a file can't be read; 71 out of\n\
+    memory; 74 output can't be written; 75 no race was found, and the search was stopped at --limit\n\
+    or --seconds. Of several files the greatest status counts. From 64 to 74 standard error says\n\
+    why, and up to 71 nothing goes to standard output, but that with several files the pairs of\n\
+    those that read do where others are refused or can't be read.";
+
+/// What `--limit` of `races` says.
+pub const RACES_LIMIT: &str =
+    "After how many states, or schedules, each search of a file stops, 1 to 1000000000";
+
+/// What `--seconds` of `races` says.
+pub const RACES_SECONDS: &str =
+    "After how many seconds each search of a file stops, 1 to 1000000, if they are to be bounded";
+
+/// What `--format` says.
+pub const FORMAT: &str = "How the races are printed, as text or json";
+
 /// What `show` does.
 pub const SHOW: &str = "Draws a trace: which access was in progress when, who watched, who took it";
 

@@ -6,7 +6,7 @@ pub mod request;
 pub mod version;
 
 pub use request::{
-    CheckRequest, ReplayRequest, Request, RunOptions, RunRequest, SearchRequest, ShowRequest,
-    StepRequest, Switches, asked,
+    CheckRequest, RacesFormat, RacesRequest, ReplayRequest, Request, RunOptions, RunRequest,
+    SearchRequest, ShowRequest, StepRequest, Switches, asked,
 };
 pub use version::version_line;

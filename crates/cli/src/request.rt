@@ -1,11 +1,11 @@
 //! What the words ask for.
 
 ghost use Rattle.std.specs.Prelude.{◌≡◌, ◌≢◌, ◌↔◌, ◌≤◌, ◌<◌, ℕ, IfErr, IfOk, IfSome, IsSome, IsTrue, Option, Some, [], codes, length, map, true};
-ghost use Rattle.cli.specs.Bounds.{KeepsBounds, KeepsCheckBounds, KeepsRunBounds, KeepsSearchBounds, KeepsPreemptions, MayBeAsked};
-ghost use Rattle.cli.specs.Words.{AreSizes, Ask, AskCheck, AskOptions, AskRun, AskSearch, AskShow, AskStep, AskSwitches};
-ghost use Rattle.cli.specs.Words.{IsArg, IsAskedBy, IsAskedOf, IsGiven, IsLayout, IsNumber, IsNumberIfGiven, IsProgram, MayFail, words_of};
-ghost use Rattle.cli.specs.Words.{check_app, default_rule, flag_rule, free_number_rule, name_rule, number_rule, replay_app, run_app, search_app, show_app, step_app};
-ghost use Rattle.cli.specs.Words.{text_rule, with_options, word_rule, words_rule};
+ghost use Rattle.cli.specs.Bounds.{KeepsBounds, KeepsCheckBounds, KeepsPreemptions, KeepsRacesBounds, KeepsRunBounds, KeepsSearchBounds, MayBeAsked};
+ghost use Rattle.cli.specs.Words.{AreFormats, AreSizes, Ask, AskCheck, AskOptions, AskRaces, AskRun, AskSearch, AskSettings, AskShow, AskStep, AskSwitches};
+ghost use Rattle.cli.specs.Words.{IsArg, IsAskedBy, IsAskedOf, IsFormat, IsGiven, IsLayout, IsNumber, IsNumberIfGiven, IsProgram, MayFail, words_of};
+ghost use Rattle.cli.specs.Words.{check_app, default_rule, flag_rule, free_number_rule, name_rule, number_rule, races_app, replay_app, run_app, search_app, show_app, step_app};
+ghost use Rattle.cli.specs.Words.{some_words_rule, text_rule, with_options, with_settings, word_rule, words_rule};
 ghost use Rattle.clap.specs.Words.{App, Rule, app_of, first_of, found_of, kind_of, new_app, rows_of, subcommand_rows_of, with_rule, with_subcommand};
 
 use crate::help;
@@ -47,6 +47,9 @@ const TURNS: (u64, u64) = (1, 1_000_000_000);
 /// How many bits a watch word can have.
 static BITS: [&str; 2] = ["64", "32"];
 
+/// How races can be printed.
+static FORMATS: [&str; 2] = ["text", "json"];
+
 /// What the program is asked to do.
 #[derive(Debug, Drop, PartialEq, Eq)]
 pub enum Request<'a> {
@@ -56,6 +59,8 @@ pub enum Request<'a> {
     Run(RunRequest<'a>),
     /// To step the program of a litmus file under all schedules, or those with few preemptions.
     Search(SearchRequest<'a>),
+    /// To say which accesses of litmus programs race, and whether KCSAN can report that.
+    Races(RacesRequest<'a>),
     /// To check a trace.
     Replay(ReplayRequest<'a>),
     /// To draw a trace.
@@ -142,6 +147,30 @@ pub struct SearchRequest<'a> {
     pub options: RunOptions<'a>,
 }
 
+/// How races are printed.
+#[derive(Clone, Copy, Debug, PartialEq, Eq)]
+pub enum RacesFormat {
+    /// As text.
+    Text,
+    /// As JSON.
+    Json,
+}
+
+/// What `races` is asked to do.
+#[derive(Debug, Drop, PartialEq, Eq)]
+pub struct RacesRequest<'a> {
+    /// The names of the litmus files: one at least.
+    pub files: Vec<&'a str>,
+    /// After how many states, or schedules, a search of a file stops, though others remain.
+    pub limit: u64,
+    /// After how many seconds it stops, if these are bounded.
+    pub seconds: Option<u64>,
+    /// How races are printed.
+    pub format: RacesFormat,
+    /// What `step` could be given as well, without a trace.
+    pub options: RunOptions<'a>,
+}
+
 /// What `check` is asked to do.
 #[derive(Debug, Drop, PartialEq, Eq)]
 pub struct CheckRequest<'a> {
@@ -159,7 +188,7 @@ pub struct CheckRequest<'a> {
     pub layout: Layout,
 }
 
-/// The options that `step`, `run` and `search` all have.
+/// The options that `step`, `run` and `search` all have, and `races` all but the trace.
 #[derive(Clone, Copy, Debug, PartialEq, Eq)]
 pub struct RunOptions<'a> {
     /// The text of the place list.
@@ -234,17 +263,19 @@ fn request_of<'a>(
 {
     match matches.subcommand() {
         Some(("check", values)) => check_asked(alloc, values),
+        Some(("races", values)) => races_asked(alloc, values),
         Some((name, values)) => Ok(run_or_trace(name, values)),
         None => Ok(None),
     }
 }
 
-/// What a command of this name is asked to do, by its values: one that runs a litmus file or reads a trace.
+/// What a command of this name is asked to do, by its values: one that runs a litmus file or reads a trace. `races` and
+/// `check` are not among these.
 fn run_or_trace<'a>(name: &str, values: &ArgMatches<'a>) -> Option<Request<'a>>
     ensures bounds { IfSome result MayBeAsked }
     ensures asked { IfSome result (IsAskedBy name.now (rows_of (found_of values.now))) }
     ensures complete { (request : Request) → MayBeAsked request → IsAskedBy name.now (rows_of (found_of values.now)) request
-        → name.now ≢ codes "check" → IsSome result }
+        → name.now ≢ codes "check" → name.now ≢ codes "races" → IsSome result }
 {
     match name {
         "step" => Some(Request::Step(step_request(values)?)),
@@ -291,6 +322,38 @@ fn check_request<'a>(files: Vec<&'a str>, check: &ArgMatches<'a>) -> Option<Requ
         places: check.get_str("place")?,
         slots: number(check, "slots", SLOTS)? as usize,
         layout: layout(check)?,
+    }))
+}
+
+/// What `races` is asked to do, by the values of its options.
+fn races_asked<'a>(alloc: Global, races: &ArgMatches<'a>) -> Result<Option<Request<'a>>, AllocError>
+    ensures bounds { IfOk result (λ request. IfSome request MayBeAsked) }
+    ensures asked { IfOk result (λ request. IfSome request (IsAskedBy (codes "races") (rows_of (found_of races.now)))) }
+    ensures complete { (request : Request) → MayBeAsked request
+        → IsAskedBy (codes "races") (rows_of (found_of races.now)) request → IfOk result IsSome }
+{
+    let files = words_given(alloc, races, "FILE")?;
+    if files.is_empty() {
+        return Ok(None);
+    }
+    Ok(races_request(files, races))
+}
+
+/// What `races` is asked to do with these files, by the values of its options.
+fn races_request<'a>(files: Vec<&'a str>, races: &ArgMatches<'a>) -> Option<Request<'a>>
+    requires some { 0 < length files.items }
+    requires files { map (λ file. file.now) files.items ≡ words_of (codes "FILE") (rows_of (found_of races.now)) }
+    ensures bounds { IfSome result MayBeAsked }
+    ensures asked { IfSome result (IsAskedBy (codes "races") (rows_of (found_of races.now))) }
+    ensures complete { (request : RacesRequest) → KeepsRacesBounds request → AskRaces (rows_of (found_of races.now)) request
+        → IsSome result }
+{
+    Some(Request::Races(RacesRequest {
+        files,
+        limit: number(races, "limit", LIMIT)?,
+        seconds: number_if_given(races, "seconds", SECONDS)?,
+        format: format_asked(races)?,
+        options: settings(races, None)?,
     }))
 }
 
@@ -406,9 +469,20 @@ fn options<'a>(matches: &ArgMatches<'a>) -> Option<RunOptions<'a>>
     ensures complete { (options : RunOptions) → KeepsBounds options → AskOptions (rows_of (found_of matches.now)) options
         → IsSome result }
 {
+    settings(matches, matches.get_str("trace"))
+}
+
+/// The options that these and `races` all have, by their values, and this trace.
+fn settings<'a>(matches: &ArgMatches<'a>, trace: Option<&'a str>) -> Option<RunOptions<'a>>
+    ensures bounds { IfSome result KeepsBounds }
+    ensures asked { IfSome result (AskSettings (rows_of (found_of matches.now))) }
+    ensures trace { IfSome result (λ options. options.trace ≡ trace.entry) }
+    ensures complete { (options : RunOptions) → KeepsBounds options → AskSettings (rows_of (found_of matches.now)) options
+        → IsSome result }
+{
     Some(RunOptions {
         places: matches.get_str("place")?,
-        trace: matches.get_str("trace"),
+        trace,
         slots: number(matches, "slots", SLOTS)? as usize,
         skip: number(matches, "skip", SKIP)?,
         randomize: matches.get_flag("randomize"),
@@ -460,6 +534,19 @@ fn layout(matches: &ArgMatches<'_>) -> Option<Layout>
     })
 }
 
+/// How races are to be printed.
+fn format_asked(matches: &ArgMatches<'_>) -> Option<RacesFormat>
+    ensures asked { IfSome result (IsFormat (rows_of (found_of matches.now)) (codes "format")) }
+    ensures complete { (format : RacesFormat) → IsFormat (rows_of (found_of matches.now)) (codes "format") format → IsSome result }
+{
+    let name = matches.get_str("format")?;
+    Some(if name == "json" {
+        RacesFormat::Json
+    } else {
+        RacesFormat::Text
+    })
+}
+
 /// The words that the program knows.
 fn program<'a>(alloc: Global) -> Result<Command<'a>, AllocError>
     ensures { IfOk result IsProgram }
@@ -470,6 +557,8 @@ fn program<'a>(alloc: Global) -> Result<Command<'a>, AllocError>
     let command = with_subcommand(command, step_command(alloc, sizes));
     let command = with_subcommand(command, run_command(alloc, sizes));
     let command = with_subcommand(command, search_command(alloc, sizes));
+    let races = races_command(alloc, sizes, FORMATS.as_slice());
+    let command = with_subcommand(command, races);
     let command = with_subcommand(command, replay_command(alloc));
     let command = with_subcommand(command, show_command(alloc));
     with_subcommand(command, check_command(alloc, sizes))
@@ -549,6 +638,16 @@ fn files<'a>(alloc: Global, name: &'a str, help: &'a str) -> Arg<'a>
     Arg::new(alloc, name).help(help).action(ArgAction::Append)
 }
 
+/// The files that a command is about, of which there is one at least.
+fn some_files<'a>(alloc: Global, name: &'a str, help: &'a str) -> Arg<'a>
+    ensures { IsArg (some_words_rule name.entry.now) result }
+{
+    Arg::new(alloc, name)
+        .help(help)
+        .required(true)
+        .action(ArgAction::Append)
+}
+
 /// The file that a command is about.
 fn file<'a>(alloc: Global, name: &'a str, help: &'a str) -> Arg<'a>
     ensures { IsArg (word_rule name.entry.now) result }
@@ -609,6 +708,25 @@ fn search_command<'a>(
     with_shared(alloc, command, sizes)
 }
 
+/// `races`, with its files and its options; its `--word` takes one of these sizes, its `--format` one of these formats.
+fn races_command<'a>(
+    alloc: Global,
+    sizes: &'static [&'static str],
+    formats: &'static [&'static str],
+) -> Result<Command<'a>, AllocError>
+    ensures { IfOk result (λ command. app_of command ≡ races_app sizes.entry formats.entry) }
+{
+    let command = Ok(named(alloc, "races", help::RACES, help::AFTER_RACES));
+    let command = with_argument(command, some_files(alloc, "FILE", help::FILES));
+    let limit = number_option(alloc, "limit", help::RACES_LIMIT, LIMIT, "1000000");
+    let command = with_argument(command, limit);
+    let seconds = free_number_option(alloc, "seconds", help::RACES_SECONDS, SECONDS);
+    let command = with_argument(command, seconds);
+    let command = with_argument(command, format_option(alloc, formats));
+    let command = with_argument(command, list_option(alloc, "place", "LIST", help::PLACE));
+    with_settings(alloc, command, sizes)
+}
+
 /// A command with the options that `step`, `run` and `search` all have. Want of memory is passed on.
 fn with_shared<'a>(
     alloc: Global,
@@ -620,6 +738,18 @@ fn with_shared<'a>(
 {
     let command = with_argument(command, list_option(alloc, "place", "LIST", help::PLACE));
     let command = with_argument(command, text_option(alloc, "trace", "PATH", help::TRACE));
+    with_settings(alloc, command, sizes)
+}
+
+/// A command with those of these options that `races` has behind its own. Want of memory is passed on.
+fn with_settings<'a>(
+    alloc: Global,
+    command: Result<Command<'a>, AllocError>,
+    sizes: &'static [&'static str],
+) -> Result<Command<'a>, AllocError>
+    ensures { (app : App) → IfOk command.entry (λ before. app_of before ≡ app)
+        → IfOk result (λ more. app_of more ≡ with_settings app sizes.entry) }
+{
     let slots = number_option(alloc, "slots", help::SLOTS, SLOTS, "64");
     let command = with_argument(command, slots);
     let skip = number_option(alloc, "skip", help::SKIP, SKIP, "0");
@@ -671,6 +801,15 @@ fn word_option(alloc: Global, sizes: &'static [&'static str]) -> Arg<'static>
     text_option(alloc, "word", "BITS", help::WORD)
         .value_parser(sizes)
         .default_value("64")
+}
+
+/// `--format`, which takes one of these names.
+fn format_option(alloc: Global, formats: &'static [&'static str]) -> Arg<'static>
+    ensures { IsArg (name_rule (codes "format") formats.entry (codes "text")) result }
+{
+    text_option(alloc, "format", "FORMAT", help::FORMAT)
+        .value_parser(formats)
+        .default_value("text")
 }
 
 /// An option that takes a number within bounds.

@@ -1,17 +1,20 @@
 -- What a status says once a command has ended.
 use Rattle.std.proofs.Common.{◌≡◌, ◌≤◌, ◌⊎◌, ℕ, List, arith, false, inl, inr, refl, subst, true}
-use Rattle.cli.specs.Bounds.{KeepsCheckBounds}
+use Rattle.cli.specs.Bounds.{KeepsCheckBounds, KeepsRacesBounds}
 use Rattle.cli.specs.declared.request.CheckRequest.{CheckRequest}
+use Rattle.cli.specs.declared.request.RacesRequest.{RacesRequest}
 use Rattle.cli.specs.declared.request.Request.{Request}
-use Rattle.cli.specs.declared.request.Request.TheVariants.{Check}
+use Rattle.cli.specs.declared.request.Request.TheVariants.{Check, Races}
 use Rattle.litmus_command.proofs.EndLemmas.{check_reads, ends_otherwise, ends_unless_several, on_left, on_right}
-use Rattle.litmus_command.proofs.OverwriteLemmas.{kept_ends, kept_files, kept_otherwise, kept_reads, no_check, same_path}
+use Rattle.litmus_command.proofs.OverwriteLemmas.{kept_ends, kept_files, kept_otherwise, kept_reads, no_check, no_races, same_path}
 use Rattle.litmus_command.proofs.ResultLemmas.{failures_are_known, known_above, known_below, known_so, tells_so}
+use Rattle.litmus_command.proofs.RacesEndLemmas.{races_end_unless_several, races_read}
 use Rattle.litmus_command.specs.Check.{CheckEnds}
 use Rattle.litmus_command.specs.Desks.{DeskState, once_told}
 use Rattle.litmus_command.specs.Command.{IsDone, IsStopped, OutputState, state_in, status_of}
 use Rattle.litmus_command.specs.Ends.{Fails, IsCarriedOut, IsDoneWith, IsNoCheck, Succeeds}
 use Rattle.litmus_command.specs.Overwrite.{IsKept, Overwrites}
+use Rattle.litmus_command.specs.Races.{RacesEnds}
 use Rattle.litmus_command.specs.declared.command.Failure.{Failure}
 use Rattle.litmus_command.specs.declared.complaint.Complaint.TheVariants as complaint
 
@@ -62,6 +65,7 @@ carried_well request status before after plain well =
       misused = λ is. absurd (no (omega (arith, is)) (omega (arith, is)));
       unread = λ is. absurd (no (omega (arith, is)) (omega (arith, is)));
       checks = plain.checks status before after;
+      races = plain.races status before after;
       keeps = λ path over. absurd (plain.keeps path over);
       reads = inr (record { fails = λ is. absurd (no (omega (arith, is)) (omega (arith, is))); works = λ _. well.faults });
       tells = inr (record { quiet = λ _. well.told; stopped = λ _. well.told; told = λ from to. absurd (no from to) });
@@ -90,6 +94,7 @@ carried_failure request failure before after plain fails =
       misused = fails.misused;
       unread = fails.unread;
       checks = plain.checks status before _;
+      races = plain.races status before _;
       keeps = λ path over. absurd (plain.keeps path over);
       reads = inr fails.reads;
       tells = inr (tells_so failure status before.told after.told known refl fails.told);
@@ -118,6 +123,7 @@ carried_kept request path status before after over kept =
       misused = λ is. inr (inr ((path, over), kept_files path status before after kept));
       unread = λ is. absurd (no 66 is (λ no. omega (arith, no)) (λ no. omega (arith, no)));
       checks = no_check request path status before after over;
+      races = no_races request path status before after over;
       keeps = λ other too. subst (λ (p : List ℕ). IsKept p status before after) (same_path request path other over too) kept;
       reads = inr (kept_reads path status before after kept);
       tells = inl (inr (path, over));
@@ -140,6 +146,30 @@ carried_check request status before after bounds ends =
       misused = λ is. inr (inl (before.told, after.told, before.faults, after.faults, at 64 is));
       unread = check_reads request status before after ends;
       checks = ends;
+      races = tt;
+      keeps = λ path over. absurd over;
+      reads = on_right (λ shown. shown.reads) alone;
+      tells = on_left inl (on_right (λ shown. shown.tells) alone);
+      ends = on_right (λ shown. shown.ends) alone;
+    }
+
+-- the races of files were looked for
+pub carried_races : (request : RacesRequest) (status : ℕ) (before after : DeskState) → KeepsRacesBounds request
+    → RacesEnds request status before after → IsCarriedOut (Races request) status before after
+carried_races request status before after bounds ends =
+    let alone = races_end_unless_several request status before after bounds ends in
+    let at : (other : ℕ) → status ≡ other → RacesEnds request other before after =
+    λ other is. subst (λ (n : ℕ). RacesEnds request n before after) is ends in
+    record {
+      reported = λ is. (before.told, after.told, before.faults, after.faults, at 2 is);
+      unreported = λ is. (before.told, after.told, before.faults, after.faults, at 0 is);
+      stopped = λ is. (before.told, after.told, before.faults, after.faults, at 75 is);
+      unwritten = λ is. (before.told, after.told, before.faults, after.faults, at 74 is);
+      refused = λ of. (before.told, after.told, before.faults, after.faults, ends);
+      misused = λ is. inr (inl (before.told, after.told, before.faults, after.faults, at 64 is));
+      unread = races_read request status before after ends;
+      checks = tt;
+      races = ends;
       keeps = λ path over. absurd over;
       reads = on_right (λ shown. shown.reads) alone;
       tells = on_left inl (on_right (λ shown. shown.tells) alone);

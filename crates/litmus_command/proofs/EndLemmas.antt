@@ -42,7 +42,7 @@ refused_status (parse.Limit limit) other = refl
 refused_status parse.NotAscii other = refl
 
 -- a status of a complaint about a file or a list, or of want of memory
-abbrev IsTold : ℕ → Type 0
+abbrev pub IsTold : ℕ → Type 0
 IsTold status = (status ≡ 64) ⊎ ((status ≡ 65) ⊎ ((status ≡ 66) ⊎ (status ≡ 71)))
 
 told_above : (status : ℕ) → IsTold status → (64 ≤ status) × (status ≤ 71)
@@ -59,7 +59,7 @@ told_known status (inr (inr (inl is))) = inr (inr (inl (omega (arith, is), omega
 told_known status (inr (inr (inr is))) = inr (inr (inr (inr (inl is))))
 
 -- an end with a complaint, and nothing printed
-ends_told : (status : ℕ) (before after : DeskState) (said : Complaint) → IsTold status → complaint_status_of said ≡ status
+pub ends_told : (status : ℕ) (before after : DeskState) (said : Complaint) → IsTold status → complaint_status_of said ≡ status
     → IsOfNoOverwrite said → after.told ≡ heard before.told said → Reads status before.faults after.faults → after.written ≡ before.written
     → OnlyRead before.files after.files → Ends status before after
 ends_told status before after said few is plain told reads written files =
@@ -80,11 +80,11 @@ ends_told status before after said few is plain told reads written files =
       };
     }
 
-reads_none : (status before after : ℕ) → (status ≡ 66 → ⊥) → after ≡ before → Reads status before after
+pub reads_none : (status before after : ℕ) → (status ≡ 66 → ⊥) → after ≡ before → Reads status before after
 reads_none status before after other same = record { fails = λ is. absurd (other is); works = λ _. same }
 
 -- an end where standard output failed
-ends_cut : (status : ℕ) (before after : DeskState) (said : Complaint) → status ≡ 74 → complaint_status_of said ≡ 74
+pub ends_cut : (status : ℕ) (before after : DeskState) (said : Complaint) → status ≡ 74 → complaint_status_of said ≡ 74
     → IsOfNoOverwrite said → after.told ≡ heard before.told said → after.faults ≡ before.faults → CountsFailure before.failures after.failures → Ends status before after
 ends_cut status before after said is said_is plain told faults failed = record {
   tells = record {
@@ -124,7 +124,7 @@ lost_alone true name before after one told = absurd (cc)
 lost_alone false name before after one told = told
 
 -- over one file no more reads failed
-faults_alone : (several : Bool) (middle stopped : DeskState) → several ≡ false
+pub faults_alone : (several : Bool) (middle stopped : DeskState) → several ≡ false
     → (stopped.faults ≡ middle.faults) ⊎ ((several ≡ true) × CountsFailure middle.faults stopped.faults) → stopped.faults ≡ middle.faults
 faults_alone several middle stopped one (inl same) = same
 faults_alone several middle stopped one (inr many) = absurd (let is = many.0 in let no : false ≡ true = sym one ∙ is in cc)
@@ -138,7 +138,7 @@ fault_alone : (IsFault : List ℕ → Type 0) (error : Failure) (said : Complain
 fault_alone IsFault error said at_fault = subst IsOfNoOverwrite (sym at_fault.said_is) tt
 
 -- the end of the check of one file that has no tables: that was told, and nothing is printed
-told_one : (output : List ℕ) (status ends : ℕ) (before middle after : DeskState) (said : Complaint) → IsTold status
+pub told_one : (output : List ℕ) (status ends : ℕ) (before middle after : DeskState) (said : Complaint) → IsTold status
     → complaint_status_of said ≡ status → IsOfNoOverwrite said → output ≡ [] → middle.told ≡ heard before.told said → Reads status before.faults middle.faults
     → middle.written ≡ before.written → OnlyRead before.files middle.files → IsPrinted output status ends middle after → Ends ends before after
 told_one output status ends before middle after said few is plain empty told reads written files (inl done) =
@@ -152,11 +152,11 @@ told_one output status ends before middle after said few is plain empty told rea
     absurd (let some = fails.some in let none : length output ≡ 0 = ap (λ (text : List ℕ). length text) empty in omega (arith, some, none))
 
 -- without several files there is no last line
-no_last_line : (several : Bool) (line : List ℕ) → several ≡ false → (if several then line else []) ≡ []
+pub no_last_line : (several : Bool) (line : List ℕ) → several ≡ false → (if several then line else []) ≡ []
 no_last_line several line one = ap (λ (b : Bool). if b then line else []) one
 
 -- the end of the check of one file, of which this was found
-one_found : (files : Files) (settings : Settings) (found : Diagnosis) (output : List ℕ) (status ends : ℕ) (before middle after : DeskState)
+pub one_found : (files : Files) (settings : Settings) (found : Diagnosis) (output : List ℕ) (status ends : ℕ) (before middle after : DeskState)
     → files.several ≡ false → IsFound settings found → IsGoneOver files found before middle → output ≡ output_of files (found ∷ [])
     → status ≡ greatest_status (found ∷ []) → IsPrinted output status ends middle after → Ends ends before after
 one_found files settings (Gave name text (checks.Reads tables printed)) output status ends before middle after one is_found gone output_is status_is (inl done) =

@@ -2,6 +2,8 @@ mod AskedLemmas
 mod ResultLemmas
 mod CheckLemmas
 mod EndLemmas
+mod RacesLemmas
+mod RacesEndLemmas
 mod OverwriteLemmas
 mod CommandLemmas
 mod CarryLemmas

@@ -9,6 +9,7 @@ use Rattle.clap.specs.declared.error.kind.ErrorKind.TheVariants as kinds
 use Rattle.cli.specs.Version.{version_line}
 use Rattle.cli.specs.Words.{Ask, AskForHelp, AskForVersion, MayFail}
 use Rattle.cli.specs.declared.request.CheckRequest.{CheckRequest}
+use Rattle.cli.specs.declared.request.RacesRequest.{RacesRequest}
 use Rattle.cli.specs.declared.request.ReplayRequest.{ReplayRequest}
 use Rattle.cli.specs.declared.request.Request.{Request}
 use Rattle.cli.specs.declared.request.Request.TheVariants as requests
@@ -25,13 +26,9 @@ use Rattle.litmus_syntax.specs.Tree as tree
 use Rattle.prepared_program.specs.place_list.Spelling as places
 use Rattle.report_text.specs.Faults.{size_limit}
 use Rattle.report_text.specs.Sink.{CountsFailure, HoldsBeginning, appended}
-use Rattle.litmus_syntax.specs.declared.error.ParseError.{ParseError}
-use Rattle.litmus_syntax.specs.declared.error.ParseError.TheVariants as parse
 use Rattle.run_stats.specs.Errors as tally
 use Rattle.run_stats.specs.Output as tally_output
 use Rattle.run_stats.specs.declared.times.Times.{Times}
-use Rattle.prepared_program.specs.declared.program_sites.error.RunError.{RunError}
-use Rattle.prepared_program.specs.declared.program_sites.error.RunError.TheVariants as run
 use Rattle.prepared_program.specs.step_schedule.Spelling as schedules
 use Rattle.prepared_program.specs.declared.step_schedule.schedule.Entry.{Entry}
 use Rattle.prepared_program.specs.declared.program_sites.settings.Settings.{Settings}
@@ -42,7 +39,6 @@ use Rattle.search_run.specs.Texts as search
 use Rattle.search_run.specs.declared.wanted.Wanted.{Wanted}
 use Rattle.trace_replay.specs.Answer as answers
 use Rattle.trace_replay.specs.declared.accepted.TraceError.{TraceError}
-use Rattle.trace_replay.specs.declared.accepted.TraceError.TheVariants as trace
 use Rattle.diagnostics.specs.text_check.Calls.{calls_text}
 use Rattle.litmus_command.specs.Check.{CheckAsksFor, CheckEnds, IsOutOfMemory, IsSeveral}
 use Rattle.litmus_command.specs.Desks.{DeskState}
@@ -52,12 +48,14 @@ use Rattle.litmus_command.specs.Replay.{IsLineOf}
 pub use Rattle.litmus_command.specs.Lists.{SpellsNoPlaces, SpellsNoSchedule}
 use Rattle.litmus_command.specs.Overwrite.{Overwrites}
 pub use Rattle.litmus_command.specs.Settings.{AskSettings, settings_of}
+use Rattle.litmus_command.specs.Races.{AreSeveral, RacesEnds}
 use Rattle.litmus_command.specs.Show.{IsDrawn}
+pub use Rattle.litmus_command.specs.Statuses.{complaint_status_of, engine_status_of, picture_status_of, run_status_of, status_of}
+pub use Rattle.litmus_command.specs.Statuses.{text_status_of, trace_status_of}
 use Rattle.picture_text.specs.declared.cells.Style.{Style}
 use Rattle.picture_text.specs.declared.cells.Style.TheVariants.{Ascii}
 use Rattle.timeline.specs.picture.Drawn.{IsUndrawn}
 use Rattle.timeline.specs.declared.picture.error.PictureError.{PictureError}
-use Rattle.timeline.specs.declared.picture.error.PictureError.TheVariants as picture
 use Rattle.litmus_command.specs.StandardError.{heard}
 use Rattle.litmus_command.specs.declared.command.Failure.{Failure}
 use Rattle.litmus_command.specs.declared.command.Failure.TheVariants as failure
@@ -66,59 +64,6 @@ use Rattle.litmus_command.specs.declared.complaint.Complaint.TheVariants as comp
 use Rattle.litmus_command.specs.declared.desk.ReadFault.{ReadFault}
 use Rattle.litmus_command.specs.declared.desk.ReadFault.TheVariants as fault
 use Rattle.run_output.specs.declared.error.EngineError.{EngineError}
-use Rattle.run_output.specs.declared.error.EngineError.TheVariants as engine
-
--- the status for a litmus text that is refused
-abbrev pub text_status_of : ParseError → ℕ
-text_status_of parse.OutOfMemory = 71
-text_status_of (parse.Syntax line) = 65
-text_status_of (parse.Unsupported line) = 65
-text_status_of (parse.Limit limit) = 65
-text_status_of parse.NotAscii = 65
-
--- the status for a program that can't be run, or whose run doesn't come to its end
-abbrev pub run_status_of : RunError → ℕ
-run_status_of run.BadSlots = 64
-run_status_of run.BadPlace = 64
-run_status_of run.OutOfMemory = 71
-run_status_of (run.Stuck task) = 70
-run_status_of run.BadSchedule = 64
-run_status_of run.NoThread = 71
-
--- the status for a file that has no output
-abbrev pub engine_status_of : EngineError → ℕ
-engine_status_of (engine.Text error) = text_status_of error
-engine_status_of (engine.Run error) = run_status_of error
-engine_status_of engine.SinkFailed = 74
-
--- the status for a trace that is not accepted
-abbrev pub trace_status_of : TraceError → ℕ
-trace_status_of trace.OutOfMemory = 71
-trace_status_of (trace.BadTrace line) = 65
-trace_status_of (trace.FalseReport line) = 65
-
--- the status for a trace that is not drawn
-abbrev pub picture_status_of : PictureError → ℕ
-picture_status_of (picture.Trace error) = trace_status_of error
-picture_status_of picture.TooLong = 65
-
--- the status for a failure
-abbrev pub status_of : Failure → ℕ
-status_of failure.BadSchedule = 64
-status_of failure.BadPlace = 64
-status_of failure.CannotRead = 66
-status_of failure.CannotWrite = 74
-status_of failure.OutOfMemory = 71
-status_of (failure.Engine error) = engine_status_of error
-status_of (failure.Trace error) = trace_status_of error
-status_of (failure.Picture error) = picture_status_of error
-
--- the status that a complaint comes with
-abbrev pub complaint_status_of : Complaint → ℕ
-complaint_status_of (complaint.Usage error) = 64
-complaint_status_of (complaint.Failure error) = status_of error
-complaint_status_of (complaint.Explained error lines) = status_of error
-complaint_status_of (complaint.Overwrites lines) = 64
 
 -- what a file that gives no bytes means
 abbrev pub read_failure : ReadFault → Failure
@@ -341,6 +286,12 @@ CheckIsEnded request status before after = (told later : Option (List Complaint)
     (record { written = before.written; failures = before.failures; files = before.files; told = told; faults = faults })
     (record { written = after.written; failures = after.failures; files = after.files; told = later; faults = more })
 
+-- so it is of `races`
+abbrev pub RacesAreEnded : RacesRequest → (status : ℕ) → OutputState → OutputState → Type 0
+RacesAreEnded request status before after = (told later : Option (List Complaint)) × (faults more : ℕ) × RacesEnds request status
+    (record { written = before.written; failures = before.failures; files = before.files; told = told; faults = faults })
+    (record { written = after.written; failures = after.failures; files = after.files; told = later; faults = more })
+
 -- the calls that are read were written, and no file was touched
 pub record CallsAreGiven (before after : OutputState) : Type 0 where
   pub written : after.written ≡ appended before.written calls_text
@@ -351,13 +302,16 @@ pub record CallsAreCut (before after : OutputState) : Type 0 where
   pub begun : HoldsBeginning calls_text before.written after.written
   pub files : after.files ≡ before.files
 
--- what is asked was done, with a report or without one; without one in none of all lists, where it is a search
+-- what is asked was done, with a report or without one; without one in none of all lists, where it is a search; with a
+-- race in some file or in none, where races are asked for
 abbrev pub IsDone : Request → Bool → OutputState → OutputState → Type 0
 IsDone (requests.Step request) raced before after =
     FileIsRun request.file.now file_bytes (trace_path request.options) (IsLeft request) raced before after
 IsDone (requests.Run request) raced before after = FileIsRun request.file.now file_bytes (trace_path request.options) (AreLeft request) raced before after
 IsDone (requests.Search request) true before after = (stopped : Bool) × SearchIsDone request true stopped before after
 IsDone (requests.Search request) false before after = SearchIsDone request false false before after
+IsDone (requests.Races request) true before after = RacesAreEnded request 2 before after
+IsDone (requests.Races request) false before after = RacesAreEnded request 0 before after
 IsDone (requests.Replay request) true before after = ⊥
 IsDone (requests.Replay request) false before after = ReplayIsDone request before after
 IsDone (requests.Show request) raced before after =
@@ -367,11 +321,12 @@ IsDone (requests.Check request) false before after = CheckIsEnded request 0 befo
 IsDone requests.Calls true before after = ⊥
 IsDone requests.Calls false before after = CallsAreGiven before after
 
--- a search that is asked for was stopped, with no report so far
+-- a search that is asked for was stopped, with no report so far, or that of a file's races, with no race so far
 abbrev pub IsStopped : Request → OutputState → OutputState → Type 0
 IsStopped (requests.Step request) before after = ⊥
 IsStopped (requests.Run request) before after = ⊥
 IsStopped (requests.Search request) before after = SearchIsDone request false true before after
+IsStopped (requests.Races request) before after = RacesAreEnded request 75 before after
 IsStopped (requests.Replay request) before after = ⊥
 IsStopped (requests.Show request) before after = ⊥
 IsStopped (requests.Check request) before after = ⊥
@@ -383,6 +338,7 @@ IsCut (requests.Step request) before after = FileIsRunInPart request.file.now fi
 IsCut (requests.Run request) before after = FileIsRunInPart request.file.now file_bytes (trace_path request.options) (AreLeft request) before after
 IsCut (requests.Search request) before after =
     (stopped : Bool) × FileIsRunInPart request.file.now file_bytes (trace_path request.options) (IsFound request stopped) before after
+IsCut (requests.Races request) before after = RacesAreEnded request 74 before after
 IsCut (requests.Replay request) before after = ReplayIsCut request before after
 IsCut (requests.Show request) before after =
     FileIsRunInPart request.trace.now size_limit (svg_path request) (IsShown request) before after
@@ -394,6 +350,7 @@ abbrev pub IsRefusedOf : Request → (status : ℕ) → OutputState → OutputSt
 IsRefusedOf (requests.Step request) status before after = FileIsRefused request.file.now (StepRefuses request) status before after
 IsRefusedOf (requests.Run request) status before after = FileIsRefused request.file.now (RunRefuses request) status before after
 IsRefusedOf (requests.Search request) status before after = FileIsRefused request.file.now (SearchRefuses request) status before after
+IsRefusedOf (requests.Races request) status before after = RacesAreEnded request status before after
 IsRefusedOf (requests.Replay request) status before after = ReplayIsRefused request status before after
 IsRefusedOf (requests.Show request) status before after = ShowIsRefused request status before after
 IsRefusedOf (requests.Check request) status before after = CheckIsEnded request status before after
@@ -404,6 +361,7 @@ abbrev pub DoesNotRead : Request → Type 0
 DoesNotRead (requests.Step request) = SpellsNoSchedule request.schedule.now ⊎ SpellsNoPlaces request.options.places.now
 DoesNotRead (requests.Run request) = SpellsNoPlaces request.options.places.now
 DoesNotRead (requests.Search request) = SpellsNoPlaces request.options.places.now
+DoesNotRead (requests.Races request) = SpellsNoPlaces request.options.places.now
 DoesNotRead (requests.Replay request) = ⊥
 DoesNotRead (requests.Show request) = ⊥
 DoesNotRead (requests.Check request) = SpellsNoSchedule request.schedule.now ⊎ SpellsNoPlaces request.places.now
@@ -420,23 +378,25 @@ abbrev pub DoesRead : Request → Type 0
 DoesRead (requests.Step request) = (settings : Settings) × (entries : List Entry) × AsksFor request settings entries
 DoesRead (requests.Run request) = (settings : Settings) × AskSettings request.options settings
 DoesRead (requests.Search request) = (settings : Settings) × AskSettings request.options settings
+DoesRead (requests.Races request) = (settings : Settings) × AskSettings request.options settings
 DoesRead (requests.Replay request) = Unit {0}
 DoesRead (requests.Show request) = Unit {0}
 DoesRead (requests.Check request) = (settings : Settings) × CheckAsksFor request settings
 DoesRead requests.Calls = Unit {0}
 
--- it is a check of several files
+-- it is a check of several files, or asks for the races of several
 abbrev pub IsOfSeveral : Request → Type 0
 IsOfSeveral (requests.Step request) = ⊥
 IsOfSeveral (requests.Run request) = ⊥
 IsOfSeveral (requests.Search request) = ⊥
+IsOfSeveral (requests.Races request) = AreSeveral request
 IsOfSeveral (requests.Replay request) = ⊥
 IsOfSeveral (requests.Show request) = ⊥
 IsOfSeveral (requests.Check request) = IsSeveral request
 IsOfSeveral requests.Calls = ⊥
 
--- Standard error is told of what is asked in words of their own: of a check of several files of each, and of a file
--- that would be overwritten that.
+-- Standard error is told of what is asked in words of their own: of several files of each, and of a file that would be
+-- overwritten that.
 abbrev pub IsToldApart : Request → Type 0
 IsToldApart request = IsOfSeveral request ⊎ ((path : List ℕ) × Overwrites request path)
 
@@ -445,10 +405,22 @@ abbrev pub IsChecked : Request → (status : ℕ) → DeskState → DeskState �
 IsChecked (requests.Step request) status before after = Unit {0}
 IsChecked (requests.Run request) status before after = Unit {0}
 IsChecked (requests.Search request) status before after = Unit {0}
+IsChecked (requests.Races request) status before after = Unit {0}
 IsChecked (requests.Replay request) status before after = Unit {0}
 IsChecked (requests.Show request) status before after = Unit {0}
 IsChecked (requests.Check request) status before after = CheckEnds request status before after
 IsChecked requests.Calls status before after = Unit {0}
+
+-- where races are asked for: how that ended, with what standard error was told of each file
+abbrev pub AreRaced : Request → (status : ℕ) → DeskState → DeskState → Type 0
+AreRaced (requests.Step request) status before after = Unit {0}
+AreRaced (requests.Run request) status before after = Unit {0}
+AreRaced (requests.Search request) status before after = Unit {0}
+AreRaced (requests.Races request) status before after = RacesEnds request status before after
+AreRaced (requests.Replay request) status before after = Unit {0}
+AreRaced (requests.Show request) status before after = Unit {0}
+AreRaced (requests.Check request) status before after = Unit {0}
+AreRaced requests.Calls status before after = Unit {0}
 
 -- the read of a file failed where the status is 66, and nowhere else
 pub record Reads (status : ℕ) (before after : ℕ) : Type 0 where

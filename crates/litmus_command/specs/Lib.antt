@@ -6,7 +6,9 @@ pub mod Lists
 pub mod Settings
 pub mod Replay
 pub mod Show
+pub mod Statuses
 pub mod Check
+pub mod Races
 pub mod Overwrite
 pub mod Command
 pub mod Ends

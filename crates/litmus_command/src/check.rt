@@ -33,7 +33,7 @@ use std::alloc::{AllocError, Global};
 
 /// What came of a file.
 #[derive(Drop)]
-enum FileEnd {
+pub(crate) enum FileEnd {
     /// It is read, and this is printed of it.
     Read(Vec<u8>),
     /// That it isn't was told, and comes with this status.
@@ -42,9 +42,9 @@ enum FileEnd {
 
 /// What came of all files: what is printed, and the status.
 #[derive(Drop)]
-struct Checked {
-    output: Vec<u8>,
-    status: u8,
+pub(crate) struct Checked {
+    pub(crate) output: Vec<u8>,
+    pub(crate) status: u8,
 }
 
 /// The options of `step`, as they are where `check` hasn't them.
@@ -104,7 +104,7 @@ pub(crate) fn tell<D: Desk>(complaint: Complaint, desk: &mut D) -> u8
 }
 
 /// What came of a file that gave a text: where it isn't read, that is told.
-fn tell_file<D: Desk>(comes: Comes, desk: &mut D) -> FileEnd
+pub(crate) fn tell_file<D: Desk>(comes: Comes, desk: &mut D) -> FileEnd
     ensures ends { (files : Files) (settings : Settings) (name text : List ℕ) (check : Check) → IsMadeOf files name check comes
         → IsCheckOf name text settings check → IsEndOf files (Gave name text check) result }
     ensures told { (files : Files) (name text : List ℕ) (check : Check) → IsMadeOf files name check comes
@@ -125,7 +125,11 @@ fn tell_file<D: Desk>(comes: Comes, desk: &mut D) -> FileEnd
 }
 
 /// What is told of a file that can't be read.
-fn unread_complaint(alloc: Global, files: Files, name: &str) -> Result<Complaint, AllocError>
+pub(crate) fn unread_complaint(
+    alloc: Global,
+    files: Files,
+    name: &str,
+) -> Result<Complaint, AllocError>
     ensures status { IfOk result (λ said. complaint_status_of said ≡ 66) }
     ensures told { (before : Option (List Complaint)) → IfOk result (λ said. IsToldOf files (Lost name.now) before (heard before said)) }
     ensures several { OnErr result (files.several ≡ true) }
@@ -200,7 +204,7 @@ fn check_files<D: Desk>(
 }
 
 /// Prints what is printed of the files, and answers the status that the program ends with.
-fn print_checked<D: Desk>(checked: &Checked, desk: &mut D) -> u8
+pub(crate) fn print_checked<D: Desk>(checked: &Checked, desk: &mut D) -> u8
     ensures { IsPrinted checked.now.output.items checked.now.status result (D.state desk.old) (D.state desk.new) }
 {
     // Of one file that isn't read there is nothing to print, and no failure to be had of that.

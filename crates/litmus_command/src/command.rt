@@ -8,14 +8,14 @@ ghost use Rattle.clap.specs.Words.{kind_of};
 ghost use Rattle.litmus_command.specs.Check.{IsOutOfMemory};
 ghost use Rattle.litmus_command.specs.Desks.{DeskState, once_told};
 ghost use Rattle.litmus_command.specs.Command.{AskForOne, AskSettings, AsksFor, EndsAs, HelpIsCut, HelpIsGiven, IsCut, IsDone, IsGiven, IsGivenInPart};
-ghost use Rattle.litmus_command.specs.Command.{IsChecked, IsOfFile, IsOfSeveral, IsRefusedOf, IsStopped, IsToldApart, OfAsked};
+ghost use Rattle.litmus_command.specs.Command.{AreRaced, IsChecked, IsOfFile, IsOfSeveral, IsRefusedOf, IsStopped, IsToldApart, OfAsked};
 ghost use Rattle.litmus_command.specs.Command.{DoesNotRead, DoesRead, IsFault, IsMisused, Reads, SpellsNoPlaces, StatusComplaint, UsageIsTold, VersionIsCut, VersionIsGiven};
 ghost use Rattle.litmus_command.specs.Command.{end_status_of, engine_status_of, picture_status_of, read_failure, run_status_of, settings_of, state_in};
 ghost use Rattle.litmus_command.specs.Command.{status_of, text_status_of, times_of, trace_status_of, with_trace};
 ghost use Rattle.litmus_command.specs.Ends.{CommandEnds, IsCarriedOut, IsNoCheck};
 ghost use Rattle.litmus_command.specs.Overwrite.{IsKept, Overwrites};
 ghost use Rattle.litmus_command.specs.StandardError.{heard};
-ghost use Rattle.litmus_command.specs.declared.command.Failure.TheVariants.{Engine, OutOfMemory, Picture, Trace};
+ghost use Rattle.litmus_command.specs.declared.command.Failure.TheVariants.{BadPlace, Engine, OutOfMemory, Picture, Trace};
 ghost use Rattle.picture_text.specs.declared.cells.Style.TheVariants.{Ascii};
 ghost use Rattle.report_text.specs.Sink.{CountsFailure};
 ghost use Rattle.std.specs.Option.{option_map};
@@ -26,6 +26,7 @@ use crate::complaint::Complaint;
 use crate::desk::{Desk, ReadFault};
 use crate::engine::run_text;
 use crate::overwrite::{overwritten, refuse_overwrite};
+use crate::races::carry_races;
 use crate::replay::replayed;
 use crate::search::search_for;
 use crate::show::drawn;
@@ -50,11 +51,11 @@ use thiserror::Error;
 use timeline::picture::PictureError;
 use trace_replay::{SIZE_LIMIT, TraceError};
 
-/// The program ran, and there was no report; or nothing was to be run.
+/// The program ran, and there was no report; or it has no race, or nothing was to be run.
 pub(crate) const NO_REPORT: u8 = 0;
 
-/// The program ran, and there was a report.
-const REPORTED: u8 = 2;
+/// The program ran, and there was a report; or it has a race.
+pub(crate) const REPORTED: u8 = 2;
 
 /// The words make no sense.
 pub const USAGE: u8 = 64;
@@ -74,8 +75,8 @@ pub const OUT_OF_MEMORY: u8 = 71;
 /// Output can't be written.
 const UNWRITABLE: u8 = 74;
 
-/// A search was stopped, and there was no report so far.
-const STOPPED: u8 = 75;
+/// A search was stopped, and there was no report, or no race, so far.
+pub(crate) const STOPPED: u8 = 75;
 
 /// Why the program does not end well. Its text goes to standard error.
 #[derive(Clone, Copy, Debug, PartialEq, Eq, Error)]
@@ -217,14 +218,13 @@ fn picture_status(error: PictureError) -> u8
 /// The whole program: does what the words ask for, and answers the status that the program ends
 /// with. The first word is the program's name.
 ///
-/// 0: no report, a trace that is accepted or drawn, files that read where they are checked, help, or the version. 2: a
-/// report. 64: usage, a file that would be written over its input, a schedule that doesn't read or names a task that
+/// 0: no report, no race in files whose races are asked for, a trace that is accepted or drawn, files that read where
+/// they are checked, help, or the version. 2: a report, or a race in a file. 64: usage, a file that would be written over its input, a schedule that doesn't read or names a task that
 /// isn't there, or a place that doesn't read or doesn't suit. 65: the file is refused. 66: it can't be read. 70: a task
 /// is stuck. 71: out of memory, or a thread couldn't be started. 74: output can't be written. 75: a search was stopped,
-/// at its limit or after its seconds, and tells of no report. Of several files that are checked the greatest status
-/// counts. At 64 to 71 nothing goes to standard output, but for what is printed of several files that are checked, and
-/// no file is written. At 74 standard output and all files have what they had, or standard output has a beginning of
-/// what should stand there.
+/// at its limit or after its seconds, and tells of no report or race. Of several files the greatest status counts. At 64
+/// to 71 nothing goes to standard output, but for what is printed of several files, and no file is written. At 74
+/// standard output and all files have what they had, or standard output has a beginning of what should stand there.
 pub fn command<R: Threads + Wait + Sync, S: AsStr, D: Desk>(
     rt: &R,
     alloc: Global,
@@ -255,13 +255,19 @@ pub fn command<R: Threads + Wait + Sync, S: AsStr, D: Desk>(
     ensures checks { OfAsked (map S.text words.now) result (D.state desk.old)
         (D.state desk.new) (λ request. IsChecked request result (D.state desk.old) (D.state desk.new)) }
 
+    // What was found of the races of each file, in order, is so of the program of its text: where the status is 0 each
+    // file gave a text whose program is free of races. So much was told and printed, and the status follows.
+    ensures races { OfAsked (map S.text words.now) result (D.state desk.old)
+        (D.state desk.new) (λ request. AreRaced request result (D.state desk.old) (D.state desk.new)) }
+
     // A file that would be written over its input is named, and nothing else is done. `misused` and `tells` say that
     // this is said of no other.
     ensures keeps { OfAsked (map S.text words.now) result (D.state desk.old)
         (D.state desk.new) (λ request. (path : List ℕ) → Overwrites request path → IsKept path result
         (D.state desk.old) (D.state desk.new)) }
 
-    // Only of a check of several files more was read and told, and something printed with a status from 64 to 66.
+    // Only of a check, or of the races, of several files more was read and told, and something printed with a status from
+    // 64 to 66.
     ensures reads { AskForOne (map S.text words.now) IsOfSeveral ⊎ Reads result (D.state desk.old).faults (D.state desk.new).faults }
     ensures tells { AskForOne (map S.text words.now) IsToldApart ⊎ StatusComplaint result (D.state desk.old).told (D.state desk.new).told }
     ensures ends { AskForOne (map S.text words.now) IsOfSeveral ⊎ EndsAs result (state_in (D.state desk.old))
@@ -308,7 +314,8 @@ pub fn carry_out<R: Threads + Wait + Sync, D: Desk>(
             let done = show(alloc, request, desk);
             finish(done, None, desk)
         }
-        // A check tells of each file that isn't read, and goes on.
+        // These tell of each file that isn't read, and go on.
+        Request::Races(request) => carry_races(alloc, request, desk),
         Request::Check(request) => carry_check(alloc, request, desk),
         Request::Calls => {
             let done = list_calls(desk);
@@ -318,7 +325,7 @@ pub fn carry_out<R: Threads + Wait + Sync, D: Desk>(
 }
 
 /// Where a litmus file is refused, the desk may say that `check` says more of it.
-fn advise_check<D: Desk>(failure: Failure, file: Option<&str>, desk: &D) {
+pub(crate) fn advise_check<D: Desk>(failure: Failure, file: Option<&str>, desk: &D) {
     if let (Some(file), Failure::Engine(EngineError::Text(error))) = (file, failure) {
         if text_status(error) == REFUSED {
             desk.advise_check(file);
@@ -376,11 +383,12 @@ pub(crate) fn settings(options: &RunOptions<'_>, places: Vec<Place>) -> Settings
 }
 
 /// The settings that are asked for, with the places that the text of the options spells.
-fn settings_for(alloc: Global, options: &RunOptions<'_>) -> Result<Settings, Failure>
+pub(crate) fn settings_for(alloc: Global, options: &RunOptions<'_>) -> Result<Settings, Failure>
     requires { KeepsBounds options.now }
     ensures asks { IfOk result (AskSettings options.now) }
     ensures misused { IfErr result (λ failure. status_of failure ≡ 64 → SpellsNoPlaces options.now.places.now) }
     ensures early { IfErr result (λ failure. (status_of failure ≡ 64) ⊎ (status_of failure ≡ 71)) }
+    ensures known { IfErr result (λ failure. ((failure ≡ BadPlace) × SpellsNoPlaces options.now.places.now) ⊎ (failure ≡ OutOfMemory)) }
 {
     match parse_places(alloc, options.places)? {
         Some(places) => Ok(settings(options, places)),

@@ -1,5 +1,5 @@
 //! The command line of `kcsan_litmus` over any desk: what is asked, the run of a litmus text, the search over its
-//! schedules, the check of a trace, its picture, the check of litmus files, and what is written of them.
+//! schedules, the check of a trace, its picture, the check of litmus files, their races, and what is written of them.
 #![tactic(auto)]
 
 mod check;
@@ -8,6 +8,7 @@ pub mod complaint;
 pub mod desk;
 pub mod engine;
 mod overwrite;
+mod races;
 pub mod replay;
 mod search;
 pub mod show;

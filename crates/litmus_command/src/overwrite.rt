@@ -35,7 +35,7 @@ pub(crate) fn overwritten<'a>(request: &Request<'a>) -> Option<&'a str>
         Request::Run(request) => same_path(request.file, request.options.trace),
         Request::Search(request) => same_path(request.file, request.options.trace),
         Request::Show(request) => same_path(request.trace, request.svg),
-        Request::Replay(_) | Request::Check(_) | Request::Calls => None,
+        Request::Races(_) | Request::Replay(_) | Request::Check(_) | Request::Calls => None,
     }
 }
 

@@ -1,5 +1,4 @@
 -- each argument adds its rule
-use Rattle.std.proofs.Common.{◌≡◌}
 use Rattle.cli.proofs.request.replay_command.Goals as goal
 
 pub returns : goal.returns

@@ -5,10 +5,4 @@ pub returns : goal.returns
 returns c = λ app before.
     let e1 = c.with_argument-command.ensures _ _ before c.list_option.ensures in
     let e2 = c.with_argument-command-2.ensures _ _ e1 c.text_option.ensures in
-    let e3 = c.with_argument-command-3.ensures _ _ e2 c.number_option-slots.ensures in
-    let e4 = c.with_argument-command-4.ensures _ _ e3 c.number_option-skip.ensures in
-    let e5 = c.with_argument-command-5.ensures _ _ e4 c.flag.ensures in
-    let e6 = c.with_argument-command-6.ensures _ _ e5 c.number_option-seed.ensures in
-    let e7 = c.with_argument-command-7.ensures _ _ e6 c.flag-2.ensures in
-    let e8 = c.with_argument-command-8.ensures _ _ e7 c.word_option.ensures in
-    c.with_argument.ensures _ _ e8 c.number_option-turns.ensures
+    c.with_settings.ensures _ e2

@@ -3,7 +3,7 @@ use Rattle.std.proofs.Common.{subst, sym}
 use Rattle.cli.specs.Bounds.{MayBeAsked}
 use Rattle.cli.specs.declared.request.Request.{Request}
 use Rattle.cli.specs.declared.request.Request.TheVariants.{Calls, Replay, Run, Search, Show, Step}
-use Rattle.litmus_command.proofs.CarryLemmas.{carried_check, carried_kept}
+use Rattle.litmus_command.proofs.CarryLemmas.{carried_check, carried_kept, carried_races}
 use Rattle.litmus_command.proofs.command.carry_out.Goals as goal
 use Rattle.litmus_command.specs.Desks.{DeskState}
 use Rattle.litmus_command.specs.Ends.{IsCarriedOut, IsNoCheck}
@@ -19,6 +19,7 @@ returns-in-Step g c =
     let before : DeskState = seen c.args.desk.now in
     let plain : IsNoCheck (Step c.in-Step.request) = record {
       checks = λ status first last. tt;
+      races = λ status first last. tt;
       keeps = λ path over. c.in_default.ensures.other path (subst (λ (request : Request). Overwrites request path) (sym c.in-Step.is) over);
     } in
     subst (λ (request : Request). IsCarriedOut request c.finish.result before (seen c.finish.new.desk)) (sym c.in-Step.is)
@@ -30,6 +31,7 @@ returns-in-Run g c =
     let before : DeskState = seen c.args.desk.now in
     let plain : IsNoCheck (Run c.in-Run.request) = record {
       checks = λ status first last. tt;
+      races = λ status first last. tt;
       keeps = λ path over. c.in_default.ensures.other path (subst (λ (request : Request). Overwrites request path) (sym c.in-Run.is) over);
     } in
     subst (λ (request : Request). IsCarriedOut request c.finish-in-Run.result before (seen c.finish-in-Run.new.desk)) (sym c.in-Run.is)
@@ -41,6 +43,7 @@ returns-in-Search g c =
     let before : DeskState = seen c.args.desk.now in
     let plain : IsNoCheck (Search c.in-Search.request) = record {
       checks = λ status first last. tt;
+      races = λ status first last. tt;
       keeps = λ path over. c.in_default.ensures.other path (subst (λ (request : Request). Overwrites request path) (sym c.in-Search.is) over);
     } in
     subst (λ (request : Request). IsCarriedOut request c.finish-in-Search.result before (seen c.finish-in-Search.new.desk)) (sym c.in-Search.is)
@@ -52,6 +55,7 @@ returns-in-Replay g c =
     let before : DeskState = seen c.args.desk.now in
     let plain : IsNoCheck (Replay c.in-Replay.request) = record {
       checks = λ status first last. tt;
+      races = λ status first last. tt;
       keeps = λ path over. c.in_default.ensures.other path (subst (λ (request : Request). Overwrites request path) (sym c.in-Replay.is) over);
     } in
     subst (λ (request : Request). IsCarriedOut request c.finish-in-Replay.result before (seen c.finish-in-Replay.new.desk)) (sym c.in-Replay.is)
@@ -63,6 +67,7 @@ returns-in-Show g c =
     let before : DeskState = seen c.args.desk.now in
     let plain : IsNoCheck (Show c.in-Show.request) = record {
       checks = λ status first last. tt;
+      races = λ status first last. tt;
       keeps = λ path over. c.in_default.ensures.other path (subst (λ (request : Request). Overwrites request path) (sym c.in-Show.is) over);
     } in
     subst (λ (request : Request). IsCarriedOut request c.finish-in-Show.result before (seen c.finish-in-Show.new.desk)) (sym c.in-Show.is)
@@ -74,6 +79,7 @@ returns-in-Calls g c =
     let before : DeskState = seen c.args.desk.now in
     let plain : IsNoCheck Calls = record {
       checks = λ status first last. tt;
+      races = λ status first last. tt;
       keeps = λ path over. c.in_default.ensures.other path (subst (λ (request : Request). Overwrites request path) (sym c.in-Calls.is) over);
     } in
     subst (λ (request : Request). IsCarriedOut request c.finish-in-Calls.result before (seen c.finish-in-Calls.new.desk)) (sym c.in-Calls.is)
@@ -85,3 +91,10 @@ returns-in-Check g c =
     let bounds = subst (λ (request : Request). MayBeAsked request) c.in-Check.is c.requires in
     subst (λ (request : Request). IsCarriedOut request c.carry_check.result (seen c.args.desk.now) (seen c.carry_check.new.desk)) (sym c.in-Check.is)
     (carried_check c.in-Check.request c.carry_check.result _ _ bounds c.carry_check.ensures)
+
+pub returns-in-Races : goal.returns-in-Races
+returns-in-Races g c =
+    let seen = g.D.Desk.state in
+    let bounds = subst (λ (request : Request). MayBeAsked request) c.in-Races.is c.requires in
+    subst (λ (request : Request). IsCarriedOut request c.carry_races.result (seen c.args.desk.now) (seen c.carry_races.new.desk)) (sym c.in-Races.is)
+    (carried_races c.in-Races.request c.carry_races.result _ _ bounds c.carry_races.ensures)

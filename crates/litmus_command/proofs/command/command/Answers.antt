@@ -20,8 +20,14 @@ pub returns-in-Ok-clause-tells : goal.returns-in-Ok-clause-tells
 returns-in-Ok-clause-tells g c =
     on_left (λ several. (c.in-Ok.request, c.in-Ok.ensures.bounds, c.in-Ok.ensures.asked, several)) c.carry_out.ensures.tells
 
+pub returns-in-Ok-clause-refused : goal.returns-in-Ok-clause-refused
+returns-in-Ok-clause-refused g c = λ of. (c.in-Ok.request, c.in-Ok.ensures.bounds, c.in-Ok.ensures.asked, c.carry_out.ensures.refused of)
+
 pub returns-in-Ok-clause-checks : goal.returns-in-Ok-clause-checks
 returns-in-Ok-clause-checks g c = inl (c.in-Ok.request, c.in-Ok.ensures.bounds, c.in-Ok.ensures.asked, c.carry_out.ensures.checks)
+
+pub returns-in-Ok-clause-races : goal.returns-in-Ok-clause-races
+returns-in-Ok-clause-races g c = inl (c.in-Ok.request, c.in-Ok.ensures.bounds, c.in-Ok.ensures.asked, c.carry_out.ensures.races)
 
 pub returns-in-Ok-clause-keeps : goal.returns-in-Ok-clause-keeps
 returns-in-Ok-clause-keeps g c = inl (c.in-Ok.request, c.in-Ok.ensures.bounds, c.in-Ok.ensures.asked, c.carry_out.ensures.keeps)
@@ -29,6 +35,19 @@ returns-in-Ok-clause-keeps g c = inl (c.in-Ok.request, c.in-Ok.ensures.bounds, c
 -- what is wrong with the words was told, or want of memory
 pub returns-in-Err-clause-checks : goal.returns-in-Err-clause-checks
 returns-in-Err-clause-checks g c = elim c.explain.ensures.memory [
+  | inl other ↦ inr (inl (record {
+    kind = kind_of c.in-Err.error;
+    other = other;
+    may = c.in-Err.ensures.fails;
+    faults = c.explain.ensures.faults;
+    tells = c.explain.ensures.tells;
+    ends = c.explain.ensures.ends;
+  }))
+  | inr out ↦ inr (inr out)
+]
+
+pub returns-in-Err-clause-races : goal.returns-in-Err-clause-races
+returns-in-Err-clause-races g c = elim c.explain.ensures.memory [
   | inl other ↦ inr (inl (record {
     kind = kind_of c.in-Err.error;
     other = other;

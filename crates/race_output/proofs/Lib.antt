@@ -1,0 +1,4 @@
+mod Floats
+mod Free
+mod Named
+mod Pieces

@@ -1,0 +1,12 @@
+pub mod Blocks
+pub mod Counts
+pub mod Json
+pub mod Reasons
+pub mod Results
+pub mod Settings
+pub mod Several
+pub mod Sites
+pub mod Spots
+pub mod Table
+pub mod Variables
+pub mod Words
