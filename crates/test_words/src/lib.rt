@@ -1,5 +1,5 @@
-//! Accesses, watch words, values, boards, contexts and samplers, tried on rows that were worked out by hand. Nothing
-//! stands on this crate.
+//! Accesses, watch words, values, boards, contexts and samplers, and what words of the command line ask for, tried on rows
+//! that were worked out by hand. Nothing stands on this crate.
 #![tactic(auto)]
 
 #[cfg(test)]
@@ -8,6 +8,8 @@ mod accesses;
 mod arms;
 #[cfg(test)]
 mod boards;
+#[cfg(test)]
+mod checks;
 #[cfg(test)]
 mod contexts;
 #[cfg(test)]
@@ -18,6 +20,8 @@ mod kinds;
 mod lists;
 #[cfg(test)]
 mod pairs;
+#[cfg(test)]
+mod races;
 #[cfg(test)]
 mod same;
 #[cfg(test)]
@@ -36,3 +40,5 @@ mod tickets;
 mod verdicts;
 #[cfg(test)]
 mod watches;
+#[cfg(test)]
+mod words;

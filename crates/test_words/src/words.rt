@@ -10,7 +10,7 @@ use std::test::Fail;
 use watch_word::Layout;
 
 /// The options where none is given.
-const OPTIONS: RunOptions<'static> = RunOptions {
+pub(crate) const OPTIONS: RunOptions<'static> = RunOptions {
     places: "",
     trace: None,
     slots: 64,
