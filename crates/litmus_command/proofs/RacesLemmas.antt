@@ -23,7 +23,7 @@ use Rattle.litmus_command.specs.Races.{Refused, Searched, counted, counts_of, fi
 use Rattle.litmus_command.specs.Races.{told_status, verdict_in, verdict_status_of}
 use Rattle.litmus_command.specs.Settings.{AskSettings}
 use Rattle.litmus_command.specs.Statuses.{engine_status_of, run_status_of, text_status_of}
-use Rattle.litmus_command.specs.declared.races.FileSaid.{FileSaid}
+use Rattle.litmus_command.specs.declared.race_files.FileSaid.{FileSaid}
 use Rattle.litmus_parse.specs.Text.{file_bytes}
 use Rattle.litmus_syntax.specs.declared.error.ParseError.{ParseError}
 use Rattle.litmus_syntax.specs.declared.error.ParseError.TheVariants as parse

@@ -18,7 +18,7 @@ use Rattle.litmus_command.specs.declared.check.FileEnd.{FileEnd}
 use Rattle.litmus_command.specs.declared.check.FileEnd.TheVariants as ends
 use Rattle.litmus_command.specs.declared.command.Failure.TheVariants as failure
 use Rattle.litmus_command.specs.declared.complaint.Complaint.TheVariants as complaint
-use Rattle.litmus_command.specs.declared.races.FileSaid.{FileSaid}
+use Rattle.litmus_command.specs.declared.race_files.FileSaid.{FileSaid}
 use Rattle.litmus_parse.specs.Text.{file_bytes}
 use Rattle.prepared_program.specs.declared.program_sites.settings.Settings.{Settings}
 use Rattle.program_table.specs.text_pieces.Shown.{shown}

@@ -26,7 +26,7 @@ use crate::complaint::Complaint;
 use crate::desk::{Desk, ReadFault};
 use crate::engine::run_text;
 use crate::overwrite::{overwritten, refuse_overwrite};
-use crate::races::carry_races;
+use crate::race_files::carry_races;
 use crate::replay::replayed;
 use crate::search::search_for;
 use crate::show::drawn;

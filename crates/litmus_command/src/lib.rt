@@ -8,7 +8,7 @@ pub mod complaint;
 pub mod desk;
 pub mod engine;
 mod overwrite;
-mod races;
+mod race_files;
 pub mod replay;
 mod search;
 pub mod show;

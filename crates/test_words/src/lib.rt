@@ -21,7 +21,7 @@ mod lists;
 #[cfg(test)]
 mod pairs;
 #[cfg(test)]
-mod races;
+mod race_words;
 #[cfg(test)]
 mod same;
 #[cfg(test)]

@@ -1,6 +1,6 @@
 -- so many files were looked into
 use Rattle.litmus_command.proofs.RacesLemmas.{SearchedSoFar}
-use Rattle.litmus_command.proofs.races.look_into_files.Given as goal
+use Rattle.litmus_command.proofs.race_files.look_into_files.Given as goal
 
 abbrev pub invariant-loop-name : goal.invariant-loop-name
 invariant-loop-name g l =

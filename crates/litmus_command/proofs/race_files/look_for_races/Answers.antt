@@ -7,7 +7,7 @@ use Rattle.litmus_command.specs.declared.command.Failure.TheVariants.{Engine}
 use Rattle.litmus_command.specs.declared.complaint.Complaint.TheVariants.{Failure}
 use Rattle.race_output.specs.Results.{AreRacesOfText}
 use Rattle.race_output.specs.declared.file.Format.{Format}
-use Rattle.litmus_command.proofs.races.look_for_races.Goals as goal
+use Rattle.litmus_command.proofs.race_files.look_for_races.Goals as goal
 
 pub returns-in-Ok-clause-looked : goal.returns-in-Ok-clause-looked
 returns-in-Ok-clause-looked g c = λ before given.

@@ -3,7 +3,7 @@ use Rattle.std.proofs.Common.{IfSome, Option, ℕ, subst}
 use Rattle.diagnostics.specs.declared.check_output.file.Files.{Files}
 use Rattle.litmus_command.proofs.RacesLemmas.{unread_said}
 use Rattle.litmus_command.specs.Races.{IsUnread}
-use Rattle.litmus_command.proofs.races.look_into_text.Goals as goal
+use Rattle.litmus_command.proofs.race_files.look_into_text.Goals as goal
 
 pub returns-in-Some-clause-looked : goal.returns-in-Some-clause-looked
 returns-in-Some-clause-looked g c = λ before given.

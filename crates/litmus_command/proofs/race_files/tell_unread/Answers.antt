@@ -3,7 +3,7 @@ use Rattle.std.proofs.Common.{◌≡◌, IfNone, IfSome, Option, ℕ, rules, sub
 use Rattle.litmus_command.proofs.RacesLemmas.{told_at_end, untold_at_end}
 use Rattle.litmus_command.specs.Desks.{DeskState}
 use Rattle.litmus_command.specs.Races.{IsUnread}
-use Rattle.litmus_command.proofs.races.tell_unread.Goals as goal
+use Rattle.litmus_command.proofs.race_files.tell_unread.Goals as goal
 
 pub returns-clause-found : goal.returns-clause-found
 returns-clause-found g c = λ before given.

@@ -6,8 +6,8 @@ use Rattle.litmus_command.proofs.RacesLemmas.{SearchedSoFar, all_free, can_count
 use Rattle.litmus_command.proofs.RacesLemmas.{judged_and_left, nothing_printed, several_named}
 use Rattle.litmus_command.specs.Desks.{DeskState}
 use Rattle.litmus_command.specs.Races.{AreLeftOut, IsLookedAt, counted, files_of, has_names, races_output_of}
-use Rattle.litmus_command.proofs.races.look_into_files.Goals as goal
-use Rattle.litmus_command.proofs.races.look_into_files.Goals.{else-is_some, then-is_some+in_ok-extend_from_slice}
+use Rattle.litmus_command.proofs.race_files.look_into_files.Goals as goal
+use Rattle.litmus_command.proofs.race_files.look_into_files.Goals.{else-is_some, then-is_some+in_ok-extend_from_slice}
 
 pub loop-name-init : goal.loop-name-init
 loop-name-init g c = none_searched c.args.request.now c.args.settings.now c.new-output.result.items (g.D.Desk.state c.args.desk.now) c.new-output.ensures.items

@@ -10,7 +10,7 @@ use Rattle.litmus_command.specs.Races.{IsUnread, files_of}
 use Rattle.litmus_command.specs.StandardError.{heard}
 use Rattle.litmus_command.specs.declared.complaint.Complaint.{Complaint}
 use Rattle.report_text.specs.Sink.{CountsFailure}
-use Rattle.litmus_command.proofs.races.look_into_file.Goals as goal
+use Rattle.litmus_command.proofs.race_files.look_into_file.Goals as goal
 
 pub returns-in_ok-complaint-in-Err-CannotRead-clause-looked : goal.returns-in_ok-complaint-in-Err-CannotRead-clause-looked
 returns-in_ok-complaint-in-Err-CannotRead-clause-looked g c =
