@@ -1,5 +1,5 @@
-//! Accesses, watch words, values, boards, contexts and samplers, and what words of the command line ask for, tried on rows
-//! that were worked out by hand. Nothing stands on this crate.
+//! Accesses, watch words, values and boards, and what words of the command line ask for, tried on rows that were worked
+//! out by hand. Nothing stands on this crate.
 #![tactic(auto)]
 
 #[cfg(test)]
@@ -10,8 +10,6 @@ mod arms;
 mod boards;
 #[cfg(test)]
 mod checks;
-#[cfg(test)]
-mod contexts;
 #[cfg(test)]
 mod indices;
 #[cfg(test)]
@@ -24,8 +22,6 @@ mod pairs;
 mod race_words;
 #[cfg(test)]
 mod same;
-#[cfg(test)]
-mod samplers;
 #[cfg(test)]
 mod sites;
 #[cfg(test)]
