@@ -9,13 +9,12 @@ use Rattle.access_types.specs.Access.{Access, Breaks, Overlap}
 use Rattle.executions.specs.execution.Run.{Run, task_of}
 use Rattle.litmus_semantics.specs.RunOfProgram.{setting_of}
 use Rattle.litmus_semantics.specs.TextSites.{access_at, block_sites}
-use Rattle.race_output.specs.Results.{HasNoRace}
+use Rattle.race_output.specs.Results.{HasNoMask, HasNoRace}
 use Rattle.race_output.specs.Words.{has_said, is_said, verdict_of}
 use Rattle.race_output.specs.declared.words.FileVerdict.TheVariants as files
 use Rattle.race_output.specs.declared.words.Said.{Said}
 use Rattle.race_output.specs.declared.words.Said.TheVariants as said
 use Rattle.race_verdicts.specs.Judged.{AreRacesOf}
-use Rattle.race_verdicts.specs.PairShown.{HasNoMask}
 use Rattle.race_verdicts.specs.declared.find.RacesFound.{RacesFound}
 use Rattle.races.specs.Pairs.{AreOf, Conflicts, HasSite, IsAt}
 use Rattle.races.specs.Shown.{AreTrueRace, BreaksMask, SomeShows}
@@ -116,9 +115,14 @@ no_race run pair pairs one verdicts.NotSettled free there is fits =
 
 -- what is found of a run whose file is free of races rules them out
 pub free_of : (run : Run) (found : RacesFound) → AreRacesOf run found → verdict_of found.pairs.items ≡ files.Free → HasNoRace run
-free_of run found are free pair no_mask order shown =
-    let listed = (are.pairs pair).0 (conflict run pair shown.2.first shown.2.second order shown.2.are) in
-    let of = of_mapped (λ (one : PairFound). one.pair) found.pairs.items pair listed in
-    let fits = (are.each of.0 of.1).fits (subst (HasNoMask run) (sym of.2) no_mask) in
-    no_race run pair found.pairs.items of.0 of.0.verdict free of.1 refl (subst (λ (p : SitePair). Fits run p of.0.verdict) of.2 fits)
-    (race run pair no_mask shown)
+free_of run found are free = record {
+  races = none;
+  true_races = λ pair no_mask order shown. none pair order (race run pair no_mask shown);
+} where
+  none : (pair : SitePair) → pair.first.task < pair.second.task → ¬ IsRace run pair
+  none pair order shown =
+      let race = shown.2.true_race in
+      let listed = (are.pairs pair).0 (conflict run pair race.first race.second order race.are) in
+      let of = of_mapped (λ (one : PairFound). one.pair) found.pairs.items pair listed in
+      let fits = (are.each of.0 of.1).fits in
+      no_race run pair found.pairs.items of.0 of.0.verdict free of.1 refl (subst (λ (p : SitePair). Fits run p of.0.verdict) of.2 fits) shown

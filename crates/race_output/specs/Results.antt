@@ -1,5 +1,6 @@
 -- What comes of a file whose races are looked for.
-use Rattle.std.specs.Prelude.{◌≡◌, ◌<◌, ℕ, List}
+use Rattle.std.specs.Prelude.{◌≡◌, ◌<◌, ◌⊎◌, ℕ, List, None}
+use Rattle.access_types.specs.Access.{Access}
 use Rattle.access_types.specs.Sites.{AccessMap}
 use Rattle.executions.specs.execution.Run.{Run}
 use Rattle.litmus_parse.specs.Read.{IsReadAs}
@@ -16,9 +17,10 @@ use Rattle.race_output.specs.declared.file.Format.{Format}
 use Rattle.race_output.specs.declared.file.Format.TheVariants.{Json, Text}
 use Rattle.race_output.specs.declared.words.FileVerdict.{FileVerdict}
 use Rattle.race_verdicts.specs.Judged.{AreRacesOf}
-use Rattle.race_verdicts.specs.PairShown.{HasNoMask}
 use Rattle.race_verdicts.specs.declared.find.RacesFound.{RacesFound}
+use Rattle.races.specs.Pairs.{IsAt}
 use Rattle.races.specs.Shown.{AreTrueRace, SomeShows}
+use Rattle.races.specs.Verdicts.{IsRace}
 use Rattle.races.specs.declared.pair.SitePair.{SitePair}
 
 -- what is written in a form of what was found
@@ -45,10 +47,15 @@ pub record AreRacesOfText (text : List ℕ) (settings : Settings) (format : Form
   pub read : IsReadAs text program
   pub are : AreRacesOfProgram program settings format name text output verdict
 
--- In no execution of the run are accesses at two sites of different tasks a true race, but where one of them is an
--- assertion with a mask.
-abbrev pub HasNoRace : Run → Type 0
-HasNoRace run = (pair : SitePair) → HasNoMask run pair → pair.first.task < pair.second.task → ¬ SomeShows run (AreTrueRace run pair)
+-- no access at either site has a mask
+abbrev pub HasNoMask : Run → SitePair → Type 0
+HasNoMask run pair = (a : Access) → IsAt run pair.first a ⊎ IsAt run pair.second a → a.mask ≡ None
+
+-- No two sites of different tasks race: in no execution are accesses at them a true race in which a mask of either, if it
+-- has one, is broken by the other; so without masks no execution has a true race at them.
+pub record HasNoRace (run : Run) : Type 0 where
+  pub races : (pair : SitePair) → pair.first.task < pair.second.task → ¬ IsRace run pair
+  pub true_races : (pair : SitePair) → HasNoMask run pair → pair.first.task < pair.second.task → ¬ SomeShows run (AreTrueRace run pair)
 
 -- so it is with the run of the program that the text is read as
 pub record IsFree (text : List ℕ) (settings : Settings) : Type 0 where

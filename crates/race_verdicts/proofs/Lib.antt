@@ -1,4 +1,4 @@
 pub mod BareLemmas
+pub mod IfOkLemmas
 pub mod MissedLemmas
 pub mod ShownLemmas
-pub mod VerdictLemmas

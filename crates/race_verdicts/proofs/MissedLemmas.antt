@@ -5,9 +5,9 @@ use Rattle.race_search.specs.Facts.{AreFacts, NextTells}
 use Rattle.race_verdicts.specs.Judged.{IsEither}
 use Rattle.race_search.specs.declared.facts.Fact.{Fact}
 use Rattle.race_search.specs.declared.facts.Facts.{Facts}
-use Rattle.race_verdicts.specs.declared.verdicts.Between.{Between}
+use Rattle.race_verdicts.specs.declared.missed.Between.{Between}
 use Rattle.races.specs.Shown.{IsDroppedIn, IsOriginIn, IsTakenIn, SomeShows}
-use Rattle.races.specs.Verdicts.{AreMissedReasons, AreReasonsSoFar, HasReason, IsArmed}
+use Rattle.races.specs.Verdicts.{AreMissedReasons, AreReasonsSoFar, HasReason, IsArmed, facts_of}
 use Rattle.races.specs.Verdicts as reasons
 use Rattle.races.specs.declared.pair.SitePair.{SitePair}
 use Rattle.races.specs.declared.verdict.MissedWhy.{MissedWhy}
@@ -38,19 +38,19 @@ module _ (run : Run) (pair : SitePair) (settled : Bool) (found : Between) (why :
   module _ (all : IsTrue settled) (same_value : IsTrue found.same_value ↔ SomeShows run (IsDroppedIn run pair SameValue))
       (masked : IsTrue found.masked ↔ SomeShows run (IsDroppedIn run pair MaskedBits)) (origin : IsTrue found.origin ↔ SomeShows run (IsOriginIn run pair))
       (armed : IsTrue found.armed ↔ IsArmed run pair) (taken : IsTrue found.taken ↔ SomeShows run (IsTakenIn run pair)) where
-    none : ((¬ IsTrue found.same_value) × (¬ IsTrue found.masked) × (¬ IsTrue found.origin)) → ¬ HasReason run pair
+    none : ((¬ IsTrue found.same_value) × (¬ IsTrue found.masked) × (¬ IsTrue found.origin)) → ¬ HasReason (facts_of run pair)
     none lacks (reasons.same_value shows) = lacks.0 (same_value.1 shows)
     none lacks (reasons.masked shows) = lacks.1 (masked.1 shows)
     none lacks (reasons.origin shows) = lacks.2 (origin.1 shows)
 
-    no_reason : ¬ HasReason run pair → ((¬ IsTrue found.same_value) × (¬ IsTrue found.masked) × (¬ IsTrue found.origin))
+    no_reason : ¬ HasReason (facts_of run pair) → ((¬ IsTrue found.same_value) × (¬ IsTrue found.masked) × (¬ IsTrue found.origin))
     no_reason lacks = (
       λ is. lacks (reasons.same_value (same_value.0 is)),
       λ is. lacks (reasons.masked (masked.0 is)),
       λ is. lacks (reasons.origin (origin.0 is)),
     )
 
-    pub are_reasons : AreMissedReasons run pair why
+    pub are_reasons : AreMissedReasons (facts_of run pair) why
     are_reasons = record {
       same_value = subst (λ (b : Bool). IsTrue b ↔ SomeShows run (IsDroppedIn run pair SameValue)) (sym whys.same_value) same_value;
       masked = subst (λ (b : Bool). IsTrue b ↔ SomeShows run (IsDroppedIn run pair MaskedBits)) (sym whys.masked) masked;
@@ -72,7 +72,7 @@ module _ (run : Run) (pair : SitePair) (settled : Bool) (found : Between) (why :
   -- not all was
   pub are_so_far : ¬ IsTrue settled → (IsTrue found.same_value → SomeShows run (IsDroppedIn run pair SameValue))
       → (IsTrue found.masked → SomeShows run (IsDroppedIn run pair MaskedBits)) → (IsTrue found.origin → SomeShows run (IsOriginIn run pair))
-      → AreReasonsSoFar run pair why
+      → AreReasonsSoFar (facts_of run pair) why
   are_so_far not_all same_value masked origin = record {
     same_value = λ is. same_value (sym whys.same_value ∙ is);
     masked = λ is. masked (sym whys.masked ∙ is);

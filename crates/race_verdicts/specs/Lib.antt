@@ -1,4 +1,3 @@
-pub mod PairShown
 pub mod Judged
 pub mod Firsts
 pub mod Bare

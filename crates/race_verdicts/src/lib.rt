@@ -4,9 +4,9 @@
 pub mod bare;
 pub mod find;
 pub mod firsts;
+pub mod missed;
 pub mod schedules;
 pub mod shown;
-pub mod verdicts;
 pub mod wanted;
 pub mod watched;
 

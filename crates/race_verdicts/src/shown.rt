@@ -5,19 +5,7 @@ ghost use Rattle.race_search.specs.Found.{Anything, AreBothMarked, IsOneSilenced
 
 use race_search::at_once::{AtOnce, Shown};
 use races::SitePair;
-
-/// What some execution shows of accesses at the two sites that are in progress at one moment.
-#[derive(Clone, Copy, Debug, PartialEq, Eq)]
-pub struct PairShown {
-    /// That they conflict.
-    pub at_once: bool,
-    /// That both count as marked.
-    pub both_marked: bool,
-    /// That one is silenced.
-    pub silenced: bool,
-    /// That they are a true race.
-    pub true_race: bool,
-}
+use races::found::PairShown;
 
 /// Whether what was found is of this pair.
 fn is_of(shown: &Shown, pair: SitePair) -> bool
@@ -26,21 +14,19 @@ fn is_of(shown: &Shown, pair: SitePair) -> bool
     shown.pair == pair
 }
 
-impl PairShown {
-    /// With what one entry shows as well.
-    fn with(self, shown: &Shown) -> PairShown
-        ensures at_once { IsTrue result.at_once }
-        ensures both_marked { IsTrue result.both_marked ↔ (IsTrue self.both_marked ⊎ AreBothMarked shown.now) }
-        ensures silenced { IsTrue result.silenced ↔ (IsTrue self.silenced ⊎ IsOneSilenced shown.now) }
-        ensures true_race { IsTrue result.true_race ↔ (IsTrue self.true_race ⊎ MayRace shown.now) }
-    {
-        let both_marked = shown.first_marked && shown.second_marked;
-        PairShown {
-            at_once: true,
-            both_marked: self.both_marked || both_marked,
-            silenced: self.silenced || shown.silenced,
-            true_race: self.true_race || (!both_marked && !shown.silenced),
-        }
+/// With what one entry shows as well.
+fn with_shown(all: PairShown, shown: &Shown) -> PairShown
+    ensures at_once { IsTrue result.at_once }
+    ensures both_marked { IsTrue result.both_marked ↔ (IsTrue all.both_marked ⊎ AreBothMarked shown.now) }
+    ensures silenced { IsTrue result.silenced ↔ (IsTrue all.silenced ⊎ IsOneSilenced shown.now) }
+    ensures true_race { IsTrue result.true_race ↔ (IsTrue all.true_race ⊎ MayRace shown.now) }
+{
+    let both_marked = shown.first_marked && shown.second_marked;
+    PairShown {
+        at_once: true,
+        both_marked: all.both_marked || both_marked,
+        silenced: all.silenced || shown.silenced,
+        true_race: all.true_race || (!both_marked && !shown.silenced),
     }
 }
 
@@ -59,7 +45,7 @@ pub fn shown_of(found: &AtOnce, pair: SitePair) -> PairShown
     };
     for shown in found.found().keys() {
         if is_of(shown, pair) {
-            all = all.with(shown);
+            all = with_shown(all, shown);
         }
     }
     all

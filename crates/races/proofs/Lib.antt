@@ -2,3 +2,4 @@ mod AddsLemmas
 mod PairLemmas
 mod RunLemmas
 mod SiteLemmas
+mod VerdictLemmas

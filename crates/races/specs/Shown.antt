@@ -2,7 +2,7 @@
 -- marked or silenced, reports of the two, and takings between them.
 use Rattle.std.specs.Prelude.{◌≡◌, ◌⊎◌, ℕ, suc, Contains, IsTrue, List, None, Option, Some, reverse, slice_get}
 use Rattle.access_types.specs.Access.{Access}
-use Rattle.access_types.specs.History.{InProgress, content}
+use Rattle.access_types.specs.History.{History, InProgress, Memory, content}
 use Rattle.access_types.specs.Marked.{CountedAsMarked, Silenced}
 use Rattle.access_types.specs.Kind.{is_scoped}
 use Rattle.access_types.specs.Race.{Differ, TrueRace, bytes_of}
@@ -72,17 +72,21 @@ pub record Writes (run : Run) (at : SiteName) (records : List Record) (list : Ex
   pub goes : InProgress (history_of list) access place
   pub writes : slice_get (history_of list) place ≡ Some (record { task = access.task; happening = Write (bytes_of access) value })
 
--- While both are in progress the other access changes, by a write, a bit of the mask in the bytes of the assertion.
-pub record ChangesBits {run : Run} {records : List Record} (list : Execution run records) (assertion other : Access) (mask : ℕ) : Type 0 where
+-- In a history that begins with this memory, while both are in progress the other access changes, by a write, a bit of the
+-- mask in the bytes of the assertion.
+pub record ChangesBitsIn (memory : Memory) (history : History) (assertion other : Access) (mask : ℕ) : Type 0 where
   pub own : ¬ IsTrue (is_scoped other.kind)
   pub place : ℕ
   pub value : ℕ
-  pub assertion_goes : InProgress (history_of list) assertion place
-  pub other_goes : InProgress (history_of list) other place
-  pub writes : slice_get (history_of list) place ≡ Some (record { task = other.task; happening = Write (bytes_of other) value })
-  pub differ :
-      let memory = memory_at_first run.places run.program.variables in
-      Differ (Some mask) (content memory (history_of list) place (bytes_of assertion)) (content memory (history_of list) (suc place) (bytes_of assertion))
+  pub assertion_goes : InProgress history assertion place
+  pub other_goes : InProgress history other place
+  pub writes : slice_get history place ≡ Some (record { task = other.task; happening = Write (bytes_of other) value })
+  pub differ : Differ (Some mask) (content memory history place (bytes_of assertion)) (content memory history (suc place) (bytes_of assertion))
+
+-- so it is in an execution
+abbrev pub ChangesBits : {run : Run} {records : List Record} → Execution run records → Access → Access → ℕ → Type 0
+ChangesBits {run = run} list assertion other mask =
+    ChangesBitsIn (memory_at_first run.places run.program.variables) (history_of list) assertion other mask
 
 -- The accesses at the site write in no execution, as with kcsan_check_write(). Such an access stands for one that may
 -- change any bit.

@@ -2,8 +2,10 @@
 #![tactic(auto)]
 
 pub mod conflicts;
+pub mod found;
 pub mod pair;
 pub mod placed;
+pub mod report;
 pub mod verdict;
 
 pub use conflicts::conflicting_pairs;

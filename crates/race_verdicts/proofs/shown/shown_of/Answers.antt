@@ -12,7 +12,7 @@ pub loop-shown-preserved-then-is_of : goal.loop-shown-preserved-then-is_of
 loop-shown-preserved-then-is_of c =
     let pair = c.args.pair in
     let was = c.loop-shown.all in
-    let now = c.with-all.result in
+    let now = c.with_shown-all.result in
     let first = c.in-Some.shown.now in
     let left = c.loop-shown.shown-iterator in
     let rest = c.next.new.self in
@@ -21,10 +21,11 @@ loop-shown-preserved-then-is_of c =
     let so_far = c.loop-shown.invariant in
     record {
       at_once = counted pair Anything _ was.at_once now.at_once first left rest is so_far.at_once of_pair
-          (always was.at_once now.at_once c.with-all.ensures.at_once);
-      both_marked = counted pair AreBothMarked _ was.both_marked now.both_marked first left rest is so_far.both_marked of_pair c.with-all.ensures.both_marked;
-      silenced = counted pair IsOneSilenced _ was.silenced now.silenced first left rest is so_far.silenced of_pair c.with-all.ensures.silenced;
-      true_race = counted pair MayRace _ was.true_race now.true_race first left rest is so_far.true_race of_pair c.with-all.ensures.true_race;
+          (always was.at_once now.at_once c.with_shown-all.ensures.at_once);
+      both_marked = counted pair AreBothMarked _ was.both_marked now.both_marked first left rest is so_far.both_marked of_pair
+          c.with_shown-all.ensures.both_marked;
+      silenced = counted pair IsOneSilenced _ was.silenced now.silenced first left rest is so_far.silenced of_pair c.with_shown-all.ensures.silenced;
+      true_race = counted pair MayRace _ was.true_race now.true_race first left rest is so_far.true_race of_pair c.with_shown-all.ensures.true_race;
     }
 
 pub loop-shown-preserved : goal.loop-shown-preserved

@@ -1,51 +1,28 @@
-//! The verdicts on pairs.
+//! Why races are missed.
 
 ghost use Rattle.std.specs.Prelude.{◌≡◌, ◌↔◌, ◌⊎◌, Contains, IsTrue, List};
 ghost use Rattle.context_bound.specs.completeness.Reaches.{CanBeSearched};
 ghost use Rattle.executions.specs.execution.Execution.{Execution};
 ghost use Rattle.executions.specs.execution.Run.{Run};
 ghost use Rattle.race_search.specs.Facts.{AreFacts};
-ghost use Rattle.race_verdicts.specs.Judged.{IsEither, IsWatchedOf};
+ghost use Rattle.race_verdicts.specs.Judged.{IsEither};
 ghost use Rattle.race_search.specs.declared.facts.Fact.TheVariants as fact;
-ghost use Rattle.race_search.specs.declared.site_reports.SiteReport.TheVariants as said;
-ghost use Rattle.race_verdicts.specs.PairShown.{HasNoMask, IsUnwatchedOf};
+ghost use Rattle.races.specs.declared.report.SiteReport.TheVariants as said;
 ghost use Rattle.race_search.specs.Reports.{IsKept, SomeSays};
-ghost use Rattle.race_search.specs.declared.site_reports.SiteReport.{SiteReport};
+ghost use Rattle.races.specs.declared.report.SiteReport.{SiteReport};
 ghost use Rattle.races.specs.Pairs.{Conflicts};
 ghost use Rattle.races.specs.declared.pair.SitePair.{SitePair};
-ghost use Rattle.races.specs.Shown.{AreTrueRace, SomeShows};
-ghost use Rattle.races.specs.Verdicts.{AreMissedReasons, AreReasonsSoFar, Fits, IsReported, IsSettled};
+ghost use Rattle.races.specs.Verdicts.{AreMissedReasons, AreReasonsSoFar, facts_of};
 ghost use Rattle.slot_table.specs.declared.records.Record.{Record};
 ghost use Rattle.state_equivalence.specs.state_coverage.Visited.{CoversAllStates};
 
-use crate::shown::PairShown;
 use race_search::facts::Facts;
 use race_search::site_reports::SiteReports;
 use race_search::tellings::{
     law_explored_executions_tell_facts, law_next_records_show_facts,
     law_reports_say_what_executions_show,
 };
-use races::{MissedWhy, NoRaceWhy, SitePair, Verdict};
-
-/// What was found of a pair where nothing is watched.
-#[derive(Clone, Copy, Debug, PartialEq, Eq)]
-pub struct Unwatched {
-    pub shown: PairShown,
-    /// Whether they are a race: a true race, in which a mask of either is broken by the other.
-    pub race: bool,
-    /// Whether all states were visited.
-    pub settled: bool,
-}
-
-/// What was found of a pair where accesses are watched.
-#[derive(Clone, Copy, Debug, PartialEq, Eq)]
-pub struct Watched {
-    /// Whether it is reported.
-    pub reported: bool,
-    /// Whether it is known of each reason that it holds or doesn't.
-    pub settled: bool,
-    pub why: MissedWhy,
-}
+use races::{MissedWhy, SitePair};
 
 /// What was found between accesses at two sites.
 #[derive(Clone, Copy)]
@@ -113,48 +90,16 @@ pub fn missed_why(reports: &SiteReports, facts: &Facts, pair: SitePair, settled:
     ensures whole { (run : Run) (visited : List (List Record)) → CanBeSearched run → Conflicts run pair → IsTrue settled
         → ((records : List Record) → Contains visited records → Execution run records)
         → CoversAllStates run visited → AreFacts run visited facts.now
-        → ((one : SiteReport) → IsKept reports.now one ↔ SomeSays run one) → AreMissedReasons run pair result }
+        → ((one : SiteReport) → IsKept reports.now one ↔ SomeSays run one)
+        → AreMissedReasons (facts_of run pair) result }
     ensures so_far { (run : Run) (visited : List (List Record)) → CanBeSearched run → Conflicts run pair
         → ¬ IsTrue settled
-        → ((records : List Record) → Contains visited records → Execution run records) → AreFacts run visited facts.now
-        → ((one : SiteReport) → IsKept reports.now one → SomeSays run one) → AreReasonsSoFar run pair result }
+        → ((records : List Record) → Contains visited records → Execution run records)
+        → AreFacts run visited facts.now → ((one : SiteReport) → IsKept reports.now one → SomeSays run one)
+        → AreReasonsSoFar (facts_of run pair) result }
 {
     law_next_records_show_facts();
     law_explored_executions_tell_facts();
     law_reports_say_what_executions_show();
     found_between(reports, facts, pair).why(settled)
-}
-
-/// The verdict on a pair by what was found.
-pub fn verdict_of(unwatched: Unwatched, watched: Watched) -> Verdict
-    ensures fits { (run : Run) → (pair : SitePair) → HasNoMask run pair → IsUnwatchedOf run pair unwatched
-        → IsWatchedOf run pair watched → (IsReported run pair → SomeShows run (AreTrueRace run pair))
-        → Fits run pair result }
-    ensures settled { IsTrue unwatched.settled → IsTrue watched.settled → IsSettled result }
-{
-    let shown = unwatched.shown;
-    if watched.reported {
-        return Verdict::Reported;
-    }
-    if unwatched.race {
-        return if watched.settled {
-            Verdict::Missed(watched.why)
-        } else {
-            Verdict::Race(watched.why)
-        };
-    }
-    if !unwatched.settled {
-        return Verdict::NotSettled;
-    }
-    if shown.true_race && !watched.settled {
-        return Verdict::NotSettled;
-    }
-    if shown.at_once {
-        return Verdict::NoRace(NoRaceWhy {
-            both_marked: shown.both_marked,
-            silenced: shown.silenced,
-            other_bits: shown.true_race,
-        });
-    }
-    Verdict::Apart
 }

@@ -1,7 +1,7 @@
 -- Each fact that was found is shown by executions, and where all was visited each that is shown was found.
 use Rattle.std.proofs.Common.{inl, inr}
 use Rattle.race_verdicts.proofs.MissedLemmas.{AreWhys, are_reasons, are_so_far, said_so, so_said}
-use Rattle.race_verdicts.proofs.verdicts.missed_why.Goals as goal
+use Rattle.race_verdicts.proofs.missed.missed_why.Goals as goal
 use Rattle.races.specs.Shown.{IsDroppedIn, IsTakenIn, SomeShows}
 use Rattle.races.specs.Verdicts.{IsArmed}
 use Rattle.value_filter.specs.declared.verdict.Reason.TheVariants.{MaskedBits, SameValue}

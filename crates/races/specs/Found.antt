@@ -1,16 +1,12 @@
--- What was found of one pair of sites where nothing is watched.
-use Rattle.std.specs.Prelude.{◌≡◌, ◌↔◌, ◌⊎◌, IsTrue, None}
-use Rattle.access_types.specs.Access.{Access}
+-- What was found of one pair of sites, where nothing is watched and where accesses are.
+use Rattle.std.specs.Prelude.{IsTrue}
 use Rattle.executions.specs.execution.Run.{Run}
-use Rattle.race_verdicts.specs.declared.shown.PairShown.{PairShown}
-use Rattle.race_verdicts.specs.declared.verdicts.Unwatched.{Unwatched}
-use Rattle.races.specs.Pairs.{IsAt}
 use Rattle.races.specs.Shown.{AreAtOnce, AreBothMarked, AreTrueRace, IsOneSilenced, SomeShows}
+use Rattle.races.specs.Verdicts.{AreMissedReasons, AreReasonsSoFar, IsRace, IsReported, facts_of}
+use Rattle.races.specs.declared.found.PairShown.{PairShown}
+use Rattle.races.specs.declared.found.Unwatched.{Unwatched}
+use Rattle.races.specs.declared.found.Watched.{Watched}
 use Rattle.races.specs.declared.pair.SitePair.{SitePair}
-
--- no access at either site has a mask
-abbrev pub HasNoMask : Run → SitePair → Type 0
-HasNoMask run pair = (a : Access) → IsAt run pair.first a ⊎ IsAt run pair.second a → a.mask ≡ None
 
 -- what was found is shown by executions
 pub record AreShown (run : Run) (pair : SitePair) (shown : PairShown) : Type 0 where
@@ -26,8 +22,18 @@ pub record AreAllShown (run : Run) (pair : SitePair) (shown : PairShown) : Type 
   pub silenced : SomeShows run (IsOneSilenced run pair) → IsTrue shown.silenced
   pub true_race : SomeShows run (AreTrueRace run pair) → IsTrue shown.true_race
 
--- What was found of a pair is so. Where all states were visited nothing else is; and without masks a true race is a race.
+-- What was found of a pair is so. Where all states were visited nothing else is.
 pub record IsUnwatchedOf (run : Run) (pair : SitePair) (found : Unwatched) : Type 0 where
   pub sound : AreShown run pair found.shown
   pub complete : IsTrue found.settled → AreAllShown run pair found.shown
-  pub race : HasNoMask run pair → (IsTrue found.race ↔ IsTrue found.shown.true_race)
+  pub race : IsTrue found.race → IsRace run pair
+  pub all_races : IsTrue found.settled → IsRace run pair → IsTrue found.race
+
+-- What was found of a pair is so: whether it is reported, and why not. The reasons are those of a true race: of another
+-- pair, which isn't reported either, none are asked for.
+pub record IsWatchedOf (run : Run) (pair : SitePair) (found : Watched) : Type 0 where
+  pub sound : IsTrue found.reported → IsReported run pair
+  pub complete : IsTrue found.settled → IsReported run pair → IsTrue found.reported
+  pub why : IsTrue found.settled → ¬ IsTrue found.reported → SomeShows run (AreTrueRace run pair)
+      → AreMissedReasons (facts_of run pair) found.why
+  pub so_far : ¬ IsTrue found.settled → AreReasonsSoFar (facts_of run pair) found.why
