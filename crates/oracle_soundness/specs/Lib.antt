@@ -1,2 +1,3 @@
 pub mod oracle_headline
 pub mod oracle_headline_laws
+pub mod oracle_races

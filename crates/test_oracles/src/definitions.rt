@@ -21,7 +21,7 @@ pub fn answer(alloc: Global, word: &str, asked: &str, history: &[Moment]) -> Res
 }
 
 /// Adds an answer, behind a blank where it isn't the first.
-fn tell(answers: &mut String, answer: &str) -> Result<(), AllocError> {
+pub fn tell(answers: &mut String, answer: &str) -> Result<(), AllocError> {
     if !answers.is_empty() {
         answers.push(' ')?;
     }
@@ -34,7 +34,7 @@ fn yes_or_no(answer: bool) -> &'static str {
 }
 
 /// Plain writes are assumed atomic by the word `lax`, and not by `strict`.
-fn is_lax(word: &str) -> Result<bool, Fault> {
+pub fn is_lax(word: &str) -> Result<bool, Fault> {
     match word {
         "lax" => Ok(true),
         "strict" => Ok(false),

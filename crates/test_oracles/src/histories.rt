@@ -15,7 +15,7 @@ pub fn history_of(alloc: Global, text: &str) -> Result<Vec<Moment>, Fault> {
 }
 
 /// Puts the moment of a text behind the others.
-fn add_moment(history: &mut Vec<Moment>, text: &str) -> Result<(), Fault> {
+pub fn add_moment(history: &mut Vec<Moment>, text: &str) -> Result<(), Fault> {
     let Moment { task, happening } = moment_of(text)?;
     history.push(Moment { task, happening })?;
     Ok(())

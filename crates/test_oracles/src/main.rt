@@ -1,5 +1,6 @@
 //! Reads rows from standard input and prints those of which something else comes: histories, with what the definitions
-//! say of them; plays of some checkers over one board, move by move; and records, with what they are of a check.
+//! say of them; executions, with the verdict on a pair of sites; plays of some checkers over one board, move by move; and
+//! records, with what they are of a check.
 #![tactic(auto)]
 
 mod accesses;
@@ -10,6 +11,7 @@ mod moves;
 mod play;
 mod setting;
 mod steps;
+mod verdicts;
 mod words;
 
 use histories::history_of;
@@ -70,6 +72,7 @@ fn answer(alloc: Global, word: &str, asked: &str) -> Result<String, Fault> {
     match word {
         "checker" => checks::new_checker(alloc, asked),
         "records" => checks::reading(alloc, asked, told),
+        "verdict" => verdicts::answer(alloc, asked, told),
         _ => definitions::answer(alloc, word, asked, &history_of(alloc, told)?),
     }
 }

@@ -97,7 +97,7 @@ fn pair_of(word: &str) -> Result<Pair, Fault> {
 }
 
 /// Why a hit isn't reported.
-fn reason_of(word: &str) -> Result<Reason, Fault> {
+pub fn reason_of(word: &str) -> Result<Reason, Fault> {
     match word {
         "encoding" => Ok(Reason::Encoding),
         "same_value" => Ok(Reason::SameValue),

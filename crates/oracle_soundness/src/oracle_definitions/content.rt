@@ -6,7 +6,7 @@ ghost use Rattle.access_types.specs.History.{after_moments, byte_of, content};
 use access_types::{Bytes, Happening, Moment};
 
 /// The byte at an address after the moments, where every byte is 0 at first.
-fn byte_after(history: &[Moment], address: u64) -> u64
+pub(crate) fn byte_after(history: &[Moment], address: u64) -> u64
     ensures { result ≡ after_moments (λ _. 0) history.now address }
 {
     let mut byte = 0;

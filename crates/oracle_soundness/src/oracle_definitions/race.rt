@@ -1,6 +1,6 @@
 //! Which accesses are in progress at one moment, and which race.
 
-ghost use Rattle.std.specs.Prelude.{◌≤◌, ◌↔◌, ℕ, Contains, IsTrue, IfOk, length};
+ghost use Rattle.std.specs.Prelude.{◌≤◌, ◌↔◌, ◌⊎◌, ℕ, Contains, IsTrue, IfOk, length};
 ghost use Rattle.access_types.specs.History.{InProgress};
 ghost use Rattle.access_types.specs.Marked.{CountedAsMarked, Silenced};
 ghost use Rattle.access_types.specs.Race.{TrueRace};
@@ -35,7 +35,7 @@ fn both_in_progress(history: &[Moment], s: &Access, f: &Access, k: usize) -> boo
 }
 
 /// At some moment both are in progress.
-fn go_together(history: &[Moment], s: &Access, f: &Access) -> bool
+pub fn go_together(history: &[Moment], s: &Access, f: &Access) -> bool
     ensures { IsTrue result
         ↔ ((k : ℕ) × (InProgress history.now s.now k × InProgress history.now f.now k)) }
 {
@@ -48,7 +48,7 @@ fn go_together(history: &[Moment], s: &Access, f: &Access) -> bool
 }
 
 /// Both count as marked.
-fn both_counted(alloc: Global, atomic: bool, history: &[Moment], s: &Access, f: &Access) -> Answer
+pub fn both_count(alloc: Global, atomic: bool, history: &[Moment], s: &Access, f: &Access) -> Answer
     ensures { IfOk result
         (λ answer. IsTrue answer
         ↔ (CountedAsMarked atomic history.now s.now × CountedAsMarked atomic history.now f.now)) }
@@ -58,15 +58,13 @@ fn both_counted(alloc: Global, atomic: bool, history: &[Moment], s: &Access, f: 
     Ok(first && second)
 }
 
-/// Neither is silenced.
-fn both_heard(alloc: Global, history: &[Moment], s: &Access, f: &Access) -> Answer
-    ensures { IfOk result
-        (λ answer. IsTrue answer
-        ↔ ((¬ Silenced history.now s.now) × (¬ Silenced history.now f.now))) }
+/// One of the two is silenced.
+pub fn is_one_silenced(alloc: Global, history: &[Moment], s: &Access, f: &Access) -> Answer
+    ensures { IfOk result (λ answer. IsTrue answer ↔ (Silenced history.now s.now ⊎ Silenced history.now f.now)) }
 {
     let first = silenced(alloc, history, s)?;
     let second = silenced(alloc, history, f)?;
-    Ok(!first && !second)
+    Ok(first || second)
 }
 
 /// The two race.
@@ -76,7 +74,7 @@ pub fn true_race(alloc: Global, atomic: bool, history: &[Moment], s: &Access, f:
     if s.task() == f.task() || !conflicts(s, f) {
         return Ok(false);
     }
-    if both_counted(alloc, atomic, history, s, f)? || !both_heard(alloc, history, s, f)? {
+    if both_count(alloc, atomic, history, s, f)? || is_one_silenced(alloc, history, s, f)? {
         return Ok(false);
     }
     Ok(go_together(history, s, f))

@@ -1,0 +1,6 @@
+pub mod Deciding
+pub mod LowBits
+pub mod MaskLemmas
+pub mod Reasons
+pub mod Searches
+pub mod Uniqueness
