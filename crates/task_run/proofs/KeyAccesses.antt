@@ -26,7 +26,7 @@ key_begun one other stages.Opening also checks part =
     begun_same one.checker other.checker checks part.1 ∙ ap (begun_in other.checker) (sym part.0)
 key_begun one other stages.Closing also checks part =
     ap (λ (x : CheckStage). closing_at x) checks ∙ ap (begun_in other.checker) (sym part)
-key_begun one other (stages.Locking wait variable) also checks part = ap (begun_in other.checker) (sym part.1)
+key_begun one other (stages.Locking wait variable) also checks part = ap (begun_in other.checker) (sym part)
 key_begun one other (stages.Unlocking variable) also checks part = ap (begun_in other.checker) (sym part)
 
 pub key_accesses : (one other : TaskRun) → HaveOneKey one other → in_progress_of one ≡ in_progress_of other

@@ -37,3 +37,4 @@ pub mod ComeLemmas
 pub mod NewsLemmas
 pub mod CopyLemmas
 pub mod Sent
+pub mod CountedTries

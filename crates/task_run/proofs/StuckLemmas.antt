@@ -25,6 +25,7 @@ use Rattle.setup_access.proofs.NextLemmas.{only_step}
 use Rattle.setup_access.specs.Check.{Check, Close, Passes}
 use Rattle.setup_access.specs.Checker.{Checks, Closes, Doing}
 use Rattle.setup_access.specs.Leads as checks
+use Rattle.setup_access.specs.Setting as settings
 use Rattle.setup_access.specs.Waits.{IsStuckBy}
 use Rattle.setup_access.proofs.LeadsLemmas.{same_ends}
 use Rattle.setup_access.specs.declared.begun.Begun.{Begun}
@@ -109,13 +110,18 @@ module _ (s : Setting) (registers : ℕ) (body : Block) (records : List Record) 
   whole part is = subst (λ (p : Part). PartLeft s p run.machine.walk there (leads.mine ++ written.more) written.whole.end []) is
       ((leads.left written.more written.whole.end).0 written.whole.steps)
 
-  opening_waits : run.stage ≡ stages.Opening → IsStuck leads → waits.IsStuck s registers body records
-  opening_waits is stuck =
+  -- A load of a pair is next, and comes after so many failed tries.
+  abbrev pub LoadsAfter : ℕ → Type 0
+  LoadsAfter tries =
+      (index : ℕ) × ((of : settings.Setting) → checks.stage_step of run.machine.checker.stage ≡ Some (PairLoad index))
+      × IsTooMuch tries (PairLoad index) (onto leads.mine (reverse leads.earlier))
+
+  pub opening_loads : run.stage ≡ stages.Opening → (tries : ℕ) → IsStuckBy tries leads.mine → LoadsAfter tries
+  opening_loads is tries by =
       let part = opening_part s registers body records run leads is in
       let agrees = agrees_in s registers body records run leads (opens part.0) part.1 (leads.mine ++ written.more) in
       let is_in = agrees.is_in in
-      let by : IsStuckBy s.rules.turns leads.mine = (opening_is s registers body records run leads is).1 stuck in
-      let long = check_long (checks_of s) there.scopes (Checks is_in.0) there.asked leads.mine run.machine.checker is_in.4 s.rules.turns by in
+      let long = check_long (checks_of s) there.scopes (Checks is_in.0) there.asked leads.mine run.machine.checker is_in.4 tries by in
       let left = whole (opens part.0) part.1 in
       let same = begins_one s there part.0 left.0 is_in.0 left.3.begins is_in.2 in
       let Begins : List Record → Passes → List Record → Type 0 = Check (checks_of s) there.scopes is_in.0 there.asked in
@@ -123,19 +129,23 @@ module _ (s : Setting) (registers : ℕ) (body : Block) (records : List Record) 
       (λ r p h. check_of_one (checks_of s) there.scopes is_in.0 there.asked r p [] h tt) leads.mine written.more left.3.passes left.2 is_in.5
       (only_step (checks_of s) there.scopes (Checks is_in.0) there.asked leads.mine run.machine.checker (PairLoad long.0) is_in.4 (long.1 (checks_of s)))
       (subst (λ (b : Begun). Check (checks_of s) there.scopes b there.asked (leads.mine ++ written.more) left.3.passes left.2) same left.3.check) in
+      (long.0, long.1, long.2 (reverse leads.earlier) next.0 next.1 next.2)
+
+  opening_waits : run.stage ≡ stages.Opening → IsStuck leads → waits.IsStuck s registers body records
+  opening_waits is stuck =
+      let long = opening_loads is s.rules.turns ((opening_is s registers body records run leads is).1 stuck) in
       told (PairLoad long.0)
       (opening_only s registers body records run leads is (PairLoad long.0) (λ scopes doing asked so_far l.
       only_step (checks_of s) scopes doing asked so_far run.machine.checker (PairLoad long.0) l (long.1 (checks_of s))))
-      (long.2 (reverse leads.earlier) next.0 next.1 next.2)
+      long.2
 
-  closing_waits : run.stage ≡ stages.Closing → IsStuck leads → waits.IsStuck s registers body records
-  closing_waits is stuck =
+  pub closing_loads : run.stage ≡ stages.Closing → (tries : ℕ) → IsStuckBy tries leads.mine → LoadsAfter tries
+  closing_loads is tries by =
       let part = closing_part s registers body records run leads is in
       let agrees = agrees_in s registers body records run leads closes part (leads.mine ++ written.more) in
       let is_in = agrees.is_in in
-      let by : IsStuckBy s.rules.turns leads.mine = (closing_is s registers body records run leads is).1 stuck in
       let doing : Doing = Closes is_in.1 is_in.2 in
-      let long = check_long (checks_of s) is_in.0 doing there.asked leads.mine run.machine.checker is_in.6 s.rules.turns by in
+      let long = check_long (checks_of s) is_in.0 doing there.asked leads.mine run.machine.checker is_in.6 tries by in
       let left = whole closes part in
       let closed = left.2 in
       let made = closed.3 in
@@ -147,10 +157,15 @@ module _ (s : Setting) (registers : ℕ) (body : Block) (records : List Record) 
       (only_step (checks_of s) is_in.0 doing there.asked leads.mine run.machine.checker (PairLoad long.0) is_in.6 (long.1 (checks_of s)))
       (subst (λ (b : Bool). Close (checks_of s) is_in.1 b there.asked (leads.mine ++ written.more) made.passes left.1) says
       (subst (λ (b : Begun). Close (checks_of s) b made.silenced there.asked (leads.mine ++ written.more) made.passes left.1) ends.1 made.close)) in
+      (long.0, long.1, long.2 (reverse leads.earlier) next.0 next.1 next.2)
+
+  closing_waits : run.stage ≡ stages.Closing → IsStuck leads → waits.IsStuck s registers body records
+  closing_waits is stuck =
+      let long = closing_loads is s.rules.turns ((closing_is s registers body records run leads is).1 stuck) in
       told (PairLoad long.0)
       (closing_only s registers body records run leads is (PairLoad long.0) (λ scopes what asked so_far l.
       only_step (checks_of s) scopes what asked so_far run.machine.checker (PairLoad long.0) l (long.1 (checks_of s))))
-      (long.2 (reverse leads.earlier) next.0 next.1 next.2)
+      long.2
 
   locking_waits : (wait : LockWait) (variable : ℕ) → run.stage ≡ stages.Locking wait variable → IsStuck leads → waits.IsStuck s registers body records
   locking_waits wait variable is stuck =
@@ -178,17 +193,14 @@ module _ (s : Setting) (registers : ℕ) (body : Block) (records : List Record) 
     abbrev here : Standing
     here = leads.now leads.mine
 
-    check_waits : (ready : Option OperationRun) → own.stage ≡ accessing.Check ready → IsStuck leads → waits.IsStuck s registers body records
-    check_waits ready at stuck =
+    pub check_loads : (ready : Option OperationRun) → own.stage ≡ accessing.Check ready → (tries : ℕ) → IsStuckBy tries leads.mine → LoadsAfter tries
+    check_loads ready at tries by =
         let part = making_part s registers body records run leads own kept is in
-        let agrees = making_agrees s registers body records run leads own kept is in
-        let begun = agrees.is_in.2 in
+        let begun = (making_agrees s registers body records run leads own kept is).is_in.2 in
         let here_leads : StageLeads (checks_of s) here.scopes begun here.asked part.1 leads.mine (accessing.Check ready) run.machine.checker =
         subst (λ (x : access_stages.AccessStage). StageLeads (checks_of s) here.scopes begun here.asked part.1 leads.mine x run.machine.checker) at
         (making_leads s registers body records run leads own kept is).stage in
-        let by : IsStuckBy s.rules.turns leads.mine = (check_stuck (checks_of s) here.scopes begun here.asked part.1 leads.mine run.machine.checker ready here_leads).1
-        ((making_is s registers body records run leads own kept is).1 stuck) in
-        let long = check_long (checks_of s) here.scopes (Checks begun) here.asked leads.mine run.machine.checker here_leads.0 s.rules.turns by in
+        let long = check_long (checks_of s) here.scopes (Checks begun) here.asked leads.mine run.machine.checker here_leads.0 tries by in
         let then = agrees_in s registers body records run leads (makes part.0 part.1 (follow_of kept)) part.2 (leads.mine ++ written.more) in
         let is_in = then.is_in in
         let its : AccessLeads (checks_of s) there.scopes is_in.2 there.asked part.1 leads.mine own run.machine.checker =
@@ -204,13 +216,25 @@ module _ (s : Setting) (registers : ℕ) (body : Block) (records : List Record) 
         (λ r p h. check_of_one (checks_of s) there.scopes is_in.2 there.asked r p [] h tt) leads.mine written.more made.passes made.checked there_leads.1
         (only_step (checks_of s) there.scopes (Checks is_in.2) there.asked leads.mine run.machine.checker (PairLoad long.0) there_leads.0 (long.1 (checks_of s)))
         (subst (λ (b : Begun). Check (checks_of s) there.scopes b there.asked (leads.mine ++ written.more) made.passes made.checked) same made.check) in
+        (long.0, long.1, long.2 (reverse leads.earlier) next.0 next.1 next.2)
+
+    check_waits : (ready : Option OperationRun) → own.stage ≡ accessing.Check ready → IsStuck leads → waits.IsStuck s registers body records
+    check_waits ready at stuck =
+        let part = making_part s registers body records run leads own kept is in
+        let begun = (making_agrees s registers body records run leads own kept is).is_in.2 in
+        let here_leads : StageLeads (checks_of s) here.scopes begun here.asked part.1 leads.mine (accessing.Check ready) run.machine.checker =
+        subst (λ (x : access_stages.AccessStage). StageLeads (checks_of s) here.scopes begun here.asked part.1 leads.mine x run.machine.checker) at
+        (making_leads s registers body records run leads own kept is).stage in
+        let long = check_loads ready at s.rules.turns
+        ((check_stuck (checks_of s) here.scopes begun here.asked part.1 leads.mine run.machine.checker ready here_leads).1
+        ((making_is s registers body records run leads own kept is).1 stuck)) in
         told (PairLoad long.0)
         (making_only s registers body records run leads own kept is (PairLoad long.0) (λ scopes of asked operation so_far l.
         let now : StageLeads (checks_of s) scopes of asked operation so_far (accessing.Check ready) run.machine.checker =
         subst (λ (x : access_stages.AccessStage). StageLeads (checks_of s) scopes of asked operation so_far x run.machine.checker) at l.stage in
         check_only (checks_of s) scopes of asked operation so_far run.machine.checker ready now (PairLoad long.0)
         (only_step (checks_of s) scopes (Checks of) asked so_far run.machine.checker (PairLoad long.0) now.0 (long.1 (checks_of s)))))
-        (long.2 (reverse leads.earlier) next.0 next.1 next.2)
+        long.2
 
     operate_waits : (now : OperationRun) → own.stage ≡ accessing.Operate now → IsStuck leads → waits.IsStuck s registers body records
     operate_waits now at stuck =
