@@ -3,6 +3,7 @@ pub mod SightingLemmas
 pub mod FoundLemmas
 pub mod CountedOnce
 pub mod JoinLemmas
+pub mod FirstLists
 pub mod Shown
 pub mod VecTexts
 pub mod ReadBack

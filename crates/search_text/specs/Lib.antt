@@ -5,6 +5,7 @@ pub mod Times
 pub mod Seen
 pub mod Texts
 pub mod SearchFindings
+pub mod FirstLists
 pub mod Joined
 pub mod Stops
 pub mod Write
