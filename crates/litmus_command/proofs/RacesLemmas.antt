@@ -1,5 +1,6 @@
 -- Files whose races are looked for one after the other, and what comes of them all.
-use Rattle.std.proofs.Common.{◌≡◌, ◌∙◌, ◌<◌, ◌≤◌, ◌≢◌, ◌+◌, ◌^◌, ◌⊎◌, ◌++◌, ◌∷◌, [], ℕ, All, Bool, ◌&&◌, IfNone, IfSome, List, None, Option, Some, ap, append-nil, arith, false, flat_map}
+use Rattle.std.proofs.Common.{◌≡◌, ◌∙◌, ◌<◌, ◌≤◌, ◌≢◌, ◌+◌, ◌^◌, ◌⊎◌, ◌++◌, ◌∷◌, [], ℕ, All, Bool, ◌&&◌, IfNone, IfSome, List, None, Option}
+use Rattle.std.proofs.Common.{Some, ap, append-nil, arith, false, flat_map}
 use Rattle.std.proofs.Common.{fold, if◌then◌else◌, inl, inr, is_some, length, length-append, map, max, nat_lt, rules, refl, subst, suc, sym, take, true}
 use Rattle.std.proofs.lemmas.Grind.{flat_map-append}
 use Rattle.std.proofs.lemmas.List.{length-map, map-append}
