@@ -41,6 +41,12 @@ module _ {run : Run} {records others : List Record} (list : Execution run record
         run.program.condition holds.holds;
   }
 
+  pub finals_there : (finals : Finals) → AreFinals list finals → AreFinals other finals
+  finals_there finals are = record {
+    registers = carried _ are.registers;
+    variables = λ number. are.variables number ∙ variables number;
+  }
+
   module _ (finals shown : Finals) (one : AreFinals list finals) (also : AreFinals other shown) where
     register_same : (task number : ℕ) → register_of finals task number ≡ register_of shown task number
     register_same task number =
@@ -63,6 +69,7 @@ module _ {run : Run} {records others : List Record} (list : Execution run record
 pub end_the_same : {run : Run} {records others : List Record} (list : Execution run records) (other : Execution run others)
     → SameRegisters list other → SameVariables list other → EndTheSame list other
 end_the_same list other registers variables = record {
+  finals = finals_there list other registers variables;
   states = state_same list other registers variables;
   holds = (
     holds_there list other registers variables,

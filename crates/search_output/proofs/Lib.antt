@@ -1,4 +1,5 @@
 pub mod TraceLemmas
+pub mod ChosenLists
 pub mod StateLemmas
 pub mod EndLemmas
 pub mod Results

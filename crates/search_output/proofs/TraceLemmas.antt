@@ -105,28 +105,3 @@ traced_as settings {run} one list reports bytes same_list same_reports written a
       (subst (λ r. IsTraceOf settings list r bytes) (sym same_reports) written);
   accepted = accepted;
 }
-
-from_behind : (settings : Settings) {run : Run} (found behind : Option (OneList run)) (trace later : Option (List ℕ))
-    → trace ≡ None → IsTraceIfSome settings found trace → IsTraceIfSome settings behind later
-    → IsTraceIfSome settings (or_else found behind) later
-from_behind settings None behind trace later none is others = others
-from_behind settings (Some one) behind trace later none is others =
-    absurd (let no : None ≡ Some is.0 = sym none ∙ is.1 in cc)
-
--- where no trace was kept it is that of the lists behind
-pub joined_none : (settings : Settings) (traced : Bool) {run : Run} (lists more : List (OneList run)) (trace later : Option (List ℕ))
-    → trace ≡ None → IsFirstTrace settings traced lists trace → IsFirstTrace settings traced more later
-    → IsFirstTrace settings traced (lists ++ more) later
-joined_none settings false lists more trace later none is behind = behind
-joined_none settings true lists more trace later none is behind =
-    subst (λ found. IsTraceIfSome settings found later) (sym (first_of_more lists more))
-    (from_behind settings (first_reported lists) (first_reported more) trace later none is behind)
-
--- where one was kept it stays
-pub joined_some : (settings : Settings) (traced : Bool) {run : Run} (lists more : List (OneList run)) (trace later : Option (List ℕ))
-    → is_some trace ≡ true → IsFirstTrace settings traced lists trace → IsFirstTrace settings traced (lists ++ more) trace
-joined_some settings false lists more trace later some is = is
-joined_some settings true lists more trace later some is =
-    subst (λ found. IsTraceIfSome settings found trace) (sym (first_of_more lists more))
-    (stays settings (first_reported lists) (first_reported more) trace (is_some trace)
-    (λ none. absurd (let no : true ≡ false = sym some ∙ none in cc)) is)

@@ -18,9 +18,10 @@ pub record EndAlike (run : Run) (records others : List Record) : Type 0 where
   pub ends : (task : ℕ) (one : HasEnded run task records)
       → (also : HasEnded run task others) × (also.end.progress.registers ≡ one.end.progress.registers)
 
--- where both lists end, the texts of what registers and variables hold are one, and the condition holds at both or at
--- none
+-- Where both lists end, registers and variables hold the same, the texts of that are one, and the condition holds at
+-- both or at none.
 pub record EndTheSame {run : Run} {records others : List Record} (list : Execution run records) (other : Execution run others) : Type 0 where
+  pub finals : (finals : Finals) → AreFinals list finals → AreFinals other finals
   pub states : (finals shown : Finals) → AreFinals list finals → AreFinals other shown
       → state_text run.program (register_of finals) (variable_of finals) ≡ state_text run.program (register_of shown) (variable_of shown)
   pub holds : HoldsAtEnd list ↔ HoldsAtEnd other

@@ -9,6 +9,9 @@ pub mod text;
 
 pub use findings::Findings;
 pub use progress::{SearchProgress, seconds_gone};
-pub use search_text::{Asked, Entry, MemorySink, Sink, Stopped, Visited, WriteError};
+pub use search_text::{
+    Asked, Ending, Entry, ListCounts, MemorySink, SearchFindings, Sightings, Sink, Stopped,
+    Visited, WriteError,
+};
 pub use state_findings::StateFindings;
 pub use text::SearchText;

@@ -4,13 +4,13 @@ ghost use Rattle.std.specs.Prelude.{◌≡◌, IfSome, Some};
 
 /// Who is told how far a search has come, and says how long it has taken.
 pub trait SearchProgress {
-    /// So many schedules were searched.
-    fn searched(&self, schedules: u64);
+    /// So many nodes were visited.
+    fn nodes(&self, nodes: u64);
 
     /// So many states were visited, and so many of them are left to go on from.
     fn visited(&self, states: u64, left: u64);
 
-    /// No schedule is searched any more.
+    /// The search is over.
     fn search_over(&self);
 
     /// So many seconds have gone by since the search began.

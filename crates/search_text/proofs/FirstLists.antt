@@ -1,14 +1,14 @@
 -- The first lists with each text are enough for the texts, their order and the schedules of the first.
 use Rattle.std.proofs.Common.{◌≡◌, ◌++◌, ◌∷◌, ◌∙◌, ◌||◌, ℕ, List, [], Bool, true, false, ap, append_assoc, append-nil}
-use Rattle.std.proofs.Common.{fold, refl, sym, if◌then◌else◌}
+use Rattle.std.proofs.Common.{flat_map, fold, map, refl, subst, sym, if◌then◌else◌}
 use Rattle.std.specs.List.{list_any}
 use Rattle.std.proofs.lemmas.Cmp.{nat_list_eq_equiv}
 use Rattle.std.proofs.lemmas.List.Folds.{list_any-append}
 use Rattle.report_text.specs.Groups.{first_seen, is_text}
 use Rattle.search_text.proofs.SightingLemmas.{sightings_on}
 use Rattle.search_text.proofs.TextLists.{any_fold, or_true}
-use Rattle.search_text.specs.FirstLists.{First, KeepsFirst, firsts_of, left_out, none, taken}
-use Rattle.search_text.specs.SearchFindings.{Searched, sightings_in}
+use Rattle.search_text.specs.FirstLists.{First, KeepsFirst, KeepsFirstLists, deadlocks_of, firsts_of, left_out, none, taken}
+use Rattle.search_text.specs.SearchFindings.{Searched, first_schedule, has, sightings_in, states_of}
 use Rattle.search_text.specs.Seen.{sighted}
 use Rattle.search_text.specs.Times.{Sighting}
 use Rattle.prepared_program.specs.declared.step_schedule.schedule.Entry.{Entry}
@@ -168,3 +168,75 @@ pub firsts_enough : (of : Searched → List (List ℕ)) (all some : List Searche
     → firsts_of (sightings_in of all) ≡ firsts_of (sightings_in of some)
 firsts_enough of all some keeps =
     ap firsts_of (sym (sightings_fold of [] all)) ∙ firsts_fold of all some keeps ∙ ap firsts_of (sightings_fold of [] some)
+
+-- What is chosen of items that show lists is chosen of the lists.
+keeps_shown : {X : Type 0} (view : X → Searched) (of : Searched → List (List ℕ)) (seen : List (List ℕ)) (all some : List X)
+    → KeepsFirst (λ one. of (view one)) seen all some → KeepsFirst of seen (map view all) (map view some)
+keeps_shown view of _ _ _ (none seen) = none seen
+keeps_shown view of _ _ _ (taken seen one all some later) =
+    taken seen (view one) (map view all) (map view some) (keeps_shown view of (seen ++ of (view one)) all some later)
+keeps_shown view of _ _ _ (left_out seen one all some old later) =
+    left_out seen (view one) (map view all) (map view some) old (keeps_shown view of seen all some later)
+
+pub lists_shown : {X : Type 0} (view : X → Searched) (all some : List X) → KeepsFirstLists view all some
+    → KeepsFirstLists (λ one. one) (map view all) (map view some)
+lists_shown view all some keeps = record {
+  reports = keeps_shown view (λ one. one.texts) [] all some keeps.reports;
+  states = keeps_shown view states_of [] all some keeps.states;
+  deadlocks = keeps_shown view deadlocks_of [] all some keeps.deadlocks;
+}
+
+-- Of more lists behind these some are chosen too, where the texts of those that were chosen are known.
+pub keeps_behind : {X : Type 0} (of : X → List (List ℕ)) (seen : List (List ℕ)) (all some more others : List X) → KeepsFirst of seen all some
+    → KeepsFirst of (seen ++ flat_map of some) more others → KeepsFirst of seen (all ++ more) (some ++ others)
+keeps_behind of _ _ _ more others (none seen) behind = subst (λ known. KeepsFirst of known more others) (append-nil seen) behind
+keeps_behind of _ _ _ more others (taken seen one all some later) behind =
+    taken seen one (all ++ more) (some ++ others) (keeps_behind of (seen ++ of one) all some more others later
+    (subst (λ known. KeepsFirst of known more others) (sym (append_assoc seen (of one) (flat_map of some))) behind))
+keeps_behind of _ _ _ more others (left_out seen one all some old later) behind =
+    left_out seen one (all ++ more) (some ++ others) old (keeps_behind of seen all some more others later behind)
+
+-- so it is of one list more that is chosen
+pub taken_last : {X : Type 0} (of : X → List (List ℕ)) (seen : List (List ℕ)) (all some : List X) (one : X) → KeepsFirst of seen all some
+    → KeepsFirst of seen (all ++ one ∷ []) (some ++ one ∷ [])
+taken_last of seen all some one keeps =
+    keeps_behind of seen all some (one ∷ []) (one ∷ []) keeps
+    (taken (seen ++ flat_map of some) one [] [] (none ((seen ++ flat_map of some) ++ of one)))
+
+-- and of one whose texts are known
+pub left_last : {X : Type 0} (of : X → List (List ℕ)) (seen : List (List ℕ)) (all some : List X) (one : X) → KeepsFirst of seen all some
+    → ((text : List ℕ) → list_any (is_text text) (of one) ≡ true → list_any (is_text text) (seen ++ flat_map of some) ≡ true)
+    → KeepsFirst of seen (all ++ one ∷ []) some
+left_last of seen all some one keeps known =
+    subst (KeepsFirst of seen (all ++ one ∷ [])) (append-nil some)
+    (keeps_behind of seen all some (one ∷ []) [] keeps
+    (left_out (seen ++ flat_map of some) one [] [] known (none (seen ++ flat_map of some))))
+
+-- a list is there, and the schedule of the first is the same, behind one that passes or one that doesn't
+both_on : (passes there here : Bool) (own first other : List Entry) → (passes ≡ false → (there ≡ here) × (first ≡ other))
+    → ((passes || there) ≡ (passes || here)) × ((if passes then own else first) ≡ (if passes then own else other))
+both_on true there here own first other rest = (refl, refl)
+both_on false there here own first other rest = rest refl
+
+one_on : (passes there here : Bool) (own first other : List Entry) → passes ≡ false → (there ≡ here) × (first ≡ other)
+    → ((passes || there) ≡ here) × ((if passes then own else first) ≡ other)
+one_on true there here own first other fails rest = let no : true ≡ false = fails in absurd (let never : ⊥ = cc in never)
+one_on false there here own first other fails rest = rest
+
+-- the first list with a text that is not known is chosen
+pub first_chosen : (of : Searched → List (List ℕ)) (text : List ℕ) (seen : List (List ℕ)) (all some : List Searched) → KeepsFirst of seen all some
+    → list_any (is_text text) seen ≡ false
+    → (list_any (has of text) all ≡ list_any (has of text) some) × (first_schedule (has of text) all ≡ first_schedule (has of text) some)
+first_chosen of text _ _ _ (none seen) new = (refl, refl)
+first_chosen of text _ _ _ (taken seen one all some later) new =
+    both_on (has of text one) (list_any (has of text) all) (list_any (has of text) some) one.schedule (first_schedule (has of text) all)
+    (first_schedule (has of text) some)
+    (λ fails. first_chosen of text (seen ++ of one) all some later
+    (list_any-append (is_text text) seen (of one) ∙ ap (λ b. b || list_any (is_text text) (of one)) new ∙ fails))
+first_chosen of text _ _ _ (left_out seen one all some old later) new =
+    one_on (has of text one) (list_any (has of text) all) (list_any (has of text) some) one.schedule (first_schedule (has of text) all)
+    (first_schedule (has of text) some) (fails (has of text one) refl) (first_chosen of text seen all some later new)
+  where
+    fails : (b : Bool) → has of text one ≡ b → has of text one ≡ false
+    fails false is = is
+    fails true is = let no : true ≡ false = sym (old text is) ∙ new in absurd (let never : ⊥ = cc in never)

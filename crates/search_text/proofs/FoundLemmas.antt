@@ -1,6 +1,6 @@
 -- What is found of lists, with one list more.
-use Rattle.std.proofs.Common.{◌≡◌, ◌↔◌, ◌+◌, ◌<◌, ◌++◌, ◌∷◌, ◌∙◌, ◌==◌, ◌||◌, ℕ, Contains, IsTrue, List, [], Bool}
-use Rattle.std.proofs.Common.{Option, None, Some, true, false, ap, arith, fold, inl, inr, length, length-append, map, not, refl, sym, if◌then◌else◌}
+use Rattle.std.proofs.Common.{◌≡◌, ◌↔◌, ◌<◌, ◌++◌, ◌∷◌, ◌∙◌, ◌==◌, ◌||◌, ℕ, Contains, IsTrue, List, [], Bool}
+use Rattle.std.proofs.Common.{Option, None, Some, true, false, ap, arith, fold, inl, inr, is_some, length, length-append, map, not, refl, sym, if◌then◌else◌}
 use Rattle.std.specs.List.{flat_map, list_any}
 use Rattle.std.proofs.lemmas.Bool.Decides.{eqb_tells}
 use Rattle.std.proofs.lemmas.Cmp.{nat_list_eq_equiv}
@@ -11,11 +11,11 @@ use Rattle.report_text.specs.Groups.{first_seen, is_text, one_more}
 use Rattle.search_text.proofs.SightingLemmas.{count_on, counted_more, seen_on, sightings_on}
 use Rattle.search_text.proofs.TextLists.{any_fold}
 use Rattle.search_text.specs.declared.stopped.Stopped.{Stopped}
-use Rattle.search_text.specs.SearchFindings.{Finds, Searched, ends_so, fails, has, is_deadlocked, is_none, meets, option_again, resting, sightings_in, state_in, states_of, texts_of_all, times_in}
+use Rattle.search_text.specs.SearchFindings.{Finds, Searched, ends_so, fails, has, is_deadlocked, is_none, meets, option_again, resting, seen_in, sightings_in, state_in, states_of, texts_of_all, times_in}
 use Rattle.search_text.specs.Seen.{sighted}
 use Rattle.search_text.specs.Texts.{End}
 use Rattle.search_text.specs.Times.{Sighting, Times}
-use Rattle.search_text.specs.Write.{found_text, search_text, states_search_text, text_found, text_of_both}
+use Rattle.search_text.specs.Write.{search_text, states_search_text, text_found, text_of_both}
 use Rattle.search_text.specs.declared.found.SearchFindings.{SearchFindings}
 
 -- a final state is one text
@@ -73,9 +73,9 @@ reports_kept lists found finds =
     ∙ ap not (some_kept (texts_of_all lists))
 
 -- what is found is what is written
-pub text_found_is : (name : List ℕ) (switches : ℕ) (stopped : Stopped) (lists : List Searched) (found : SearchFindings) → Finds lists found
-    → text_found name switches stopped found ≡ search_text name switches stopped lists
-text_found_is name switches stopped lists found finds =
+pub text_found_is : (name : List ℕ) (switches nodes : ℕ) (stopped : Stopped) (lists : List Searched) (found : SearchFindings) → Finds lists found
+    → text_found name switches nodes stopped found ≡ search_text name switches nodes stopped lists
+text_found_is name switches nodes stopped lists found finds =
     rw (finds.reports, finds.stuck, finds.states, finds.searched, finds.held, finds.failed)
 
 pub text_of_both_is : (name : List ℕ) (stopped : Stopped) (visited : ℕ) (reports ends : List Searched) (reported ended : SearchFindings)
@@ -90,18 +90,28 @@ any_each : (text : List ℕ) (times : List ℕ → Times) (texts : List (List �
 any_each text times [] = refl
 any_each text times (first ∷ texts) = ap (λ b. is_text text first || b) (any_each text times texts)
 
-any_state : (text : List ℕ) (lists : List Searched) (found : SearchFindings) → Finds lists found
-    → list_any (λ sighting. is_text text sighting.0) found.states ≡ list_any (is_text text) (flat_map states_of lists)
-any_state text lists found finds =
-    ap (list_any (λ sighting. is_text text sighting.0)) finds.states
-    ∙ any_each text (λ one. times_in (has states_of one) lists) (first_seen (flat_map states_of lists))
-    ∙ any_fold text [] (flat_map states_of lists)
+-- a text that was seen is one of those that the lists have
+any_text : (of : Searched → List (List ℕ)) (text : List ℕ) (lists : List Searched) (sightings : List Sighting) → sightings ≡ sightings_in of lists
+    → list_any (λ sighting. is_text text sighting.0) sightings ≡ list_any (is_text text) (flat_map of lists)
+any_text of text lists sightings are =
+    ap (list_any (λ sighting. is_text text sighting.0)) are
+    ∙ any_each text (λ one. times_in (has of one) lists) (first_seen (flat_map of lists))
+    ∙ any_fold text [] (flat_map of lists)
 
-pub state_there : (text : List ℕ) (lists : List Searched) (found : SearchFindings) (result : Bool)
-    → result ≡ list_any (λ sighting. is_text text sighting.0) found.states → Finds lists found
-    → IsTrue result ↔ Contains (flat_map states_of lists) text
-state_there text lists found result told finds =
-    let same = told ∙ any_state text lists found finds in (
-      λ is. Contains-from_any (λ one other e. same_text one other (sym e)) text (flat_map states_of lists) (sym same ∙ is),
-      λ there. same ∙ list_any-from_Contains nat_list_eq_equiv text (flat_map states_of lists) there,
+pub text_there : (of : Searched → List (List ℕ)) (text : List ℕ) (lists : List Searched) (sightings : List Sighting) (result : Bool)
+    → result ≡ list_any (λ sighting. is_text text sighting.0) sightings → sightings ≡ sightings_in of lists
+    → IsTrue result ↔ Contains (flat_map of lists) text
+text_there of text lists sightings result told are =
+    let same = told ∙ any_text of text lists sightings are in (
+      λ is. Contains-from_any (λ one other e. same_text one other (sym e)) text (flat_map of lists) (sym same ∙ is),
+      λ there. same ∙ list_any-from_Contains nat_list_eq_equiv text (flat_map of lists) there,
     )
+
+-- something was seen where a list passes
+pub seen_there : (test : Searched → Bool) (lists : List Searched) (seen : Option Times) → seen ≡ seen_in test lists
+    → is_some seen ≡ list_any test lists
+seen_there test lists seen is = ap is_some is ∙ by (list_any test lists)
+  where
+    by : (b : Bool) → is_some (if b then Some (times_in test lists) else None) ≡ b
+    by true = refl
+    by false = refl

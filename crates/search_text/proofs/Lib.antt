@@ -2,8 +2,8 @@ pub mod TextLists
 pub mod SightingLemmas
 pub mod FoundLemmas
 pub mod CountedOnce
-pub mod JoinLemmas
 pub mod FirstLists
+pub mod CountedLemmas
 pub mod Shown
 pub mod VecTexts
 pub mod ReadBack

@@ -1,12 +1,14 @@
 -- The sightings that a map's entries show.
-use Rattle.std.proofs.Common.{◌≡◌, ◌++◌, ◌∷◌, ◌∙◌, ℕ, List, [], Bool, None, Option, Some, true, false, ap, append_assoc, flat_map, is_some, map, position, refl, slice_get, sym, Vec, Global}
+use Rattle.std.proofs.Common.{◌≡◌, ◌++◌, ◌∷◌, ◌∙◌, ℕ, List, [], Bool, None, Option, Some, true, false, ap, append_assoc, flat_map}
+use Rattle.std.proofs.Common.{is_some, map, position, refl, slice_get, suc, sym, zero, Vec, Global}
 use Rattle.std.specs.List.{list_any}
+use Rattle.std.specs.Option.{option_map}
 use Rattle.std.specs.Map.{keys_of, lookup, values_of}
 use Rattle.indexmap.specs.IndexMap.{insert_entry, set_value_at}
 use Rattle.indexmap.proofs.MapLemmas.{Found-position, insert_entry-first}
 use Rattle.report_text.specs.Groups.{is_text}
 use Rattle.search_text.specs.SearchFindings.{option_again}
-use Rattle.search_text.specs.Joined.{both, joined_one, option_both}
+use Rattle.search_text.specs.Counted.{with_count_at}
 use Rattle.search_text.specs.Seen.{again, sighted}
 use Rattle.search_text.specs.Times.{Sighting, Times}
 use Rattle.prepared_program.specs.declared.step_schedule.schedule.Entry as schedules
@@ -59,42 +61,21 @@ new_is schedule entries key times is none =
     by None e = ap (λ t. Some t) is
     by (Some other) e = cc
 
--- a text that is seen in lists behind these, in the map and among the sightings
-joined_is : (entries : List Entry) (key : Vec ℕ Global) (times later : Times)
-    → Some times ≡ option_both (lookup (is_key key) entries) (Some later)
-    → shown (insert_entry is_key entries key times) ≡ joined_one (shown entries) (key.items, later)
-joined_is [] key times later e = ap (λ t. (key.items, t) ∷ []) (let is : times ≡ later = cc in is)
-joined_is (entry ∷ entries) key times later e =
-    by (is_key key entry.0) refl (λ p. joined_is entries key times later (rw p at e))
-  where
-    by : (b : Bool) → is_key key entry.0 ≡ b
-        → (is_key key entry.0 ≡ false
-        → shown (insert_entry is_key entries key times) ≡ joined_one (shown entries) (key.items, later))
-        → shown (insert_entry is_key (entry ∷ entries) key times) ≡ joined_one (shown (entry ∷ entries)) (key.items, later)
-    by true p rest =
-        let here : Some times ≡ Some (both entry.1 later) = rw p at e in
-        let is : times ≡ both entry.1 later = cc in
-        rw p (ap (λ t. (entry.0.items, t) ∷ shown entries) is)
-    by false p rest = rw p (ap (λ ss. (entry.0.items, entry.1) ∷ ss) (rest p))
+-- a text at a place that is in so many lists, in the map and among the sightings
+pub counted_is : (entries : List Entry) (place times : ℕ) (seen : Times) → slice_get (values_of entries) place ≡ Some seen
+    → shown (set_value_at entries place (times, seen.1)) ≡ with_count_at (shown entries) place times
+counted_is [] place times seen e = refl
+counted_is (entry ∷ entries) zero times seen e =
+    let is : seen ≡ entry.1 = cc in ap (λ (t : Times). (entry.0.items, (times, t.1)) ∷ shown entries) is
+counted_is (entry ∷ entries) (suc place) times seen e = ap (λ ss. (entry.0.items, entry.1) ∷ ss) (counted_is entries place times seen e)
 
--- the same of a text that stands at a place
-pub both_is : (entries : List Entry) (key : Vec ℕ Global) (at : ℕ) (times later : Times)
-    → position (is_key key) (keys_of entries) ≡ Some at → slice_get (values_of entries) at ≡ Some times
-    → shown (set_value_at entries at (both times later)) ≡ joined_one (shown entries) (key.items, later)
-both_is entries key at times later p value =
-    let found = Found-position (is_key key) entries at p in
-    ap shown (sym (insert_entry-first is_key key (both times later) entries at found.first))
-    ∙ joined_is entries key (both times later) later
-    (sym (ap (λ seen. option_both seen (Some later)) (found.value ∙ value)))
-
--- and of a new one
-pub later_is : (entries : List Entry) (key : Vec ℕ Global) (later : Times) → is_some (lookup (is_key key) entries) ≡ false
-    → shown (insert_entry is_key entries key later) ≡ joined_one (shown entries) (key.items, later)
-later_is entries key later none = joined_is entries key later later (by (lookup (is_key key) entries) none)
-  where
-    by : (found : Option Times) → is_some found ≡ false → Some later ≡ option_both found (Some later)
-    by None e = refl
-    by (Some other) e = cc
+-- the text at a place
+pub text_is : (entries : List Entry) (place : ℕ)
+    → option_map (λ (entry : Entry). entry.0.items) (slice_get entries place)
+    ≡ option_map (λ (sighting : Sighting). sighting.0) (slice_get (shown entries) place)
+text_is [] place = refl
+text_is (entry ∷ entries) zero = refl
+text_is (entry ∷ entries) (suc place) = text_is entries place
 
 -- one sighting more is written
 pub one_more_text : (text : Sighting → List ℕ) (written : List ℕ) (entry : Entry) (before after : List Entry) (all : List ℕ)

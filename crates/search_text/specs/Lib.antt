@@ -6,6 +6,6 @@ pub mod Seen
 pub mod Texts
 pub mod SearchFindings
 pub mod FirstLists
-pub mod Joined
+pub mod Counted
 pub mod Stops
 pub mod Write

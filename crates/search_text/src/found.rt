@@ -1,9 +1,9 @@
 //! What is found of the lists that were searched.
 
 ghost use Rattle.std.specs.Prelude.{◌≡◌, ◌==◌, ◌↔◌, ◌++◌, ◌∷◌, [], Contains, IfOk, IsTrue, List, OnOk, fold, length, map, not};
-ghost use Rattle.std.specs.List.{flat_map};
+ghost use Rattle.std.specs.List.{flat_map, list_any};
 ghost use Rattle.report_text.specs.ReportOf.{report_text};
-ghost use Rattle.search_text.specs.SearchFindings.{EndsAdded, Finds, Searched, option_again, states_of, texts_of_all};
+ghost use Rattle.search_text.specs.SearchFindings.{EndsAdded, Finds, Searched, is_deadlocked, option_again, states_of, texts_of_all};
 ghost use Rattle.search_text.specs.Seen.{sighted};
 ghost use Rattle.search_text.specs.Texts.{ending_of, texts_in};
 
@@ -86,6 +86,34 @@ impl SearchFindings {
         ensures { (lists : List Searched) → Finds lists self.now → result ≡ not (length (texts_of_all lists) == 0) }
     {
         self.reports.len() != 0
+    }
+
+    /// The texts of their reports.
+    pub fn reports(&self) -> &Sightings
+        ensures { result.now ≡ self.now.reports }
+    {
+        &self.reports
+    }
+
+    /// The final states of whole ones, as texts.
+    pub fn states(&self) -> &Sightings
+        ensures { result.now ≡ self.now.states }
+    {
+        &self.states
+    }
+
+    /// Whether one of them has a report of this text.
+    pub fn has_report_text(&self, text: &[u8]) -> bool
+        ensures { (lists : List Searched) → Finds lists self.now → IsTrue result ↔ Contains (texts_of_all lists) text.now }
+    {
+        self.reports.contains(text)
+    }
+
+    /// Whether not all tasks have ended after one of them.
+    pub fn has_stuck(&self) -> bool
+        ensures { (lists : List Searched) → Finds lists self.now → result ≡ list_any is_deadlocked lists }
+    {
+        self.stuck.is_some()
     }
 
     /// Whether a whole one of them has this final state, as text.

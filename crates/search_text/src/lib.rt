@@ -2,8 +2,10 @@
 //! written.
 #![tactic(auto)]
 
+pub mod bounds;
+pub mod counted;
+pub mod firsts;
 pub mod found;
-pub mod join;
 pub mod laws;
 pub mod locations;
 pub mod schedules;
@@ -14,11 +16,14 @@ pub mod texts;
 pub mod visited;
 pub mod write;
 
+pub use bounds::Asked;
+pub use counted::ListCounts;
 pub use found::{Ending, SearchFindings};
 pub use locations::{Location, locations_of};
 pub use prepared_program::step_schedule::Entry;
 pub use report_text::{MemorySink, Sink, WriteError};
+pub use seen::Sightings;
 pub use states::state_of;
 pub use stopped::Stopped;
 pub use visited::{Visited, write_states_search};
-pub use write::{Asked, write_search};
+pub use write::write_search;

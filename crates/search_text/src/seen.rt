@@ -1,9 +1,9 @@
 //! What is seen in lists that are searched, one after the other.
 
-ghost use Rattle.std.specs.Prelude.{◌≡◌, ◌==◌, [], IfOk, OnOk, length};
+ghost use Rattle.std.specs.Prelude.{◌≡◌, ◌==◌, [], IfOk, OnOk, length, slice_get};
 ghost use Rattle.std.specs.List.{list_any};
+ghost use Rattle.std.specs.Option.{option_map};
 ghost use Rattle.report_text.specs.Groups.{is_text};
-ghost use Rattle.search_text.specs.Joined.{both};
 ghost use Rattle.search_text.specs.Seen as spec;
 ghost use Rattle.search_text.specs.Seen.{sighted};
 
@@ -46,11 +46,11 @@ impl Seen {
         self.times = self.times.saturating_add(1);
     }
 
-    /// In these lists and in more that come behind them.
-    pub fn join(&mut self, later: Seen)
-        ensures { self.new ≡ both self.old later }
+    /// In so many lists instead.
+    pub(crate) fn set_times(&mut self, times: u64)
+        ensures { self.new ≡ (times, self.old.1) }
     {
-        self.times = self.times.saturating_add(later.times);
+        self.times = times;
     }
 
     /// In how many lists.
@@ -99,6 +99,16 @@ impl Sightings {
         ensures { result ≡ length self.now }
     {
         self.seen.len()
+    }
+
+    /// The text at a place, if there is one.
+    pub fn text(&self, place: usize) -> Option<&[u8]>
+        ensures { option_map (λ text. text.now) result ≡ option_map (λ sighting. sighting.0) (slice_get self.now place) }
+    {
+        match self.seen.get_index(place) {
+            Some((text, _)) => Some(text.as_slice()),
+            None => None,
+        }
     }
 
     /// Whether a text is one of them.

@@ -1,20 +1,16 @@
 //! What a search over states writes, which visits each state once.
 
-ghost use Rattle.std.specs.Prelude.{◌++◌, List, codes};
-ghost use Rattle.std.specs.List.{flat_map};
+ghost use Rattle.std.specs.Prelude.{List};
 ghost use Rattle.report_text.specs.Sink.{Writes};
 ghost use Rattle.search_text.specs.SearchFindings.{Finds, Searched};
-ghost use Rattle.search_text.specs.Write.{deadlock_text, endings_text, first_line, first_text, states_search_text, stopped_at_line};
-ghost use Rattle.search_text.specs.Write.{stopped_at_text, text_of_both, visited_line, visited_text};
+ghost use Rattle.search_text.specs.Write.{states_search_text, stopped_at_line, stopped_at_text, text_of_both, visited_line, visited_text};
 
+use crate::firsts::write_deadlock;
 use crate::found::SearchFindings;
-use crate::schedules::write_schedule;
-use crate::seen::{Seen, Sightings};
 use crate::stopped::{Stopped, write_out_of_time};
 use crate::write::write_ending;
-use prepared_program::step_schedule::Entry;
 use report_text::pieces::{Piece, write_pieces};
-use report_text::{Sink, WriteError, write_all};
+use report_text::{Sink, WriteError};
 
 /// How many states were searched: all of them, or those that were visited before the search was stopped.
 #[derive(Clone, Copy, PartialEq, Eq)]
@@ -22,53 +18,6 @@ pub struct Visited {
     pub states: u64,
     /// Whether it was.
     pub stopped: Stopped,
-}
-
-/// Writes the schedule of the first list in which something was seen.
-fn write_first<K: Sink>(sink: &mut K, first: &[Entry]) -> Result<(), WriteError>
-    ensures { Writes K.written K.failures result (first_line first.now) sink.old sink.new }
-{
-    write_all(sink, b"first with --schedule ")?;
-    write_schedule(sink, first)?;
-    write_all(sink, b"\n")
-}
-
-/// Writes the text of a report, and the schedule of the first list in which it was seen.
-fn write_report<K: Sink>(sink: &mut K, text: &[u8], first: &[Entry]) -> Result<(), WriteError>
-    ensures { Writes K.written K.failures result (text.now ++ first_line first.now) sink.old sink.new }
-{
-    write_all(sink, text)?;
-    write_first(sink, first)
-}
-
-impl Sightings {
-    /// Writes the text of each report, and the schedule of the first list in which it was seen.
-    fn write_firsts<K: Sink>(&self, sink: &mut K) -> Result<(), WriteError>
-        ensures { Writes K.written K.failures result (flat_map first_text self.now) sink.old sink.new }
-    {
-        for (text, seen) in self.seen.iter() {
-            write_report(sink, text.as_slice(), seen.first())?;
-        }
-        Ok(())
-    }
-}
-
-/// Writes the schedule of a list after which not all tasks have ended.
-fn write_deadlock_line<K: Sink>(sink: &mut K, first: &[Entry]) -> Result<(), WriteError>
-    ensures { Writes K.written K.failures result (codes "stuck, " ++ first_line first.now) sink.old sink.new }
-{
-    write_all(sink, b"stuck, ")?;
-    write_first(sink, first)
-}
-
-/// Writes the schedule of the first list after which not all tasks have ended, if there is one.
-fn write_deadlock<K: Sink>(sink: &mut K, stuck: &Option<Seen>) -> Result<(), WriteError>
-    ensures { Writes K.written K.failures result (deadlock_text stuck.now) sink.old sink.new }
-{
-    match stuck {
-        Some(seen) => write_deadlock_line(sink, seen.first()),
-        None => Ok(()),
-    }
 }
 
 /// Writes how many states were searched.

@@ -1,29 +1,22 @@
 //! What a search writes.
 
-ghost use Rattle.std.specs.Prelude.{◌≡◌, ◌++◌, List, codes, decimal, length};
+ghost use Rattle.std.specs.Prelude.{◌≡◌, ◌++◌, List, codes, length};
 ghost use Rattle.std.specs.List.{flat_map};
 ghost use Rattle.report_text.specs.Sink.{Writes};
 ghost use Rattle.prepared_program.specs.declared.step_schedule.schedule.Entry as entries;
 ghost use Rattle.search_text.specs.SearchFindings.{Finds, Searched};
-ghost use Rattle.search_text.specs.Write.{bounds_text, endings_text, observation_line, observed, search_text, searched_line, sighting_text, state_line};
-ghost use Rattle.search_text.specs.Write.{states_line, stopped_line, stopped_text, stuck_text, text_found, times_head, times_line, word_of};
+ghost use Rattle.search_text.specs.Write.{count_text, counted_text, endings_text, observation_line, observed, search_text, seen_text, sighting_text};
+ghost use Rattle.search_text.specs.Write.{state_line, states_line, stuck_text, text_found, times_head, times_line, uncounted_text, word_of};
 
+use crate::bounds::{Asked, at_least, write_bounds};
+use crate::firsts::write_deadlock;
 use crate::found::SearchFindings;
 use crate::schedules::write_schedule;
 use crate::seen::{Seen, Sightings};
-use crate::stopped::{Stopped, write_out_of_time};
+use crate::stopped::Stopped;
 use prepared_program::step_schedule::Entry;
 use report_text::pieces::{Piece, write_pieces};
 use report_text::{Sink, WriteError, write_all};
-
-/// Which schedules were searched: those with at most so many preemptions, all of them or those that were searched
-/// before the search was stopped.
-#[derive(Clone, Copy, PartialEq, Eq)]
-pub struct Asked {
-    pub switches: u64,
-    /// Whether it was.
-    pub stopped: Stopped,
-}
 
 /// Writes in how many schedules something was, behind this word.
 #[tactic(auto, unfolding(crate::specs::Write::times_head))]
@@ -35,6 +28,7 @@ fn write_times_head<K: Sink>(sink: &mut K, word: &'static str, times: u64) -> Re
         &[
             Piece::Text(word),
             Piece::Text(" in "),
+            Piece::Text(at_least(times)),
             Piece::Decimal(times),
             Piece::Text(" schedules, first with --schedule "),
         ],
@@ -70,9 +64,16 @@ fn write_sighting<K: Sink>(
 
 /// Writes how many schedules end in a state.
 fn write_ends<K: Sink>(sink: &mut K, times: u64) -> Result<(), WriteError>
-    ensures { Writes K.written K.failures result (decimal times ++ codes ">") sink.old sink.new }
+    ensures { Writes K.written K.failures result (count_text times ++ codes ">") sink.old sink.new }
 {
-    write_pieces(sink, &[Piece::Decimal(times), Piece::Text(">")])
+    write_pieces(
+        sink,
+        &[
+            Piece::Text(at_least(times)),
+            Piece::Decimal(times),
+            Piece::Text(">"),
+        ],
+    )
 }
 
 /// Writes a final state, and how many schedules end so.
@@ -113,49 +114,6 @@ fn write_stuck<K: Sink>(sink: &mut K, stuck: &Option<Seen>) -> Result<(), WriteE
     match stuck {
         Some(seen) => write_times(sink, "stuck", seen.times(), seen.first()),
         None => Ok(()),
-    }
-}
-
-/// Writes how many schedules were searched.
-#[tactic(auto, unfolding(crate::specs::Write::searched_line))]
-fn write_searched<K: Sink>(sink: &mut K, searched: u64, switches: u64) -> Result<(), WriteError>
-    ensures { Writes K.written K.failures result (searched_line searched switches) sink.old sink.new }
-{
-    write_pieces(
-        sink,
-        &[
-            Piece::Text("searched "),
-            Piece::Decimal(searched),
-            Piece::Text(" schedules with at most "),
-            Piece::Decimal(switches),
-            Piece::Text(" switches\n"),
-        ],
-    )
-}
-
-/// Writes that the search was stopped after so many schedules.
-#[tactic(auto, unfolding(crate::specs::Write::stopped_line))]
-fn write_stopped_line<K: Sink>(sink: &mut K, searched: u64) -> Result<(), WriteError>
-    ensures { Writes K.written K.failures result (stopped_line searched) sink.old sink.new }
-{
-    write_pieces(
-        sink,
-        &[
-            Piece::Text("stopped after "),
-            Piece::Decimal(searched),
-            Piece::Text(" schedules: others remain\n"),
-        ],
-    )
-}
-
-/// Writes that the search was stopped after so many schedules, or because its time was up, if it was.
-fn write_stopped<K: Sink>(sink: &mut K, stopped: Stopped, searched: u64) -> Result<(), WriteError>
-    ensures { Writes K.written K.failures result (stopped_text stopped searched) sink.old sink.new }
-{
-    match stopped {
-        Stopped::No => Ok(()),
-        Stopped::AtLimit => write_stopped_line(sink, searched),
-        Stopped::AfterSeconds(seconds) => write_out_of_time(sink, seconds),
     }
 }
 
@@ -205,8 +163,10 @@ fn write_observed<K: Sink>(sink: &mut K, held: u64, failed: u64) -> Result<(), W
             Piece::Text(" "),
             Piece::Text(word(held, failed)),
             Piece::Text(" "),
+            Piece::Text(at_least(held)),
             Piece::Decimal(held),
             Piece::Text(" "),
+            Piece::Text(at_least(failed)),
             Piece::Decimal(failed),
             Piece::Text("\n"),
         ],
@@ -227,14 +187,6 @@ fn write_observation<K: Sink>(
     write_observed(sink, held, failed)
 }
 
-/// Writes how many lists were searched, of those with at most so many preemptions, and that others remain, if they do.
-fn write_bounds<K: Sink>(sink: &mut K, searched: u64, asked: Asked) -> Result<(), WriteError>
-    ensures { Writes K.written K.failures result (bounds_text searched asked.switches asked.stopped) sink.old sink.new }
-{
-    write_searched(sink, searched, asked.switches)?;
-    write_stopped(sink, asked.stopped, searched)
-}
-
 /// Writes how whole lists end: how many final states there are, each of them, and whether a proposition holds there.
 pub(crate) fn write_ending<K: Sink>(
     sink: &mut K,
@@ -249,6 +201,39 @@ pub(crate) fn write_ending<K: Sink>(
     write_observation(sink, name, found.held, found.failed)
 }
 
+/// Writes each report and in how many schedules it was seen, and in how many not all tasks ended.
+fn write_counted<K: Sink>(sink: &mut K, found: &SearchFindings) -> Result<(), WriteError>
+    ensures { Writes K.written K.failures result (counted_text found.now.reports found.now.stuck) sink.old sink.new }
+{
+    found.reports.write_reports(sink)?;
+    write_stuck(sink, &found.stuck)
+}
+
+/// Writes each report and the schedule of the first list in which it was seen, and that of the first after which not
+/// all tasks have ended.
+fn write_uncounted<K: Sink>(sink: &mut K, found: &SearchFindings) -> Result<(), WriteError>
+    ensures { Writes K.written K.failures result (uncounted_text found.now.reports found.now.stuck) sink.old sink.new }
+{
+    found.reports.write_firsts(sink)?;
+    write_deadlock(sink, &found.stuck)
+}
+
+/// Writes the reports and the deadlocks of a search. Where it was stopped, they may be in more schedules than were
+/// counted.
+fn write_seen<K: Sink>(
+    sink: &mut K,
+    found: &SearchFindings,
+    stopped: Stopped,
+) -> Result<(), WriteError>
+    ensures { Writes K.written K.failures result (seen_text stopped found.now.reports found.now.stuck) sink.old sink.new }
+{
+    if stopped.is_stopped() {
+        write_uncounted(sink, found)
+    } else {
+        write_counted(sink, found)
+    }
+}
+
 /// Writes what is found, of the test of this name.
 fn write_found<K: Sink>(
     found: &SearchFindings,
@@ -256,15 +241,16 @@ fn write_found<K: Sink>(
     asked: Asked,
     sink: &mut K,
 ) -> Result<(), WriteError>
-    ensures { Writes K.written K.failures result (text_found name.now asked.switches asked.stopped found.now) sink.old sink.new }
+    ensures { Writes K.written K.failures result (text_found name.now asked.switches asked.nodes asked.stopped found.now)
+        sink.old sink.new }
 {
-    found.reports.write_reports(sink)?;
-    write_stuck(sink, &found.stuck)?;
+    write_seen(sink, found, asked.stopped)?;
     write_bounds(sink, found.searched, asked)?;
     write_ending(sink, found, name)
 }
 
-/// Writes what is found of the lists that were searched, of the test of this name.
+/// Writes what is found of the lists that were searched, of the test of this name. Where the search was stopped, no
+/// number of schedules is written of a report or of deadlocks.
 ///
 /// `SinkFailed`: the sink failed in this call, and holds a beginning of the text.
 pub fn write_search<K: Sink>(
@@ -274,7 +260,7 @@ pub fn write_search<K: Sink>(
     sink: &mut K,
 ) -> Result<(), WriteError>
     ensures { (lists : List Searched) → Finds lists found.now
-        → Writes K.written K.failures result (search_text name.now asked.switches asked.stopped lists) sink.old sink.new }
+        → Writes K.written K.failures result (search_text name.now asked.switches asked.nodes asked.stopped lists) sink.old sink.new }
 {
     write_found(found, name, asked, sink)
 }

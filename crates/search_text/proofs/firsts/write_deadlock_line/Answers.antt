@@ -1,0 +1,11 @@
+-- each part is what its call left, up to the one that failed
+use Rattle.report_text.proofs.SinkSteps.{fails_first, writes_after, writes_error}
+use Rattle.search_text.proofs.firsts.write_deadlock_line.Goals as goal
+
+pub returns-in_err-write_all : goal.returns-in_err-write_all
+returns-in_err-write_all g c =
+    writes_error g.K.Sink.written g.K.Sink.failures _ _ _ _ c.from_residual.ensures.0
+    (fails_first g.K.Sink.written g.K.Sink.failures _ _ _ _ c.in_err-write_all.ensures)
+
+pub returns : goal.returns
+returns g c = writes_after g.K.Sink.written g.K.Sink.failures _ _ _ _ _ _ c.in_ok-write_all.ensures c.write_first.ensures
