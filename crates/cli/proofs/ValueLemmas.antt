@@ -111,7 +111,7 @@ number_same gives spelled found option result number other some value asks =
     spelled asks.text number (subst (ReadsOne gives asks.text) some (value asks.text read)) ∙ asks.spelled
 
 -- where the value of `--switches` is neither a number within its bounds nor `all`, it asks for nothing
-pub no_preemptions : (values : List Row) → ((number : ℕ) → number ≤ 16 → IsNumber values (codes "switches") number → ⊥)
+pub no_preemptions : (values : List Row) → ((number : ℕ) → number ≤ 64 → IsNumber values (codes "switches") number → ⊥)
     → (first_of (codes "switches") values ≡ Some (codes "all") → ⊥) → (asked : Switches) → KeepsPreemptions asked → AskSwitches values asked → ⊥
 no_preemptions values no_number not_all (switches.AtMost number) bound asks = no_number number bound asks
 no_preemptions values no_number not_all switches.All bound asks = not_all asks

@@ -27,9 +27,9 @@ pub record KeepsRunBounds (request : RunRequest) : Type 0 where
   pub jobs_to : request.jobs ≤ 64
   pub options : KeepsBounds request.options
 
--- at most 16 preemptions, or no bound on them
+-- at most 64 preemptions, or no bound on them
 abbrev pub KeepsPreemptions : Switches → Type 0
-KeepsPreemptions (switches.AtMost number) = number ≤ 16
+KeepsPreemptions (switches.AtMost number) = number ≤ 64
 KeepsPreemptions switches.All = Unit {0}
 
 -- and so many preemptions, in from 1 to 1,000,000,000 schedules, or states, and 1 to 1,000,000 seconds, if these are

@@ -167,7 +167,8 @@ pub const AFTER_SEARCH: &str = "\
     that other has ended by it, or only tried in vain, as for a lock that was not free. The\n\
     program is stepped under every schedule with at most so many switches, each from the start,\n\
     with the same settings; and no task tries anew in vain before another has done something.\n\
-    With each switch more there are many more schedules.\n\
+    With each switch more there are many more schedules. They are counted, and not gone over one\n\
+    by one: a node, a state and what bounds the schedules from there, is searched once.\n\
     \n\
     With --switches all there is no such bound. Then what follows on a state is stepped once,\n\
     though many schedules lead to it: states are counted, and of schedules those by which the\n\
@@ -189,11 +190,12 @@ pub const AFTER_SEARCH: &str = "\
     Each distinct report is printed once, in the order in which they were first seen, with how\n\
     many schedules give it, and the first of them: under it, with the same options, so does\n\
     'kcsan_litmus step', unless tasks wait there for ever.\n\
-    Where no task can go on and not all have ended, a line says in how many schedules. Then come\n\
-    the number of schedules or states, whether others remain, what the registers and variables\n\
-    of the condition hold where all tasks have ended, as herd7 writes it, with the number of\n\
-    schedules that end so, or with 1, and in how many of these the proposition holds. While the\n\
-    search goes on, a line on standard error counts, where that is a terminal.\n\
+    Where no task can go on and not all have ended, a line says in how many schedules. Where the\n\
+    search was stopped, these two have no number. Then come the number of schedules or states,\n\
+    whether others remain, what the registers and variables of the condition hold where all\n\
+    tasks have ended, as herd7 writes it, with the number of schedules that end so, or with 1,\n\
+    and in how many of these the proposition holds. While the search goes on, a line on standard\n\
+    error counts nodes or states, where that is a terminal.\n\
     \n\
     'kcsan_litmus step --help' says what a schedule and a place list are.\n\
     \n\
@@ -204,19 +206,18 @@ pub const AFTER_SEARCH: &str = "\
     output or to the trace's file.";
 
 /// What `--switches` says.
-pub const SWITCHES: &str = "How many switches a schedule has at most, 0 to 16, or all for no bound";
+pub const SWITCHES: &str = "How many switches a schedule has at most, 0 to 64, or all for no bound";
 
 /// What `--limit` says.
 pub const LIMIT: &str =
-    "After how many schedules, or states with all, the search stops, 1 to 1000000000";
+    "After how many nodes, or states with all, the search stops, 1 to 1000000000";
 
 /// What `--seconds` says.
 pub const SECONDS: &str =
     "After how many seconds the search stops, 1 to 1000000, if they are to be bounded";
 
 /// What `--jobs` of `search` says.
-pub const SEARCH_JOBS: &str =
-    "How many threads share the work, 1 to 64; with all or --seconds one works";
+pub const SEARCH_JOBS: &str = "How many threads may share the work, 1 to 64; today one works";
 
 /// What `races` does.
 pub const RACES: &str =

@@ -27,7 +27,7 @@ const DELAY: (u64, u64) = (0, 1_000_000);
 const JOBS: (u64, u64) = (1, 64);
 
 /// The fewest and the most preemptions, where there are so many at most.
-const AT_MOST: (u64, u64) = (0, 16);
+const AT_MOST: (u64, u64) = (0, 64);
 
 /// The fewest and the most schedules that a search may go through, or states.
 const LIMIT: (u64, u64) = (1, 1_000_000_000);
@@ -246,7 +246,7 @@ fn switches_refused(alloc: Global, search: &ArgMatches<'_>) -> Result<clap::Erro
 {
     let value = search.get_str("switches").unwrap_or("");
     let why = format!(in alloc;
-        "invalid value '{value}' for '--switches <N>': not all, and no number in 0..=16"
+        "invalid value '{value}' for '--switches <N>': not all, and no number in 0..=64"
     )?;
     program(alloc)?.error(ErrorKind::ValueValidation, why.as_str())
 }

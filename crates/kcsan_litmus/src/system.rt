@@ -133,22 +133,22 @@ impl Progress for System {
     }
 }
 
-/// After so many schedules the line of progress is written again.
-const SCHEDULES: u64 = 10_000;
-
-/// After so many states it is.
+/// After so many nodes or states the line of progress is written again.
 const STATES: u64 = 10_000;
 
 impl SearchProgress for System {
-    /// Where standard error is a terminal, a line there counts the schedules. What is written next goes over it.
-    fn searched(&self, schedules: u64) {
+    /// Where standard error is a terminal, a line there counts the nodes, with how many of them a second. What is
+    /// written next goes over it.
+    fn nodes(&self, nodes: u64) {
         let rt = &self.output.rt;
-        if schedules.is_multiple_of(SCHEDULES) && rt.stderr().is_terminal() {
-            let _ = rt.eprint(format_args!("searched {schedules} schedules\x1b[K\r"));
+        if nodes.is_multiple_of(STATES) && rt.stderr().is_terminal() {
+            let time = self.milliseconds().max(1);
+            let rate = u128::from(nodes) * 1000 / time;
+            let _ = rt.eprint(format_args!("searched {nodes} nodes, {rate} a second\x1b[K\r"));
         }
     }
 
-    /// So it counts the states, with how many of them a second, and how many are left to go on from.
+    /// So it counts the states, and says how many are left to go on from.
     fn visited(&self, states: u64, left: u64) {
         let rt = &self.output.rt;
         if states.is_multiple_of(STATES) && rt.stderr().is_terminal() {

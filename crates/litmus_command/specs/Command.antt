@@ -126,7 +126,6 @@ wanted_of request most = record {
   limit = request.limit;
   seconds = request.seconds;
   traced = is_some request.options.trace;
-  jobs = request.jobs;
 }
 
 -- and of one of all schedules

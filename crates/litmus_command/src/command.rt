@@ -303,7 +303,7 @@ pub fn carry_out<R: Threads + Wait + Sync, D: Desk>(
             finish(done, Some(request.file), desk)
         }
         Request::Search(request) => {
-            let done = search(rt, alloc, request, desk);
+            let done = search(alloc, request, desk);
             finish(done, Some(request.file), desk)
         }
         Request::Replay(request) => {
@@ -533,18 +533,13 @@ fn run<R: Threads + Wait + Sync, D: Desk>(
 }
 
 /// Searches a file, and gives what is left of that.
-fn search<R: Threads + Sync, D: Desk>(
-    rt: &R,
-    alloc: Global,
-    request: &SearchRequest<'_>,
-    desk: &mut D,
-) -> Result<u8, Failure>
+fn search<D: Desk>(alloc: Global, request: &SearchRequest<'_>, desk: &mut D) -> Result<u8, Failure>
     requires { KeepsSearchBounds request.now }
     ensures { CommandEnds (Request.Search request.now) result (D.state desk.old) (D.state desk.new) }
 {
     let settings = settings_for(alloc, &request.options)?;
     let text = desk.read_file(alloc, request.file, FILE_BYTES)?;
-    let found = search_for(rt, alloc, request, &text, &settings, &*desk)?;
+    let found = search_for(alloc, request, &text, &settings, &*desk)?;
     emit(request.options.trace, &found.written, found.stopped, desk)
 }
 

@@ -12,7 +12,6 @@ use search_all::{AllWanted, search_all};
 use search_output::{SearchProgress, SearchText};
 use search_run::{Wanted, search_text};
 use std::alloc::Global;
-use std::thread::Threads;
 
 /// What is wanted of a search of schedules with at most so many preemptions, as it is asked for.
 fn wanted_for(request: &SearchRequest<'_>, most: u64) -> Wanted
@@ -23,7 +22,6 @@ fn wanted_for(request: &SearchRequest<'_>, most: u64) -> Wanted
         limit: request.limit,
         seconds: request.seconds,
         traced: request.options.trace.is_some(),
-        jobs: request.jobs,
     }
 }
 
@@ -38,10 +36,9 @@ fn all_wanted_for(request: &SearchRequest<'_>) -> AllWanted
     }
 }
 
-/// Searches a litmus text, over schedules with at most so many preemptions or over all, as it is asked for. Over all
-/// one thread searches.
-pub(crate) fn search_for<R: Threads + Sync, P: SearchProgress>(
-    rt: &R,
+/// Searches a litmus text, over schedules with at most so many preemptions or over all, as it is asked for. One thread
+/// searches, however many are asked for: what is found doesn't depend on their number.
+pub(crate) fn search_for<P: SearchProgress>(
     alloc: Global,
     request: &SearchRequest<'_>,
     text: &[u8],
@@ -56,7 +53,7 @@ pub(crate) fn search_for<R: Threads + Sync, P: SearchProgress>(
     match request.switches {
         Switches::AtMost(most) => {
             let wanted = wanted_for(request, most);
-            search_text(rt, alloc, text, settings, wanted, progress)
+            search_text(alloc, text, settings, wanted, progress)
         }
         Switches::All => search_all(alloc, text, settings, all_wanted_for(request), progress),
     }

@@ -253,12 +253,12 @@ fn searches_are_asked_for(rt: HostRuntime) -> Result<(), Fail> {
             "k",
             "search",
             "t",
-            "--switches=16",
+            "--switches=64",
             "--limit=1000000000",
             "--jobs",
             "64",
         ],
-        search(Switches::AtMost(16), 1_000_000_000, 64, OPTIONS),
+        search(Switches::AtMost(64), 1_000_000_000, 64, OPTIONS),
     )?;
     ask(
         &rt,
@@ -269,8 +269,8 @@ fn searches_are_asked_for(rt: HostRuntime) -> Result<(), Fail> {
     ask(
         &rt,
         rt.alloc(),
-        &["k", "search", "--switches=+016", "t", "--limit", "7"],
-        search(Switches::AtMost(16), 7, 1, OPTIONS),
+        &["k", "search", "--switches=+064", "t", "--limit", "7"],
+        search(Switches::AtMost(64), 7, 1, OPTIONS),
     )?;
     ask(
         &rt,
@@ -423,7 +423,7 @@ fn other_words_make_no_sense(rt: HostRuntime) {
 #[test]
 fn other_searches_make_no_sense(rt: HostRuntime) {
     for words in [
-        ["k", "search", "t", "--switches", "17"].as_slice(),
+        ["k", "search", "t", "--switches", "65"].as_slice(),
         ["k", "search", "t", "--switches", "ALL"].as_slice(),
         ["k", "search", "t", "--switches", "all "].as_slice(),
         ["k", "search", "t", "--switches", ""].as_slice(),

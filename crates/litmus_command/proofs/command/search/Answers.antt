@@ -90,4 +90,4 @@ search_for-requires g c =
     let asks = c.in_ok-settings.ensures.asks in
     let same : c.in_ok-settings.settings.turns ≡ c.args.request.now.options.turns = ap (λ (s : Settings). s.turns) asks.settings_are in
     let some = asks.bounds.turns_from in
-    (c.type_bounds.sync-R, omega (arith, same, some))
+    omega (arith, same, some)
