@@ -6,4 +6,4 @@ mod program;
 mod scope;
 mod statement;
 
-pub use program::print;
+pub use program::{append_condition, print};

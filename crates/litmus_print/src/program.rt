@@ -252,8 +252,8 @@ fn append_initialization(text: &mut String, variables: &[Variable]) -> Result<()
     append(text, " }\n")
 }
 
-/// Appends the last line.
-fn append_condition(text: &mut String, program: &Program) -> Result<(), AllocError>
+/// Appends the last line of the printed form: the condition.
+pub fn append_condition(text: &mut String, program: &Program) -> Result<(), AllocError>
     ensures { OnOk result
         (string_bytes text.new ≡ string_bytes text.old
         ++ condition_line program.now.quantifier
