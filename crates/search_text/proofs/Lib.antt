@@ -1,5 +1,6 @@
 pub mod TextLists
 pub mod SightingLemmas
+pub mod KnownReports
 pub mod FoundLemmas
 pub mod CountedOnce
 pub mod FirstLists

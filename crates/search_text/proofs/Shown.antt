@@ -77,6 +77,13 @@ text_is [] place = refl
 text_is (entry ∷ entries) zero = refl
 text_is (entry ∷ entries) (suc place) = text_is entries place
 
+-- the sighting at a place
+pub one_is : (entries : List Entry) (place : ℕ)
+    → option_map (λ (entry : Entry). (entry.0.items, entry.1)) (slice_get entries place) ≡ slice_get (shown entries) place
+one_is [] place = refl
+one_is (entry ∷ entries) zero = refl
+one_is (entry ∷ entries) (suc place) = one_is entries place
+
 -- one sighting more is written
 pub one_more_text : (text : Sighting → List ℕ) (written : List ℕ) (entry : Entry) (before after : List Entry) (all : List ℕ)
     → before ≡ entry ∷ after

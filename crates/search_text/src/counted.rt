@@ -4,7 +4,8 @@ ghost use Rattle.std.specs.Prelude.{◌≡◌, ◌<◌, IfOk, List, length};
 ghost use Rattle.std.specs.Option.{option_map};
 ghost use Rattle.search_text.specs.Counted.{AreCountsOf, with_count_at, with_counts};
 ghost use Rattle.search_text.specs.FirstLists.{KeepsFirstLists};
-ghost use Rattle.search_text.specs.SearchFindings.{Finds, Searched};
+ghost use Rattle.access_types.specs.Sites.{AccessMap};
+ghost use Rattle.search_text.specs.SearchFindings.{AreKnown, Finds, Searched};
 
 use crate::found::SearchFindings;
 use crate::seen::{Seen, Sightings};
@@ -61,8 +62,9 @@ impl SearchFindings {
     ///
     /// It fails where there are more or fewer counts than texts, which counts of these texts never are.
     pub fn counted(mut self, counts: ListCounts) -> Result<SearchFindings, AllocError>
-        ensures { (all some : List Searched) → Finds some self → KeepsFirstLists (λ one. one) all some → AreCountsOf all self counts
+        ensures finds { (all some : List Searched) → Finds some self → KeepsFirstLists (λ one. one) all some → AreCountsOf all self counts
             → IfOk result (Finds all) }
+        ensures known { (sites : AccessMap) → AreKnown sites self → IfOk result (AreKnown sites) }
     {
         if counts.reports.len() != self.reports.len() || counts.states.len() != self.states.len() {
             return Err(AllocError);

@@ -2,8 +2,9 @@
 
 ghost use Rattle.std.specs.Prelude.{◌≡◌, ◌==◌, ◌↔◌, ◌++◌, ◌∷◌, [], Contains, IfOk, IsTrue, List, OnOk, fold, length, map, not};
 ghost use Rattle.std.specs.List.{flat_map, list_any};
+ghost use Rattle.access_types.specs.Sites.{AccessMap};
 ghost use Rattle.report_text.specs.ReportOf.{report_text};
-ghost use Rattle.search_text.specs.SearchFindings.{EndsAdded, Finds, Searched, is_deadlocked, option_again, states_of, texts_of_all};
+ghost use Rattle.search_text.specs.SearchFindings.{AreKnown, EndsAdded, Finds, Searched, is_deadlocked, option_again, states_of, texts_of_all};
 ghost use Rattle.search_text.specs.Seen.{sighted};
 ghost use Rattle.search_text.specs.Texts.{ending_of, texts_in};
 
@@ -26,6 +27,8 @@ pub struct Ending {
 #[derive(Drop)]
 pub struct SearchFindings {
     pub(crate) reports: Sightings,
+    /// The reports of the lists that were added, by which a text can be traced to its accesses.
+    pub(crate) known: Vec<Report>,
     pub(crate) stuck: Option<Seen>,
     pub(crate) states: Sightings,
     pub(crate) searched: u64,
@@ -62,10 +65,12 @@ fn add_seen(alloc: Global, seen: &mut Option<Seen>, schedule: &[Entry]) -> Resul
 impl SearchFindings {
     /// Of no list.
     pub fn new(alloc: Global) -> SearchFindings
-        ensures { Finds [] result }
+        ensures none { Finds [] result }
+        ensures known { (sites : AccessMap) → AreKnown sites result }
     {
         SearchFindings {
             reports: Sightings::new(alloc),
+            known: Vec::new(alloc),
             stuck: None,
             states: Sightings::new(alloc),
             searched: 0,
@@ -95,11 +100,39 @@ impl SearchFindings {
         &self.reports
     }
 
+    /// The reports of the lists that were added: of each text that is found one at least.
+    pub fn known(&self) -> &[Report]
+        ensures { result.now ≡ self.now.known.items }
+    {
+        &self.known
+    }
+
     /// The final states of whole ones, as texts.
     pub fn states(&self) -> &Sightings
         ensures { result.now ≡ self.now.states }
     {
         &self.states
+    }
+
+    /// In how many of them not all tasks have ended, and the schedule of the first, if there is one.
+    pub fn stuck(&self) -> &Option<Seen>
+        ensures { result.now ≡ self.now.stuck }
+    {
+        &self.stuck
+    }
+
+    /// In how many whole ones the proposition of the condition holds.
+    pub fn held(&self) -> u64
+        ensures { result ≡ self.now.held }
+    {
+        self.held
+    }
+
+    /// In how many whole ones it doesn't.
+    pub fn failed(&self) -> u64
+        ensures { result ≡ self.now.failed }
+    {
+        self.failed
     }
 
     /// Whether one of them has a report of this text.
@@ -158,14 +191,16 @@ impl SearchFindings {
         schedule: &[Entry],
         ending: Option<Ending>,
     ) -> Result<(), AllocError>
-        ensures { (lists : List Searched) (one : Searched) → Finds lists self.old
+        ensures finds { (lists : List Searched) (one : Searched) → Finds lists self.old
             → one.texts ≡ map (report_text sites.now) reports.now → one.schedule ≡ schedule.now → one.ending ≡ ending_of ending
             → OnOk result (Finds (lists ++ one ∷ []) self.new) }
+        ensures known { AreKnown sites.now self.old → OnOk result (AreKnown sites.now self.new) }
     {
         let texts = texts_of(alloc, reports, sites)?;
         add_texts(alloc, &mut self.reports, texts, schedule)?;
         self.add_ending(alloc, schedule, ending)?;
         self.searched = self.searched.saturating_add(1);
+        self.known.extend_from_slice(reports)?;
         Ok(())
     }
 }

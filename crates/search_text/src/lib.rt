@@ -22,7 +22,7 @@ pub use found::{Ending, SearchFindings};
 pub use locations::{Location, locations_of};
 pub use prepared_program::step_schedule::Entry;
 pub use report_text::{MemorySink, Sink, WriteError};
-pub use seen::Sightings;
+pub use seen::{Seen, Sightings};
 pub use states::state_of;
 pub use stopped::Stopped;
 pub use visited::{Visited, write_states_search};

@@ -111,6 +111,16 @@ impl Sightings {
         }
     }
 
+    /// The text at a place, with in how many lists it was and the schedule of the first, if there is one.
+    pub fn get(&self, place: usize) -> Option<(&[u8], &Seen)>
+        ensures { option_map (λ one. (one.0.now, one.1.now)) result ≡ slice_get self.now place }
+    {
+        match self.seen.get_index(place) {
+            Some((text, seen)) => Some((text.as_slice(), seen)),
+            None => None,
+        }
+    }
+
     /// Whether a text is one of them.
     pub fn contains(&self, text: &[u8]) -> bool
         ensures { result ≡ list_any (λ sighting. is_text text.now sighting.0) self.now }
