@@ -216,7 +216,7 @@ fn pairs_value(
 
 /// The settings.
 #[tactic(auto, unfolding(crate::specs::Json::settings_data))]
-fn settings_value(alloc: Global, settings: &Settings) -> Result<Value, AllocError>
+pub fn settings_value(alloc: Global, settings: &Settings) -> Result<Value, AllocError>
     ensures { IfOk result (λ value. view value ≡ spec.settings_data settings.now) }
 {
     json!(in alloc; {

@@ -1,0 +1,4 @@
+mod Kept
+mod Pieces
+mod Taken
+mod Written

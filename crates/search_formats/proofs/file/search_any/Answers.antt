@@ -1,0 +1,25 @@
+-- A program that is made ready is searched.
+use Rattle.std.proofs.Common.{[], Err, ap, subst}
+use Rattle.litmus_step.specs.Runs.{run_of}
+use Rattle.litmus_step.specs.Steps.{LeadsTo}
+use Rattle.run_output.specs.declared.error.EngineError.TheVariants.{Run}
+use Rattle.search_formats.proofs.file.search_any.Goals as goal
+use Rattle.search_output.proofs.Results.{err_holds, preparing_stops}
+use Rattle.search_output.specs.Texts.{ProgramStops}
+
+pub returns-clause-searched : goal.returns-clause-searched
+returns-clause-searched g c =
+    let ready = c.in_ok-prepared.ensures.prepared in
+    let settings = c.args.settings.now in
+    let leads = subst (λ found. LeadsTo (run_of c.args.reading.now.program settings found) [] c.in_ok-world.world) c.in_ok-world.ensures.sites
+    (c.in_ok-world.ensures.leads settings ready) in
+    c.in_ok-found.ensures (c.in_ok-searched.ensures leads)
+
+pub returns-in_err-prepared-clause-stops : goal.returns-in_err-prepared-clause-stops
+returns-in_err-prepared-clause-stops g c =
+    let error = c.in_err-prepared.field-0.0 in
+    let program = c.args.reading.now.program in
+    let settings = c.args.settings.now in
+    err_holds (ProgramStops program settings) c.from_residual.result (Run error) c.from_residual.ensures.1
+    (preparing_stops program settings error c.in_err-prepared.ensures.errors
+    (λ is. c.in_err-prepared.ensures.bad_slots (ap Err is)) (λ is. c.in_err-prepared.ensures.bad_place.0 (ap Err is)))

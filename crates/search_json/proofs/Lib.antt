@@ -1,0 +1,2 @@
+mod Floats
+mod Taken

@@ -1,0 +1,3 @@
+pub mod Extents
+pub mod Json
+pub mod Reports
