@@ -1,1 +1,2 @@
+mod SearchLemmas
 mod ValueLemmas

@@ -10,7 +10,7 @@ use Rattle.clap.specs.Words.{ReadsOne, Row, Text, first_of, first_value, is_simp
 use Rattle.clap.specs.declared.parser.matches.Found.{Found}
 use Rattle.clap.proofs.WalkLemmas.{first_value-rows, one_text-rows, raw_values-rows}
 use Rattle.cli.specs.Bounds.{KeepsPreemptions}
-use Rattle.cli.specs.Words.{AreFormats, AreSizes, Ask, AskSwitches, IsAskedBy, IsAskedOf, IsFlag, IsNumber, IsNumberIfGiven, program_app, words_of}
+use Rattle.cli.specs.Words.{AreFormats, AreSearchFormats, AreSizes, Ask, AskSwitches, IsAskedBy, IsAskedOf, IsFlag, IsNumber, IsNumberIfGiven, program_app, words_of}
 use Rattle.cli.specs.declared.request.Request.{Request}
 use Rattle.cli.specs.declared.request.Request.TheVariants as requests
 use Rattle.cli.specs.declared.request.Switches.{Switches}
@@ -57,7 +57,7 @@ number_read {E} gives spelled found option result number some none value = by (o
       }
 
 -- an option that has a first value is read
-no_none : (text : Text) → Some text ≡ None → ⊥
+pub no_none : (text : Text) → Some text ≡ None → ⊥
 no_none text same = cc
 
 pub text_there : (found : Found) (option : Text) (result : Option (Bor Text)) (text : Text)
@@ -181,6 +181,8 @@ asked_replay name values (requests.Run request) is asks =
     absurd (let long : 3 ≡ 6 = ap (λ (text : Text). length text) (sym asks.0 ∙ is) in omega (arith, long))
 asked_replay name values (requests.Search request) is asks =
     absurd (let first : 115 ≡ 114 = ap (λ (text : Text). get_or text 0 0) (sym asks.0 ∙ is) in omega (arith, first))
+asked_replay name values (requests.Searches request) is asks =
+    absurd (let first : 115 ≡ 114 = ap (λ (text : Text). get_or text 0 0) (sym asks.0 ∙ is) in omega (arith, first))
 asked_replay name values (requests.Races request) is asks =
     absurd (let long : 5 ≡ 6 = ap (λ (text : Text). length text) (sym asks.0 ∙ is) in omega (arith, long))
 asked_replay name values (requests.Replay request) is asks = (request.trace.now, asks.1)
@@ -193,21 +195,30 @@ asked_replay name values requests.Calls is asks =
 
 -- the words ask for what the command that they call asks for
 pub asked_by : (words : List Text) (sizes : Bor (List (Bor Text))) → AreSizes sizes → (formats : Bor (List (Bor Text))) → AreFormats formats
-    → (called : Option (Text × List Row)) (request : Request)
-    → subcommand_of (program_app sizes formats) words ≡ called → IsAskedOf called request → Ask words request
-asked_by words sizes are formats formats_are None request is asked = absurd asked
-asked_by words sizes are formats formats_are (Some call) request is asked = record {
+    → (search_formats : Bor (List (Bor Text))) → AreSearchFormats search_formats → (called : Option (Text × List Row)) (request : Request)
+    → subcommand_of (program_app sizes formats search_formats) words ≡ called → IsAskedOf called request → Ask words request
+asked_by words sizes are formats formats_are search_formats search_are None request is asked = absurd asked
+asked_by words sizes are formats formats_are search_formats search_are (Some call) request is asked = record {
   name = call.0;
   values = call.1;
-  call = record { sizes = sizes; sizes_are = are; formats = formats; formats_are = formats_are; called = is };
+  call = record {
+    sizes = sizes;
+    sizes_are = are;
+    formats = formats;
+    formats_are = formats_are;
+    search_formats = search_formats;
+    search_formats_are = search_are;
+    called = is;
+  };
   asked = asked;
 }
 
-pub program_is_simple : (sizes formats : Bor (List (Bor Text))) → is_simple (program_app sizes formats) ≡ true
-program_is_simple sizes formats = refl
+pub program_is_simple : (sizes formats search_formats : Bor (List (Bor Text))) → is_simple (program_app sizes formats search_formats) ≡ true
+program_is_simple sizes formats search_formats = refl
 
-pub program_is_free : (sizes formats : Bor (List (Bor Text))) → is_simple_and_free (program_app sizes formats) ≡ true
-program_is_free sizes formats = refl
+pub program_is_free : (sizes formats search_formats : Bor (List (Bor Text)))
+    → is_simple_and_free (program_app sizes formats search_formats) ≡ true
+program_is_free sizes formats search_formats = refl
 
 -- what holds of an error holds of what is answered with it
 pub err_holds : {X E : Type 0} (P : E → Type 0) (result : Result X E) (error : E) → IsErrAnd result (λ found. found ≡ error) → P error

@@ -1,12 +1,14 @@
 -- Within which bounds the numbers of options are.
-use Rattle.std.specs.Prelude.{◌<◌, ◌≤◌, IfSome, length}
+use Rattle.std.specs.Prelude.{◌≡◌, ◌<◌, ◌≤◌, IfSome, length}
 use Rattle.cli.specs.declared.request.CheckRequest.{CheckRequest}
 use Rattle.cli.specs.declared.request.RacesRequest.{RacesRequest}
 use Rattle.cli.specs.declared.request.RunOptions.{RunOptions}
 use Rattle.cli.specs.declared.request.Request.{Request}
 use Rattle.cli.specs.declared.request.Request.TheVariants as requests
 use Rattle.cli.specs.declared.request.RunRequest.{RunRequest}
+use Rattle.cli.specs.declared.request.SearchFormat.TheVariants as search_formats
 use Rattle.cli.specs.declared.request.SearchRequest.{SearchRequest}
+use Rattle.cli.specs.declared.request.SearchesRequest.{SearchesRequest}
 use Rattle.cli.specs.declared.request.Switches.{Switches}
 use Rattle.cli.specs.declared.request.Switches.TheVariants as switches
 
@@ -43,6 +45,19 @@ pub record KeepsSearchBounds (request : SearchRequest) : Type 0 where
   pub jobs_to : request.jobs ≤ 64
   pub options : KeepsBounds request.options
 
+-- the same bounds for the search of each file: there is one file at least, and where what is found is printed as text,
+-- there are two at least
+pub record KeepsSearchesBounds (request : SearchesRequest) : Type 0 where
+  pub some : 0 < length request.files.items
+  pub several : request.format ≡ search_formats.Text → 2 ≤ length request.files.items
+  pub switches : KeepsPreemptions request.switches
+  pub limit : 1 ≤ request.limit
+  pub limit_to : request.limit ≤ 1000000000
+  pub seconds : IfSome request.seconds (λ seconds. (1 ≤ seconds) × (seconds ≤ 1000000))
+  pub jobs : 1 ≤ request.jobs
+  pub jobs_to : request.jobs ≤ 64
+  pub options : KeepsBounds request.options
+
 -- one file at least, and from 1 to 1,000,000,000 states, or schedules, of each, and 1 to 1,000,000 seconds, if these
 -- are bounded
 pub record KeepsRacesBounds (request : RacesRequest) : Type 0 where
@@ -63,6 +78,7 @@ abbrev pub MayBeAsked : Request → Type 0
 MayBeAsked (requests.Step request) = KeepsBounds request.options
 MayBeAsked (requests.Run request) = KeepsRunBounds request
 MayBeAsked (requests.Search request) = KeepsSearchBounds request
+MayBeAsked (requests.Searches request) = KeepsSearchesBounds request
 MayBeAsked (requests.Races request) = KeepsRacesBounds request
 MayBeAsked (requests.Replay request) = Unit {0}
 MayBeAsked (requests.Show request) = Unit {0}

@@ -22,7 +22,10 @@ use Rattle.cli.specs.declared.request.ReplayRequest.{ReplayRequest}
 use Rattle.cli.specs.declared.request.Request.{Request}
 use Rattle.cli.specs.declared.request.Request.TheVariants as requests
 use Rattle.cli.specs.declared.request.RunRequest.{RunRequest}
+use Rattle.cli.specs.declared.request.SearchFormat.{SearchFormat}
+use Rattle.cli.specs.declared.request.SearchFormat.TheVariants as search_formats
 use Rattle.cli.specs.declared.request.SearchRequest.{SearchRequest}
+use Rattle.cli.specs.declared.request.SearchesRequest.{SearchesRequest}
 use Rattle.cli.specs.declared.request.ShowRequest.{ShowRequest}
 use Rattle.cli.specs.declared.request.StepRequest.{StepRequest}
 use Rattle.cli.specs.declared.request.Switches.{Switches}
@@ -104,17 +107,18 @@ run_app sizes =
     (flag_rule (codes "stop-at-first")))
     (flag_rule (codes "keep-going"))) sizes
 
--- `search`, with its file, how many preemptions a schedule has at most, after how many schedules or states and after how
--- many seconds the search stops, how many threads share the work, and those options; what `--switches` takes is said
--- below
-abbrev pub search_app : Bor (List (Bor Text)) → App
-search_app sizes =
-    with_options (with_rule (with_rule (with_rule (with_rule (with_rule (new_app (codes "search"))
-    (word_rule (codes "FILE")))
+-- `search`, with its files, how many preemptions a schedule has at most, after how many schedules or states and after
+-- how many seconds a search stops, how many threads share the work, how what is found is printed, and those options;
+-- its `--format` takes one of these names, and what `--switches` takes is said below
+abbrev pub search_app : (sizes formats : Bor (List (Bor Text))) → App
+search_app sizes formats =
+    with_options (with_rule (with_rule (with_rule (with_rule (with_rule (with_rule (new_app (codes "search"))
+    (some_words_rule (codes "FILE")))
     (default_rule (codes "switches") (codes "2")))
     (number_rule (codes "limit") 1 1000000000 (codes "1000000")))
     (free_number_rule (codes "seconds") 1 1000000))
-    (number_rule (codes "jobs") 1 64 (codes "1"))) sizes
+    (number_rule (codes "jobs") 1 64 (codes "1")))
+    (name_rule (codes "format") formats (codes "text"))) sizes
 
 -- `races`, with its files, after how many states or schedules and after how many seconds a search stops, how races are
 -- printed, the places and those settings; its `--format` takes one of these names
@@ -152,12 +156,12 @@ check_app sizes =
     (name_rule (codes "word") sizes (codes "64"))
 
 -- the program, which has a version, and one of whose commands has to be named
-abbrev pub program_app : (sizes formats : Bor (List (Bor Text))) → App
-program_app sizes formats =
+abbrev pub program_app : (sizes formats search_formats : Bor (List (Bor Text))) → App
+program_app sizes formats search_formats =
     with_subcommand (with_subcommand (with_subcommand (with_subcommand (with_subcommand (with_subcommand (with_subcommand
     (on_top (λ shape. record shape { has_version = true; subcommand_required = true }) (new_app (codes "kcsan_litmus")))
-    (step_app sizes).top) (run_app sizes).top) (search_app sizes).top) (races_app sizes formats).top) replay_app.top) show_app.top)
-    (check_app sizes).top
+    (step_app sizes).top) (run_app sizes).top) (search_app sizes search_formats).top) (races_app sizes formats).top) replay_app.top)
+    show_app.top) (check_app sizes).top
 
 -- an argument goes by a rule, and is of its own command alone
 pub record IsArg (rule : Rule) (arg : Arg) : Type 0 where
@@ -168,9 +172,13 @@ pub record IsArg (rule : Rule) (arg : Arg) : Type 0 where
 abbrev pub AreSizes : Bor (List (Bor Text)) → Type 0
 AreSizes sizes = map (λ size. size.now) sizes.now ≡ codes "64" ∷ codes "32" ∷ []
 
--- these are the names that `--format` takes
+-- these are the names that `--format` of `races` takes
 abbrev pub AreFormats : Bor (List (Bor Text)) → Type 0
 AreFormats formats = map (λ format. format.now) formats.now ≡ codes "text" ∷ codes "json" ∷ []
+
+-- these are the names that `--format` of `search` takes
+abbrev pub AreSearchFormats : Bor (List (Bor Text)) → Type 0
+AreSearchFormats formats = map (λ format. format.now) formats.now ≡ codes "text" ∷ codes "json" ∷ codes "csv" ∷ codes "herd" ∷ []
 
 -- a command is the whole program
 pub record IsProgram (command : Command) : Type 0 where
@@ -178,16 +186,20 @@ pub record IsProgram (command : Command) : Type 0 where
   pub sizes_are : AreSizes sizes
   pub formats : Bor (List (Bor Text))
   pub formats_are : AreFormats formats
-  pub is : app_of command ≡ program_app sizes formats
+  pub search_formats : Bor (List (Bor Text))
+  pub search_formats_are : AreSearchFormats search_formats
+  pub is : app_of command ≡ program_app sizes formats search_formats
 
 -- the words call this command, by its name, with these values of its options and words; `--word` takes 64 or
--- 32, and `--format` text or json
+-- 32, `--format` of `races` text or json, and that of `search` text, json, csv or herd
 pub record IsCall (words : List Text) (name : Text) (values : List Row) : Type 0 where
   pub sizes : Bor (List (Bor Text))
   pub sizes_are : AreSizes sizes
   pub formats : Bor (List (Bor Text))
   pub formats_are : AreFormats formats
-  pub called : subcommand_of (program_app sizes formats) words ≡ Some (name, values)
+  pub search_formats : Bor (List (Bor Text))
+  pub search_formats_are : AreSearchFormats search_formats
+  pub called : subcommand_of (program_app sizes formats search_formats) words ≡ Some (name, values)
 
 -- the value of an option is a number of 64 bits, in decimal digits
 pub record IsNumber (values : List Row) (option : Text) (number : ℕ) : Type 0 where
@@ -228,6 +240,19 @@ pub record IsFormat (values : List Row) (option : Text) (format : RacesFormat) :
   pub given : first_of option values ≡ Some name
   pub is : format ≡ (if bytes_eq name (codes "json") then race_formats.Json else race_formats.Text)
 
+-- how what a search finds is printed, by the name of a format: as text, but for json, csv and herd
+abbrev pub search_format_of : Text → SearchFormat
+search_format_of name =
+    if bytes_eq name (codes "json") then search_formats.Json
+    else (if bytes_eq name (codes "csv") then search_formats.Csv
+    else (if bytes_eq name (codes "herd") then search_formats.Herd else search_formats.Text))
+
+-- the same, by the value of an option
+pub record IsSearchFormat (values : List Row) (option : Text) (format : SearchFormat) : Type 0 where
+  pub name : Text
+  pub given : first_of option values ≡ Some name
+  pub is : format ≡ search_format_of name
+
 -- the values ask for this of what `step`, `run`, `search` and `races` all have
 pub record AskSettings (values : List Row) (options : RunOptions) : Type 0 where
   pub places : first_of (codes "place") values ≡ Some options.places.now
@@ -265,14 +290,27 @@ abbrev pub AskSwitches : List Row → Switches → Type 0
 AskSwitches values (switches.AtMost number) = IsNumber values (codes "switches") number
 AskSwitches values switches.All = first_of (codes "switches") values ≡ Some (codes "all")
 
--- the values of `search` ask for this
+-- the values of `search` ask for this of one file, where what is found is printed as text
 pub record AskSearch (values : List Row) (request : SearchRequest) : Type 0 where
-  pub file : first_of (codes "FILE") values ≡ Some request.file.now
+  pub file : words_of (codes "FILE") values ≡ request.file.now ∷ []
   pub switches : AskSwitches values request.switches
   pub limit : IsNumber values (codes "limit") request.limit
   pub seconds : IsNumberIfGiven values (codes "seconds") request.seconds
   pub jobs : IsNumber values (codes "jobs") request.jobs
+  pub format : IsSearchFormat values (codes "format") search_formats.Text
   pub options : AskOptions values request.options
+
+-- the values of `search` ask for this of several files, or in a format for programs, and for no trace
+pub record AskSearches (values : List Row) (request : SearchesRequest) : Type 0 where
+  pub files : map (λ file. file.now) request.files.items ≡ words_of (codes "FILE") values
+  pub switches : AskSwitches values request.switches
+  pub limit : IsNumber values (codes "limit") request.limit
+  pub seconds : IsNumberIfGiven values (codes "seconds") request.seconds
+  pub jobs : IsNumber values (codes "jobs") request.jobs
+  pub format : IsSearchFormat values (codes "format") request.format
+  pub settings : AskSettings values request.options
+  pub trace : first_of (codes "trace") values ≡ None
+  pub untraced : request.options.trace ≡ None
 
 -- the values of `races` ask for this
 pub record AskRaces (values : List Row) (request : RacesRequest) : Type 0 where
@@ -313,6 +351,7 @@ abbrev pub IsAskedBy : Text → List Row → Request → Type 0
 IsAskedBy name values (requests.Step request) = (name ≡ codes "step") × AskStep values request
 IsAskedBy name values (requests.Run request) = (name ≡ codes "run") × AskRun values request
 IsAskedBy name values (requests.Search request) = (name ≡ codes "search") × AskSearch values request
+IsAskedBy name values (requests.Searches request) = (name ≡ codes "search") × AskSearches values request
 IsAskedBy name values (requests.Races request) = (name ≡ codes "races") × AskRaces values request
 IsAskedBy name values (requests.Replay request) = (name ≡ codes "replay") × AskReplay values request
 IsAskedBy name values (requests.Show request) = (name ≡ codes "show") × AskShow values request
@@ -337,7 +376,9 @@ pub record IsSaidOf (words : List Text) (kind : ErrorKind) : Type 0 where
   pub sizes_are : AreSizes sizes
   pub formats : Bor (List (Bor Text))
   pub formats_are : AreFormats formats
-  pub said : IsAmong kind (fault_of (program_app sizes formats) words)
+  pub search_formats : Bor (List (Bor Text))
+  pub search_formats_are : AreSearchFormats search_formats
+  pub said : IsAmong kind (fault_of (program_app sizes formats search_formats) words)
 
 -- the words ask for help
 abbrev pub AskForHelp : List Text → Type 0
@@ -354,8 +395,10 @@ pub record AskForNothing (words : List Text) : Type 0 where
   pub sizes_are : AreSizes sizes
   pub formats : Bor (List (Bor Text))
   pub formats_are : AreFormats formats
-  pub sound : fault_of (program_app sizes formats) words ≡ []
-  pub nothing : (request : Request) → MayBeAsked request → IsAskedOf (subcommand_of (program_app sizes formats) words) request → ⊥
+  pub search_formats : Bor (List (Bor Text))
+  pub search_formats_are : AreSearchFormats search_formats
+  pub sound : fault_of (program_app sizes formats search_formats) words ≡ []
+  pub nothing : (request : Request) → MayBeAsked request → IsAskedOf (subcommand_of (program_app sizes formats search_formats) words) request → ⊥
 
 -- This may be said in place of a request: that memory ran out, what is to be said of the words, or, where nothing is
 -- and yet they ask for nothing, that a value doesn't do. So it is said of no words that name a command that none is

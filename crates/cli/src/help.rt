@@ -159,7 +159,7 @@ pub const KEEP_GOING: &str = "Counts runs in which a task gets stuck, and goes o
 
 /// What `search` does.
 pub const SEARCH: &str =
-    "Steps the program of a litmus file under all schedules, or those with few switches between tasks";
+    "Steps the programs of litmus files under all schedules, or those with few switches between tasks";
 
 /// What follows the options of `search`.
 pub const AFTER_SEARCH: &str = "\
@@ -186,6 +186,10 @@ pub const AFTER_SEARCH: &str = "\
     \n\
     keeps the trace of the first schedule that gives the first report; where there is no report,\n\
     no file is written.\n\
+    \n\
+    As text, with several files each output comes under a line with the file's name, and a last\n\
+    line counts the files. A file - is standard input, and @LIST stands for the files that LIST\n\
+    names, one a line. --trace goes with one file and --format text.\n\
     \n\
     Each distinct report is printed once, in the order in which they were first seen, with how\n\
     many schedules give it, and the first of them: under it, with the same options, so does\n\
@@ -218,6 +222,9 @@ pub const SECONDS: &str =
 
 /// What `--jobs` of `search` says.
 pub const SEARCH_JOBS: &str = "How many threads may share the work, 1 to 64; today one works";
+
+/// What `--format` of `search` says.
+pub const SEARCH_FORMAT: &str = "How what is found is printed, as text or for programs";
 
 /// What `races` does.
 pub const RACES: &str =
@@ -266,7 +273,7 @@ pub const RACES_LIMIT: &str =
 pub const RACES_SECONDS: &str =
     "After how many seconds each search of a file stops, 1 to 1000000, if they are to be bounded";
 
-/// What `--format` says.
+/// What `--format` of `races` says.
 pub const FORMAT: &str = "How the races are printed, as text or json";
 
 /// What `show` does.
@@ -332,7 +339,7 @@ pub const AFTER_CHECK: &str = "\
     why, and up to 71 nothing goes to standard output, but that with several files the tables of\n\
     those that read do where others are refused or can't be read.";
 
-/// What the files of `check` are.
+/// What the files of `search`, `races` and `check` are.
 pub const FILES: &str = "The litmus files";
 
 /// What `--print` does.

@@ -7,6 +7,6 @@ pub mod version;
 
 pub use request::{
     CheckRequest, RacesFormat, RacesRequest, ReplayRequest, Request, RunOptions, RunRequest,
-    SearchRequest, ShowRequest, StepRequest, Switches, asked,
+    SearchFormat, SearchRequest, SearchesRequest, ShowRequest, StepRequest, Switches, asked,
 };
 pub use version::version_line;

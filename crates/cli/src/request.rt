@@ -1,9 +1,9 @@
 //! What the words ask for.
 
-ghost use Rattle.std.specs.Prelude.{◌≡◌, ◌≢◌, ◌↔◌, ◌≤◌, ◌<◌, ℕ, IfErr, IfOk, IfSome, IsSome, IsTrue, Option, Some, [], codes, length, map, true};
-ghost use Rattle.cli.specs.Bounds.{KeepsBounds, KeepsCheckBounds, KeepsPreemptions, KeepsRacesBounds, KeepsRunBounds, KeepsSearchBounds, MayBeAsked};
-ghost use Rattle.cli.specs.Words.{AreFormats, AreSizes, Ask, AskCheck, AskOptions, AskRaces, AskRun, AskSearch, AskSettings, AskShow, AskStep, AskSwitches};
-ghost use Rattle.cli.specs.Words.{IsArg, IsAskedBy, IsAskedOf, IsFormat, IsGiven, IsLayout, IsNumber, IsNumberIfGiven, IsProgram, MayFail, words_of};
+ghost use Rattle.std.specs.Prelude.{◌≡◌, ◌≢◌, ◌↔◌, ◌≤◌, ◌<◌, ◌∷◌, ℕ, IfErr, IfOk, IfSome, IsSome, IsTrue, Option, Some, [], codes, length, map, true};
+ghost use Rattle.cli.specs.Bounds.{KeepsBounds, KeepsCheckBounds, KeepsPreemptions, KeepsRacesBounds, KeepsRunBounds, KeepsSearchBounds, KeepsSearchesBounds, MayBeAsked};
+ghost use Rattle.cli.specs.Words.{AreFormats, AreSizes, Ask, AskCheck, AskOptions, AskRaces, AskRun, AskSearch, AskSearches, AskSettings, AskShow, AskStep, AskSwitches};
+ghost use Rattle.cli.specs.Words.{IsArg, IsAskedBy, IsAskedOf, IsFormat, IsGiven, IsLayout, IsNumber, IsNumberIfGiven, IsProgram, IsSearchFormat, MayFail, words_of};
 ghost use Rattle.cli.specs.Words.{check_app, default_rule, flag_rule, free_number_rule, name_rule, number_rule, races_app, replay_app, run_app, search_app, show_app, step_app};
 ghost use Rattle.cli.specs.Words.{some_words_rule, text_rule, with_options, with_settings, word_rule, words_rule};
 ghost use Rattle.clap.specs.Words.{App, Rule, app_of, first_of, found_of, kind_of, new_app, rows_of, subcommand_rows_of, with_rule, with_subcommand};
@@ -50,6 +50,9 @@ static BITS: [&str; 2] = ["64", "32"];
 /// How races can be printed.
 static FORMATS: [&str; 2] = ["text", "json"];
 
+/// How what a search finds can be printed.
+static SEARCH_FORMATS: [&str; 4] = ["text", "json", "csv", "herd"];
+
 /// What the program is asked to do.
 #[derive(Debug, Drop, PartialEq, Eq)]
 pub enum Request<'a> {
@@ -59,6 +62,8 @@ pub enum Request<'a> {
     Run(RunRequest<'a>),
     /// To step the program of a litmus file under all schedules, or those with few preemptions.
     Search(SearchRequest<'a>),
+    /// To do so with the programs of several litmus files, or to print what is found in a format for programs.
+    Searches(SearchesRequest<'a>),
     /// To say which accesses of litmus programs race, and whether KCSAN can report that.
     Races(RacesRequest<'a>),
     /// To check a trace.
@@ -128,7 +133,7 @@ pub enum Switches {
     All,
 }
 
-/// What `search` is asked to do.
+/// What `search` is asked to do with one file, where what it finds is printed as text.
 #[derive(Clone, Copy, Debug, PartialEq, Eq)]
 pub struct SearchRequest<'a> {
     /// The name of the litmus file.
@@ -144,6 +149,38 @@ pub struct SearchRequest<'a> {
     /// whatever this is.
     pub jobs: u64,
     /// What `step` could be given as well.
+    pub options: RunOptions<'a>,
+}
+
+/// How what a search finds is printed.
+#[derive(Clone, Copy, Debug, PartialEq, Eq)]
+pub enum SearchFormat {
+    /// As text.
+    Text,
+    /// As JSON.
+    Json,
+    /// As CSV.
+    Csv,
+    /// As herd7 writes its log.
+    Herd,
+}
+
+/// What `search` is asked to do with several files, or in a format for programs.
+#[derive(Debug, Drop, PartialEq, Eq)]
+pub struct SearchesRequest<'a> {
+    /// The names of the litmus files: one at least, and two at least where what is found is printed as text.
+    pub files: Vec<&'a str>,
+    /// How many preemptions a schedule may have.
+    pub switches: Switches,
+    /// After how many schedules, or states, the search of a file stops, though others remain.
+    pub limit: u64,
+    /// After how many seconds it stops, if these are bounded.
+    pub seconds: Option<u64>,
+    /// How many threads may share the work. Today one works, whatever this is.
+    pub jobs: u64,
+    /// How what is found is printed.
+    pub format: SearchFormat,
+    /// What `step` could be given as well, without a trace.
     pub options: RunOptions<'a>,
 }
 
@@ -232,12 +269,24 @@ fn refused(alloc: Global, matches: &ArgMatches<'_>) -> Result<clap::Error, Alloc
     ensures { IfOk result (λ error. kind_of error ≡ ErrorKind.ValueValidation) }
 {
     match matches.subcommand() {
-        Some(("search", values)) => switches_refused(alloc, values),
+        Some(("search", values)) => search_refused(alloc, values),
         _ => {
             let files_or_calls = "'check' takes one FILE or more, or --calls and no FILE";
             program(alloc)?.error(ErrorKind::ValueValidation, files_or_calls)
         }
     }
+}
+
+/// What is said of the values of `search` where they ask for nothing: of that of `--switches`, if it asks for nothing,
+/// or else of `--trace`, the only other one that can be at fault.
+fn search_refused(alloc: Global, search: &ArgMatches<'_>) -> Result<clap::Error, AllocError>
+    ensures { IfOk result (λ error. kind_of error ≡ ErrorKind.ValueValidation) }
+{
+    if switches_asked(search).is_none() {
+        return switches_refused(alloc, search);
+    }
+    let one_as_text = "'--trace' goes with one FILE and '--format text'";
+    program(alloc)?.error(ErrorKind::ValueValidation, one_as_text)
 }
 
 /// What is said of a value of `--switches` that asks for nothing.
@@ -264,23 +313,23 @@ fn request_of<'a>(
     match matches.subcommand() {
         Some(("check", values)) => check_asked(alloc, values),
         Some(("races", values)) => races_asked(alloc, values),
+        Some(("search", values)) => search_asked(alloc, values),
         Some((name, values)) => Ok(run_or_trace(name, values)),
         None => Ok(None),
     }
 }
 
-/// What a command of this name is asked to do, by its values: one that runs a litmus file or reads a trace. `races` and
-/// `check` are not among these.
+/// What a command of this name is asked to do, by its values: one that runs a litmus file or reads a trace. `search`,
+/// `races` and `check`, which take several files, are not among these.
 fn run_or_trace<'a>(name: &str, values: &ArgMatches<'a>) -> Option<Request<'a>>
     ensures bounds { IfSome result MayBeAsked }
     ensures asked { IfSome result (IsAskedBy name.now (rows_of (found_of values.now))) }
     ensures complete { (request : Request) → MayBeAsked request → IsAskedBy name.now (rows_of (found_of values.now)) request
-        → name.now ≢ codes "check" → name.now ≢ codes "races" → IsSome result }
+        → name.now ≢ codes "check" → name.now ≢ codes "races" → name.now ≢ codes "search" → IsSome result }
 {
     match name {
         "step" => Some(Request::Step(step_request(values)?)),
         "run" => Some(Request::Run(run_request(values)?)),
-        "search" => Some(Request::Search(search_request(values)?)),
         "replay" => Some(Request::Replay(ReplayRequest {
             trace: values.get_str("TRACE")?,
         })),
@@ -421,20 +470,74 @@ fn run_request<'a>(run: &ArgMatches<'a>) -> Option<RunRequest<'a>>
 }
 
 /// What `search` is asked to do, by the values of its options.
-fn search_request<'a>(search: &ArgMatches<'a>) -> Option<SearchRequest<'a>>
-    ensures bounds { IfSome result KeepsSearchBounds }
-    ensures asked { IfSome result (AskSearch (rows_of (found_of search.now))) }
+fn search_asked<'a>(
+    alloc: Global,
+    search: &ArgMatches<'a>,
+) -> Result<Option<Request<'a>>, AllocError>
+    ensures bounds { IfOk result (λ request. IfSome request MayBeAsked) }
+    ensures asked { IfOk result (λ request.
+        IfSome request (IsAskedBy (codes "search") (rows_of (found_of search.now)))) }
+    ensures complete { (request : Request) → MayBeAsked request
+        → IsAskedBy (codes "search") (rows_of (found_of search.now)) request → IfOk result IsSome }
+{
+    let files = words_given(alloc, search, "FILE")?;
+    let Some(format) = search_format_asked(search) else {
+        return Ok(None);
+    };
+    match (files.as_slice(), format) {
+        ([], _) => Ok(None),
+        ([file], SearchFormat::Text) => Ok(search_request(file, search)),
+        _ => Ok(searches_request(files, format, search)),
+    }
+}
+
+/// What `search` is asked to do with this file, where what it finds is printed as text, by the values of its options.
+fn search_request<'a>(file: &'a str, search: &ArgMatches<'a>) -> Option<Request<'a>>
+    requires file { words_of (codes "FILE") (rows_of (found_of search.now)) ≡ file.now ∷ [] }
+    requires format { IsSearchFormat (rows_of (found_of search.now)) (codes "format") SearchFormat.Text }
+    ensures bounds { IfSome result MayBeAsked }
+    ensures asked { IfSome result (IsAskedBy (codes "search") (rows_of (found_of search.now))) }
     ensures complete { (request : SearchRequest) → KeepsSearchBounds request → AskSearch (rows_of (found_of search.now)) request
         → IsSome result }
 {
-    Some(SearchRequest {
-        file: search.get_str("FILE")?,
+    Some(Request::Search(SearchRequest {
+        file,
         switches: switches_asked(search)?,
         limit: number(search, "limit", LIMIT)?,
         seconds: number_if_given(search, "seconds", SECONDS)?,
         jobs: number(search, "jobs", JOBS)?,
         options: options(search)?,
-    })
+    }))
+}
+
+/// What `search` is asked to do with these files, by the values of its options: as text, only with two files at least,
+/// and nothing where a trace is wanted.
+fn searches_request<'a>(
+    files: Vec<&'a str>,
+    format: SearchFormat,
+    search: &ArgMatches<'a>,
+) -> Option<Request<'a>>
+    requires some { 0 < length files.items }
+    requires several { format ≡ SearchFormat.Text → 2 ≤ length files.items }
+    requires files { map (λ file. file.now) files.items ≡ words_of (codes "FILE") (rows_of (found_of search.now)) }
+    requires format { IsSearchFormat (rows_of (found_of search.now)) (codes "format") format }
+    ensures bounds { IfSome result MayBeAsked }
+    ensures asked { IfSome result (IsAskedBy (codes "search") (rows_of (found_of search.now))) }
+    ensures complete { (request : SearchesRequest) → KeepsSearchesBounds request
+        → AskSearches (rows_of (found_of search.now)) request → IsSome result }
+{
+    if search.get_str("trace").is_some() {
+        return None;
+    }
+    Some(Request::Searches(SearchesRequest {
+        files,
+        switches: switches_asked(search)?,
+        limit: number(search, "limit", LIMIT)?,
+        seconds: number_if_given(search, "seconds", SECONDS)?,
+        jobs: number(search, "jobs", JOBS)?,
+        format,
+        options: settings(search, None)?,
+    }))
 }
 
 /// How many preemptions a schedule that is searched may have, by the value of `--switches`.
@@ -547,18 +650,33 @@ fn format_asked(matches: &ArgMatches<'_>) -> Option<RacesFormat>
     })
 }
 
+/// How what a search finds is to be printed.
+fn search_format_asked(matches: &ArgMatches<'_>) -> Option<SearchFormat>
+    ensures asked { IfSome result (IsSearchFormat (rows_of (found_of matches.now)) (codes "format")) }
+    ensures complete { (format : SearchFormat) → IsSearchFormat (rows_of (found_of matches.now)) (codes "format") format
+        → IsSome result }
+{
+    Some(match matches.get_str("format")? {
+        "json" => SearchFormat::Json,
+        "csv" => SearchFormat::Csv,
+        "herd" => SearchFormat::Herd,
+        _ => SearchFormat::Text,
+    })
+}
+
 /// The words that the program knows.
 fn program<'a>(alloc: Global) -> Result<Command<'a>, AllocError>
     ensures { IfOk result IsProgram }
 {
     let sizes = BITS.as_slice();
+    let formats = FORMATS.as_slice();
+    let search_formats = SEARCH_FORMATS.as_slice();
     let top = named(alloc, "kcsan_litmus", help::PROGRAM, help::AFTER_PROGRAM);
     let command = Ok(top.version(VERSION).subcommand_required(true));
     let command = with_subcommand(command, step_command(alloc, sizes));
     let command = with_subcommand(command, run_command(alloc, sizes));
-    let command = with_subcommand(command, search_command(alloc, sizes));
-    let races = races_command(alloc, sizes, FORMATS.as_slice());
-    let command = with_subcommand(command, races);
+    let command = with_subcommand(command, search_command(alloc, sizes, search_formats));
+    let command = with_subcommand(command, races_command(alloc, sizes, formats));
     let command = with_subcommand(command, replay_command(alloc));
     let command = with_subcommand(command, show_command(alloc));
     with_subcommand(command, check_command(alloc, sizes))
@@ -688,15 +806,17 @@ fn run_command<'a>(alloc: Global, sizes: &'static [&'static str]) -> Result<Comm
     with_shared(alloc, command, sizes)
 }
 
-/// `search`, with its file and its options; its `--word` takes one of these names.
+/// `search`, with its files and its options; its `--word` takes one of these sizes, its `--format` one of these
+/// formats.
 fn search_command<'a>(
     alloc: Global,
     sizes: &'static [&'static str],
+    formats: &'static [&'static str],
 ) -> Result<Command<'a>, AllocError>
-    ensures { IfOk result (λ command. app_of command ≡ search_app sizes.entry) }
+    ensures { IfOk result (λ command. app_of command ≡ search_app sizes.entry formats.entry) }
 {
     let command = Ok(named(alloc, "search", help::SEARCH, help::AFTER_SEARCH));
-    let command = with_argument(command, file(alloc, "FILE", help::FILE));
+    let command = with_argument(command, some_files(alloc, "FILE", help::FILES));
     let switches = default_option(alloc, "switches", "N", help::SWITCHES, "2");
     let command = with_argument(command, switches);
     let limit = number_option(alloc, "limit", help::LIMIT, LIMIT, "1000000");
@@ -705,6 +825,8 @@ fn search_command<'a>(
     let command = with_argument(command, seconds);
     let jobs = number_option(alloc, "jobs", help::SEARCH_JOBS, JOBS, "1");
     let command = with_argument(command, jobs);
+    let format = format_option(alloc, formats, help::SEARCH_FORMAT);
+    let command = with_argument(command, format);
     with_shared(alloc, command, sizes)
 }
 
@@ -722,7 +844,8 @@ fn races_command<'a>(
     let command = with_argument(command, limit);
     let seconds = free_number_option(alloc, "seconds", help::RACES_SECONDS, SECONDS);
     let command = with_argument(command, seconds);
-    let command = with_argument(command, format_option(alloc, formats));
+    let format = format_option(alloc, formats, help::FORMAT);
+    let command = with_argument(command, format);
     let command = with_argument(command, list_option(alloc, "place", "LIST", help::PLACE));
     with_settings(alloc, command, sizes)
 }
@@ -804,10 +927,14 @@ fn word_option(alloc: Global, sizes: &'static [&'static str]) -> Arg<'static>
 }
 
 /// `--format`, which takes one of these names.
-fn format_option(alloc: Global, formats: &'static [&'static str]) -> Arg<'static>
+fn format_option(
+    alloc: Global,
+    formats: &'static [&'static str],
+    help: &'static str,
+) -> Arg<'static>
     ensures { IsArg (name_rule (codes "format") formats.entry (codes "text")) result }
 {
-    text_option(alloc, "format", "FORMAT", help::FORMAT)
+    text_option(alloc, "format", "FORMAT", help)
         .value_parser(formats)
         .default_value("text")
 }

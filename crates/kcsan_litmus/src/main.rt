@@ -5,34 +5,36 @@
 mod locale;
 mod system;
 mod whole_file;
+mod words;
 
-use litmus_command::command::{OUT_OF_MEMORY, USAGE, command};
+use litmus_command::command::{OUT_OF_MEMORY, UNREADABLE, USAGE, command};
 use std::process::ExitCode;
-use std::{env, io};
 use system::System;
+use words::{WordsFault, words};
 
 fn main(rt: HostRuntime) -> ExitCode {
     let status = match words(&rt) {
         Ok(words) => command(&rt, rt.alloc(), &words, &mut System::new(rt)),
-        Err(error) => {
-            let (said, status) = said_of(&error);
-            let _ = eprintln!(rt; "kcsan_litmus: {said}");
-            status
-        }
+        Err(fault) => refuse(&rt, &fault),
     };
     ExitCode::from(status)
 }
 
-/// What is said where the words can't be had, and the status: for want of memory, or for bytes that are no text.
-fn said_of(error: &io::Error) -> (&'static str, u8) {
-    match error.kind() {
-        io::ErrorKind::OutOfMemory => ("out of memory", OUT_OF_MEMORY),
-        _ => ("a word of the command line is not UTF-8", USAGE),
+/// Says why the words can't be had, and answers the status: for want of memory, for bytes that are no text, or for a
+/// list that can't be read.
+fn refuse(rt: &HostRuntime, fault: &WordsFault) -> u8 {
+    match fault {
+        WordsFault::OutOfMemory => {
+            let _ = eprintln!(rt; "kcsan_litmus: out of memory");
+            OUT_OF_MEMORY
+        }
+        WordsFault::NotText => {
+            let _ = eprintln!(rt; "kcsan_litmus: a word of the command line is not UTF-8");
+            USAGE
+        }
+        WordsFault::NoList(list) => {
+            let _ = eprintln!(rt; "kcsan_litmus: cannot read\n{list}: no list of files");
+            UNREADABLE
+        }
     }
-}
-
-/// The words that the program was started with.
-fn words(rt: &HostRuntime) -> io::Result<Vec<String>> {
-    let words = env::args(rt)?.collect(rt.alloc())?;
-    Ok(words)
 }

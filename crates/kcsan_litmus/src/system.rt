@@ -5,6 +5,7 @@ ghost use Rattle.report_text.specs.Sink.{CountsFailure};
 
 use crate::locale;
 use crate::whole_file::write_whole;
+use crate::words::input_path;
 use litmus_command::complaint::Complaint;
 use litmus_command::desk::{Desk, ReadFault};
 use litmus_command::{Progress, SearchProgress};
@@ -187,7 +188,7 @@ impl Desk for System {
     }
 
     fn read_file(&mut self, alloc: Global, path: &str, limit: usize) -> Result<Vec<u8>, ReadFault> {
-        let Ok(file) = File::open(&self.output.rt, path) else {
+        let Ok(file) = File::open(&self.output.rt, input_path(path)) else {
             return Err(self.fault());
         };
         match read_all(alloc, &mut OpenFile { file, failures: 0 }, limit) {

@@ -3,18 +3,19 @@ use Rattle.std.proofs.Common.{◌≡◌, ◌≤◌, ◌⊎◌, ℕ, List, arith,
 use Rattle.cli.specs.Bounds.{KeepsCheckBounds, KeepsRacesBounds}
 use Rattle.cli.specs.declared.request.CheckRequest.{CheckRequest}
 use Rattle.cli.specs.declared.request.RacesRequest.{RacesRequest}
+use Rattle.cli.specs.declared.request.SearchesRequest.{SearchesRequest}
 use Rattle.cli.specs.declared.request.Request.{Request}
-use Rattle.cli.specs.declared.request.Request.TheVariants.{Check, Races}
+use Rattle.cli.specs.declared.request.Request.TheVariants.{Check, Races, Searches}
 use Rattle.litmus_command.proofs.EndLemmas.{check_reads, ends_otherwise, ends_unless_several, on_left, on_right}
-use Rattle.litmus_command.proofs.OverwriteLemmas.{kept_ends, kept_files, kept_otherwise, kept_reads, no_check, no_races, same_path}
+use Rattle.litmus_command.proofs.OverwriteLemmas.{kept_ends, kept_files, kept_otherwise, kept_reads, no_check, no_races, no_searches, same_path}
 use Rattle.litmus_command.proofs.ResultLemmas.{failures_are_known, known_above, known_below, known_so, tells_so}
-use Rattle.litmus_command.proofs.RacesEndLemmas.{races_end_unless_several, races_read}
+use Rattle.litmus_command.proofs.FilesEndLemmas.{files_read, races_end_unless_several}
 use Rattle.litmus_command.specs.Check.{CheckEnds}
 use Rattle.litmus_command.specs.Desks.{DeskState, once_told}
 use Rattle.litmus_command.specs.Command.{IsDone, IsStopped, OutputState, state_in, status_of}
 use Rattle.litmus_command.specs.Ends.{Fails, IsCarriedOut, IsDoneWith, IsNoCheck, Succeeds}
 use Rattle.litmus_command.specs.Overwrite.{IsKept, Overwrites}
-use Rattle.litmus_command.specs.Races.{RacesEnds}
+use Rattle.litmus_command.specs.Races.{RacesEnds, SearchesEnd, asked_of_races, asked_of_search}
 use Rattle.litmus_command.specs.declared.command.Failure.{Failure}
 use Rattle.litmus_command.specs.declared.complaint.Complaint.TheVariants as complaint
 
@@ -66,6 +67,7 @@ carried_well request status before after plain well =
       unread = λ is. absurd (no (omega (arith, is)) (omega (arith, is)));
       checks = plain.checks status before after;
       races = plain.races status before after;
+      searches = plain.searches status before after;
       keeps = λ path over. absurd (plain.keeps path over);
       reads = inr (record { fails = λ is. absurd (no (omega (arith, is)) (omega (arith, is))); works = λ _. well.faults });
       tells = inr (record { quiet = λ _. well.told; stopped = λ _. well.told; told = λ from to. absurd (no from to) });
@@ -95,6 +97,7 @@ carried_failure request failure before after plain fails =
       unread = fails.unread;
       checks = plain.checks status before _;
       races = plain.races status before _;
+      searches = plain.searches status before _;
       keeps = λ path over. absurd (plain.keeps path over);
       reads = inr fails.reads;
       tells = inr (tells_so failure status before.told after.told known refl fails.told);
@@ -124,6 +127,7 @@ carried_kept request path status before after over kept =
       unread = λ is. absurd (no 66 is (λ no. omega (arith, no)) (λ no. omega (arith, no)));
       checks = no_check request path status before after over;
       races = no_races request path status before after over;
+      searches = no_searches request path status before after over;
       keeps = λ other too. subst (λ (p : List ℕ). IsKept p status before after) (same_path request path other over too) kept;
       reads = inr (kept_reads path status before after kept);
       tells = inl (inr (path, over));
@@ -147,6 +151,7 @@ carried_check request status before after bounds ends =
       unread = check_reads request status before after ends;
       checks = ends;
       races = tt;
+      searches = tt;
       keeps = λ path over. absurd over;
       reads = on_right (λ shown. shown.reads) alone;
       tells = on_left inl (on_right (λ shown. shown.tells) alone);
@@ -167,11 +172,35 @@ carried_races request status before after bounds ends =
       unwritten = λ is. (before.told, after.told, before.faults, after.faults, at 74 is);
       refused = λ of. (before.told, after.told, before.faults, after.faults, ends);
       misused = λ is. inr (inl (before.told, after.told, before.faults, after.faults, at 64 is));
-      unread = races_read request status before after ends;
+      unread = files_read (asked_of_races request) status before after ends;
       checks = tt;
       races = ends;
+      searches = tt;
       keeps = λ path over. absurd over;
       reads = on_right (λ shown. shown.reads) alone;
       tells = on_left inl (on_right (λ shown. shown.tells) alone);
       ends = on_right (λ shown. shown.ends) alone;
+    }
+
+-- several files were searched
+pub carried_searches : (request : SearchesRequest) (status : ℕ) (before after : DeskState) → SearchesEnd request status before after
+    → IsCarriedOut (Searches request) status before after
+carried_searches request status before after ends =
+    let at : (other : ℕ) → status ≡ other → SearchesEnd request other before after =
+    λ other is. subst (λ (n : ℕ). SearchesEnd request n before after) is ends in
+    record {
+      reported = λ is. (before.told, after.told, before.faults, after.faults, at 2 is);
+      unreported = λ is. (before.told, after.told, before.faults, after.faults, at 0 is);
+      stopped = λ is. (before.told, after.told, before.faults, after.faults, at 75 is);
+      unwritten = λ is. (before.told, after.told, before.faults, after.faults, at 74 is);
+      refused = λ of. (before.told, after.told, before.faults, after.faults, ends);
+      misused = λ is. inr (inl (before.told, after.told, before.faults, after.faults, at 64 is));
+      unread = files_read (asked_of_search request) status before after ends;
+      checks = tt;
+      races = tt;
+      searches = ends;
+      keeps = λ path over. absurd over;
+      reads = inl tt;
+      tells = inl (inl tt);
+      ends = inl tt;
     }

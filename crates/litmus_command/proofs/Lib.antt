@@ -2,8 +2,8 @@ mod AskedLemmas
 mod ResultLemmas
 mod CheckLemmas
 mod EndLemmas
-mod RacesLemmas
-mod RacesEndLemmas
+mod FilesLemmas
+mod FilesEndLemmas
 mod OverwriteLemmas
 mod CommandLemmas
 mod CarryLemmas

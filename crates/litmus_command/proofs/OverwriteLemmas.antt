@@ -3,7 +3,7 @@ use Rattle.std.proofs.Common.{◌≡◌, ◌≤◌, ◌∙◌, ◌⊎◌, ℕ, L
 use Rattle.cli.specs.declared.request.Request.{Request}
 use Rattle.cli.specs.declared.request.Request.TheVariants as requests
 use Rattle.litmus_command.specs.Desks.{DeskState}
-use Rattle.litmus_command.specs.Command.{AreRaced, EndsAs, IsChecked, Reads, OutputState, state_in}
+use Rattle.litmus_command.specs.Command.{AreFilesSearched, AreRaced, EndsAs, IsChecked, Reads, OutputState, state_in}
 use Rattle.litmus_command.specs.Overwrite.{IsKept, Overwrites}
 
 -- it has one of two statuses
@@ -59,6 +59,7 @@ pub no_check : (request : Request) (path : List ℕ) (status : ℕ) (before afte
 no_check (requests.Step request) path status before after over = tt
 no_check (requests.Run request) path status before after over = tt
 no_check (requests.Search request) path status before after over = tt
+no_check (requests.Searches request) path status before after over = tt
 no_check (requests.Races request) path status before after over = tt
 no_check (requests.Replay request) path status before after over = tt
 no_check (requests.Show request) path status before after over = tt
@@ -70,6 +71,7 @@ pub same_path : (request : Request) (one other : List ℕ) → Overwrites reques
 same_path (requests.Step request) one other over too = sym over.read ∙ too.read
 same_path (requests.Run request) one other over too = sym over.read ∙ too.read
 same_path (requests.Search request) one other over too = sym over.read ∙ too.read
+same_path (requests.Searches request) one other over too = absurd over
 same_path (requests.Races request) one other over too = absurd over
 same_path (requests.Replay request) one other over too = absurd over
 same_path (requests.Show request) one other over too = sym over.read ∙ too.read
@@ -82,8 +84,22 @@ pub no_races : (request : Request) (path : List ℕ) (status : ℕ) (before afte
 no_races (requests.Step request) path status before after over = tt
 no_races (requests.Run request) path status before after over = tt
 no_races (requests.Search request) path status before after over = tt
+no_races (requests.Searches request) path status before after over = tt
 no_races (requests.Races request) path status before after over = absurd over
 no_races (requests.Replay request) path status before after over = tt
 no_races (requests.Show request) path status before after over = tt
 no_races (requests.Check request) path status before after over = tt
 no_races requests.Calls path status before after over = tt
+
+-- nor with a search of several files
+pub no_searches : (request : Request) (path : List ℕ) (status : ℕ) (before after : DeskState) → Overwrites request path
+    → AreFilesSearched request status before after
+no_searches (requests.Step request) path status before after over = tt
+no_searches (requests.Run request) path status before after over = tt
+no_searches (requests.Search request) path status before after over = tt
+no_searches (requests.Searches request) path status before after over = absurd over
+no_searches (requests.Races request) path status before after over = tt
+no_searches (requests.Replay request) path status before after over = tt
+no_searches (requests.Show request) path status before after over = tt
+no_searches (requests.Check request) path status before after over = tt
+no_searches requests.Calls path status before after over = tt

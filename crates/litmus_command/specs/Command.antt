@@ -16,6 +16,7 @@ use Rattle.cli.specs.declared.request.Request.TheVariants as requests
 use Rattle.cli.specs.declared.request.RunOptions.{RunOptions}
 use Rattle.cli.specs.declared.request.RunRequest.{RunRequest}
 use Rattle.cli.specs.declared.request.SearchRequest.{SearchRequest}
+use Rattle.cli.specs.declared.request.SearchesRequest.{SearchesRequest}
 use Rattle.cli.specs.declared.request.ShowRequest.{ShowRequest}
 use Rattle.cli.specs.declared.request.StepRequest.{StepRequest}
 use Rattle.cli.specs.declared.request.Switches.{Switches}
@@ -48,7 +49,7 @@ use Rattle.litmus_command.specs.Replay.{IsLineOf}
 pub use Rattle.litmus_command.specs.Lists.{SpellsNoPlaces, SpellsNoSchedule}
 use Rattle.litmus_command.specs.Overwrite.{Overwrites}
 pub use Rattle.litmus_command.specs.Settings.{AskSettings, settings_of}
-use Rattle.litmus_command.specs.Races.{AreSeveral, RacesEnds}
+use Rattle.litmus_command.specs.Races.{AreSeveral, RacesEnds, SearchesEnd}
 use Rattle.litmus_command.specs.Show.{IsDrawn}
 pub use Rattle.litmus_command.specs.Statuses.{complaint_status_of, engine_status_of, picture_status_of, run_status_of, status_of}
 pub use Rattle.litmus_command.specs.Statuses.{text_status_of, trace_status_of}
@@ -291,6 +292,12 @@ RacesAreEnded request status before after = (told later : Option (List Complaint
     (record { written = before.written; failures = before.failures; files = before.files; told = told; faults = faults })
     (record { written = after.written; failures = after.failures; files = after.files; told = later; faults = more })
 
+-- and of a search of several files
+abbrev pub SearchesAreEnded : SearchesRequest → (status : ℕ) → OutputState → OutputState → Type 0
+SearchesAreEnded request status before after = (told later : Option (List Complaint)) × (faults more : ℕ) × SearchesEnd request status
+    (record { written = before.written; failures = before.failures; files = before.files; told = told; faults = faults })
+    (record { written = after.written; failures = after.failures; files = after.files; told = later; faults = more })
+
 -- the calls that are read were written, and no file was touched
 pub record CallsAreGiven (before after : OutputState) : Type 0 where
   pub written : after.written ≡ appended before.written calls_text
@@ -309,6 +316,8 @@ IsDone (requests.Step request) raced before after =
 IsDone (requests.Run request) raced before after = FileIsRun request.file.now file_bytes (trace_path request.options) (AreLeft request) raced before after
 IsDone (requests.Search request) true before after = (stopped : Bool) × SearchIsDone request true stopped before after
 IsDone (requests.Search request) false before after = SearchIsDone request false false before after
+IsDone (requests.Searches request) true before after = SearchesAreEnded request 2 before after
+IsDone (requests.Searches request) false before after = SearchesAreEnded request 0 before after
 IsDone (requests.Races request) true before after = RacesAreEnded request 2 before after
 IsDone (requests.Races request) false before after = RacesAreEnded request 0 before after
 IsDone (requests.Replay request) true before after = ⊥
@@ -325,6 +334,7 @@ abbrev pub IsStopped : Request → OutputState → OutputState → Type 0
 IsStopped (requests.Step request) before after = ⊥
 IsStopped (requests.Run request) before after = ⊥
 IsStopped (requests.Search request) before after = SearchIsDone request false true before after
+IsStopped (requests.Searches request) before after = SearchesAreEnded request 75 before after
 IsStopped (requests.Races request) before after = RacesAreEnded request 75 before after
 IsStopped (requests.Replay request) before after = ⊥
 IsStopped (requests.Show request) before after = ⊥
@@ -337,6 +347,7 @@ IsCut (requests.Step request) before after = FileIsRunInPart request.file.now fi
 IsCut (requests.Run request) before after = FileIsRunInPart request.file.now file_bytes (trace_path request.options) (AreLeft request) before after
 IsCut (requests.Search request) before after =
     (stopped : Bool) × FileIsRunInPart request.file.now file_bytes (trace_path request.options) (IsFound request stopped) before after
+IsCut (requests.Searches request) before after = SearchesAreEnded request 74 before after
 IsCut (requests.Races request) before after = RacesAreEnded request 74 before after
 IsCut (requests.Replay request) before after = ReplayIsCut request before after
 IsCut (requests.Show request) before after =
@@ -349,6 +360,7 @@ abbrev pub IsRefusedOf : Request → (status : ℕ) → OutputState → OutputSt
 IsRefusedOf (requests.Step request) status before after = FileIsRefused request.file.now (StepRefuses request) status before after
 IsRefusedOf (requests.Run request) status before after = FileIsRefused request.file.now (RunRefuses request) status before after
 IsRefusedOf (requests.Search request) status before after = FileIsRefused request.file.now (SearchRefuses request) status before after
+IsRefusedOf (requests.Searches request) status before after = SearchesAreEnded request status before after
 IsRefusedOf (requests.Races request) status before after = RacesAreEnded request status before after
 IsRefusedOf (requests.Replay request) status before after = ReplayIsRefused request status before after
 IsRefusedOf (requests.Show request) status before after = ShowIsRefused request status before after
@@ -360,6 +372,7 @@ abbrev pub DoesNotRead : Request → Type 0
 DoesNotRead (requests.Step request) = SpellsNoSchedule request.schedule.now ⊎ SpellsNoPlaces request.options.places.now
 DoesNotRead (requests.Run request) = SpellsNoPlaces request.options.places.now
 DoesNotRead (requests.Search request) = SpellsNoPlaces request.options.places.now
+DoesNotRead (requests.Searches request) = SpellsNoPlaces request.options.places.now
 DoesNotRead (requests.Races request) = SpellsNoPlaces request.options.places.now
 DoesNotRead (requests.Replay request) = ⊥
 DoesNotRead (requests.Show request) = ⊥
@@ -377,17 +390,20 @@ abbrev pub DoesRead : Request → Type 0
 DoesRead (requests.Step request) = (settings : Settings) × (entries : List Entry) × AsksFor request settings entries
 DoesRead (requests.Run request) = (settings : Settings) × AskSettings request.options settings
 DoesRead (requests.Search request) = (settings : Settings) × AskSettings request.options settings
+DoesRead (requests.Searches request) = (settings : Settings) × AskSettings request.options settings
 DoesRead (requests.Races request) = (settings : Settings) × AskSettings request.options settings
 DoesRead (requests.Replay request) = Unit {0}
 DoesRead (requests.Show request) = Unit {0}
 DoesRead (requests.Check request) = (settings : Settings) × CheckAsksFor request settings
 DoesRead requests.Calls = Unit {0}
 
--- it is a check of several files, or asks for the races of several
+-- it is a check of several files, asks for the races of several, or for a search of several or one for programs that
+-- read what is found
 abbrev pub IsOfSeveral : Request → Type 0
 IsOfSeveral (requests.Step request) = ⊥
 IsOfSeveral (requests.Run request) = ⊥
 IsOfSeveral (requests.Search request) = ⊥
+IsOfSeveral (requests.Searches request) = Unit {0}
 IsOfSeveral (requests.Races request) = AreSeveral request
 IsOfSeveral (requests.Replay request) = ⊥
 IsOfSeveral (requests.Show request) = ⊥
@@ -404,6 +420,7 @@ abbrev pub IsChecked : Request → (status : ℕ) → DeskState → DeskState �
 IsChecked (requests.Step request) status before after = Unit {0}
 IsChecked (requests.Run request) status before after = Unit {0}
 IsChecked (requests.Search request) status before after = Unit {0}
+IsChecked (requests.Searches request) status before after = Unit {0}
 IsChecked (requests.Races request) status before after = Unit {0}
 IsChecked (requests.Replay request) status before after = Unit {0}
 IsChecked (requests.Show request) status before after = Unit {0}
@@ -415,11 +432,24 @@ abbrev pub AreRaced : Request → (status : ℕ) → DeskState → DeskState →
 AreRaced (requests.Step request) status before after = Unit {0}
 AreRaced (requests.Run request) status before after = Unit {0}
 AreRaced (requests.Search request) status before after = Unit {0}
+AreRaced (requests.Searches request) status before after = Unit {0}
 AreRaced (requests.Races request) status before after = RacesEnds request status before after
 AreRaced (requests.Replay request) status before after = Unit {0}
 AreRaced (requests.Show request) status before after = Unit {0}
 AreRaced (requests.Check request) status before after = Unit {0}
 AreRaced requests.Calls status before after = Unit {0}
+
+-- where a search of several files is asked for: how that ended, with what standard error was told of each file
+abbrev pub AreFilesSearched : Request → (status : ℕ) → DeskState → DeskState → Type 0
+AreFilesSearched (requests.Step request) status before after = Unit {0}
+AreFilesSearched (requests.Run request) status before after = Unit {0}
+AreFilesSearched (requests.Search request) status before after = Unit {0}
+AreFilesSearched (requests.Searches request) status before after = SearchesEnd request status before after
+AreFilesSearched (requests.Races request) status before after = Unit {0}
+AreFilesSearched (requests.Replay request) status before after = Unit {0}
+AreFilesSearched (requests.Show request) status before after = Unit {0}
+AreFilesSearched (requests.Check request) status before after = Unit {0}
+AreFilesSearched requests.Calls status before after = Unit {0}
 
 -- the read of a file failed where the status is 66, and nowhere else
 pub record Reads (status : ℕ) (before after : ℕ) : Type 0 where

@@ -2,7 +2,7 @@
 use Rattle.std.specs.Prelude.{◌≡◌, ◌≢◌, ◌⊎◌, ℕ, List, Err, Ok, Result, false, true}
 use Rattle.cli.specs.declared.request.Request.{Request}
 use Rattle.litmus_command.specs.Desks.{DeskState}
-use Rattle.litmus_command.specs.Command.{AreRaced, DoesRead, EndsAs, IsChecked, IsCut, IsDone, IsMisused, IsOfFile, IsOfSeveral, IsRefusedOf, IsStopped}
+use Rattle.litmus_command.specs.Command.{AreFilesSearched, AreRaced, DoesRead, EndsAs, IsChecked, IsCut, IsDone, IsMisused, IsOfFile, IsOfSeveral, IsRefusedOf, IsStopped}
 use Rattle.litmus_command.specs.Command.{IsToldApart, NothingIsWritten, Reads, OutputState, StatusComplaint, state_in, status_of}
 use Rattle.litmus_command.specs.Overwrite.{IsKept, Overwrites}
 use Rattle.litmus_command.specs.declared.command.Failure.{Failure}
@@ -37,10 +37,11 @@ abbrev pub CommandEnds : Request → Result ℕ Failure → DeskState → DeskSt
 CommandEnds request (Ok status) before after = Succeeds request status before after
 CommandEnds request (Err failure) before after = Fails request (status_of failure) before after
 
--- what is asked is no check and not for races, and nothing would be overwritten
+-- what is asked is no check and is not of the races or the search of files, and nothing would be overwritten
 pub record IsNoCheck (request : Request) : Type 0 where
   pub checks : (status : ℕ) (before after : DeskState) → IsChecked request status before after
   pub races : (status : ℕ) (before after : DeskState) → AreRaced request status before after
+  pub searches : (status : ℕ) (before after : DeskState) → AreFilesSearched request status before after
   pub keeps : (path : List ℕ) → Overwrites request path → ⊥
 
 -- What is asked was carried out, and this is the status: what it says of what was written and of the files, what
@@ -55,6 +56,7 @@ pub record IsCarriedOut (request : Request) (status : ℕ) (before after : DeskS
   pub unread : status ≡ 66 → DoesRead request
   pub checks : IsChecked request status before after
   pub races : AreRaced request status before after
+  pub searches : AreFilesSearched request status before after
   pub keeps : (path : List ℕ) → Overwrites request path → IsKept path status before after
   pub reads : IsOfSeveral request ⊎ Reads status before.faults after.faults
   pub tells : IsToldApart request ⊎ StatusComplaint status before.told after.told

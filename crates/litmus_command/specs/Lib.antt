@@ -8,6 +8,8 @@ pub mod Replay
 pub mod Show
 pub mod Statuses
 pub mod Check
+pub mod FileWork
+pub mod FilesAsked
 pub mod Races
 pub mod Overwrite
 pub mod Command

@@ -20,6 +20,7 @@ abbrev pub Overwrites : Request → (path : List ℕ) → Type 0
 Overwrites (requests.Step request) path = AreSamePath request.file.now (option_map (λ trace. trace.now) request.options.trace) path
 Overwrites (requests.Run request) path = AreSamePath request.file.now (option_map (λ trace. trace.now) request.options.trace) path
 Overwrites (requests.Search request) path = AreSamePath request.file.now (option_map (λ trace. trace.now) request.options.trace) path
+Overwrites (requests.Searches request) path = ⊥
 Overwrites (requests.Races request) path = ⊥
 Overwrites (requests.Replay request) path = ⊥
 Overwrites (requests.Show request) path = AreSamePath request.trace.now (option_map (λ svg. svg.now) request.svg) path

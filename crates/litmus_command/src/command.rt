@@ -8,7 +8,7 @@ ghost use Rattle.clap.specs.Words.{kind_of};
 ghost use Rattle.litmus_command.specs.Check.{IsOutOfMemory};
 ghost use Rattle.litmus_command.specs.Desks.{DeskState, once_told};
 ghost use Rattle.litmus_command.specs.Command.{AskForOne, AskSettings, AsksFor, EndsAs, HelpIsCut, HelpIsGiven, IsCut, IsDone, IsGiven, IsGivenInPart};
-ghost use Rattle.litmus_command.specs.Command.{AreRaced, IsChecked, IsOfFile, IsOfSeveral, IsRefusedOf, IsStopped, IsToldApart, OfAsked};
+ghost use Rattle.litmus_command.specs.Command.{AreFilesSearched, AreRaced, IsChecked, IsOfFile, IsOfSeveral, IsRefusedOf, IsStopped, IsToldApart, OfAsked};
 ghost use Rattle.litmus_command.specs.Command.{DoesNotRead, DoesRead, IsFault, IsMisused, Reads, SpellsNoPlaces, StatusComplaint, UsageIsTold, VersionIsCut, VersionIsGiven};
 ghost use Rattle.litmus_command.specs.Command.{end_status_of, engine_status_of, picture_status_of, read_failure, run_status_of, settings_of, state_in};
 ghost use Rattle.litmus_command.specs.Command.{status_of, text_status_of, times_of, trace_status_of, with_trace};
@@ -25,8 +25,8 @@ use crate::check::{carry_check, list_calls};
 use crate::complaint::Complaint;
 use crate::desk::{Desk, ReadFault};
 use crate::engine::run_text;
+use crate::files::{carry_races, carry_searches};
 use crate::overwrite::{overwritten, refuse_overwrite};
-use crate::race_files::carry_races;
 use crate::replay::replayed;
 use crate::search::search_for;
 use crate::show::drawn;
@@ -64,7 +64,7 @@ pub const USAGE: u8 = 64;
 const REFUSED: u8 = 65;
 
 /// A file can't be read.
-const UNREADABLE: u8 = 66;
+pub const UNREADABLE: u8 = 66;
 
 /// A task is stuck.
 const STUCK: u8 = 70;
@@ -260,14 +260,19 @@ pub fn command<R: Threads + Wait + Sync, S: AsStr, D: Desk>(
     ensures races { OfAsked (map S.text words.now) result (D.state desk.old)
         (D.state desk.new) (λ request. AreRaced request result (D.state desk.old) (D.state desk.new)) }
 
+    // What was found of each file that was searched, in order, is so of the program of its text. So much was told and
+    // printed, and the status follows.
+    ensures searches { OfAsked (map S.text words.now) result (D.state desk.old)
+        (D.state desk.new) (λ request. AreFilesSearched request result (D.state desk.old) (D.state desk.new)) }
+
     // A file that would be written over its input is named, and nothing else is done. `misused` and `tells` say that
     // this is said of no other.
     ensures keeps { OfAsked (map S.text words.now) result (D.state desk.old)
         (D.state desk.new) (λ request. (path : List ℕ) → Overwrites request path → IsKept path result
         (D.state desk.old) (D.state desk.new)) }
 
-    // Only of a check, or of the races, of several files more was read and told, and something printed with a status from
-    // 64 to 66.
+    // Only of several files, or where programs are to read what is found, more was read and told, and something printed
+    // with a status from 64 to 66.
     ensures reads { AskForOne (map S.text words.now) IsOfSeveral ⊎ Reads result (D.state desk.old).faults (D.state desk.new).faults }
     ensures tells { AskForOne (map S.text words.now) IsToldApart ⊎ StatusComplaint result (D.state desk.old).told (D.state desk.new).told }
     ensures ends { AskForOne (map S.text words.now) IsOfSeveral ⊎ EndsAs result (state_in (D.state desk.old))
@@ -315,6 +320,7 @@ pub fn carry_out<R: Threads + Wait + Sync, D: Desk>(
             finish(done, None, desk)
         }
         // These tell of each file that isn't read, and go on.
+        Request::Searches(request) => carry_searches(alloc, request, desk),
         Request::Races(request) => carry_races(alloc, request, desk),
         Request::Check(request) => carry_check(alloc, request, desk),
         Request::Calls => {

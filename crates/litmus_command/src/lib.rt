@@ -7,11 +7,12 @@ pub mod command;
 pub mod complaint;
 pub mod desk;
 pub mod engine;
+mod files;
 mod overwrite;
-mod race_files;
 pub mod replay;
 mod search;
 pub mod show;
+mod work;
 
 pub use run_output::EngineError;
 pub use run_stats::Progress;

@@ -35,7 +35,11 @@ pub(crate) fn overwritten<'a>(request: &Request<'a>) -> Option<&'a str>
         Request::Run(request) => same_path(request.file, request.options.trace),
         Request::Search(request) => same_path(request.file, request.options.trace),
         Request::Show(request) => same_path(request.trace, request.svg),
-        Request::Races(_) | Request::Replay(_) | Request::Check(_) | Request::Calls => None,
+        Request::Searches(_)
+        | Request::Races(_)
+        | Request::Replay(_)
+        | Request::Check(_)
+        | Request::Calls => None,
     }
 }
 

@@ -23,6 +23,8 @@ mod race_words;
 #[cfg(test)]
 mod same;
 #[cfg(test)]
+mod search_words;
+#[cfg(test)]
 mod sites;
 #[cfg(test)]
 mod slots;

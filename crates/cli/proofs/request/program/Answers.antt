@@ -12,13 +12,15 @@ returns c =
     let e1 = c.with_subcommand-command.ensures _ _ first c.step_command.ensures refl in
     let e2 = c.with_subcommand-command-2.ensures _ _ e1 c.run_command.ensures refl in
     let e3 = c.with_subcommand-command-3.ensures _ _ e2 c.search_command.ensures refl in
-    let e4 = c.with_subcommand-command-4.ensures _ _ e3 c.races_command-races.ensures refl in
+    let e4 = c.with_subcommand-command-4.ensures _ _ e3 c.races_command.ensures refl in
     let e5 = c.with_subcommand-command-5.ensures _ _ e4 c.replay_command.ensures refl in
     let e6 = c.with_subcommand-command-6.ensures _ _ e5 c.show_command.ensures refl in
     IfOk-weaker c.with_subcommand.result _ _ (λ command adds. record {
       sizes = c.as_slice-sizes.result;
       sizes_are = ap (map (λ size. size.now)) c.as_slice-sizes.ensures;
-      formats = c.as_slice.result;
-      formats_are = ap (map (λ format. format.now)) c.as_slice.ensures;
+      formats = c.as_slice-formats.result;
+      formats_are = ap (map (λ format. format.now)) c.as_slice-formats.ensures;
+      search_formats = c.as_slice-search_formats.result;
+      search_formats_are = ap (map (λ format. format.now)) c.as_slice-search_formats.ensures;
       is = adds;
     }) (c.with_subcommand.ensures _ _ e6 c.check_command.ensures refl)

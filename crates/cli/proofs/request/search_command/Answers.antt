@@ -3,9 +3,10 @@ use Rattle.cli.proofs.request.search_command.Goals as goal
 
 pub returns : goal.returns
 returns c =
-    let e1 = c.with_argument-command.ensures _ _ c.named.ensures c.file.ensures in
+    let e1 = c.with_argument-command.ensures _ _ c.named.ensures c.some_files.ensures in
     let e2 = c.with_argument-command-2.ensures _ _ e1 c.default_option-switches.ensures in
     let e3 = c.with_argument-command-3.ensures _ _ e2 c.number_option-limit.ensures in
     let e4 = c.with_argument-command-4.ensures _ _ e3 c.free_number_option-seconds.ensures in
     let e5 = c.with_argument-command-5.ensures _ _ e4 c.number_option-jobs.ensures in
-    c.with_shared.ensures _ e5
+    let e6 = c.with_argument-command-6.ensures _ _ e5 c.format_option-format.ensures in
+    c.with_shared.ensures _ e6

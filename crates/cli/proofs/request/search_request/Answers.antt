@@ -1,23 +1,21 @@
 -- each value is that of its option
-use Rattle.std.proofs.Common.{codes}
-use Rattle.clap.specs.Words.{found_of}
-use Rattle.cli.proofs.ValueLemmas.{not_missing, some_read, text_there}
+use Rattle.std.proofs.Common.{refl}
+use Rattle.cli.proofs.ValueLemmas.{not_missing}
 use Rattle.cli.proofs.request.search_request.Goals as goal
 
 pub returns-clause-asked : goal.returns-clause-asked
-returns-clause-asked c = record {
-  file = some_read (found_of c.args.search.now) (codes "FILE") c.get_str.result _ c.get_str.ensures c.in_ok-get_str.was;
-  switches = c.in_ok-switches_asked.ensures.asked;
-  limit = c.in_ok-number.ensures.asked;
-  seconds = c.in_ok-number_if_given.ensures.asked;
-  jobs = c.in_ok-number-2.ensures.asked;
-  options = c.in_ok-options.ensures.asked;
-}
-
-pub returns-in_err-get_str-clause-complete : goal.returns-in_err-get_str-clause-complete
-returns-in_err-get_str-clause-complete c = λ request bounds asks.
-    absurd (text_there (found_of c.args.search.now) (codes "FILE") c.get_str.result request.file.now c.get_str.ensures asks.file
-    c.in_err-get_str.was)
+returns-clause-asked c = (
+  refl,
+  record {
+    file = c.requires.file;
+    switches = c.in_ok-switches_asked.ensures.asked;
+    limit = c.in_ok-number.ensures.asked;
+    seconds = c.in_ok-number_if_given.ensures.asked;
+    jobs = c.in_ok-number-2.ensures.asked;
+    format = c.requires.format;
+    options = c.in_ok-options.ensures.asked;
+  },
+)
 
 pub returns-in_err-number-clause-complete : goal.returns-in_err-number-clause-complete
 returns-in_err-number-clause-complete c = λ request bounds asks.

@@ -3,7 +3,7 @@ use Rattle.std.proofs.Common.{subst, sym}
 use Rattle.cli.specs.Bounds.{MayBeAsked}
 use Rattle.cli.specs.declared.request.Request.{Request}
 use Rattle.cli.specs.declared.request.Request.TheVariants.{Calls, Replay, Run, Search, Show, Step}
-use Rattle.litmus_command.proofs.CarryLemmas.{carried_check, carried_kept, carried_races}
+use Rattle.litmus_command.proofs.CarryLemmas.{carried_check, carried_kept, carried_races, carried_searches}
 use Rattle.litmus_command.proofs.command.carry_out.Goals as goal
 use Rattle.litmus_command.specs.Desks.{DeskState}
 use Rattle.litmus_command.specs.Ends.{IsCarriedOut, IsNoCheck}
@@ -20,6 +20,7 @@ returns-in-Step g c =
     let plain : IsNoCheck (Step c.in-Step.request) = record {
       checks = λ status first last. tt;
       races = λ status first last. tt;
+      searches = λ status first last. tt;
       keeps = λ path over. c.in_default.ensures.other path (subst (λ (request : Request). Overwrites request path) (sym c.in-Step.is) over);
     } in
     subst (λ (request : Request). IsCarriedOut request c.finish.result before (seen c.finish.new.desk)) (sym c.in-Step.is)
@@ -32,6 +33,7 @@ returns-in-Run g c =
     let plain : IsNoCheck (Run c.in-Run.request) = record {
       checks = λ status first last. tt;
       races = λ status first last. tt;
+      searches = λ status first last. tt;
       keeps = λ path over. c.in_default.ensures.other path (subst (λ (request : Request). Overwrites request path) (sym c.in-Run.is) over);
     } in
     subst (λ (request : Request). IsCarriedOut request c.finish-in-Run.result before (seen c.finish-in-Run.new.desk)) (sym c.in-Run.is)
@@ -44,6 +46,7 @@ returns-in-Search g c =
     let plain : IsNoCheck (Search c.in-Search.request) = record {
       checks = λ status first last. tt;
       races = λ status first last. tt;
+      searches = λ status first last. tt;
       keeps = λ path over. c.in_default.ensures.other path (subst (λ (request : Request). Overwrites request path) (sym c.in-Search.is) over);
     } in
     subst (λ (request : Request). IsCarriedOut request c.finish-in-Search.result before (seen c.finish-in-Search.new.desk)) (sym c.in-Search.is)
@@ -56,6 +59,7 @@ returns-in-Replay g c =
     let plain : IsNoCheck (Replay c.in-Replay.request) = record {
       checks = λ status first last. tt;
       races = λ status first last. tt;
+      searches = λ status first last. tt;
       keeps = λ path over. c.in_default.ensures.other path (subst (λ (request : Request). Overwrites request path) (sym c.in-Replay.is) over);
     } in
     subst (λ (request : Request). IsCarriedOut request c.finish-in-Replay.result before (seen c.finish-in-Replay.new.desk)) (sym c.in-Replay.is)
@@ -68,6 +72,7 @@ returns-in-Show g c =
     let plain : IsNoCheck (Show c.in-Show.request) = record {
       checks = λ status first last. tt;
       races = λ status first last. tt;
+      searches = λ status first last. tt;
       keeps = λ path over. c.in_default.ensures.other path (subst (λ (request : Request). Overwrites request path) (sym c.in-Show.is) over);
     } in
     subst (λ (request : Request). IsCarriedOut request c.finish-in-Show.result before (seen c.finish-in-Show.new.desk)) (sym c.in-Show.is)
@@ -80,6 +85,7 @@ returns-in-Calls g c =
     let plain : IsNoCheck Calls = record {
       checks = λ status first last. tt;
       races = λ status first last. tt;
+      searches = λ status first last. tt;
       keeps = λ path over. c.in_default.ensures.other path (subst (λ (request : Request). Overwrites request path) (sym c.in-Calls.is) over);
     } in
     subst (λ (request : Request). IsCarriedOut request c.finish-in-Calls.result before (seen c.finish-in-Calls.new.desk)) (sym c.in-Calls.is)
@@ -98,3 +104,9 @@ returns-in-Races g c =
     let bounds = subst (λ (request : Request). MayBeAsked request) c.in-Races.is c.requires in
     subst (λ (request : Request). IsCarriedOut request c.carry_races.result (seen c.args.desk.now) (seen c.carry_races.new.desk)) (sym c.in-Races.is)
     (carried_races c.in-Races.request c.carry_races.result _ _ bounds c.carry_races.ensures)
+
+pub returns-in-Searches : goal.returns-in-Searches
+returns-in-Searches g c =
+    let seen = g.D.Desk.state in
+    subst (λ (request : Request). IsCarriedOut request c.carry_searches.result (seen c.args.desk.now) (seen c.carry_searches.new.desk))
+    (sym c.in-Searches.is) (carried_searches c.in-Searches.request c.carry_searches.result _ _ c.carry_searches.ensures)

@@ -29,6 +29,9 @@ returns-in-Ok-clause-checks g c = inl (c.in-Ok.request, c.in-Ok.ensures.bounds, 
 pub returns-in-Ok-clause-races : goal.returns-in-Ok-clause-races
 returns-in-Ok-clause-races g c = inl (c.in-Ok.request, c.in-Ok.ensures.bounds, c.in-Ok.ensures.asked, c.carry_out.ensures.races)
 
+pub returns-in-Ok-clause-searches : goal.returns-in-Ok-clause-searches
+returns-in-Ok-clause-searches g c = inl (c.in-Ok.request, c.in-Ok.ensures.bounds, c.in-Ok.ensures.asked, c.carry_out.ensures.searches)
+
 pub returns-in-Ok-clause-keeps : goal.returns-in-Ok-clause-keeps
 returns-in-Ok-clause-keeps g c = inl (c.in-Ok.request, c.in-Ok.ensures.bounds, c.in-Ok.ensures.asked, c.carry_out.ensures.keeps)
 
@@ -48,6 +51,19 @@ returns-in-Err-clause-checks g c = elim c.explain.ensures.memory [
 
 pub returns-in-Err-clause-races : goal.returns-in-Err-clause-races
 returns-in-Err-clause-races g c = elim c.explain.ensures.memory [
+  | inl other ↦ inr (inl (record {
+    kind = kind_of c.in-Err.error;
+    other = other;
+    may = c.in-Err.ensures.fails;
+    faults = c.explain.ensures.faults;
+    tells = c.explain.ensures.tells;
+    ends = c.explain.ensures.ends;
+  }))
+  | inr out ↦ inr (inr out)
+]
+
+pub returns-in-Err-clause-searches : goal.returns-in-Err-clause-searches
+returns-in-Err-clause-searches g c = elim c.explain.ensures.memory [
   | inl other ↦ inr (inl (record {
     kind = kind_of c.in-Err.error;
     other = other;

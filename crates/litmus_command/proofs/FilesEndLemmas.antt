@@ -1,9 +1,8 @@
 -- How the races of one file end, and how those of several.
-use Rattle.std.proofs.Common.{◌≡◌, ◌∙◌, ◌<◌, ◌≤◌, ◌≢◌, ◌⊎◌, ◌∷◌, ◌&&◌, [], ℕ, All, Bool, List, Option, ap, append-nil, arith, false, inl, inr, length}
+use Rattle.std.proofs.Common.{◌≡◌, ◌∙◌, ◌<◌, ◌≤◌, ◌≢◌, ◌⊎◌, ◌∷◌, ◌&&◌, ◌||◌, [], ℕ, All, Bool, List, Option, ap, append-nil, arith, false, inl, inr, length}
 use Rattle.std.proofs.Common.{if◌then◌else◌, max, nat_lt, refl, subst, sym, true}
 use Rattle.std.proofs.lemmas.Bool.{cases_lt}
 use Rattle.cli.specs.Bounds.{KeepsRacesBounds}
-use Rattle.cli.specs.declared.request.RacesFormat.{RacesFormat}
 use Rattle.cli.specs.declared.request.RacesRequest.{RacesRequest}
 use Rattle.diagnostics.specs.check_output.Diagnosis.{Diagnosis, Gave, Lost, has_tables, output_of}
 use Rattle.diagnostics.specs.declared.check_output.file.Files.{Files}
@@ -13,8 +12,12 @@ use Rattle.litmus_command.specs.Check.{IsLeftOver, IsPrinted}
 use Rattle.litmus_command.specs.Command.{EndsAs, StatusComplaint, state_in}
 use Rattle.litmus_command.specs.Desks.{DeskState, once_told}
 use Rattle.litmus_command.specs.Files.{FileEvent, OnlyRead}
-use Rattle.litmus_command.specs.Races.{AllSearched, AreLookedInto, AreSeveral, Early, FileFound, IsFileFound, IsLookedInto, LeftOut, Misplaced, PassedOver, RacesEnds}
-use Rattle.litmus_command.specs.Races.{Refused, Searched, files_of, greatest_of, has_names, is_text, races_output_of, verdict_status_of}
+use Rattle.litmus_command.specs.FileWork as work
+use Rattle.litmus_command.specs.FileWork.{AllSearched, AreLookedInto, Asked, Early, FileFound, FilesEnd, IsFileFound, IsLookedInto, LeftOut, Misplaced, PassedOver, Refused, Searched}
+use Rattle.litmus_command.specs.FileWork.{files_of, files_output_of, has_names, is_more, status_of_all, verdict_status_of}
+use Rattle.litmus_command.specs.Races.{AreSeveral, RacesEnds, asked_of_races, races_work}
+use Rattle.litmus_command.specs.declared.work.RacesWork.{RacesWork}
+use Rattle.litmus_command.specs.declared.work.Work.TheVariants as works
 use Rattle.litmus_command.specs.Settings.{AskSettings}
 use Rattle.litmus_command.specs.StandardError.{heard}
 use Rattle.litmus_command.specs.Statuses.{engine_status_of, run_status_of, text_status_of}
@@ -131,23 +134,23 @@ greatest_alone : (n : ℕ) → max 0 n ≡ n
 greatest_alone n = omega arith
 
 -- the end of the races of one file, of which this was found
-one_looked_into : (files : Files) (format : RacesFormat) (settings : Settings) (found : FileFound) (output : List ℕ) (status ends : ℕ)
-    (before middle after : DeskState) → files.several ≡ false → IsFileFound format settings found → IsLookedInto files found before middle
-    → output ≡ races_output_of false (found ∷ []) → status ≡ greatest_of (found ∷ []) → IsPrinted output status ends middle after
+one_looked_into : (files : Files) (own : RacesWork) (settings : Settings) (found : FileFound) (output : List ℕ) (status ends : ℕ)
+    (before middle after : DeskState) → files.several ≡ false → IsFileFound (works.Races own) settings found → IsLookedInto files found before middle
+    → output ≡ files_output_of false (works.Races own) (found ∷ []) → status ≡ status_of_all (works.Races own) (found ∷ []) → IsPrinted output status ends middle after
     → Ends ends before after
 unfolding IsOfVerdict
-one_looked_into files format settings (Searched name text output verdict) printed status ends before middle after one _ gone _ status_is (inl done) =
+one_looked_into files own settings (Searched name text output verdict) printed status ends before middle after one _ gone _ status_is (inl done) =
     ends_searched ends before after
     (subst IsOfVerdict (sym (done.0 ∙ (status_is ∙ greatest_alone (verdict_status_of verdict)))) (verdict_known verdict))
     (ap (λ (at : DeskState). at.told) done.1 ∙ ap (λ (at : DeskState). at.told) gone)
     (ap (λ (at : DeskState). at.faults) done.1 ∙ ap (λ (at : DeskState). at.faults) gone)
-one_looked_into files format settings (Searched name text output verdict) printed status ends before middle after one _ gone _ _ (inr fails) =
+one_looked_into files own settings (Searched name text output verdict) printed status ends before middle after one _ gone _ _ (inr fails) =
     ends_cut ends before after (complaint.Failure failure.CannotWrite) fails.ends_is refl tt
     (ap (λ (at : DeskState). at.told) fails.told
     ∙ ap (λ (t : Option (List Complaint)). heard t (complaint.Failure failure.CannotWrite)) (ap (λ (at : DeskState). at.told) gone))
     (ap (λ (at : DeskState). at.faults) fails.told ∙ ap (λ (at : DeskState). at.faults) gone)
     (subst (λ n. CountsFailure n after.failures) (ap (λ (at : DeskState). at.failures) gone) fails.failed)
-one_looked_into files format settings (Refused name text error) printed status ends before middle after one is_found gone output_is status_is done =
+one_looked_into files own settings (Refused name text error) printed status ends before middle after one is_found gone output_is status_is done =
     let is : status ≡ engine_status_of error = status_is ∙ greatest_alone (engine_status_of error) in
     let few : IsTold status = subst IsTold (sym is) (engine_told text settings error is_found.0 is_found.1) in
     told_one printed status ends before middle after (complaint.Failure (failure.Engine error)) few (sym is) tt output_is
@@ -155,40 +158,44 @@ one_looked_into files format settings (Refused name text error) printed status e
     (reads_none status before.faults middle.faults (not_unread status few text settings error is_found.0 is)
     (ap (λ (at : DeskState). at.faults) gone))
     (ap (λ (at : DeskState). at.written) gone) (inr (name, file_bytes, text, ap (λ (at : DeskState). at.files) gone)) done
-one_looked_into files format settings (PassedOver why) printed status ends before middle after one is_found gone output_is status_is done =
+one_looked_into files own settings (PassedOver why) printed status ends before middle after one is_found gone output_is status_is done =
     one_found files settings why printed status ends before middle after one is_found.0 gone.1
     (output_is ∙ sym (none_printed files why is_found.1 one)) status_is done
 
 -- one file alone has no name over it
-no_names : (request : RacesRequest) → length request.files.items ≡ 1 → has_names request ≡ false
-no_names request one = ap (λ n. nat_lt 1 n && is_text request.format) one
+no_names : (request : RacesRequest) → length request.files.items ≡ 1 → has_names (asked_of_races request) ≡ false
+no_names request one = ap (λ n. nat_lt 1 n && work.is_text (works.Races (races_work request))) one
+
+-- and no more is printed than of it
+one_alone : (request : RacesRequest) → length request.files.items ≡ 1 → is_more (asked_of_races request) ≡ false
+one_alone request one = ap (λ n. nat_lt 1 n || work.has_rows (works.Races (races_work request))) one
 
 -- the one file was looked into
 one_searched : (request : RacesRequest) (founds : List FileFound) (settings : Settings) (output : List ℕ) (status ends : ℕ)
     (before middle after : DeskState) → length request.files.items ≡ 1 → length founds ≡ length request.files.items
-    → All (IsFileFound request.format settings) founds → AreLookedInto (files_of request) founds before middle
-    → output ≡ races_output_of (has_names request) founds → status ≡ greatest_of founds → IsPrinted output status ends middle after
+    → All (IsFileFound (works.Races (races_work request)) settings) founds → AreLookedInto (files_of (asked_of_races request)) founds before middle
+    → output ≡ files_output_of (has_names (asked_of_races request)) (works.Races (races_work request)) founds → status ≡ status_of_all (works.Races (races_work request)) founds → IsPrinted output status ends middle after
     → Ends ends before after
 one_searched request [] settings output status ends before middle after one all are_found gone output_is status_is done =
     absurd (let no : 0 ≡ 1 = all ∙ one in omega (arith, no))
 one_searched request (found ∷ []) settings output status ends before middle after one all are_found gone output_is status_is done =
-    one_looked_into (files_of request) request.format settings found output status ends before middle after (ap (λ n. nat_lt 1 n) one)
-    (are_found 0 found (omega arith)) (subst (λ (at : DeskState). IsLookedInto (files_of request) found before at) (sym gone.2) gone.1)
-    (output_is ∙ ap (λ (b : Bool). races_output_of b (found ∷ [])) (no_names request one)) status_is done
+    one_looked_into (files_of (asked_of_races request)) (races_work request) settings found output status ends before middle after (ap (λ n. nat_lt 1 n) one)
+    (are_found 0 found (omega arith)) (subst (λ (at : DeskState). IsLookedInto (files_of (asked_of_races request)) found before at) (sym gone.2) gone.1)
+    (output_is ∙ ap (λ (b : Bool). files_output_of b (works.Races (races_work request)) (found ∷ [])) (no_names request one)) status_is done
 one_searched request (found ∷ other ∷ more) settings output status ends before middle after one all are_found gone output_is status_is done =
     absurd (let no : length (found ∷ other ∷ more) ≡ 1 = all ∙ one in omega (arith, no))
 
 -- memory ran out over the one file
 one_left_out : (request : RacesRequest) (founds : List FileFound) (status : ℕ) (before middle stopped after : DeskState)
-    → length request.files.items ≡ 1 → (length founds < length request.files.items) ⊎ AreSeveral request
-    → AreLookedInto (files_of request) founds before middle → IsLeftOver (files_of request).several middle stopped → status ≡ 71
+    → length request.files.items ≡ 1 → (length founds < length request.files.items) ⊎ (is_more (asked_of_races request) ≡ true)
+    → AreLookedInto (files_of (asked_of_races request)) founds before middle → IsLeftOver (is_more (asked_of_races request)) middle stopped → status ≡ 71
     → after ≡ once_told (complaint.Failure failure.OutOfMemory) stopped → Ends status before after
 one_left_out request [] status before middle stopped after one left gone over is told =
     ends_told status before after (complaint.Failure failure.OutOfMemory) (inr (inr (inr is))) (sym is) tt
     (ap (λ (at : DeskState). at.told) told ∙ ap (λ (t : Option (List Complaint)). heard t (complaint.Failure failure.OutOfMemory))
     (ap (λ (at : DeskState). at.told) over.rest ∙ ap (λ (at : DeskState). at.told) gone))
     (reads_none status before.faults after.faults (λ no. absurd (omega (arith, is, no)))
-    (ap (λ (at : DeskState). at.faults) told ∙ (faults_alone (files_of request).several middle stopped (ap (λ n. nat_lt 1 n) one) over.faults
+    (ap (λ (at : DeskState). at.faults) told ∙ (faults_alone (is_more (asked_of_races request)) middle stopped (one_alone request one) over.faults
     ∙ ap (λ (at : DeskState). at.faults) gone)))
     (ap (λ (at : DeskState). at.written) told ∙ (ap (λ (at : DeskState). at.written) over.rest ∙ ap (λ (at : DeskState). at.written) gone))
     (subst (λ (f : Option (List FileEvent)). OnlyRead f after.files) (ap (λ (at : DeskState). at.files) gone)
@@ -196,7 +203,7 @@ one_left_out request [] status before middle stopped after one left gone over is
 one_left_out request (found ∷ more) status before middle stopped after one (inl less) gone over is told =
     absurd (omega (arith, one, less))
 one_left_out request (found ∷ more) status before middle stopped after one (inr many) gone over is told =
-    absurd (omega (arith, one, many))
+    absurd (let no : false ≡ true = sym (one_alone request one) ∙ many in cc)
 
 -- how the races of one file end
 one_ends : (request : RacesRequest) (status : ℕ) (before after : DeskState) → length request.files.items ≡ 1
@@ -231,9 +238,9 @@ races_end_unless_several request status before after bounds ends =
     ]
 
 -- at 66 the place list that is asked for reads
-pub races_read : (request : RacesRequest) (status : ℕ) (before after : DeskState) → RacesEnds request status before after → status ≡ 66
-    → (settings : Settings) × AskSettings request.options settings
-races_read request status before after (AllSearched it) is = (it.searched.looks.settings, it.searched.looks.asks)
-races_read request status before after (LeftOut it) is = (it.left.looks.settings, it.left.looks.asks)
-races_read request status before after (Misplaced it) is = absurd (let other = it.status_is in omega (arith, is, other))
-races_read request status before after (Early it) is = absurd (let other = it.status_is in omega (arith, is, other))
+pub files_read : (asked : Asked) (status : ℕ) (before after : DeskState) → FilesEnd asked status before after → status ≡ 66
+    → (settings : Settings) × AskSettings asked.options settings
+files_read asked status before after (AllSearched it) is = (it.searched.looks.settings, it.searched.looks.asks)
+files_read asked status before after (LeftOut it) is = (it.left.looks.settings, it.left.looks.asks)
+files_read asked status before after (Misplaced it) is = absurd (let other = it.status_is in omega (arith, is, other))
+files_read asked status before after (Early it) is = absurd (let other = it.status_is in omega (arith, is, other))
