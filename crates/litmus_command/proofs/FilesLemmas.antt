@@ -40,7 +40,7 @@ use Rattle.litmus_syntax.specs.declared.error.ParseError.TheVariants as parse
 use Rattle.prepared_program.specs.declared.program_sites.error.RunError.{RunError}
 use Rattle.prepared_program.specs.declared.program_sites.error.RunError.TheVariants as run
 use Rattle.prepared_program.specs.declared.program_sites.settings.Settings.{Settings}
-use Rattle.race_output.specs.declared.several.FileCounts.{FileCounts}
+use Rattle.output_pieces.specs.declared.file_counts.FileCounts.{FileCounts}
 use Rattle.race_output.specs.declared.words.FileVerdict.{FileVerdict}
 use Rattle.race_output.specs.declared.words.FileVerdict.TheVariants as verdicts
 use Rattle.run_output.specs.declared.error.EngineError.{EngineError}

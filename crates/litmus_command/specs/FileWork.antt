@@ -28,7 +28,7 @@ use Rattle.race_output.specs.Results.{AreRacesOfText, IsFree}
 use Rattle.race_output.specs.Several as races_line
 use Rattle.race_output.specs.declared.file.Format.{Format}
 use Rattle.race_output.specs.declared.file.Format.TheVariants as races_formats
-use Rattle.race_output.specs.declared.several.FileCounts.{FileCounts}
+use Rattle.output_pieces.specs.declared.file_counts.FileCounts.{FileCounts}
 use Rattle.race_output.specs.declared.words.FileVerdict.{FileVerdict}
 use Rattle.race_output.specs.declared.words.FileVerdict.TheVariants as verdicts
 use Rattle.run_output.specs.declared.error.EngineError.{EngineError}

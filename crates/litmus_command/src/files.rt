@@ -28,7 +28,8 @@ use cli::{RacesFormat, RacesRequest, RunOptions, SearchFormat, SearchesRequest, 
 use diagnostics::check_output::{Comes, Files, file_comes};
 use litmus_parse::FILE_BYTES;
 use litmus_step::Settings;
-use race_output::{FileCounts, FileVerdict, RacesWanted};
+use output_pieces::FileCounts;
+use race_output::{FileVerdict, RacesWanted};
 use run_output::EngineError;
 use search_formats::{FileWanted, Preemptions, Refusal};
 use std::alloc::{AllocError, Global};

@@ -6,8 +6,9 @@ ghost use Rattle.litmus_command.specs.FileWork.{IsFoundIn};
 ghost use Rattle.search_output.specs.Texts.{IsRefused};
 
 use litmus_step::Settings;
+use output_pieces::FileCounts;
 use program_table::text_pieces::{joined, shown};
-use race_output::{FileCounts, FileVerdict, RacesWanted, file_races};
+use race_output::{FileVerdict, RacesWanted, file_races};
 use run_output::EngineError;
 use search_formats::{FileWanted, Refusal, heading, refused_text, search_file};
 use search_output::SearchProgress;

@@ -4,8 +4,10 @@ use Rattle.executions.specs.execution.Run.{Run}
 use Rattle.litmus_syntax.specs.declared.program.Variable.{Variable}
 use Rattle.prepared_program.specs.declared.program_sites.settings.Settings.{Settings}
 use Rattle.prepared_program.specs.declared.step_schedule.schedule.Entry.{Entry}
-use Rattle.race_output.specs.Json.{column_data, file_data, line_data, pair_data, schedule_data, settings_data}
-use Rattle.race_output.specs.Json.{site_data, sites_data, states_data, statement_data, text_data, told_data, whole_data, why_data}
+use Rattle.output_pieces.proofs.Floats.{column_none, line_none, none_of, statement_none}
+use Rattle.output_pieces.specs.Values.{settings_data, text_data}
+use Rattle.race_output.specs.Json.{file_data, pair_data, schedule_if_data}
+use Rattle.race_output.specs.Json.{site_data, sites_data, states_data, told_data, whole_data, why_data}
 use Rattle.race_output.specs.Reasons.{reasons_of}
 use Rattle.race_output.specs.declared.sites.SiteTold.{SiteTold}
 use Rattle.race_verdicts.specs.declared.find.RacesFound.{RacesFound}
@@ -15,24 +17,7 @@ use Rattle.serde_json.specs.Data.{Data}
 use Rattle.serde_json.specs.View.{items_of}
 use Rattle.serde_json.specs.Written.{has_float, items_have_float}
 
--- items that have none, each by itself
-none_of : {A : Type 0} (f : A → Data) (xs : List A) → ((x : A) → has_float (f x) ≡ false) → items_have_float (items_of (map f xs)) ≡ false
-none_of f [] none = refl
-none_of f (x ∷ xs) none = rw none (none_of f xs none)
-
-line_none : (text : List ℕ) (at : Option ℕ) → has_float (line_data text at) ≡ false
-line_none text None = refl
-line_none text (Some at) = refl
-
-column_none : (text : List ℕ) (at : Option ℕ) → has_float (column_data text at) ≡ false
-column_none text None = refl
-column_none text (Some at) = refl
-
-statement_none : (text : List ℕ) (at : Option ℕ) → has_float (statement_data text at) ≡ false
-statement_none text None = refl
-statement_none text (Some at) = refl
-
-schedule_none : (schedule : Option (List Entry)) → has_float (schedule_data schedule) ≡ false
+schedule_none : (schedule : Option (List Entry)) → has_float (schedule_if_data schedule) ≡ false
 schedule_none None = refl
 schedule_none (Some entries) = refl
 

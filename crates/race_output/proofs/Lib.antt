@@ -1,4 +1,3 @@
 mod Floats
 mod Free
 mod Named
-mod Pieces

@@ -8,8 +8,8 @@ use Rattle.prepared_program.specs.declared.step_schedule.schedule.Entry.{Entry}
 use Rattle.program_table.specs.text_pieces.Pieces.{padded}
 use Rattle.race_output.specs.Reasons.{reasons_text}
 use Rattle.race_output.specs.Sites.{told_of}
-use Rattle.race_output.specs.Spots.{spot_text, statement_text}
-use Rattle.race_output.specs.Variables.{label}
+use Rattle.output_pieces.specs.Spots.{spot_text, statement_text}
+use Rattle.output_pieces.specs.Variables.{label}
 use Rattle.race_output.specs.Words.{verdict_words}
 use Rattle.race_output.specs.declared.sites.SiteTold.{SiteTold}
 use Rattle.races.specs.declared.verdict.PairFound.{PairFound}

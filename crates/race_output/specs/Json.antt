@@ -9,8 +9,8 @@ use Rattle.prepared_program.specs.declared.program_sites.settings.Settings.{Sett
 use Rattle.prepared_program.specs.declared.step_schedule.schedule.Entry.{Entry}
 use Rattle.race_output.specs.Reasons.{reasons_of}
 use Rattle.race_output.specs.Sites.{told_of}
-use Rattle.race_output.specs.Spots.{statement_at}
-use Rattle.race_output.specs.Variables.{names_of}
+use Rattle.output_pieces.specs.Values.{column_data, line_data, schedule_data, settings_data, statement_data, text_data}
+use Rattle.output_pieces.specs.Variables.{names_of}
 use Rattle.race_output.specs.Words.{file_word, verdict_of, verdict_words}
 use Rattle.race_output.specs.declared.sites.SiteTold.{SiteTold}
 use Rattle.race_verdicts.specs.declared.find.RacesFound.{RacesFound}
@@ -22,23 +22,6 @@ use Rattle.search_text.specs.Stops as stops
 use Rattle.serde_json.specs.Data.{Data, array, boolean, item, member, no_items, no_members, null, number, object, string, unsigned}
 use Rattle.serde_json.specs.View.{items_of}
 use Rattle.serde_json.specs.Written.{compact_text}
-
--- a text; all that are written are ASCII
-abbrev pub text_data : List ℕ → Data
-text_data text = string (utf8_lossy text)
-
--- the line and the column of a place, and what is written there, if the place is known
-abbrev pub line_data : (text : List ℕ) → Option ℕ → Data
-line_data text None = null
-line_data text (Some at) = number (unsigned (line_at text at))
-
-abbrev pub column_data : (text : List ℕ) → Option ℕ → Data
-column_data text None = null
-column_data text (Some at) = number (unsigned (column_at text at))
-
-abbrev pub statement_data : (text : List ℕ) → Option ℕ → Data
-statement_data text None = null
-statement_data text (Some at) = text_data (statement_at text at)
 
 -- a site
 unfoldable pub site_data : (text : List ℕ) → SiteTold → Data
@@ -52,9 +35,9 @@ unfoldable pub sites_data : (text : List ℕ) → (first second : SiteTold) → 
 sites_data text first second = array (item (site_data text first) (item (site_data text second) no_items))
 
 -- a schedule, if there is one
-abbrev pub schedule_data : Option (List Entry) → Data
-schedule_data None = null
-schedule_data (Some entries) = text_data (schedule_text entries)
+abbrev pub schedule_if_data : Option (List Entry) → Data
+schedule_if_data None = null
+schedule_if_data (Some entries) = schedule_data entries
 
 -- the reasons for a verdict
 unfoldable pub why_data : (first second : SiteTold) → Verdict → Data
@@ -68,7 +51,7 @@ is_reported verdict = false
 -- a pair with these sites
 unfoldable pub told_data : List Variable → (text : List ℕ) → (first second : SiteTold) → Verdict → Option (List Entry) → Data
 told_data variables text first second verdict schedule = object
-    (member (codes "reported") (boolean (is_reported verdict)) (member (codes "schedule") (schedule_data schedule)
+    (member (codes "reported") (boolean (is_reported verdict)) (member (codes "schedule") (schedule_if_data schedule)
     (member (codes "sites") (sites_data text first second)
     (member (codes "variable") (text_data (names_of variables first.variable second.variable))
     (member (codes "verdict") (string (verdict_words verdict))
@@ -79,15 +62,6 @@ unfoldable pub pair_data : Run → (text : List ℕ) → (places : List (List �
 pair_data run text places one =
     told_data run.program.variables text (told_of run text places one.pair.first) (told_of run text places one.pair.second)
     one.verdict (option_map (λ entries. entries.items) one.schedule)
-
--- the settings
-unfoldable pub settings_data : Settings → Data
-settings_data settings = object
-    (member (codes "plain_writes_atomic") (boolean settings.plain_writes_atomic)
-    (member (codes "randomize") (boolean settings.randomize) (member (codes "seed") (number (unsigned settings.seed))
-    (member (codes "skip") (number (unsigned settings.skip)) (member (codes "slots") (number (unsigned settings.slots))
-    (member (codes "turns") (number (unsigned settings.turns))
-    (member (codes "value_change_only") (boolean settings.value_change_only) no_members)))))))
 
 -- how many states were visited
 unfoldable pub states_data : RacesFound → Data

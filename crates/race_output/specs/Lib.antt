@@ -6,7 +6,5 @@ pub mod Results
 pub mod Settings
 pub mod Several
 pub mod Sites
-pub mod Spots
 pub mod Table
-pub mod Variables
 pub mod Words

@@ -2,7 +2,7 @@
 use Rattle.std.specs.Prelude.{ℕ, List, [], ◌∷◌, codes}
 use Rattle.std.specs.List.{concat}
 use Rattle.race_output.specs.Counts.{counted}
-use Rattle.race_output.specs.declared.several.FileCounts.{FileCounts}
+use Rattle.output_pieces.specs.declared.file_counts.FileCounts.{FileCounts}
 
 -- how many files have which verdict
 unfoldable pub searched_counts : FileCounts → List ℕ

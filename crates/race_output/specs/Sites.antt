@@ -11,8 +11,8 @@ use Rattle.litmus_semantics.specs.declared.site.Site.{Site}
 use Rattle.litmus_syntax.specs.declared.program.Variable.{Variable}
 use Rattle.prepared_program.specs.declared.program_layout.layout.Layout.{Layout}
 use Rattle.prepared_program.specs.program_layout.Lays.{Lays}
-use Rattle.race_output.specs.Spots.{place_of}
-use Rattle.race_output.specs.Variables.{variable_of}
+use Rattle.output_pieces.specs.Spots.{place_of}
+use Rattle.output_pieces.specs.Variables.{variable_of}
 use Rattle.race_output.specs.declared.sites.SiteTold.{SiteTold}
 use Rattle.races.specs.Pairs.{HasSite, first_at}
 use Rattle.races.specs.Verdicts.{how_marked}

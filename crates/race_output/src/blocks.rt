@@ -8,29 +8,17 @@ ghost use Rattle.search_text.specs.Schedules.{schedule_text};
 
 use crate::reasons::reasons_text;
 use crate::sites::{SiteTold, Sources, told_of};
-use crate::spots::{spot_text, statement_text};
-use crate::variables::label;
 use crate::words::verdict_words;
+use output_pieces::spots::{spot_text, statement_text};
+use output_pieces::values::schedule_bytes;
+use output_pieces::variables::label;
 use program_table::text_pieces::{blanks, joined, number, padded};
 use races::{PairFound, Verdict};
-use report_text::MemorySink;
 use search_text::Entry;
-use search_text::schedules::write_schedule;
 use std::alloc::{AllocError, Global};
 
 /// How many columns a line has, but for one with a schedule.
 const COLUMNS: usize = 100;
-
-/// A schedule, as the program reads it.
-pub(crate) fn schedule_bytes(alloc: Global, entries: &[Entry]) -> Result<Vec<u8>, AllocError>
-    ensures { IfOk result (λ text. text.items ≡ schedule_text entries.now) }
-{
-    let mut sink = MemorySink::new(alloc);
-    match write_schedule(&mut sink, entries) {
-        Ok(()) => Ok(sink.into_bytes()),
-        Err(_) => Err(AllocError),
-    }
-}
 
 /// What a site is called, and where it stands in the text.
 #[tactic(auto, unfolding(crate::specs::Blocks::site_text))]

@@ -5,7 +5,8 @@ ghost use Rattle.race_output.specs.Counts as spec;
 ghost use Rattle.race_output.specs.Words.{count_said};
 
 use crate::words::{Said, count_said};
-use program_table::text_pieces::{joined, number};
+use output_pieces::TextBuilder;
+use program_table::text_pieces::joined;
 use race_verdicts::RacesFound;
 use races::PairFound;
 use search_text::Stopped;
@@ -15,17 +16,13 @@ use std::alloc::{AllocError, Global};
 fn stopped_after(alloc: Global, count: u64, unit: &str, walk: &str) -> Result<Vec<u8>, AllocError>
     ensures { IfOk result (λ text. text.items ≡ spec.stopped_after count unit.now walk.now) }
 {
-    let count = number(alloc, count as usize)?;
-    joined(
-        alloc,
-        &[
-            b"stopped after ",
-            &count,
-            unit.as_bytes(),
-            walk.as_bytes(),
-            b": others remain\n",
-        ],
-    )
+    TextBuilder::new(alloc)
+        .piece(b"stopped after ")
+        .number(count as usize)
+        .words(unit)
+        .words(walk)
+        .piece(b": others remain\n")
+        .build()
 }
 
 /// The line that says that a walk was stopped, where it was: after so many states, or after so many seconds.
@@ -46,12 +43,10 @@ fn stopped_line(
 }
 
 /// A count, and what is counted.
-#[tactic(auto, unfolding(crate::specs::Counts::counted))]
 pub(crate) fn counted(alloc: Global, count: usize, words: &str) -> Result<Vec<u8>, AllocError>
     ensures { IfOk result (λ text. text.items ≡ spec.counted count words.now) }
 {
-    let digits = number(alloc, count)?;
-    joined(alloc, &[&digits, words.as_bytes()])
+    TextBuilder::new(alloc).number(count).words(words).build()
 }
 
 /// The line on how much was searched.
@@ -62,11 +57,15 @@ fn searched_line(alloc: Global, found: &RacesFound) -> Result<Vec<u8>, AllocErro
         alloc,
         found.unwatched_states as usize,
         " states without watchpoints, ",
-    )?;
-    let schedules = counted(alloc, found.schedules as usize, " schedules, and ")?;
-    let states = counted(alloc, found.states as usize, " states with watchpoints\n")?;
-    let text = joined(alloc, &[b"searched ", &unwatched, &schedules, &states])?;
-    Ok(text)
+    );
+    let schedules = counted(alloc, found.schedules as usize, " schedules, and ");
+    let states = counted(alloc, found.states as usize, " states with watchpoints\n");
+    TextBuilder::new(alloc)
+        .piece(b"searched ")
+        .text(unwatched)
+        .text(schedules)
+        .text(states)
+        .build()
 }
 
 /// The lines on what was searched.
@@ -78,11 +77,13 @@ pub(crate) fn search_lines(alloc: Global, found: &RacesFound) -> Result<Vec<u8>,
         found.unwatched_stopped,
         found.unwatched_states,
         "without watchpoints",
-    )?;
-    let all = stopped_line(alloc, found.stopped, found.states, "with watchpoints")?;
-    let searched = searched_line(alloc, found)?;
-    let text = joined(alloc, &[&bare, &all, &searched])?;
-    Ok(text)
+    );
+    let all = stopped_line(alloc, found.stopped, found.states, "with watchpoints");
+    TextBuilder::new(alloc)
+        .text(bare)
+        .text(all)
+        .text(searched_line(alloc, found))
+        .build()
 }
 
 /// How many pairs have a verdict that not all searches come to: nothing where none has.
@@ -109,29 +110,39 @@ fn said_text(
     counted(alloc, count_said(pairs, wanted), words)
 }
 
+/// How many pairs have such a verdict: nothing where none has.
+fn some_said(
+    alloc: Global,
+    pairs: &[PairFound],
+    wanted: Said,
+    words: &str,
+) -> Result<Vec<u8>, AllocError>
+    ensures { IfOk result (λ text. text.items ≡ spec.count_if_some (count_said pairs.now wanted) words.now) }
+{
+    count_if_some(alloc, count_said(pairs, wanted), words)
+}
+
 /// How many pairs have verdicts that each search may come to.
 fn settled_counts(alloc: Global, pairs: &[PairFound]) -> Result<Vec<u8>, AllocError>
     ensures { IfOk result (λ text. text.items ≡ spec.settled_counts pairs.now) }
 {
-    let count = pairs.len();
-    let all = counted(alloc, count, " pairs conflict: ")?;
-    let reported = said_text(alloc, pairs, Said::Reported, " reported, ")?;
-    let missed = said_text(alloc, pairs, Said::Missed, " missed, ")?;
-    let no_race = said_text(alloc, pairs, Said::NoRace, " no race, ")?;
-    let apart = said_text(alloc, pairs, Said::Apart, " apart")?;
-    let text = joined(alloc, &[&all, &reported, &missed, &no_race, &apart])?;
-    Ok(text)
+    TextBuilder::new(alloc)
+        .text(counted(alloc, pairs.len(), " pairs conflict: "))
+        .text(said_text(alloc, pairs, Said::Reported, " reported, "))
+        .text(said_text(alloc, pairs, Said::Missed, " missed, "))
+        .text(said_text(alloc, pairs, Said::NoRace, " no race, "))
+        .text(said_text(alloc, pairs, Said::Apart, " apart"))
+        .build()
 }
 
 /// The line on how many pairs have which verdict.
 pub(crate) fn pairs_line(alloc: Global, pairs: &[PairFound]) -> Result<Vec<u8>, AllocError>
     ensures { IfOk result (λ text. text.items ≡ spec.pairs_line pairs.now) }
 {
-    let settled = settled_counts(alloc, pairs)?;
-    let races = count_said(pairs, Said::Race);
-    let race = count_if_some(alloc, races, " race")?;
-    let left = count_said(pairs, Said::NotSettled);
-    let open = count_if_some(alloc, left, " not settled")?;
-    let text = joined(alloc, &[&settled, &race, &open, b"\n"])?;
-    Ok(text)
+    TextBuilder::new(alloc)
+        .text(settled_counts(alloc, pairs))
+        .text(some_said(alloc, pairs, Said::Race, " race"))
+        .text(some_said(alloc, pairs, Said::NotSettled, " not settled"))
+        .piece(b"\n")
+        .build()
 }

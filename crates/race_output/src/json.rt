@@ -2,96 +2,49 @@
 
 ghost use Rattle.std.specs.Prelude.{◌≡◌, ◌≤◌, IfOk, IfSome, length, map, option_map};
 ghost use Rattle.executions.specs.execution.Run.{Run};
+ghost use Rattle.output_pieces.specs.Values.{text_data};
+ghost use Rattle.output_pieces.specs.Variables as variables_spec;
 ghost use Rattle.race_output.specs.Json as spec;
 ghost use Rattle.race_output.specs.Reasons.{texts};
 ghost use Rattle.race_output.specs.Sites.{AreSourcesOf};
 ghost use Rattle.serde_json.specs.Data.{array};
 ghost use Rattle.serde_json.specs.View.{items_of, view};
 
-use crate::blocks::schedule_bytes;
 use crate::reasons::reasons_of;
 use crate::sites::{SiteTold, Sources, told_of};
-use crate::spots::statement_at;
-use crate::variables::names_of;
 use crate::words::{file_word, verdict_of, verdict_words};
 use access_types::words;
-use litmus_lex::{column_of, line_of};
+use litmus_syntax::Variable;
+use output_pieces::values::{
+    array_value, column_value, line_value, schedule_value, settings_value, statement_value,
+    text_value,
+};
+use output_pieces::variables::names_of;
+use output_pieces::{ObjectBuilder, add_item};
 use prepared_program::program_sites::Settings;
 use program_table::text_pieces::joined;
 use race_verdicts::RacesFound;
 use races::{PairFound, Verdict};
 use search_text::Entry;
-use serde_json::{Value, json};
+use serde_json::Value;
 use std::alloc::{AllocError, Global};
 
-/// Bytes as a text of JSON. All that are written here are ASCII.
-fn text_value(alloc: Global, bytes: &[u8]) -> Result<Value, AllocError>
-    ensures { IfOk result (λ value. view value ≡ spec.text_data bytes.now) }
-{
-    Ok(Value::String(String::from_utf8_lossy(alloc, bytes)?))
-}
-
-/// Values, as one.
-fn array_value(values: Vec<Value>) -> Value
-    ensures { view result ≡ array (items_of (map view values.items)) }
-{
-    Value::Array(values)
-}
-
-/// The line of a place, if that is known.
-fn line_value(text: &[u8], at: Option<usize>) -> Value
-    requires { IfSome at (λ at. at ≤ length text.now) }
-    ensures { view result ≡ spec.line_data text.now at }
-{
-    match at {
-        None => Value::Null,
-        Some(at) => Value::from(line_of(text, at)),
-    }
-}
-
-/// The column of a place, if that is known.
-fn column_value(text: &[u8], at: Option<usize>) -> Value
-    requires { IfSome at (λ at. at ≤ length text.now) }
-    ensures { view result ≡ spec.column_data text.now at }
-{
-    match at {
-        None => Value::Null,
-        Some(at) => Value::from(column_of(text, at)),
-    }
-}
-
-/// What is written at a place, if that is known.
-fn statement_value(alloc: Global, text: &[u8], at: Option<usize>) -> Result<Value, AllocError>
-    requires { IfSome at (λ at. at ≤ length text.now) }
-    ensures { IfOk result (λ value. view value ≡ spec.statement_data text.now at) }
-{
-    match at {
-        None => Ok(Value::Null),
-        Some(at) => text_value(alloc, statement_at(text, at)),
-    }
-}
-
 /// A site.
-#[tactic(auto, unfolding(crate::specs::Json::site_data))]
 fn site_value(alloc: Global, text: &[u8], site: SiteTold) -> Result<Value, AllocError>
     requires { IfSome site.at (λ at. at ≤ length text.now) }
     ensures { IfOk result (λ value. view value ≡ spec.site_data text.now site) }
 {
-    let line = line_value(text, site.at);
-    let column = column_value(text, site.at);
-    let statement = statement_value(alloc, text, site.at)?;
-    json!(in alloc; {
-        "access": words(&site.kind),
-        "column": column,
-        "line": line,
-        "site": site.site,
-        "task": site.task,
-        "text": statement
-    })
+    ObjectBuilder::new(alloc)
+        .text("access", words(&site.kind))
+        .value("column", Ok(column_value(text, site.at)))
+        .value("line", Ok(line_value(text, site.at)))
+        .number("site", site.site as u64)
+        .number("task", site.task as u64)
+        .value("text", statement_value(alloc, text, site.at))
+        .build()
 }
 
 /// The two sites of a pair.
-#[tactic(auto, unfolding(crate::specs::Json::sites_data))]
 fn sites_value(
     alloc: Global,
     text: &[u8],
@@ -102,31 +55,30 @@ fn sites_value(
     requires second { IfSome second.at (λ at. at ≤ length text.now) }
     ensures { IfOk result (λ value. view value ≡ spec.sites_data text.now first second) }
 {
-    let one = site_value(alloc, text, first)?;
-    let other = site_value(alloc, text, second)?;
-    json!(in alloc; [one, other])
+    let mut values = Vec::new(alloc);
+    add_item(&mut values, site_value(alloc, text, first))?;
+    add_item(&mut values, site_value(alloc, text, second))?;
+    Ok(array_value(values))
 }
 
 /// A schedule, if there is one.
-fn schedule_value(alloc: Global, schedule: &Option<Vec<Entry>>) -> Result<Value, AllocError>
+fn schedule_if_value(alloc: Global, schedule: &Option<Vec<Entry>>) -> Result<Value, AllocError>
     ensures { IfOk result (λ value. view value
-        ≡ spec.schedule_data (option_map (λ entries. entries.items) schedule.now)) }
+        ≡ spec.schedule_if_data (option_map (λ entries. entries.items) schedule.now)) }
 {
-    let Some(entries) = schedule else {
-        return Ok(Value::Null);
-    };
-    let entries = schedule_bytes(alloc, entries.as_slice())?;
-    text_value(alloc, &entries)
+    match schedule {
+        None => Ok(Value::Null),
+        Some(entries) => schedule_value(alloc, entries.as_slice()),
+    }
 }
 
 /// Texts.
 fn texts_value(alloc: Global, all: &[Vec<u8>]) -> Result<Vec<Value>, AllocError>
-    ensures { IfOk result (λ values. map view values.items ≡ map spec.text_data (texts all.now)) }
+    ensures { IfOk result (λ values. map view values.items ≡ map text_data (texts all.now)) }
 {
     let mut values = Vec::new(alloc);
     for one in all {
-        let value = text_value(alloc, one)?;
-        values.push(value)?;
+        add_item(&mut values, text_value(alloc, one))?;
     }
     Ok(values)
 }
@@ -153,8 +105,20 @@ fn is_reported(verdict: Verdict) -> bool
     matches!(verdict, Verdict::Reported)
 }
 
+/// The names of two variables, or that of both.
+fn variable_value(
+    alloc: Global,
+    variables: &[Variable],
+    first: usize,
+    second: usize,
+) -> Result<Value, AllocError>
+    ensures { IfOk result (λ value. view value ≡ text_data (variables_spec.names_of variables.now first second)) }
+{
+    let names = names_of(alloc, variables, first, second)?;
+    text_value(alloc, &names)
+}
+
 /// A pair with these sites.
-#[tactic(auto, unfolding(crate::specs::Json::told_data))]
 fn told_value(
     alloc: Global,
     sources: Sources<'_>,
@@ -167,19 +131,16 @@ fn told_value(
     ensures { IfOk result (λ value. view value ≡ spec.told_data sources.entry.variables.now sources.entry.text.now
         first second one.now.verdict (option_map (λ entries. entries.items) one.now.schedule)) }
 {
-    let variable = names_of(alloc, sources.variables, first.variable, second.variable)?;
-    let variable = text_value(alloc, &variable)?;
-    let sites = sites_value(alloc, sources.text, first, second)?;
-    let why = why_value(alloc, first, second, one.verdict)?;
-    let schedule = schedule_value(alloc, &one.schedule)?;
-    json!(in alloc; {
-        "reported": is_reported(one.verdict),
-        "schedule": schedule,
-        "sites": sites,
-        "variable": variable,
-        "verdict": verdict_words(one.verdict),
-        "why": why
-    })
+    let sites = sites_value(alloc, sources.text, first, second);
+    let variable = variable_value(alloc, sources.variables, first.variable, second.variable);
+    ObjectBuilder::new(alloc)
+        .flag("reported", is_reported(one.verdict))
+        .value("schedule", schedule_if_value(alloc, &one.schedule))
+        .value("sites", sites)
+        .value("variable", variable)
+        .text("verdict", verdict_words(one.verdict))
+        .value("why", why_value(alloc, first, second, one.verdict))
+        .build()
 }
 
 /// A pair.
@@ -208,37 +169,19 @@ fn pairs_value(
 {
     let mut values = Vec::new(alloc);
     for one in pairs {
-        let value = pair_value(alloc, sources, one)?;
-        values.push(value)?;
+        add_item(&mut values, pair_value(alloc, sources, one))?;
     }
     Ok(values)
 }
 
-/// The settings.
-#[tactic(auto, unfolding(crate::specs::Json::settings_data))]
-pub fn settings_value(alloc: Global, settings: &Settings) -> Result<Value, AllocError>
-    ensures { IfOk result (λ value. view value ≡ spec.settings_data settings.now) }
-{
-    json!(in alloc; {
-        "plain_writes_atomic": settings.plain_writes_atomic,
-        "randomize": settings.randomize,
-        "seed": settings.seed,
-        "skip": settings.skip,
-        "slots": settings.slots,
-        "turns": settings.turns,
-        "value_change_only": settings.value_change_only
-    })
-}
-
 /// How many states were visited.
-#[tactic(auto, unfolding(crate::specs::Json::states_data))]
 fn states_value(alloc: Global, found: &RacesFound) -> Result<Value, AllocError>
     ensures { IfOk result (λ value. view value ≡ spec.states_data found.now) }
 {
-    json!(in alloc; {
-        "with_watchpoints": found.states,
-        "without_watchpoints": found.unwatched_states
-    })
+    ObjectBuilder::new(alloc)
+        .number("with_watchpoints", found.states)
+        .number("without_watchpoints", found.unwatched_states)
+        .build()
 }
 
 /// Whether a walk was stopped.
@@ -249,7 +192,6 @@ fn is_stopped(found: &RacesFound) -> bool
 }
 
 /// What was found under these settings of a file of this name, whose pairs are these.
-#[tactic(auto, unfolding(crate::specs::Json::whole_data))]
 fn whole_value(
     alloc: Global,
     name: &str,
@@ -259,18 +201,16 @@ fn whole_value(
 ) -> Result<Value, AllocError>
     ensures { IfOk result (λ value. view value ≡ spec.whole_data name.now (view pairs) settings.now found.now) }
 {
-    let settings = settings_value(alloc, settings)?;
-    let states = states_value(alloc, found)?;
     let word = file_word(verdict_of(found.pairs.as_slice()));
-    json!(in alloc; {
-        "file": name,
-        "pairs": pairs,
-        "schedules": found.schedules,
-        "settings": settings,
-        "states": states,
-        "stopped": is_stopped(found),
-        "verdict": word
-    })
+    ObjectBuilder::new(alloc)
+        .text("file", name)
+        .value("pairs", Ok(pairs))
+        .number("schedules", found.schedules)
+        .value("settings", settings_value(alloc, settings))
+        .value("states", states_value(alloc, found))
+        .flag("stopped", is_stopped(found))
+        .text("verdict", word)
+        .build()
 }
 
 /// What was found under these settings of a file of this name, as a value of JSON.

@@ -9,12 +9,10 @@ pub mod reasons;
 pub mod settings_text;
 pub mod several;
 pub mod sites;
-pub mod spots;
 pub mod table;
-pub mod variables;
 pub mod words;
 
 pub use file::{FileRaces, Format, file_races};
 pub use race_verdicts::RacesWanted;
-pub use several::{FileCounts, last_line};
+pub use several::last_line;
 pub use words::FileVerdict;

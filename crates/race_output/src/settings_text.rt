@@ -3,8 +3,8 @@
 ghost use Rattle.std.specs.Prelude.{◌≡◌, IfOk};
 ghost use Rattle.race_output.specs.Settings as spec;
 
+use output_pieces::TextBuilder;
 use prepared_program::program_sites::Settings;
-use program_table::text_pieces::{joined, number};
 use std::alloc::{AllocError, Global};
 
 /// Whether aligned plain writes count as marked.
@@ -30,24 +30,18 @@ fn change_words(value_change_only: bool) -> &'static str
 }
 
 /// The line of the settings.
-#[tactic(auto, unfolding(crate::specs::Settings::settings_line))]
 pub(crate) fn settings_line(alloc: Global, settings: &Settings) -> Result<Vec<u8>, AllocError>
     ensures { IfOk result (λ text. text.items ≡ spec.settings_line settings.now) }
 {
-    let skip = number(alloc, settings.skip as usize)?;
-    let slots = number(alloc, settings.slots)?;
-    joined(
-        alloc,
-        &[
-            b"settings: ",
-            atomic_words(settings.plain_writes_atomic).as_bytes(),
-            b"; ",
-            change_words(settings.value_change_only).as_bytes(),
-            b"; skip ",
-            &skip,
-            b"; slots ",
-            &slots,
-            b"\n",
-        ],
-    )
+    TextBuilder::new(alloc)
+        .piece(b"settings: ")
+        .words(atomic_words(settings.plain_writes_atomic))
+        .piece(b"; ")
+        .words(change_words(settings.value_change_only))
+        .piece(b"; skip ")
+        .number(settings.skip as usize)
+        .piece(b"; slots ")
+        .number(settings.slots)
+        .piece(b"\n")
+        .build()
 }

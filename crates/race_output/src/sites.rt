@@ -8,11 +8,11 @@ ghost use Rattle.races.specs.Pairs.{HasSite, first_at};
 ghost use Rattle.races.specs.Verdicts as verdicts;
 ghost use Rattle.races.specs.declared.placed.PlacedSite.{PlacedSite};
 
-use crate::spots::place_of;
-use crate::variables::variable_of;
 use access_types::{Bytes, Kind, Operation};
 use litmus_semantics::Site;
 use litmus_syntax::Variable;
+use output_pieces::spots::place_of;
+use output_pieces::variables::variable_of;
 use prepared_program::program_layout::Layout;
 use races::{HowMarked, PlacedSite, SiteName};
 

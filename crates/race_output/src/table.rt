@@ -11,8 +11,8 @@ use crate::blocks::pair_text;
 use crate::counts::{pairs_line, search_lines};
 use crate::settings_text::settings_line;
 use crate::sites::Sources;
+use output_pieces::{TextBuilder, add_text};
 use prepared_program::program_sites::Settings;
-use program_table::text_pieces::joined;
 use race_verdicts::RacesFound;
 use races::PairFound;
 use std::alloc::{AllocError, Global};
@@ -30,8 +30,7 @@ fn pairs_text(
 {
     let mut lines = Vec::new(alloc);
     for one in pairs {
-        let text = pair_text(alloc, sources, one)?;
-        lines.extend_from_slice(&text)?;
+        add_text(&mut lines, pair_text(alloc, sources, one))?;
     }
     Ok(lines)
 }
@@ -48,10 +47,11 @@ pub(crate) fn races_text(
         → IfOk result (λ text. text.items ≡ spec.races_text run sources.entry.text.now
         (map (λ own. own.items) sources.entry.places.now) settings.now found.now) }
 {
-    let pairs = pairs_text(alloc, sources, found.pairs.as_slice())?;
-    let settings = settings_line(alloc, settings)?;
-    let search = search_lines(alloc, found)?;
-    let counts = pairs_line(alloc, found.pairs.as_slice())?;
-    let text = joined(alloc, &[&pairs, &settings, &search, &counts])?;
-    Ok(text)
+    let pairs = found.pairs.as_slice();
+    TextBuilder::new(alloc)
+        .text(pairs_text(alloc, sources, pairs))
+        .text(settings_line(alloc, settings))
+        .text(search_lines(alloc, found))
+        .text(pairs_line(alloc, pairs))
+        .build()
 }

@@ -2,7 +2,7 @@
 use Rattle.std.specs.Prelude.{◌+◌, ◌-◌, ◌==◌, ◌^◌, ℕ, List, [], ◌∷◌, codes, if◌then◌else◌, min}
 use Rattle.std.specs.Fmt.{decimal}
 use Rattle.std.specs.List.{concat}
-use Rattle.race_output.specs.declared.several.FileCounts.{FileCounts}
+use Rattle.output_pieces.specs.declared.file_counts.FileCounts.{FileCounts}
 use Rattle.search_formats.specs.declared.wanted.Format.{Format}
 use Rattle.search_formats.specs.declared.wanted.Format.TheVariants.{Csv, Herd, Json, Text}
 

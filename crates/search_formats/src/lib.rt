@@ -11,7 +11,7 @@ pub mod several;
 pub mod wanted;
 
 pub use file::search_file;
-pub use race_output::FileCounts;
+pub use output_pieces::FileCounts;
 pub use refusal::{Refusal, refused_text};
 pub use several::{heading, last_line};
 pub use wanted::{FileSearched, FileWanted, Format, Preemptions};

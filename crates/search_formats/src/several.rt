@@ -4,8 +4,8 @@ ghost use Rattle.std.specs.Prelude.{◌≡◌, IfOk};
 ghost use Rattle.search_formats.specs.Several as spec;
 
 use crate::wanted::Format;
+use output_pieces::FileCounts;
 use program_table::text_pieces::{joined, number};
-use race_output::FileCounts;
 use std::alloc::{AllocError, Global};
 
 /// What stands before all files: in CSV the names of the columns.

@@ -1,5 +1,5 @@
 -- What is written as JSON has no float.
-use Rattle.std.proofs.Common.{◌≡◌, ◌∷◌, [], ℕ, Bool, List, None, Option, Some, false, map, refl, true}
+use Rattle.std.proofs.Common.{◌≡◌, ℕ, Bool, List, None, Option, Some, false, refl, true}
 use Rattle.access_types.specs.Access.{Access}
 use Rattle.access_types.specs.Sites.{AccessMap}
 use Rattle.access_types.specs.declared.report.Report.{Report}
@@ -7,34 +7,16 @@ use Rattle.access_types.specs.declared.report.ValueChange.{ValueChange}
 use Rattle.litmus_semantics.specs.Layout.{VariablePlace}
 use Rattle.litmus_syntax.specs.declared.program.Variable.{Variable}
 use Rattle.prepared_program.specs.declared.program_sites.settings.Settings.{Settings}
-use Rattle.race_output.specs.Json.{column_data, line_data, settings_data, statement_data}
+use Rattle.output_pieces.proofs.Floats.{column_none, line_none, none_of, settings_none, statement_none}
 use Rattle.search_json.specs.Json.{HasNoFloat, deadlock_data, file_data, observation_data, refused_data, searched_data}
-use Rattle.search_json.specs.Json.{state_data, states_data, stuck_data, whole_data}
-use Rattle.search_json.specs.Reports.{access_data, count_data, new_data, number_data, old_data, report_data, seen_data}
+use Rattle.search_json.specs.Json.{state_data, stuck_data, whole_data}
+use Rattle.search_json.specs.Reports.{access_data, count_data, number_data, report_data, seen_data}
 use Rattle.search_json.specs.Reports.{side_data, sighting_data, told_data}
 use Rattle.search_json.specs.declared.extent.Extent.{Extent}
 use Rattle.search_text.specs.Times.{Sighting, Times}
 use Rattle.search_text.specs.declared.found.SearchFindings.{SearchFindings}
 use Rattle.serde_json.specs.Data.{Data}
-use Rattle.serde_json.specs.View.{items_of}
-use Rattle.serde_json.specs.Written.{has_float, items_have_float}
-
--- items that have none, each by itself
-none_of : {A : Type 0} (f : A → Data) (xs : List A) → ((x : A) → has_float (f x) ≡ false) → items_have_float (items_of (map f xs)) ≡ false
-none_of f [] none = refl
-none_of f (x ∷ xs) none = rw none (none_of f xs none)
-
-line_none : (text : List ℕ) (at : Option ℕ) → has_float (line_data text at) ≡ false
-line_none text None = refl
-line_none text (Some at) = refl
-
-column_none : (text : List ℕ) (at : Option ℕ) → has_float (column_data text at) ≡ false
-column_none text None = refl
-column_none text (Some at) = refl
-
-statement_none : (text : List ℕ) (at : Option ℕ) → has_float (statement_data text at) ≡ false
-statement_none text None = refl
-statement_none text (Some at) = refl
+use Rattle.serde_json.specs.Written.{has_float}
 
 number_none : (n : Option ℕ) → has_float (number_data n) ≡ false
 number_none None = refl
@@ -84,10 +66,6 @@ stuck_none : (counted : Bool) (stuck : Option Times) → has_float (stuck_data c
 unfolding deadlock_data
 stuck_none counted None = refl
 stuck_none counted (Some seen) = simp count_none
-
-settings_none : (settings : Settings) → has_float (settings_data settings) ≡ false
-unfolding settings_data
-settings_none settings = refl
 
 whole_none : (name : List ℕ) (status : ℕ) (stopped : Bool) (observation reports searched settings states stuck : Data)
     → has_float observation ≡ false → has_float reports ≡ false → has_float searched ≡ false → has_float settings ≡ false

@@ -4,11 +4,11 @@ use Rattle.access_types.specs.Sites.{AccessMap}
 use Rattle.litmus_semantics.specs.Layout.{VariablePlace}
 use Rattle.litmus_syntax.specs.declared.program.Variable.{Variable}
 use Rattle.prepared_program.specs.declared.program_sites.settings.Settings.{Settings}
-use Rattle.race_output.specs.Json.{text_data}
-use Rattle.race_output.specs.Json.{settings_data}
+use Rattle.output_pieces.specs.Values.{schedule_data, text_data}
+use Rattle.output_pieces.specs.Values.{settings_data}
 use Rattle.search_json.specs.Extents.{is_counted}
 use Rattle.search_json.specs.Extents.{status_of}
-use Rattle.search_json.specs.Reports.{count_data, number_data, schedule_data, sighting_data}
+use Rattle.search_json.specs.Reports.{count_data, number_data, sighting_data}
 use Rattle.search_json.specs.declared.extent.Extent.{Extent}
 use Rattle.search_text.specs.Times.{Sighting, Times}
 use Rattle.search_text.specs.Write.{word_of}

@@ -9,13 +9,11 @@ use Rattle.access_types.specs.declared.report.Report.TheVariants.{Two, Unknown}
 use Rattle.access_types.specs.declared.report.ValueChange.{ValueChange}
 use Rattle.litmus_semantics.specs.Layout.{VariablePlace}
 use Rattle.litmus_syntax.specs.declared.program.Variable.{Variable}
-use Rattle.prepared_program.specs.declared.step_schedule.schedule.Entry.{Entry}
-use Rattle.race_output.specs.Json.{column_data, line_data, statement_data, text_data}
-use Rattle.race_output.specs.Spots.{place_of}
-use Rattle.race_output.specs.Variables.{name_of, variable_of}
+use Rattle.output_pieces.specs.Values.{column_data, line_data, schedule_data, statement_data, text_data}
+use Rattle.output_pieces.specs.Spots.{place_of}
+use Rattle.output_pieces.specs.Variables.{name_of, variable_of}
 use Rattle.report_text.specs.Groups.{is_text}
 use Rattle.report_text.specs.ReportOf.{report_text}
-use Rattle.search_text.specs.Schedules.{schedule_text}
 use Rattle.search_text.specs.Times.{Sighting, Times}
 use Rattle.serde_json.specs.Data.{Data, member, no_members, null, number, object, string, unsigned}
 
@@ -27,10 +25,6 @@ number_data (Some n) = number (unsigned n)
 -- a number of schedules, if numbers are known
 abbrev pub count_data : (counted : Bool) → ℕ → Data
 count_data counted times = if counted then number (unsigned times) else null
-
--- a schedule
-abbrev pub schedule_data : List Entry → Data
-schedule_data entries = text_data (schedule_text entries)
 
 -- an access whose variable has this name, at this place in the text, if that is known
 unfoldable pub told_data : (text : List ℕ) → (at : Option ℕ) → (name : List ℕ) → Access → Data

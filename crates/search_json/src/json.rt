@@ -3,18 +3,18 @@
 ghost use Rattle.std.specs.Prelude.{◌≡◌, IfOk, List, map};
 ghost use Rattle.litmus_semantics.specs.Layout.{VariablePlace};
 ghost use Rattle.prepared_program.specs.program_layout.Lays.{Lays};
-ghost use Rattle.race_output.specs.Json as races;
+ghost use Rattle.output_pieces.specs.Values as values_spec;
 ghost use Rattle.search_json.specs.Extents as extents;
 ghost use Rattle.search_json.specs.Json as spec;
 ghost use Rattle.serde_json.specs.View.{view};
 
 use crate::extent::{Extent, has_reports, is_counted, status_of};
 use crate::reports::{Sources, report_values};
-use crate::values::{array_value, count_value, number_value, schedule_value, text_value};
+use crate::values::{count_value, number_value};
 use access_types::Sites;
+use output_pieces::values::{array_value, schedule_value, settings_value, text_value};
 use prepared_program::program_sites::Settings;
 use program_table::text_pieces::joined;
-use race_output::json::settings_value;
 use search_text::seen::Seen;
 use search_text::{SearchFindings, Sightings};
 use serde_json::{Value, json};
@@ -183,7 +183,7 @@ fn parts_of(
     ensures { IfOk result (λ parts. (view parts.observation ≡ spec.observation_data test.now ended.now.held
         ended.now.failed)
         × (view parts.reports ≡ view reports) × (view parts.searched ≡ spec.searched_data extent searched)
-        × (view parts.settings ≡ races.settings_data settings.now)
+        × (view parts.settings ≡ values_spec.settings_data settings.now)
         × (view parts.states ≡ spec.states_data ended.now.states)
         × (view parts.stuck ≡ spec.stuck_data (extents.is_counted extent) ended.now.stuck)) }
 {

@@ -8,15 +8,15 @@ ghost use Rattle.report_text.specs.ReportOf.{report_text};
 ghost use Rattle.search_json.specs.Reports as spec;
 ghost use Rattle.serde_json.specs.View.{view};
 
-use crate::values::{
-    column_value, count_value, line_value, number_value, schedule_value, statement_value,
-    text_value,
-};
+use crate::values::{count_value, number_value};
 use access_types::{Access, Bytes, Report, Sites, ValueChange, words};
 use litmus_syntax::Variable;
+use output_pieces::spots::place_of;
+use output_pieces::values::{
+    column_value, line_value, schedule_value, statement_value, text_value,
+};
+use output_pieces::variables::{name_of, variable_of};
 use prepared_program::program_layout::Layout;
-use race_output::spots::place_of;
-use race_output::variables::{name_of, variable_of};
 use races::SiteName;
 use report_text::write_report;
 use search_text::seen::Seen;

@@ -1,12 +1,10 @@
 -- The counts, behind the first word.
-use Rattle.std.proofs.Common.{◌∙◌, ◌++◌, ap, codes}
+use Rattle.std.proofs.Common.{refl}
 use Rattle.race_output.specs.Counts.{searched_line}
-use Rattle.race_output.proofs.Pieces.{three}
 use Rattle.race_output.proofs.counts.searched_line.Goals as goal
 
 pub returns : goal.returns
 unfolding searched_line
 returns c =
-    c.in_ok-text.ensures
-    ∙ ap (λ t. codes "searched " ++ t) (three _ _ _ _ _ _ (c.deref.ensures.value ∙ c.in_ok-unwatched.ensures)
-    (c.deref-2.ensures.value ∙ c.in_ok-schedules.ensures) (c.deref-3.ensures.value ∙ c.in_ok-states.ensures))
+    c.build.ensures _ (c.text-3.ensures _ _ (c.text-2.ensures _ _ (c.text.ensures _ _ (c.piece.ensures _ _ c.new.ensures refl)
+    c.counted-unwatched.ensures) c.counted-schedules.ensures) c.counted-states.ensures)

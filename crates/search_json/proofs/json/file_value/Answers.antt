@@ -5,7 +5,7 @@ use Rattle.search_json.specs.Extents.{status_of}
 use Rattle.search_json.specs.Json.{file_data, searched_data, whole_data}
 use Rattle.search_json.specs.Reports.{sighting_data}
 use Rattle.serde_json.specs.Data.{Data, array}
-use Rattle.serde_json.specs.View.{items_of, view}
+use Rattle.serde_json.specs.View.{items_of}
 
 same_whole : (name : List ℕ) (stopped : Bool) (status told : ℕ) (o r s e t k o' r' s' e' t' k' : Data) → status ≡ told → o ≡ o' → r ≡ r'
     → s ≡ s' → e ≡ e' → t ≡ t' → k ≡ k' → whole_data name status stopped o r s e t k ≡ whole_data name told stopped o' r' s' e' t' k'

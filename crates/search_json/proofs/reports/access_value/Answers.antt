@@ -1,6 +1,6 @@
 -- The access at its place, with the name of its variable.
 use Rattle.std.proofs.Common.{◌∙◌, ℕ, List, Option, ap, map}
-use Rattle.race_output.specs.Variables.{name_of}
+use Rattle.output_pieces.specs.Variables.{name_of}
 use Rattle.search_json.proofs.reports.access_value.Goals as goal
 use Rattle.search_json.specs.Reports.{access_data, place_in, told_data}
 

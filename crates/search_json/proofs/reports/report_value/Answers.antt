@@ -1,6 +1,5 @@
 -- The two accesses are those of the report.
 use Rattle.std.proofs.Common.{◌∙◌, Option, ap, map}
-use Rattle.access_types.specs.Access.{Access}
 use Rattle.access_types.specs.declared.report.ValueChange.{ValueChange}
 use Rattle.search_json.proofs.reports.report_value.Goals as goal
 use Rattle.search_json.specs.Reports.{finder_of, report_data, seen_data, setter_of, side_data}

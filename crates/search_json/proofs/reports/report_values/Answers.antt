@@ -1,5 +1,5 @@
 -- The value of one report more stands behind the others.
-use Rattle.std.proofs.Common.{◌≡◌, ◌∙◌, ◌∷◌, [], ◌≤◌, List, ap, arith, length, map, take}
+use Rattle.std.proofs.Common.{◌∙◌, ◌∷◌, [], ◌≤◌, List, ap, arith, length, map}
 use Rattle.std.proofs.lemmas.List.{map-append, take_all}
 use Rattle.access_types.specs.declared.report.Report.{Report}
 use Rattle.search_json.proofs.Taken.{mapped_more}

@@ -1,0 +1,11 @@
+//! How many files have which verdict.
+
+/// What came of files: how many there are of each kind.
+#[derive(Clone, Copy, Debug, PartialEq, Eq)]
+pub struct FileCounts {
+    pub free: usize,
+    pub reported: usize,
+    pub missed: usize,
+    pub refused: usize,
+    pub stopped: usize,
+}

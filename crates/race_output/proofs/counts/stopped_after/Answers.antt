@@ -1,0 +1,8 @@
+-- The pieces, one behind the other.
+use Rattle.std.proofs.Common.{refl}
+use Rattle.race_output.proofs.counts.stopped_after.Goals as goal
+
+pub returns : goal.returns
+returns c =
+    c.build.ensures _ (c.piece-2.ensures _ _ (c.words-2.ensures _ _ (c.words.ensures _ _ (c.number.ensures _ _ (c.piece.ensures _ _
+    c.new.ensures refl) refl) refl) refl) refl)
