@@ -57,8 +57,8 @@ impl ObjectBuilder {
 
     /// With a member that is a number.
     pub fn number(self, key: &str, count: u64) -> ObjectBuilder
-        ensures { (before : Members) → HasMembers self before
-            → HasMembers result (with_member key.now (number (unsigned count)) before) }
+        ensures { (before : Members) (is : ℕ) → HasMembers self before → count ≡ is
+            → HasMembers result (with_member key.now (number (unsigned is)) before) }
     {
         self.value(key, Ok(Value::from(count)))
     }

@@ -3,7 +3,7 @@
 ghost use Rattle.std.specs.Prelude.{◌≡◌, ◌≤◌, IfOk, IfSome, length, map};
 ghost use Rattle.output_pieces.specs.Values as spec;
 ghost use Rattle.search_text.specs.Schedules.{schedule_text};
-ghost use Rattle.serde_json.specs.Data.{array};
+ghost use Rattle.serde_json.specs.Data.{array, null};
 ghost use Rattle.serde_json.specs.View.{items_of, view};
 
 use crate::objects::ObjectBuilder;
@@ -27,6 +27,13 @@ pub fn array_value(values: Vec<Value>) -> Value
     ensures { view result ≡ array (items_of (map view values.items)) }
 {
     Value::Array(values)
+}
+
+/// No value.
+pub fn null_value() -> Value
+    ensures { view result ≡ null }
+{
+    Value::Null
 }
 
 /// The line of a place, if that is known.

@@ -10,14 +10,15 @@ ghost use Rattle.serde_json.specs.View.{view};
 
 use crate::extent::{Extent, has_reports, is_counted, status_of};
 use crate::reports::{Sources, report_values};
-use crate::values::{count_value, number_value};
+use crate::values::{count_value, no_items, number_value};
 use access_types::Sites;
-use output_pieces::values::{array_value, schedule_value, settings_value, text_value};
+use output_pieces::values::{array_value, null_value, schedule_value, settings_value, text_value};
+use output_pieces::{ObjectBuilder, add_item};
 use prepared_program::program_sites::Settings;
 use program_table::text_pieces::joined;
 use search_text::seen::Seen;
 use search_text::{SearchFindings, Sightings};
-use serde_json::{Value, json};
+use serde_json::Value;
 use std::alloc::{AllocError, Global};
 
 /// In which of so many and so many a proposition holds.
@@ -34,16 +35,15 @@ fn word(held: u64, failed: u64) -> &'static str
 }
 
 /// How often the proposition of the test of this name holds, and doesn't.
-#[tactic(auto, unfolding(crate::specs::Json::observation_data))]
 fn observation_value(alloc: Global, name: &str, held: u64, failed: u64) -> Result<Value, AllocError>
     ensures { IfOk result (λ value. view value ≡ spec.observation_data name.now held failed) }
 {
-    json!(in alloc; {
-        "name": name,
-        "negative": failed,
-        "positive": held,
-        "word": word(held, failed)
-    })
+    ObjectBuilder::new(alloc)
+        .text("name", name)
+        .number("negative", failed)
+        .number("positive", held)
+        .text("word", word(held, failed))
+        .build()
 }
 
 /// The nodes that were visited, if a search visits nodes.
@@ -69,27 +69,24 @@ fn states_of(extent: Extent) -> Option<u64>
 }
 
 /// How much was searched: nodes and schedules, or states.
-#[tactic(auto, unfolding(crate::specs::Json::searched_data))]
 fn searched_value(alloc: Global, extent: Extent, searched: u64) -> Result<Value, AllocError>
     ensures { IfOk result (λ value. view value ≡ spec.searched_data extent searched) }
 {
-    json!(in alloc; {
-        "nodes": number_value(nodes_of(extent)),
-        "schedules": count_value(extent.bounded, searched),
-        "states": number_value(states_of(extent))
-    })
+    ObjectBuilder::new(alloc)
+        .value("nodes", Ok(number_value(nodes_of(extent))))
+        .value("schedules", Ok(count_value(extent.bounded, searched)))
+        .value("states", Ok(number_value(states_of(extent))))
+        .build()
 }
 
 /// A final state, and how many schedules end in it.
-#[tactic(auto, unfolding(crate::specs::Json::state_data))]
 fn state_value(alloc: Global, state: &[u8], times: u64) -> Result<Value, AllocError>
     ensures { IfOk result (λ value. view value ≡ spec.state_data state.now times) }
 {
-    let state = text_value(alloc, state)?;
-    json!(in alloc; {
-        "count": times,
-        "state": state
-    })
+    ObjectBuilder::new(alloc)
+        .number("count", times)
+        .value("state", text_value(alloc, state))
+        .build()
 }
 
 /// The final states.
@@ -101,8 +98,7 @@ fn state_values(alloc: Global, states: &Sightings) -> Result<Vec<Value>, AllocEr
     for place in 0..states.len() {
         match states.get(place) {
             Some((state, seen)) => {
-                let value = state_value(alloc, state, seen.times())?;
-                values.push(value)?;
+                add_item(&mut values, state_value(alloc, state, seen.times()))?;
             }
             None => unreachable!(),
         }
@@ -111,16 +107,13 @@ fn state_values(alloc: Global, states: &Sightings) -> Result<Vec<Value>, AllocEr
 }
 
 /// After how many schedules not all tasks have ended, and the first of them.
-#[tactic(auto, unfolding(crate::specs::Json::deadlock_data))]
 fn deadlock_value(alloc: Global, counted: bool, seen: &Seen) -> Result<Value, AllocError>
     ensures { IfOk result (λ value. view value ≡ spec.deadlock_data counted seen.now) }
 {
-    let count = count_value(counted, seen.times());
-    let schedule = schedule_value(alloc, seen.first())?;
-    json!(in alloc; {
-        "count": count,
-        "schedule": schedule
-    })
+    ObjectBuilder::new(alloc)
+        .value("count", Ok(count_value(counted, seen.times())))
+        .value("schedule", schedule_value(alloc, seen.first()))
+        .build()
 }
 
 /// The same, if there are some.
@@ -145,7 +138,6 @@ pub struct Parts {
 }
 
 /// The object of a file of this name.
-#[tactic(auto, unfolding(crate::specs::Json::whole_data))]
 fn whole_value(
     alloc: Global,
     name: &str,
@@ -156,18 +148,18 @@ fn whole_value(
     ensures { IfOk result (λ value. view value ≡ spec.whole_data name.now status stopped (view parts.observation)
         (view parts.reports) (view parts.searched) (view parts.settings) (view parts.states) (view parts.stuck)) }
 {
-    json!(in alloc; {
-        "error": Value::Null,
-        "file": name,
-        "observation": parts.observation,
-        "reports": parts.reports,
-        "searched": parts.searched,
-        "settings": parts.settings,
-        "states": parts.states,
-        "status": status,
-        "stopped": stopped,
-        "stuck": parts.stuck
-    })
+    ObjectBuilder::new(alloc)
+        .value("error", Ok(null_value()))
+        .text("file", name)
+        .value("observation", Ok(parts.observation))
+        .value("reports", Ok(parts.reports))
+        .value("searched", Ok(parts.searched))
+        .value("settings", Ok(parts.settings))
+        .value("states", Ok(parts.states))
+        .number("status", status as u64)
+        .flag("stopped", stopped)
+        .value("stuck", Ok(parts.stuck))
+        .build()
 }
 
 /// The parts of what is found, with these reports.
@@ -270,23 +262,21 @@ pub fn json_text(
 }
 
 /// The object of a file that isn't searched.
-#[tactic(auto, unfolding(crate::specs::Json::refused_data))]
 fn refused_value(alloc: Global, name: &str, status: u8, why: &[u8]) -> Result<Value, AllocError>
     ensures { IfOk result (λ value. view value ≡ spec.refused_data name.now status why.now) }
 {
-    let error = text_value(alloc, why)?;
-    json!(in alloc; {
-        "error": error,
-        "file": name,
-        "observation": Value::Null,
-        "reports": [],
-        "searched": Value::Null,
-        "settings": Value::Null,
-        "states": [],
-        "status": status,
-        "stopped": Value::Null,
-        "stuck": Value::Null
-    })
+    ObjectBuilder::new(alloc)
+        .value("error", text_value(alloc, why))
+        .text("file", name)
+        .value("observation", Ok(null_value()))
+        .value("reports", Ok(no_items(alloc)))
+        .value("searched", Ok(null_value()))
+        .value("settings", Ok(null_value()))
+        .value("states", Ok(no_items(alloc)))
+        .number("status", status as u64)
+        .value("stopped", Ok(null_value()))
+        .value("stuck", Ok(null_value()))
+        .build()
 }
 
 /// What is written of a file that isn't searched.

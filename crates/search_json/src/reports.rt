@@ -11,6 +11,7 @@ ghost use Rattle.serde_json.specs.View.{view};
 use crate::values::{count_value, number_value};
 use access_types::{Access, Bytes, Report, Sites, ValueChange, words};
 use litmus_syntax::Variable;
+use output_pieces::ObjectBuilder;
 use output_pieces::spots::place_of;
 use output_pieces::values::{
     column_value, line_value, schedule_value, statement_value, text_value,
@@ -21,7 +22,7 @@ use races::SiteName;
 use report_text::write_report;
 use search_text::seen::Seen;
 use search_text::{MemorySink, SearchFindings};
-use serde_json::{Value, json};
+use serde_json::Value;
 use std::alloc::{AllocError, Global};
 
 /// By what the accesses of reports are told of: the text of a program, where its sites begin there as far as that is
@@ -35,7 +36,6 @@ pub struct Sources<'a> {
 }
 
 /// An access whose variable has this name, at this place in the text, if that is known.
-#[tactic(auto, unfolding(crate::specs::Reports::told_data))]
 fn told_value(
     alloc: Global,
     text: &[u8],
@@ -46,22 +46,18 @@ fn told_value(
     requires { IfSome at (λ at. at ≤ length text.now) }
     ensures { IfOk result (λ value. view value ≡ spec.told_data text.now at name.now access.now) }
 {
-    let column = column_value(text, at);
-    let line = line_value(text, at);
-    let statement = statement_value(alloc, text, at)?;
-    let name = text_value(alloc, name.as_bytes())?;
-    json!(in alloc; {
-        "access": words(&access.kind()),
-        "address": access.addr(),
-        "column": column,
-        "line": line,
-        "repetition": access.rep(),
-        "site": access.site(),
-        "size": access.size(),
-        "task": access.task(),
-        "text": statement,
-        "variable": name
-    })
+    ObjectBuilder::new(alloc)
+        .text("access", words(&access.kind()))
+        .number("address", access.addr())
+        .value("column", Ok(column_value(text, at)))
+        .value("line", Ok(line_value(text, at)))
+        .number("repetition", access.rep() as u64)
+        .number("site", access.site() as u64)
+        .number("size", access.size() as u64)
+        .number("task", access.task() as u64)
+        .value("text", statement_value(alloc, text, at))
+        .value("variable", text_value(alloc, name.as_bytes()))
+        .build()
 }
 
 /// Where an access begins in a text, if that is known.
@@ -171,7 +167,6 @@ fn new_value(change: Option<ValueChange>) -> Value
 }
 
 /// A report of these two accesses that was seen in so many schedules.
-#[tactic(auto, unfolding(crate::specs::Reports::seen_data))]
 fn seen_value(
     alloc: Global,
     setter: Value,
@@ -182,16 +177,14 @@ fn seen_value(
 ) -> Result<Value, AllocError>
     ensures { IfOk result (λ value. view value ≡ spec.seen_data (view setter) (view finder) change counted seen.now) }
 {
-    let count = count_value(counted, seen.times());
-    let schedule = schedule_value(alloc, seen.first())?;
-    json!(in alloc; {
-        "count": count,
-        "finder": finder,
-        "new": new_value(change),
-        "old": old_value(change),
-        "schedule": schedule,
-        "setter": setter
-    })
+    ObjectBuilder::new(alloc)
+        .value("count", Ok(count_value(counted, seen.times())))
+        .value("finder", Ok(finder))
+        .value("new", Ok(new_value(change)))
+        .value("old", Ok(old_value(change)))
+        .value("schedule", schedule_value(alloc, seen.first()))
+        .value("setter", Ok(setter))
+        .build()
 }
 
 /// The text of a report, of the accesses that its tickets name among the sites.

@@ -2,9 +2,11 @@
 
 ghost use Rattle.std.specs.Prelude.{◌≡◌};
 ghost use Rattle.search_json.specs.Reports as spec;
+ghost use Rattle.serde_json.specs.Data.{array, no_items as none};
 ghost use Rattle.serde_json.specs.View.{view};
 
 use serde_json::Value;
+use std::alloc::Global;
 
 /// A number, if it is known.
 pub(crate) fn number_value(number: Option<u64>) -> Value
@@ -25,4 +27,11 @@ pub(crate) fn count_value(counted: bool, times: u64) -> Value
     } else {
         Value::Null
     }
+}
+
+/// An array of no items.
+pub(crate) fn no_items(alloc: Global) -> Value
+    ensures { view result ≡ array none }
+{
+    Value::Array(Vec::new(alloc))
 }

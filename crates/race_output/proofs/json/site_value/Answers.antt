@@ -1,5 +1,7 @@
 -- The members, one behind the other.
-use Rattle.race_output.specs.Json.{column_data, line_data, site_data, statement_data}
+use Rattle.std.proofs.Common.{refl}
+use Rattle.output_pieces.specs.Values.{column_data, line_data, statement_data}
+use Rattle.race_output.specs.Json.{site_data}
 use Rattle.race_output.proofs.json.site_value.Goals as goal
 
 pub returns : goal.returns
@@ -7,6 +9,6 @@ unfolding site_data
 returns c =
     let text = c.args.text.now in
     let at = c.args.site.at in
-    c.build.ensures _ (c.value-3.ensures _ (statement_data text at) (c.number-2.ensures _ (c.number.ensures _
+    c.build.ensures _ (c.value-3.ensures _ (statement_data text at) (c.number-2.ensures _ _ (c.number.ensures _ _
     (c.value-2.ensures _ (line_data text at) (c.value.ensures _ (column_data text at) (c.text.ensures _ _ c.new.ensures c.words.ensures)
-    c.column_value.ensures) c.line_value.ensures))) c.statement_value.ensures)
+    c.column_value.ensures) c.line_value.ensures) refl) refl) c.statement_value.ensures)
