@@ -1,5 +1,5 @@
 -- What is written as JSON has no float.
-use Rattle.std.proofs.Common.{◌≡◌, ◌∷◌, [], ℕ, List, None, Option, Some, false, map, refl}
+use Rattle.std.proofs.Common.{◌≡◌, ℕ, List, None, Option, Some, false, refl}
 use Rattle.executions.specs.execution.Run.{Run}
 use Rattle.litmus_syntax.specs.declared.program.Variable.{Variable}
 use Rattle.prepared_program.specs.declared.program_sites.settings.Settings.{Settings}
@@ -13,9 +13,7 @@ use Rattle.race_output.specs.declared.sites.SiteTold.{SiteTold}
 use Rattle.race_verdicts.specs.declared.find.RacesFound.{RacesFound}
 use Rattle.races.specs.declared.verdict.PairFound.{PairFound}
 use Rattle.races.specs.declared.verdict.Verdict.{Verdict}
-use Rattle.serde_json.specs.Data.{Data}
-use Rattle.serde_json.specs.View.{items_of}
-use Rattle.serde_json.specs.Written.{has_float, items_have_float}
+use Rattle.serde_json.specs.Written.{has_float}
 
 schedule_none : (schedule : Option (List Entry)) → has_float (schedule_if_data schedule) ≡ false
 schedule_none None = refl

@@ -1,9 +1,7 @@
 -- What is written of the races of a text as JSON. The members of an object are in the order of their keys.
 use Rattle.std.specs.Prelude.{◌||◌, ◌++◌, ℕ, Bool, List, None, Option, Some, codes, false, map, option_map, true}
-use Rattle.std.specs.Str.Lossy.{utf8_lossy}
 use Rattle.access_types.specs.Kind.{access_words}
 use Rattle.executions.specs.execution.Run.{Run}
-use Rattle.litmus_lex.specs.Lines.{column_at, line_at}
 use Rattle.litmus_syntax.specs.declared.program.Variable.{Variable}
 use Rattle.prepared_program.specs.declared.program_sites.settings.Settings.{Settings}
 use Rattle.prepared_program.specs.declared.step_schedule.schedule.Entry.{Entry}
@@ -17,7 +15,6 @@ use Rattle.race_verdicts.specs.declared.find.RacesFound.{RacesFound}
 use Rattle.races.specs.declared.verdict.PairFound.{PairFound}
 use Rattle.races.specs.declared.verdict.Verdict.{Verdict}
 use Rattle.races.specs.declared.verdict.Verdict.TheVariants as verdicts
-use Rattle.search_text.specs.Schedules.{schedule_text}
 use Rattle.search_text.specs.Stops as stops
 use Rattle.serde_json.specs.Data.{Data, array, boolean, item, member, no_items, no_members, null, number, object, string, unsigned}
 use Rattle.serde_json.specs.View.{items_of}

@@ -3,7 +3,7 @@ use Rattle.std.proofs.Common.{◌≡◌, ◌∙◌, ◌++◌, ℕ, List, Vec, ap
 use Rattle.std.specs.Global.{Global}
 use Rattle.std.proofs.lemmas.List.{map-append}
 use Rattle.std.proofs.lemmas.Result.{IfOk-weaker}
-use Rattle.race_output.specs.Json.{text_data}
+use Rattle.output_pieces.specs.Values.{text_data}
 use Rattle.race_output.specs.Reasons.{texts}
 use Rattle.output_pieces.proofs.Grown.{grown}
 use Rattle.race_output.proofs.json.texts_value.Goals as goal

@@ -1,6 +1,6 @@
 -- The values so far are those of the texts so far.
 use Rattle.std.proofs.Common.{◌≡◌, map, take}
-use Rattle.race_output.specs.Json.{text_data}
+use Rattle.output_pieces.specs.Values.{text_data}
 use Rattle.race_output.specs.Reasons.{texts}
 use Rattle.serde_json.specs.View.{view}
 use Rattle.race_output.proofs.json.texts_value.Given as goal
