@@ -1,2 +1,3 @@
+mod RacesLemmas
 mod SearchLemmas
 mod ValueLemmas

@@ -59,12 +59,14 @@ pub record KeepsSearchesBounds (request : SearchesRequest) : Type 0 where
   pub options : KeepsBounds request.options
 
 -- one file at least, and from 1 to 1,000,000,000 states, or schedules, of each, and 1 to 1,000,000 seconds, if these
--- are bounded
+-- are bounded, by 1 to 64 threads
 pub record KeepsRacesBounds (request : RacesRequest) : Type 0 where
   pub some : 0 < length request.files.items
   pub limit : 1 ≤ request.limit
   pub limit_to : request.limit ≤ 1000000000
   pub seconds : IfSome request.seconds (λ seconds. (1 ≤ seconds) × (seconds ≤ 1000000))
+  pub jobs : 1 ≤ request.jobs
+  pub jobs_to : request.jobs ≤ 64
   pub options : KeepsBounds request.options
 
 -- one file at least, and from 3 to 1,024 page slots

@@ -120,14 +120,15 @@ search_app sizes formats =
     (number_rule (codes "jobs") 1 64 (codes "1")))
     (name_rule (codes "format") formats (codes "text"))) sizes
 
--- `races`, with its files, after how many states or schedules and after how many seconds a search stops, how races are
--- printed, the places and those settings; its `--format` takes one of these names
+-- `races`, with its files, after how many states or schedules and after how many seconds a search stops, how many
+-- threads share the files, how races are printed, the places and those settings; its `--format` takes one of these names
 abbrev pub races_app : (sizes formats : Bor (List (Bor Text))) → App
 races_app sizes formats =
-    with_settings (with_rule (with_rule (with_rule (with_rule (with_rule (new_app (codes "races"))
+    with_settings (with_rule (with_rule (with_rule (with_rule (with_rule (with_rule (new_app (codes "races"))
     (some_words_rule (codes "FILE")))
     (number_rule (codes "limit") 1 1000000000 (codes "1000000")))
     (free_number_rule (codes "seconds") 1 1000000))
+    (number_rule (codes "jobs") 1 64 (codes "1")))
     (name_rule (codes "format") formats (codes "text")))
     (default_rule (codes "place") [])) sizes
 
@@ -317,6 +318,7 @@ pub record AskRaces (values : List Row) (request : RacesRequest) : Type 0 where
   pub files : map (λ file. file.now) request.files.items ≡ words_of (codes "FILE") values
   pub limit : IsNumber values (codes "limit") request.limit
   pub seconds : IsNumberIfGiven values (codes "seconds") request.seconds
+  pub jobs : IsNumber values (codes "jobs") request.jobs
   pub format : IsFormat values (codes "format") request.format
   pub settings : AskSettings values request.options
   pub untraced : request.options.trace ≡ None

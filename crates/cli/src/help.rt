@@ -220,6 +220,9 @@ pub const LIMIT: &str =
 pub const SECONDS: &str =
     "After how many seconds the search stops, 1 to 1000000, if they are to be bounded";
 
+/// What `--jobs` of `races` says.
+pub const RACES_JOBS: &str = "How many threads share several files, 1 to 64";
+
 /// What `--jobs` of `search` says.
 pub const SEARCH_JOBS: &str = "How many threads may share the work, 1 to 64; today one works";
 

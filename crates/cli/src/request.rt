@@ -202,6 +202,8 @@ pub struct RacesRequest<'a> {
     pub limit: u64,
     /// After how many seconds it stops, if these are bounded.
     pub seconds: Option<u64>,
+    /// How many threads share the files, where there are several.
+    pub jobs: u64,
     /// How races are printed.
     pub format: RacesFormat,
     /// What `step` could be given as well, without a trace.
@@ -401,6 +403,7 @@ fn races_request<'a>(files: Vec<&'a str>, races: &ArgMatches<'a>) -> Option<Requ
         files,
         limit: number(races, "limit", LIMIT)?,
         seconds: number_if_given(races, "seconds", SECONDS)?,
+        jobs: number(races, "jobs", JOBS)?,
         format: format_asked(races)?,
         options: settings(races, None)?,
     }))
@@ -844,6 +847,8 @@ fn races_command<'a>(
     let command = with_argument(command, limit);
     let seconds = free_number_option(alloc, "seconds", help::RACES_SECONDS, SECONDS);
     let command = with_argument(command, seconds);
+    let jobs = number_option(alloc, "jobs", help::RACES_JOBS, JOBS, "1");
+    let command = with_argument(command, jobs);
     let format = format_option(alloc, formats, help::FORMAT);
     let command = with_argument(command, format);
     let command = with_argument(command, list_option(alloc, "place", "LIST", help::PLACE));

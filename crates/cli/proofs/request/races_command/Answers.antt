@@ -6,6 +6,7 @@ returns c =
     let e1 = c.with_argument-command.ensures _ _ c.named.ensures c.some_files.ensures in
     let e2 = c.with_argument-command-2.ensures _ _ e1 c.number_option-limit.ensures in
     let e3 = c.with_argument-command-3.ensures _ _ e2 c.free_number_option-seconds.ensures in
-    let e4 = c.with_argument-command-4.ensures _ _ e3 c.format_option-format.ensures in
-    let e5 = c.with_argument-command-5.ensures _ _ e4 c.list_option.ensures in
-    c.with_settings.ensures _ e5
+    let e4 = c.with_argument-command-4.ensures _ _ e3 c.number_option-jobs.ensures in
+    let e5 = c.with_argument-command-5.ensures _ _ e4 c.format_option-format.ensures in
+    let e6 = c.with_argument-command-6.ensures _ _ e5 c.list_option.ensures in
+    c.with_settings.ensures _ e6

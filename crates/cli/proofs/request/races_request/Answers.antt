@@ -10,6 +10,7 @@ returns-clause-asked c = (
     files = c.requires.files;
     limit = c.in_ok-number.ensures.asked;
     seconds = c.in_ok-number_if_given.ensures.asked;
+    jobs = c.in_ok-number-2.ensures.asked;
     format = c.in_ok-format_asked.ensures.asked;
     settings = c.in_ok-settings.ensures.asked;
     untraced = c.in_ok-settings.ensures.trace;
@@ -20,6 +21,11 @@ pub returns-in_err-number-clause-complete : goal.returns-in_err-number-clause-co
 returns-in_err-number-clause-complete c = λ request bounds asks.
     absurd (not_missing c.number.result (c.number.ensures.complete request.limit bounds.limit bounds.limit_to asks.limit)
     c.in_err-number.was)
+
+pub returns-in_err-number-2-clause-complete : goal.returns-in_err-number-2-clause-complete
+returns-in_err-number-2-clause-complete c = λ request bounds asks.
+    absurd (not_missing c.number-2.result (c.number-2.ensures.complete request.jobs bounds.jobs bounds.jobs_to asks.jobs)
+    c.in_err-number-2.was)
 
 pub returns-in_err-number_if_given-clause-complete : goal.returns-in_err-number_if_given-clause-complete
 returns-in_err-number_if_given-clause-complete c = λ request bounds asks.
