@@ -207,7 +207,8 @@ pub const AFTER_SEARCH: &str = "\
     that doesn't read or doesn't suit the file; 65 the file is refused; 66 it can't be read; 71\n\
     out of memory; 74 output can't be written; 75 no report, but the search stopped at --limit\n\
     or --seconds. From 64 to 74 standard error says why, and up to 71 nothing goes to standard\n\
-    output or to the trace's file.";
+    output or to the trace's file, but that at 64 to 66 the output of several files is printed, or\n\
+    of one with --format json or csv.";
 
 /// What `--switches` says.
 pub const SWITCHES: &str = "How many switches a schedule has at most, 0 to 64, or all for no bound";
@@ -224,7 +225,8 @@ pub const SECONDS: &str =
 pub const RACES_JOBS: &str = "How many threads share several files, 1 to 64";
 
 /// What `--jobs` of `search` says.
-pub const SEARCH_JOBS: &str = "How many threads may share the work, 1 to 64; today one works";
+pub const SEARCH_JOBS: &str =
+    "How many threads share several files, 1 to 64; one searches each file";
 
 /// What `--format` of `search` says.
 pub const SEARCH_FORMAT: &str = "How what is found is printed, as text or for programs";

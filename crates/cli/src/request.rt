@@ -145,8 +145,7 @@ pub struct SearchRequest<'a> {
     pub limit: u64,
     /// After how many seconds it stops, if these are bounded.
     pub seconds: Option<u64>,
-    /// How many threads share the work. Where all schedules are searched, or the seconds are bounded, one works,
-    /// whatever this is.
+    /// How many threads share several files. This one is searched by one thread, whatever this is.
     pub jobs: u64,
     /// What `step` could be given as well.
     pub options: RunOptions<'a>,
@@ -176,7 +175,7 @@ pub struct SearchesRequest<'a> {
     pub limit: u64,
     /// After how many seconds it stops, if these are bounded.
     pub seconds: Option<u64>,
-    /// How many threads may share the work. Today one works, whatever this is.
+    /// How many threads share the files, where there are several.
     pub jobs: u64,
     /// How what is found is printed.
     pub format: SearchFormat,
